@@ -1,0 +1,4 @@
+mod Wire
+mod Runs
+mod Finding
+mod Pieces

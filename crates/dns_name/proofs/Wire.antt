@@ -1,0 +1,62 @@
+-- Labels and their octets without pointers determine one another.
+use Rattle.std.proofs.Common.{◌≡◌, ℕ, zero, suc, ◌+◌, ◌<◌, ◌≤◌, Bool, List, [], ◌∷◌, ◌++◌, length, take, drop, nat_eq, refl, sym, ap, ◌∙◌, arith}
+use Rattle.std.specs.Cmp.Lexicographic.{pointwise}
+use Rattle.std.proofs.lemmas.Slice.Eq.{slice_eq-Decides, bytes_eq-Decides}
+use Rattle.std.proofs.lemmas.Bool.Decides.{Decides-eqb, same_from_decides}
+use Rattle.std.specs.List.{AllByRecursion}
+use Rattle.std.proofs.lemmas.List.{take_at, drop_at, length-append}
+use Rattle.dns_name.specs.Labels.{IsLabel, IsName, IsWire, wire_of, first_labels, labels_of}
+
+pub wire_of-some : (labels : List (List ℕ)) → 0 < length (wire_of labels)
+wire_of-some [] = omega arith
+wire_of-some (label ∷ labels) = omega arith
+
+pub same_labels : (a b : List (List ℕ)) → wire_of a ≡ wire_of b → a ≡ b
+same_labels [] [] e = refl
+same_labels [] (y ∷ ys) e =
+    absurd (omega (arith, ap length e, length-append y (wire_of ys), wire_of-some ys))
+same_labels (x ∷ xs) [] e =
+    absurd (omega (arith, ap length e, length-append x (wire_of xs), wire_of-some xs))
+same_labels (x ∷ xs) (y ∷ ys) e =
+    let heads : length x ≡ length y = cc in
+    let tails : x ++ wire_of xs ≡ y ++ wire_of ys = cc in
+    let first : x ≡ y = sym (take_at x (wire_of xs) (length y) heads) ∙ ap (take (length y)) tails ∙ take_at y (wire_of ys) (length y) refl in
+    let others : wire_of xs ≡ wire_of ys = sym (drop_at x (wire_of xs) (length y) heads) ∙ ap (drop (length y)) tails ∙ drop_at y (wire_of ys) (length y) refl in
+    let rest = same_labels xs ys others in
+    cc
+
+first_labels-wire_of : (n : ℕ) (labels : List (List ℕ)) → AllByRecursion IsLabel labels → length (wire_of labels) ≤ n → first_labels n (wire_of labels) ≡ labels
+first_labels-wire_of zero labels each le = absurd (omega (arith, wire_of-some labels))
+first_labels-wire_of (suc n) [] each le = refl
+first_labels-wire_of (suc n) ([] ∷ labels) each le = absurd (omega (arith, each.0.some))
+first_labels-wire_of (suc n) ((x ∷ xs) ∷ labels) each le =
+    let first : take (suc (length xs)) ((x ∷ xs) ++ wire_of labels) ≡ x ∷ xs = take_at (x ∷ xs) (wire_of labels) (suc (length xs)) refl in
+    let behind : drop (suc (length xs)) ((x ∷ xs) ++ wire_of labels) ≡ wire_of labels = drop_at (x ∷ xs) (wire_of labels) (suc (length xs)) refl in
+    let rest = first_labels-wire_of n labels each.1 (omega (arith, length-append xs (wire_of labels))) in
+    cc (ap (first_labels n) behind)
+
+pub labels_of-wire_of : (labels : List (List ℕ)) → AllByRecursion IsLabel labels → labels_of (wire_of labels) ≡ labels
+unfolding labels_of
+labels_of-wire_of labels each = first_labels-wire_of (length (wire_of labels)) labels each (omega arith)
+
+pub IsWire-from_name : (octets : List ℕ) (labels : List (List ℕ)) → IsName labels → octets ≡ wire_of labels → IsWire octets
+IsWire-from_name octets labels name e =
+    let back : labels_of octets ≡ labels = ap labels_of e ∙ labels_of-wire_of labels name.each in
+    record {
+      name = rw back name;
+      whole = ap wire_of back ∙ sym e;
+    }
+
+pub root_has_one : (octets : List ℕ) (labels : List (List ℕ)) → IsWire octets → labels_of octets ≡ labels → (length octets ≡ 1 → labels ≡ []) × (labels ≡ [] → length octets ≡ 1)
+root_has_one octets [] wire e = (λ _. refl, λ _. omega (arith, ap length (sym wire.whole ∙ ap wire_of e)))
+root_has_one octets (label ∷ labels) wire e =
+    let long = sym wire.whole ∙ ap wire_of e in
+    (λ one. absurd (omega (arith, ap length long, length-append label (wire_of labels), wire_of-some labels)), λ none. absurd cc)
+
+pub same_octets_same_labels : (a b : List ℕ) (x y : List (List ℕ)) → IsWire a → IsWire b → labels_of a ≡ x → labels_of b ≡ y → (r : Bool) → r ≡ pointwise nat_eq a b → r ≡ pointwise (pointwise nat_eq) x y
+same_octets_same_labels a b x y wire wire' e e' r h =
+    let octets = slice_eq-Decides Decides-eqb a b r h in
+    let labels = slice_eq-Decides bytes_eq-Decides x y (pointwise (pointwise nat_eq) x y) refl in
+    let forth : a ≡ b → x ≡ y = λ same. sym e ∙ ap labels_of same ∙ e' in
+    let back : x ≡ y → a ≡ b = λ same. sym wire.whole ∙ ap wire_of (e ∙ same ∙ sym e') ∙ wire'.whole in
+    same_from_decides r (pointwise (pointwise nat_eq) x y) (λ t. forth (octets.0 t), λ same. octets.1 (back same)) labels

@@ -1,0 +1,88 @@
+//! Names in messages (RFC 1035 3.1, 4.1.4).
+ghost use Rattle.std.specs.Prelude.{◌≡◌, ◌++◌, List, ℕ, IfOk, OnOk, OnErr, MatchResult, MatchOption};
+ghost use Rattle.dns_name.specs.Labels.{wire_of};
+ghost use Rattle.dns_name.specs.Pieces.{PieceAt, NothingAt};
+ghost use Rattle.dns_name.specs.Places.{NameAt};
+
+use crate::draft::Draft;
+use crate::name::Name;
+use crate::refusal::NameReadRefusal;
+use std::alloc::{AllocError, Global};
+
+/// What stands at a place of a run of labels.
+#[derive(Clone, Copy)]
+enum Piece<'a> {
+    /// The 0 that closes a name.
+    Root,
+    /// A label, without its length.
+    Label(&'a [u8]),
+    /// A pointer to an offset.
+    Pointer(usize),
+}
+
+/// What stands at a place of these octets, if it is whole.
+fn piece_at(octets: &[u8], place: usize) -> Option<Piece<'_>>
+    ensures { MatchOption result (NothingAt octets.now place) (PieceAt octets.now place) }
+{
+    let behind = octets.get(place..)?;
+    let (first, behind) = behind.split_first()?;
+    match *first {
+        0 => Some(Piece::Root),
+        length @ 1..=63 => Some(Piece::Label(behind.get(..usize::from(length))?)),
+        64..=191 => None,
+        high => {
+            let low = behind.first()?;
+            Some(Piece::Pointer(usize::from(high - 192) * 256 + usize::from(*low)))
+        }
+    }
+}
+
+/// Reads the name at place `at` of a message, and gives the place after it: after its closing 0, or after its first
+/// pointer. A pointer leads to a run of labels that lies, its closing 0 or pointer included, before the run that
+/// the pointer closes.
+pub fn read_name(alloc: Global, bytes: &[u8], at: usize) -> Result<(Name, usize), NameReadRefusal>
+    // What is read is the name that stands there.
+    ensures found { IfOk result (λ found. NameAt bytes.now at at found.0 found.1) }
+    // A name that stands there is read, unless memory is refused: so `Malformed` comes only where none does.
+    ensures read { (name : List (List ℕ)) (end : ℕ) → NameAt bytes.now at at name end
+        → MatchResult result (λ found. (found.0 ≡ name) × (found.1 ≡ end)) (λ refusal. refusal ≡ NameReadRefusal.Memory) }
+{
+    let mut draft = Draft::new();
+    let mut start = at;
+    let mut limit = bytes.len();
+    let mut place = at;
+    let mut after = None;
+    loop {
+        match piece_at(&bytes[..limit], place) {
+            None => return Err(NameReadRefusal::Malformed),
+            Some(Piece::Root) => {
+                let name = draft.finish(alloc, &[0])?;
+                return Ok((name, after.unwrap_or(place + 1)));
+            }
+            Some(Piece::Label(label)) => {
+                if !draft.has_room(label.len()) {
+                    return Err(NameReadRefusal::Malformed);
+                }
+                draft.push(label);
+                place += 1 + label.len();
+            }
+            Some(Piece::Pointer(offset)) => {
+                if offset >= start {
+                    return Err(NameReadRefusal::Malformed);
+                }
+                after = Some(after.unwrap_or(place + 2));
+                limit = start;
+                start = offset;
+                place = offset;
+            }
+        }
+    }
+}
+
+/// Appends the octets of a name without pointers. After an error `out` is as before.
+pub fn write_name(name: &Name, out: &mut Vec<u8>) -> Result<(), AllocError>
+    ensures ok { OnOk result (out.new.items ≡ out.old.items ++ wire_of name.now) }
+    ensures err { OnErr result (out.new.items ≡ out.old.items) }
+{
+    out.extend_from_slice(name.wire())
+}
