@@ -2,10 +2,10 @@
 use Rattle.std.proofs.Common.{◌≡◌, ℕ, suc, ◌+◌, ◌*◌, ◌<◌, ◌≤◌, List, [], ◌∷◌, ◌++◌, length, slice_range, Option, Some, None, refl, sym, ap, ◌∙◌, arith, append_assoc}
 use Rattle.std.specs.Prelude.{unwrap_or}
 use Rattle.std.proofs.lemmas.List.{length-append}
-use Rattle.dns_name.specs.Labels.{IsName, small_letters, wire_of}
+use Rattle.dns_name.specs.Labels.{small_letters, wire_of}
 use Rattle.dns_name.specs.Places.{OctetAt, LabelsAt, root, label, pointer, NameAt}
 use Rattle.dns_name.proofs.Wire.{wire_of-some, same_labels}
-use Rattle.dns_name.proofs.Runs.{ends_later, ends_within, length-label, from_label, from_pointer, IsName-at}
+use Rattle.dns_name.proofs.Runs.{ends_later, ends_within, length-label, from_label, from_pointer}
 
 -- The octets are those of the labels before place p, in a run that began at s and has to end at limit or before.
 -- What follows the first pointer, if there was one, is after.

@@ -2,3 +2,5 @@ mod Wire
 mod Runs
 mod Finding
 mod Pieces
+mod TextLabels
+mod TextNames

@@ -1,5 +1,5 @@
 -- Runs of labels: where they end, what their labels are, and how they go on from what stands at a place.
-use Rattle.std.proofs.Common.{◌≡◌, ℕ, suc, ◌+◌, ◌-◌, ◌*◌, ◌<◌, ◌≤◌, List, [], ◌∷◌, ◌++◌, length, take, drop, get_or, slice_index, slice_range, map, refl, sym, ap, ◌∙◌, arith}
+use Rattle.std.proofs.Common.{◌≡◌, ℕ, ◌+◌, ◌*◌, ◌<◌, ◌≤◌, List, [], ◌∷◌, length, slice_range, refl, sym, ap, ◌∙◌, arith}
 use Rattle.std.specs.List.{AllByRecursion}
 use Rattle.std.proofs.lemmas.List.{length-take, length-drop, length-map}
 use Rattle.dns_name.specs.Labels.{IsLabel, IsName, small_letters}
@@ -62,7 +62,7 @@ one_reading message {p = p} {s = s} (pointer high low there o o' back rest befor
 
 -- ---- labels at a place are labels
 
-small_twice : (octets : List ℕ) → small_letters (small_letters octets) ≡ small_letters octets
+pub small_twice : (octets : List ℕ) → small_letters (small_letters octets) ≡ small_letters octets
 small_twice [] = refl
 small_twice (octet ∷ octets) =
     let once : to_ascii_lowercase (to_ascii_lowercase octet) ≡ to_ascii_lowercase octet = grind (arith, nat_tests) in

@@ -1,5 +1,10 @@
 //! Names as texts (RFC 1035 5.1).
-ghost use Rattle.std.specs.Prelude.{◌≡◌, ◌++◌, List, ℕ, IfOk, OnOk, OnErr, MatchResult};
+ghost use Rattle.std.specs.Prelude.{◌≡◌, ◌∷◌, ◌++◌, ◌<◌, [], List, ℕ, length, map, IfOk, IfErr, OnOk, IfSome, IsSomeAnd, Some, None, MatchResult, ◌⊎◌};
+ghost use Rattle.std.specs.Result.{result_err};
+ghost use Rattle.std.specs.List.{list_all};
+ghost use Rattle.std.specs.String.{string_bytes};
+ghost use Rattle.dns_name.specs.Labels.{small_letters, wire_of, IsLabel};
+ghost use Rattle.dns_name.specs.Texts as spec;
 
 use crate::draft::{Draft, NAME_LIMIT};
 use crate::name::Name;
@@ -10,16 +15,27 @@ use std::alloc::{AllocError, Global};
 const LABEL_LIMIT: usize = 63;
 
 /// Whether an octet may stand in a label of a text.
-fn is_text_octet(octet: u8) -> bool {
+fn is_text_octet(octet: u8) -> bool
+    ensures { result ≡ spec.is_text_octet octet }
+{
     octet.is_ascii_alphanumeric() || octet == b'_' || octet == b'-'
 }
 
+/// Whether each octet may stand in a label of a text.
+fn are_text_octets(octets: &[u8]) -> bool
+    ensures { result ≡ list_all spec.is_text_octet octets.now }
+{
+    octets.iter().all(|octet| is_text_octet(*octet))
+}
+
 /// Refuses what is no label of a text.
-fn check_label(label: &[u8]) -> Result<(), NameRefusal> {
+fn check_label(label: &[u8]) -> Result<(), NameRefusal>
+    ensures { result_err result ≡ spec.label_fault label.now }
+{
     if label.is_empty() {
         return Err(NameRefusal::EmptyLabel);
     }
-    if !label.iter().all(|octet| is_text_octet(*octet)) {
+    if !are_text_octets(label) {
         return Err(NameRefusal::BadOctet);
     }
     if label.len() > LABEL_LIMIT {
@@ -28,25 +44,32 @@ fn check_label(label: &[u8]) -> Result<(), NameRefusal> {
     Ok(())
 }
 
-/// Adds the labels of a text that ends with the last one.
-fn push_labels(draft: &mut Draft, text: &[u8]) -> Result<(), NameRefusal> {
+/// The labels of a text without its closing dot.
+fn draft_of(text: &[u8]) -> Result<Draft, NameRefusal>
+    ensures refused { result_err result ≡ spec.dotted_fault (spec.parted text.now) }
+    ensures labels { IfOk result (λ draft. draft.octets.items ++ 0 ∷ [] ≡ wire_of (map small_letters (spec.parted text.now))) }
+{
+    let mut draft = Draft::new();
     let mut fits = true;
     for label in text.split(|octet| *octet == b'.') {
         check_label(label)?;
-        fits = fits && draft.has_room(label.len());
-        if fits {
+        if fits && draft.has_room(label.len()) {
             draft.push(label);
+        } else {
+            fits = false;
         }
     }
     if fits {
-        Ok(())
+        Ok(draft)
     } else {
         Err(NameRefusal::LongName)
     }
 }
 
 /// A text without its closing dot, if it has one.
-fn without_closing_dot(text: &[u8]) -> &[u8] {
+fn without_closing_dot(text: &[u8]) -> &[u8]
+    ensures { result.now ≡ spec.without_closing_dot text.now }
+{
     match text {
         [front @ .., b'.'] => front,
         _ => text,
@@ -54,7 +77,9 @@ fn without_closing_dot(text: &[u8]) -> &[u8] {
 }
 
 /// Adds an octet of a label to a text.
-fn push_octet(text: &mut String, octet: u8) -> Result<(), AllocError> {
+fn push_octet(text: &mut String, octet: u8) -> Result<(), AllocError>
+    ensures { OnOk result (string_bytes text.new ≡ string_bytes text.old ++ spec.shown octet) }
+{
     if is_text_octet(octet) {
         return text.push(char::from(octet));
     }
@@ -65,7 +90,9 @@ fn push_octet(text: &mut String, octet: u8) -> Result<(), AllocError> {
 }
 
 /// Adds a label and a dot to a text.
-fn push_label(text: &mut String, label: &[u8]) -> Result<(), AllocError> {
+fn push_label(text: &mut String, label: &[u8]) -> Result<(), AllocError>
+    ensures { OnOk result (string_bytes text.new ≡ string_bytes text.old ++ spec.label_text label.now) }
+{
     for octet in label {
         push_octet(text, *octet)?;
     }
@@ -73,7 +100,12 @@ fn push_label(text: &mut String, label: &[u8]) -> Result<(), AllocError> {
 }
 
 /// The first label of the octets of a name and the octets after it, or None at the root.
-fn first_label(octets: &[u8]) -> Option<(&[u8], &[u8])> {
+fn first_label(octets: &[u8]) -> Option<(&[u8], &[u8])>
+    ensures shorter { IfSome result (λ parts. length parts.1.now < length octets.now) }
+    ensures none { octets.now ≡ wire_of [] → result ≡ None }
+    ensures some { (label : List ℕ) (labels : List (List ℕ)) → IsLabel label → octets.now ≡ wire_of (label ∷ labels)
+        → IsSomeAnd result (λ parts. (parts.0.now ≡ label) × (parts.1.now ≡ wire_of labels)) }
+{
     let (length, behind) = octets.split_first()?;
     if *length == 0 {
         return None;
@@ -86,19 +118,33 @@ impl Name {
     /// dot alone is the root.
     ///
     /// Each label is checked from the left, for no octet, then for another octet, then for more than 63; after all
-    /// labels the name, for more than 255 octets on the wire.
-    pub fn from_text(alloc: Global, text: &str) -> Result<Name, NameRefusal> {
+    /// labels the name, for more than 255 octets on the wire. Memory is taken for a name alone.
+    pub fn from_text(alloc: Global, text: &str) -> Result<Name, NameRefusal>
+        // What is named is a name of the text.
+        ensures found { IfOk result (λ name. spec.TextOf name text.now) }
+        // A text of a name is named, unless memory is refused.
+        ensures read { (name : List (List ℕ)) → spec.TextOf name text.now
+            → MatchResult result (λ found. found ≡ name) (λ refusal. refusal ≡ NameRefusal.Memory) }
+        // Each other refusal comes exactly where it is the text's fault.
+        ensures fault { IfSome (spec.text_fault text.now) (λ fault. result ≡ Err fault) }
+        ensures refused { IfErr result (λ refusal. (refusal ≡ NameRefusal.Memory) ⊎ (spec.text_fault text.now ≡ Some refusal)) }
+    {
         let text = text.as_bytes();
-        let mut draft = Draft::new();
-        if text != b".".as_slice() {
-            push_labels(&mut draft, without_closing_dot(text))?;
+        if text == b".".as_slice() {
+            return Ok(Draft::new().finish(alloc, &[0])?);
         }
+        let draft = draft_of(without_closing_dot(text))?;
         Ok(draft.finish(alloc, &[0])?)
     }
 
     /// The name with two labels in front, as `_sip` and `_udp` in front of a domain (RFC 2782). They are checked as
     /// those of a text; so a dot in one of them is `BadOctet`.
-    pub fn prefixed(&self, service: &str, proto: &str) -> Result<Name, NameRefusal> {
+    pub fn prefixed(&self, service: &str, proto: &str) -> Result<Name, NameRefusal>
+        ensures named { IfOk result (λ name. name ≡ small_letters service.now ∷ small_letters proto.now ∷ self.now) }
+        // Each refusal but that of memory comes exactly where it is a fault of the labels or of their length.
+        ensures fault { IfSome (spec.prefix_fault service.now proto.now self.now) (λ fault. result ≡ Err fault) }
+        ensures refused { IfErr result (λ refusal. (refusal ≡ NameRefusal.Memory) ⊎ (spec.prefix_fault service.now proto.now self.now ≡ Some refusal)) }
+    {
         let service = service.as_bytes();
         let proto = proto.as_bytes();
         check_label(service)?;
@@ -115,7 +161,9 @@ impl Name {
 
     /// The text of the name: each label with a dot after it; the root is a dot alone. An octet that is no small
     /// letter, digit, `_` or `-` is `\` and three decimal digits (RFC 1035 5.1).
-    pub fn text(&self) -> Result<String, AllocError> {
+    pub fn text(&self) -> Result<String, AllocError>
+        ensures { IfOk result (λ text. string_bytes text ≡ spec.text_of self.now) }
+    {
         let mut text = String::new(self.allocator());
         let mut octets = self.wire();
         if self.is_root() {

@@ -1,4 +1,3 @@
-use Rattle.dns_name.proofs.Finding.{found}
 use Rattle.dns_name.proofs.Runs.{one_reading}
 use Rattle.dns_name.proofs.laws.one_name_at_a_place.Goals as goal
 

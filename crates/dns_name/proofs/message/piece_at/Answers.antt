@@ -1,5 +1,5 @@
-use Rattle.std.proofs.Common.{arith, ◌<◌, ◌≤◌}
-use Rattle.dns_name.proofs.Pieces.{nothing_past, nothing_reserved, nothing_cut, nothing_half, first_there, length-others, second_there, label_there}
+use Rattle.std.proofs.Common.{arith}
+use Rattle.dns_name.proofs.Pieces.{nothing_past, nothing_reserved, nothing_cut, nothing_half, first_there, length-others, label_there}
 use Rattle.dns_name.proofs.message.piece_at.Goals as goal
 use Rattle.dns_name.proofs.message.piece_at.Goals.{In_ok-first}
 

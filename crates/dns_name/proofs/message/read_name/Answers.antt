@@ -1,7 +1,5 @@
-use Rattle.std.proofs.Common.{◌≡◌, ℕ, ◌+◌, ◌*◌, ◌<◌, ◌≤◌, List, ◌∷◌, ◌++◌, length, slice_range, arith, ap, ◌∙◌}
+use Rattle.std.proofs.Common.{◌≡◌, ℕ, ◌+◌, List, ◌∷◌, ◌++◌, length, slice_range, arith, ap, ◌∙◌}
 use Rattle.dns_name.specs.Labels.{small_letters}
-use Rattle.dns_name.specs.Places.{OctetAt}
-use Rattle.dns_name.specs.Pieces.{LabelPiece, PointerPiece}
 use Rattle.dns_name.proofs.Runs.{one_reading, IsName-at}
 use Rattle.dns_name.proofs.Pieces.{OctetAt-front, LabelPiece-front}
 use Rattle.dns_name.proofs.Finding.{begun, past_label, past_pointer, found, read, no_offset, no_room}

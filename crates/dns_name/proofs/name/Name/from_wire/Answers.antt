@@ -1,4 +1,3 @@
-use Rattle.dns_name.specs.Labels.{IsWire}
 use Rattle.dns_name.proofs.Wire.{IsWire-from_name}
 use Rattle.dns_name.proofs.name.Name.from_wire.Goals as goal
 

@@ -1,4 +1,3 @@
-use Rattle.std.proofs.Common.{rules}
 use Rattle.dns_name.proofs.Wire.{same_octets_same_labels}
 use Rattle.dns_name.proofs.name.NamePartialEq.eq.Goals as goal
 
