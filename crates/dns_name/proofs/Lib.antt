@@ -2,5 +2,6 @@ mod Wire
 mod Runs
 mod Finding
 mod Pieces
+mod Places
 mod TextLabels
 mod TextNames

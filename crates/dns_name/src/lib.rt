@@ -10,7 +10,9 @@ mod name;
 mod refusal;
 mod text;
 
-pub use laws::one_name_at_a_place;
+pub use laws::{
+    name_rests_before_its_end, octets_determine_name, one_name_at_a_place, written_name_is_read,
+};
 pub use message::{read_name, write_name};
 pub use name::Name;
 pub use refusal::{NameReadRefusal, NameRefusal};
