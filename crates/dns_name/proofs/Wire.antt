@@ -53,10 +53,8 @@ root_has_one octets (label ∷ labels) wire e =
     let long = sym wire.whole ∙ ap wire_of e in
     (λ one. absurd (omega (arith, ap length long, length-append label (wire_of labels), wire_of-some labels)), λ none. absurd cc)
 
-pub same_octets_same_labels : (a b : List ℕ) (x y : List (List ℕ)) → IsWire a → IsWire b → labels_of a ≡ x → labels_of b ≡ y → (r : Bool) → r ≡ pointwise nat_eq a b → r ≡ pointwise (pointwise nat_eq) x y
-same_octets_same_labels a b x y wire wire' e e' r h =
-    let octets = slice_eq-Decides Decides-eqb a b r h in
-    let labels = slice_eq-Decides bytes_eq-Decides x y (pointwise (pointwise nat_eq) x y) refl in
-    let forth : a ≡ b → x ≡ y = λ same. sym e ∙ ap labels_of same ∙ e' in
-    let back : x ≡ y → a ≡ b = λ same. sym wire.whole ∙ ap wire_of (e ∙ same ∙ sym e') ∙ wire'.whole in
-    same_from_decides r (pointwise (pointwise nat_eq) x y) (λ t. forth (octets.0 t), λ same. octets.1 (back same)) labels
+pub same_test : (a b : List (List ℕ)) (r : Bool) → r ≡ pointwise nat_eq (wire_of a) (wire_of b) → r ≡ pointwise (pointwise nat_eq) a b
+same_test a b r h =
+    let octets = slice_eq-Decides Decides-eqb (wire_of a) (wire_of b) r h in
+    let labels = slice_eq-Decides bytes_eq-Decides a b (pointwise (pointwise nat_eq) a b) refl in
+    same_from_decides r (pointwise (pointwise nat_eq) a b) (λ t. same_labels a b (octets.0 t), λ same. octets.1 (ap wire_of same)) labels

@@ -12,12 +12,12 @@ pub(crate) const NAME_LIMIT: usize = 255;
 /// The octets of the labels so far, with room left for the closing 0.
 #[derive(Drop)]
 pub(crate) struct Draft {
-    octets: ArrayVec<u8, 255>,
+    octets: ArrayVec<u8, NAME_LIMIT>,
     ghost has_room: { length octets.items ≤ 254 },
 }
 
 /// Adds octets, with capitals as small letters.
-fn push_small(octets: &mut ArrayVec<u8, 255>, label: &[u8])
+fn push_small(octets: &mut ArrayVec<u8, NAME_LIMIT>, label: &[u8])
     requires { length octets.old.items + length label.now ≤ 255 }
     ensures { octets.new.items ≡ octets.old.items ++ small_letters label.now }
 {
@@ -31,7 +31,7 @@ impl Draft {
     pub(crate) fn new() -> Draft
         ensures { result.octets.items ≡ [] }
     {
-        let mut octets = ArrayVec::from_array_in((), [0; 255]);
+        let mut octets = ArrayVec::from_array_in((), [0; NAME_LIMIT]);
         octets.clear();
         Draft { octets }
     }

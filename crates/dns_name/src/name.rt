@@ -46,7 +46,7 @@ impl Name {
         ensures value { result.now ≡ wire_of self.now }
         ensures name { IsName self.now }
     {
-        self.octets.as_slice()
+        &self.octets
     }
 
     /// Whether it is the root, which has no label.
@@ -76,7 +76,7 @@ impl PartialEq for Name {
     ghost laws = { Prim.search (comparing, rules) };
 
     fn eq(&self, other: &Name) -> bool {
-        self.octets.as_slice() == other.octets.as_slice()
+        self.wire() == other.wire()
     }
 }
 
