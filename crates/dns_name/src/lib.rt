@@ -26,4 +26,6 @@ pub use name::Name;
 pub use refusal::{NameReadRefusal, NameRefusal};
 
 #[cfg(test)]
+mod refusals;
+#[cfg(test)]
 mod tests;
