@@ -1,0 +1,10 @@
+-- The numbers of types of records (RFC 1035 3.2.2, 3596 2.1, 2782, 3403 4.1).
+use Rattle.std.specs.Prelude.{ℕ}
+use Rattle.dns_message.specs.declared.kind.Kind.{Kind}
+use Rattle.dns_message.specs.declared.kind.Kind.TheVariants.{A, Aaaa, Srv, Naptr}
+
+abbrev pub kind_code : Kind → ℕ
+kind_code A = 1
+kind_code Aaaa = 28
+kind_code Srv = 33
+kind_code Naptr = 35

@@ -1,0 +1,19 @@
+-- What stands at places of a message (RFC 1035 2.3.2, 4.1).
+use Rattle.std.specs.Prelude.{◌≡◌, ℕ, ◌+◌, ◌≤◌, List, [], ◌∷◌, length, slice_range}
+use Rattle.std.specs.Int.{Width, byte_len, from_be_bytes}
+
+-- a number stands at a place, the highest octet first
+pub record NumberAt (w : Width) (message : List ℕ) (place number : ℕ) : Type 0 where
+  pub within : place + byte_len w ≤ length message
+  pub is : from_be_bytes w (slice_range message place (place + byte_len w)) ≡ number
+
+-- these octets stand from a place to another
+pub record OctetsAt (message : List ℕ) (place : ℕ) (octets : List ℕ) (end : ℕ) : Type 0 where
+  pub size : place + length octets ≡ end
+  pub within : end ≤ length message
+  pub are : slice_range message place end ≡ octets
+
+-- what stands one after the other from a place to another
+pub data AllAt {X : Type 0} (At : ℕ → X → ℕ → Type 0) : ℕ → List X → ℕ → Type 0 where
+  none : {place end : ℕ} → end ≡ place → AllAt At place [] end
+  next : {place end : ℕ} {first : X} {others : List X} (after : ℕ) → At place first after → AllAt At after others end → AllAt At place (first ∷ others) end

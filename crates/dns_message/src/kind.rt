@@ -1,0 +1,30 @@
+//! The kinds of question that are asked.
+ghost use Rattle.std.specs.Prelude.{◌≡◌};
+ghost use Rattle.dns_message.specs.Kinds.{kind_code};
+
+/// What is asked of a name.
+#[derive(Clone, Copy, Debug, PartialEq, Eq)]
+pub enum Kind {
+    /// Addresses of IPv4 (RFC 1035 3.4.1).
+    A,
+    /// Addresses of IPv6 (RFC 3596 2.1).
+    Aaaa,
+    /// Servers of a service (RFC 2782).
+    Srv,
+    /// Services of a domain (RFC 3403).
+    Naptr,
+}
+
+impl Kind {
+    /// Its number among the types of records (RFC 1035 3.2.2).
+    pub fn code(self) -> u16
+        ensures { result ≡ kind_code self }
+    {
+        match self {
+            Kind::A => 1,
+            Kind::Aaaa => 28,
+            Kind::Srv => 33,
+            Kind::Naptr => 35,
+        }
+    }
+}

@@ -1,0 +1,69 @@
+//! Messages (RFC 1035 4.1).
+ghost use Rattle.std.specs.Prelude.{◌≡◌, ◌↔◌, ◌≤◌, ◌<◌, ℕ, List, length, take, IfOk, MatchResult};
+ghost use Rattle.dns_message.specs.Messages.{Spells};
+ghost use Rattle.dns_message.specs.declared.message.Message as message;
+
+use crate::header::{Header, header_at};
+use crate::question::{Asked, questions_at};
+use crate::refusal::{MessageRefusal, Part};
+use crate::resource::{Record, records_at};
+use crate::section::Section;
+use std::alloc::Global;
+
+/// The most octets of a message (RFC 1035 4.2.2).
+const MESSAGE_LIMIT: usize = 65_535;
+
+/// The place after the header.
+const HEADER_END: usize = 12;
+
+/// A message.
+#[derive(Debug, Drop)]
+pub struct Message {
+    /// What the header says.
+    pub header: Header,
+    /// What is asked.
+    pub questions: Section<Asked>,
+    /// The records that answer.
+    pub answers: Section<Record>,
+    /// The records that point to an authority.
+    pub authority: Section<Record>,
+    /// Further records.
+    pub additional: Section<Record>,
+}
+
+/// Reads the message in front of these octets. What stands after its counted questions and records is ignored.
+///
+/// Memory is taken as questions and records are read, and never for a count of the header.
+pub fn read_message(alloc: Global, bytes: &[u8]) -> Result<Message, MessageRefusal>
+    // What is read stands in front of the octets.
+    ensures found { IfOk result (λ found. (end : ℕ) × (end ≤ length bytes.now) × Spells (take end bytes.now) found) }
+    // A message that stands in front of them is read, unless memory is refused: so `Malformed` comes only where
+    // none does.
+    ensures read { (end : ℕ) (found : message.Message) → Spells (take end bytes.now) found → length bytes.now ≤ 65535
+        → MatchResult result (λ found'. found' ≡ found) (λ refusal. refusal ≡ MessageRefusal.Memory) }
+    ensures too_long { (result ≡ Err MessageRefusal.TooLong) ↔ (65535 < length bytes.now) }
+{
+    if bytes.len() > MESSAGE_LIMIT {
+        return Err(MessageRefusal::TooLong);
+    }
+    let (header, counts) = header_at(bytes).ok_or(MessageRefusal::Malformed(Part::Header))?;
+    let (questions, place) = questions_at(alloc, bytes, HEADER_END, counts.questions).map_err(
+        |refusal| refusal.of_part(Part::Questions),
+    )?;
+    let (answers, place) = records_at(alloc, bytes, place, counts.answers).map_err(
+        |refusal| refusal.of_part(Part::Answers),
+    )?;
+    let (authority, place) = records_at(alloc, bytes, place, counts.authority).map_err(
+        |refusal| refusal.of_part(Part::Authority),
+    )?;
+    let (additional, _) = records_at(alloc, bytes, place, counts.additional).map_err(
+        |refusal| refusal.of_part(Part::Additional),
+    )?;
+    Ok(Message {
+        header,
+        questions: Section::from_vec(questions),
+        answers: Section::from_vec(answers),
+        authority: Section::from_vec(authority),
+        additional: Section::from_vec(additional),
+    })
+}

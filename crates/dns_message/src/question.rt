@@ -1,0 +1,83 @@
+//! Questions (RFC 1035 4.1.2).
+ghost use Rattle.std.specs.Prelude.{◌≡◌, ℕ, List, length, IfOk, MatchResult};
+ghost use Rattle.dns_message.specs.Questions.{QuestionAt};
+ghost use Rattle.dns_message.specs.Places.{AllAt};
+ghost use Rattle.dns_message.specs.declared.question.Asked as asked;
+
+use crate::kind::Kind;
+use crate::number::u16_at;
+use crate::refusal::EntryRefusal;
+use dns_name::{Name, read_name};
+use std::alloc::{AllocError, Global};
+
+/// A question to ask, in class IN.
+#[derive(Debug, Drop)]
+pub struct Question {
+    /// The name of which it is asked.
+    pub name: Name,
+    /// What is asked.
+    pub kind: Kind,
+}
+
+impl Question {
+    /// A copy.
+    pub fn try_clone(&self) -> Result<Question, AllocError>
+        ensures { IfOk result (λ copy. copy ≡ self.now) }
+    {
+        Ok(Question {
+            name: self.name.try_clone()?,
+            kind: self.kind,
+        })
+    }
+}
+
+/// A question as a message has it.
+#[derive(Debug, Drop)]
+pub struct Asked {
+    /// QNAME: the name of which it is asked.
+    pub name: Name,
+    /// QTYPE: the type of record that is asked for.
+    pub code: u16,
+    /// QCLASS: the class that is asked for, 1 for IN.
+    pub class_code: u16,
+}
+
+/// Reads the question at a place, and gives the place after it.
+fn question_at(alloc: Global, bytes: &[u8], place: usize) -> Result<(Asked, usize), EntryRefusal>
+    ensures found { IfOk result (λ found. QuestionAt bytes.now place found.0 found.1) }
+    ensures read { (question : asked.Asked) (end : ℕ) → QuestionAt bytes.now place question end
+        → MatchResult result (λ found. (found.0 ≡ question) × (found.1 ≡ end)) (λ refusal. refusal ≡ EntryRefusal.Memory) }
+{
+    let (name, place) = read_name(alloc, bytes, place)?;
+    let code = u16_at(bytes, place).ok_or(EntryRefusal::Malformed)?;
+    let class_code = u16_at(bytes, place + 2).ok_or(EntryRefusal::Malformed)?;
+    Ok((
+        Asked {
+            name,
+            code,
+            class_code,
+        },
+        place + 4,
+    ))
+}
+
+/// Reads so many questions from a place on, and gives the place after them.
+pub(crate) fn questions_at(
+    alloc: Global,
+    bytes: &[u8],
+    place: usize,
+    count: u16,
+) -> Result<(Vec<Asked>, usize), EntryRefusal>
+    ensures found { IfOk result (λ found. AllAt (QuestionAt bytes.now) place found.0.items found.1 × (length found.0.items ≡ count)) }
+    ensures read { (questions : List asked.Asked) (end : ℕ) → AllAt (QuestionAt bytes.now) place questions end → length questions ≡ count
+        → MatchResult result (λ found. (found.0.items ≡ questions) × (found.1 ≡ end)) (λ refusal. refusal ≡ EntryRefusal.Memory) }
+{
+    let mut questions = Vec::new(alloc);
+    let mut place = place;
+    for _ in 0..count {
+        let (question, after) = question_at(alloc, bytes, place)?;
+        questions.push(question).map_err(AllocError::from)?;
+        place = after;
+    }
+    Ok((questions, place))
+}
