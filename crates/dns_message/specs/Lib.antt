@@ -5,3 +5,4 @@ pub mod Headers
 pub mod Questions
 pub mod Records
 pub mod Messages
+pub mod Refusals

@@ -6,9 +6,9 @@ use Rattle.dns_message.specs.Questions.{QuestionAt}
 use Rattle.dns_message.specs.Records.{RecordAt}
 use Rattle.dns_message.specs.declared.message.Message.{Message}
 
--- All of these octets are the header, the questions and the records of the message, one after the other. Names
--- may end in pointers, which count from the first octet.
-pub record Spells (octets : List ℕ) (message : Message) : Type 0 where
+-- The first octets, to this end, are the header, the questions and the records of the message, one after the other.
+-- Names may end in pointers, which count from the first octet.
+pub record MessageAt (octets : List ℕ) (message : Message) (end : ℕ) : Type 0 where
   pub header : HeaderAt octets message.header
   pub counts : CountsAt octets (record { questions = length message.questions; answers = length message.answers; authority = length message.authority; additional = length message.additional })
   pub answers_start : ℕ
@@ -17,4 +17,8 @@ pub record Spells (octets : List ℕ) (message : Message) : Type 0 where
   pub questions : AllAt (QuestionAt octets) 12 message.questions answers_start
   pub answers : AllAt (RecordAt octets) answers_start message.answers authority_start
   pub authority : AllAt (RecordAt octets) authority_start message.authority additional_start
-  pub additional : AllAt (RecordAt octets) additional_start message.additional (length octets)
+  pub additional : AllAt (RecordAt octets) additional_start message.additional end
+
+-- all of these octets are the message
+abbrev pub Spells : List ℕ → Message → Type 0
+Spells octets message = MessageAt octets message (length octets)

@@ -27,6 +27,13 @@ abbrev pub RdataAt : List ℕ → ℕ → ℕ → ℕ → Rdata → ℕ → Type
 RdataAt message place code class_code (Addr4 address) end = AddressAt message place code class_code address end
 RdataAt message place code class_code (Other other) end = OtherAt message place code class_code other end
 
+-- TYPE, CLASS, TTL and RDLENGTH stand at a place
+pub record FixedAt (message : List ℕ) (place code class_code ttl size : ℕ) : Type 0 where
+  pub code-at : NumberAt w16 message place code
+  pub class_code-at : NumberAt w16 message (place + 2) class_code
+  pub ttl-at : NumberAt w32 message (place + 4) ttl
+  pub size-at : NumberAt w16 message (place + 8) size
+
 -- NAME, TYPE, CLASS, TTL, RDLENGTH and RDATA stand from a place to another
 pub record RecordAt (message : List ℕ) (place : ℕ) (entry : Record) (end : ℕ) : Type 0 where
   pub after : ℕ
@@ -34,9 +41,6 @@ pub record RecordAt (message : List ℕ) (place : ℕ) (entry : Record) (end : �
   pub class_code : ℕ
   pub size : ℕ
   pub owner : NameAt message place place entry.owner after
-  pub code-at : NumberAt w16 message after code
-  pub class_code-at : NumberAt w16 message (after + 2) class_code
-  pub ttl : NumberAt w32 message (after + 4) entry.ttl
-  pub size-at : NumberAt w16 message (after + 8) size
+  pub fixed : FixedAt message after code class_code entry.ttl size
   pub ends : end ≡ after + 10 + size
   pub rdata : RdataAt message (after + 10) code class_code entry.rdata end

@@ -7,7 +7,7 @@ ghost use Rattle.dns_message.specs.declared.question.Asked as asked;
 use crate::kind::Kind;
 use crate::number::u16_at;
 use crate::refusal::EntryRefusal;
-use dns_name::{Name, read_name};
+use dns_name::{Name, name_rests_before_its_end, one_name_at_a_place, read_name};
 use std::alloc::{AllocError, Global};
 
 /// A question to ask, in class IN.
@@ -48,6 +48,8 @@ fn question_at(alloc: Global, bytes: &[u8], place: usize) -> Result<(Asked, usiz
     ensures read { (question : asked.Asked) (end : ℕ) → QuestionAt bytes.now place question end
         → MatchResult result (λ found. (found.0 ≡ question) × (found.1 ≡ end)) (λ refusal. refusal ≡ EntryRefusal.Memory) }
 {
+    name_rests_before_its_end();
+    one_name_at_a_place();
     let (name, place) = read_name(alloc, bytes, place)?;
     let code = u16_at(bytes, place).ok_or(EntryRefusal::Malformed)?;
     let class_code = u16_at(bytes, place + 2).ok_or(EntryRefusal::Malformed)?;
@@ -72,11 +74,12 @@ pub(crate) fn questions_at(
     ensures read { (questions : List asked.Asked) (end : ℕ) → AllAt (QuestionAt bytes.now) place questions end → length questions ≡ count
         → MatchResult result (λ found. (found.0.items ≡ questions) × (found.1 ≡ end)) (λ refusal. refusal ≡ EntryRefusal.Memory) }
 {
+    one_name_at_a_place();
     let mut questions = Vec::new(alloc);
     let mut place = place;
     for _ in 0..count {
         let (question, after) = question_at(alloc, bytes, place)?;
-        questions.push(question).map_err(AllocError::from)?;
+        questions.push(question)?;
         place = after;
     }
     Ok((questions, place))

@@ -1,9 +1,10 @@
 //! Why a message was refused.
 ghost use Rattle.std.specs.Prelude.{◌≡◌};
+ghost use Rattle.dns_message.specs.Refusals.{refusal_of_name, refusal_of_part};
 ghost use Rattle.dns_message.specs.declared.refusal.EntryRefusal.TheVariants as entry;
 
 use dns_name::NameReadRefusal;
-use std::alloc::AllocError;
+use std::alloc::{AllocError, AllocFailed};
 use thiserror::Error;
 
 /// A part of a message (RFC 1035 4.1).
@@ -46,7 +47,9 @@ pub(crate) enum EntryRefusal {
 
 impl EntryRefusal {
     /// The refusal of the message, of which this part was read.
-    pub(crate) fn of_part(self, part: Part) -> MessageRefusal {
+    pub(crate) fn of_part(self, part: Part) -> MessageRefusal
+        ensures { result ≡ refusal_of_part self part }
+    {
         match self {
             EntryRefusal::Malformed => MessageRefusal::Malformed(part),
             EntryRefusal::Memory => MessageRefusal::Memory,
@@ -62,7 +65,17 @@ impl From<AllocError> for EntryRefusal {
     }
 }
 
+impl<T: Drop> From<AllocFailed<T>> for EntryRefusal {
+    ghost from_gives = { λ _ refusal. refusal ≡ entry.Memory };
+
+    fn from(_: AllocFailed<T>) -> EntryRefusal {
+        EntryRefusal::Memory
+    }
+}
+
 impl From<NameReadRefusal> for EntryRefusal {
+    ghost from_gives = { λ refusal entry. entry ≡ refusal_of_name refusal };
+
     fn from(refusal: NameReadRefusal) -> EntryRefusal {
         match refusal {
             NameReadRefusal::Malformed => EntryRefusal::Malformed,

@@ -1,0 +1,5 @@
+pub mod Flags
+pub mod Names
+pub mod Places
+pub mod Questions
+pub mod Records

@@ -1,0 +1,79 @@
+-- Numbers, octets and lists of parts at places.
+use Rattle.std.proofs.Common.{◌≡◌, ℕ, suc, ◌+◌, ◌-◌, ◌<◌, ◌≤◌, List, [], ◌∷◌, ◌++◌, length, take, drop, slice_range, refl, sym, ap, ◌∙◌, arith}
+use Rattle.std.specs.Int.{Width, byte_len}
+use Rattle.std.proofs.lemmas.List.{length-take, take-take}
+use Rattle.std.proofs.lemmas.Slice.{between_is}
+use Rattle.dns_message.specs.Places.{NumberAt, OctetsAt, AllAt, none, next}
+
+-- ---- one thing stands at a place
+
+pub one_number : (w : Width) (message : List ℕ) (p n n' : ℕ) → NumberAt w message p n → NumberAt w message p n' → n ≡ n'
+one_number w message p n n' a b = sym a.is ∙ b.is
+
+pub one_text : (message : List ℕ) (p : ℕ) (octets octets' : List ℕ) (end : ℕ) → OctetsAt message p octets end → OctetsAt message p octets' end → octets ≡ octets'
+one_text message p octets octets' end a b = sym a.are ∙ b.are
+
+-- ---- two messages with the same first octets
+
+pub take_less : (message other : List ℕ) (limit n : ℕ) → take limit message ≡ take limit other → n ≤ limit → take n message ≡ take n other
+take_less message other limit n same le = sym (take-take n limit message le) ∙ ap (take n) same ∙ take-take n limit other le
+
+pub within_too : (message other : List ℕ) (limit n : ℕ) → take limit message ≡ take limit other → n ≤ limit → n ≤ length message → n ≤ length other
+within_too message other limit n same le le' = omega (arith, ap length same, length-take limit message, length-take limit other)
+
+pub same_range : (message other : List ℕ) (limit i j : ℕ) → take limit message ≡ take limit other → j ≤ limit → slice_range message i j ≡ slice_range other i j
+same_range message other limit i j same le = between_is message i j ∙ ap (drop i) (take_less message other limit j same le) ∙ sym (between_is other i j)
+
+pub NumberAt-other : (w : Width) (message other : List ℕ) (limit p n : ℕ) → take limit message ≡ take limit other → p + byte_len w ≤ limit → NumberAt w message p n → NumberAt w other p n
+NumberAt-other w message other limit p n same le at = record {
+  within = within_too message other limit (p + byte_len w) same le at.within;
+  is = rw (← same_range message other limit p (p + byte_len w) same le) at.is;
+}
+
+pub OctetsAt-other : (message other : List ℕ) (limit p : ℕ) (octets : List ℕ) (end : ℕ) → take limit message ≡ take limit other → end ≤ limit → OctetsAt message p octets end → OctetsAt other p octets end
+OctetsAt-other message other limit p octets end same le at = record {
+  size = at.size;
+  within = within_too message other limit end same le at.within;
+  are = sym (same_range message other limit p end same le) ∙ at.are;
+}
+
+-- ---- one after the other
+
+module _ {X : Type 0} (At : ℕ → X → ℕ → Type 0) where
+  abbrev pub AtMostOne : Type 0
+  AtMostOne = (p end end' : ℕ) (x x' : X) → At p x end → At p x' end' → (x ≡ x') × (end ≡ end')
+
+  abbrev pub GoesOn : Type 0
+  GoesOn = (p end : ℕ) (x : X) → At p x end → p ≤ end
+
+  pub AllAt-push : {p end : ℕ} {xs : List X} (after : ℕ) (x : X) → AllAt At p xs end → At end x after → AllAt At p (xs ++ x ∷ []) after
+  AllAt-push after x (none e) at = next after (rw (← e) at) (none refl)
+  AllAt-push after x (next between first others) at = next between first (AllAt-push after x others at)
+
+  pub AllAt-goes_on : GoesOn → {p end : ℕ} {xs : List X} → AllAt At p xs end → p ≤ end
+  AllAt-goes_on goes_on (none e) = omega (arith, e)
+  AllAt-goes_on goes_on (next after first others) = omega (arith, goes_on _ after _ first, AllAt-goes_on goes_on others)
+
+  pub AllAt-one : AtMostOne → (p end end' : ℕ) (xs xs' : List X) → AllAt At p xs end → AllAt At p xs' end' → length xs ≡ length xs' → (xs ≡ xs') × (end ≡ end')
+  AllAt-one one p end end' [] [] (none e) (none e') same = (refl, e ∙ sym e')
+  AllAt-one one p end end' [] (x' ∷ xs') (none e) (next after first others) same = absurd (omega (arith, same))
+  AllAt-one one p end end' (x ∷ xs) [] (next after first others) (none e) same = absurd (omega (arith, same))
+  AllAt-one one p end end' (x ∷ xs) (x' ∷ xs') (next after first others) (next after' first' others') same =
+      let k = one p after after' x x' first first' in
+      let rest = AllAt-one one after end end' xs xs' others (rw (k.1) others') (omega (arith, same)) in
+      (rw (k.0, rest.0) refl, rest.1)
+
+  -- where fewer were read, the next one stands behind them
+  pub AllAt-next : AtMostOne → (p end end' : ℕ) (xs xs' : List X) → AllAt At p xs end → AllAt At p xs' end' → length xs < length xs' → (x : X) × (after : ℕ) × At end x after
+  AllAt-next one p end end' [] [] (none e) (none e') fewer = absurd (omega (arith, fewer))
+  AllAt-next one p end end' [] (x' ∷ xs') (none e) (next after first others) fewer = (x', after, rw e first)
+  AllAt-next one p end end' (x ∷ xs) [] (next after first others) (none e) fewer = absurd (omega (arith, fewer))
+  AllAt-next one p end end' (x ∷ xs) (x' ∷ xs') (next after first others) (next after' first' others') fewer =
+      let k = one p after after' x x' first first' in
+      AllAt-next one after end end' xs xs' others (rw (k.1) others') (omega (arith, fewer))
+
+pub AllAt-other : {X : Type 0} (At At' : ℕ → X → ℕ → Type 0) (limit : ℕ) → GoesOn At → ((p end : ℕ) (x : X) → At p x end → end ≤ limit → At' p x end)
+    → {p end : ℕ} {xs : List X} → AllAt At p xs end → end ≤ limit → AllAt At' p xs end
+AllAt-other At At' limit goes_on move (none e) le = none e
+AllAt-other At At' limit goes_on move (next after first others) le =
+    next after (move _ after _ first (omega (arith, le, AllAt-goes_on At goes_on others))) (AllAt-other At At' limit goes_on move others le)
