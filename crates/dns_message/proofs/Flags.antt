@@ -1,8 +1,8 @@
 -- The two octets of flags, and what they say.
-use Rattle.std.proofs.Common.{◌≡◌, ℕ, ◌+◌, ◌*◌, ◌/◌, ◌%◌, ◌<◌, ◌≤◌, Bool, true, false, nat_eq, refl, sym, ap, ◌∙◌, inl, inr, arith}
+use Rattle.std.proofs.Common.{◌≡◌, ℕ, ◌+◌, ◌*◌, ◌/◌, ◌%◌, ◌<◌, Bool, true, false, nat_eq, refl, arith}
 use lib.Dec.{leb}
 use Rattle.std.proofs.lemmas.Bool.Decides.{nat_tests}
-use Rattle.dns_message.specs.Headers.{bit, HighFlags, LowFlags, HeaderAt}
+use Rattle.dns_message.specs.Headers.{bit, HighFlags, LowFlags}
 use Rattle.dns_message.specs.declared.header.Header.{Header}
 
 -- ---- an octet is made of what is read from it

@@ -1,5 +1,5 @@
 -- Numbers, octets and lists of parts at places.
-use Rattle.std.proofs.Common.{◌≡◌, ℕ, suc, ◌+◌, ◌-◌, ◌<◌, ◌≤◌, List, [], ◌∷◌, ◌++◌, length, take, drop, slice_range, refl, sym, ap, ◌∙◌, arith}
+use Rattle.std.proofs.Common.{◌≡◌, ℕ, ◌+◌, ◌<◌, ◌≤◌, List, [], ◌∷◌, ◌++◌, length, take, drop, slice_range, refl, sym, ap, ◌∙◌, arith}
 use Rattle.std.specs.Int.{Width, byte_len}
 use Rattle.std.proofs.lemmas.List.{length-take, take-take}
 use Rattle.std.proofs.lemmas.Slice.{between_is}
@@ -53,6 +53,10 @@ module _ {X : Type 0} (At : ℕ → X → ℕ → Type 0) where
   pub AllAt-goes_on : GoesOn → {p end : ℕ} {xs : List X} → AllAt At p xs end → p ≤ end
   AllAt-goes_on goes_on (none e) = omega (arith, e)
   AllAt-goes_on goes_on (next after first others) = omega (arith, goes_on _ after _ first, AllAt-goes_on goes_on others)
+
+  pub AllAt-within : (limit : ℕ) → ((p end : ℕ) (x : X) → At p x end → end ≤ limit) → {p end : ℕ} {xs : List X} → AllAt At p xs end → p ≤ limit → end ≤ limit
+  AllAt-within limit within (none e) le = omega (arith, e)
+  AllAt-within limit within (next after first others) le = AllAt-within limit within others (within _ after _ first)
 
   pub AllAt-one : AtMostOne → (p end end' : ℕ) (xs xs' : List X) → AllAt At p xs end → AllAt At p xs' end' → length xs ≡ length xs' → (xs ≡ xs') × (end ≡ end')
   AllAt-one one p end end' [] [] (none e) (none e') same = (refl, e ∙ sym e')

@@ -1,8 +1,7 @@
 -- Questions at places.
-use Rattle.std.proofs.Common.{◌≡◌, ℕ, ◌+◌, ◌<◌, ◌≤◌, List, length, take, refl, sym, ap, ◌∙◌, arith}
+use Rattle.std.proofs.Common.{◌≡◌, ℕ, ◌+◌, ◌≤◌, List, length, take, refl, arith}
 use Rattle.std.specs.Int.{w16}
 use Rattle.dns_message.specs.declared.question.Asked.{Asked}
-use Rattle.dns_message.specs.Places.{NumberAt}
 use Rattle.dns_message.specs.Questions.{QuestionAt}
 use Rattle.dns_message.proofs.Names.{OneName, WithinEnd, IsLocal}
 use Rattle.dns_message.proofs.Places.{one_number, take_less, NumberAt-other}
@@ -22,6 +21,9 @@ one_question one message p end end' a b x y =
 
 pub question_goes_on : WithinEnd → (message : List ℕ) (p end : ℕ) (a : Asked) → QuestionAt message p a end → p ≤ end
 question_goes_on within message p end a x = omega (arith, (within message p x.after a.name x.name).0, x.ends)
+
+pub question_within : (message : List ℕ) (p end : ℕ) (a : Asked) → QuestionAt message p a end → end ≤ length message
+question_within message p end a x = omega (arith, x.ends, x.class_code.within)
 
 pub QuestionAt-other : IsLocal → (message other : List ℕ) (limit : ℕ) → take limit message ≡ take limit other → (p end : ℕ) (a : Asked) → QuestionAt message p a end → end ≤ limit → QuestionAt other p a end
 QuestionAt-other local message other limit same p end a x le = record {

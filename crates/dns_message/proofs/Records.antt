@@ -1,11 +1,11 @@
 -- Records at places.
-use Rattle.std.proofs.Common.{◌≡◌, ℕ, ◌+◌, ◌<◌, ◌≤◌, true, false, List, length, take, refl, sym, ap, ◌∙◌, arith}
+use Rattle.std.proofs.Common.{◌≡◌, ℕ, ◌+◌, ◌≤◌, true, false, List, length, take, refl, sym, ap, ◌∙◌, arith}
 use Rattle.std.specs.Int.{w16, w32}
 use Rattle.dns_message.specs.declared.rdata.Rdata.{Rdata}
 use Rattle.dns_message.specs.declared.rdata.Rdata.TheVariants.{Addr4, Other}
 use Rattle.dns_message.specs.declared.resource.Record.{Record}
 use Rattle.dns_message.specs.Data.{OtherOctets, is_known}
-use Rattle.dns_message.specs.Records.{RdataAt, FixedAt, RecordAt}
+use Rattle.dns_message.specs.Records.{RdataAt, RecordAt}
 use Rattle.dns_message.proofs.Names.{OneName, WithinEnd, IsLocal}
 use Rattle.dns_message.proofs.Places.{one_number, one_text, take_less, NumberAt-other, OctetsAt-other}
 
@@ -59,6 +59,13 @@ one_record one message p end end' a b x y =
 
 pub record_goes_on : WithinEnd → (message : List ℕ) (p end : ℕ) (a : Record) → RecordAt message p a end → p ≤ end
 record_goes_on within message p end a x = omega (arith, (within message p x.after a.owner x.owner).0, x.ends)
+
+rdata_within : (message : List ℕ) (p code class_code end : ℕ) (a : Rdata) → RdataAt message p code class_code a end → end ≤ length message
+rdata_within message p code class_code end (Addr4 a) x = x.octets.within
+rdata_within message p code class_code end (Other a) x = x.octets.within
+
+pub record_within : (message : List ℕ) (p end : ℕ) (a : Record) → RecordAt message p a end → end ≤ length message
+record_within message p end a x = rdata_within message (x.after + 10) x.code x.class_code end a.rdata x.rdata
 
 pub RecordAt-other : IsLocal → (message other : List ℕ) (limit : ℕ) → take limit message ≡ take limit other → (p end : ℕ) (a : Record) → RecordAt message p a end → end ≤ limit → RecordAt other p a end
 RecordAt-other local message other limit same p end a x le = record {

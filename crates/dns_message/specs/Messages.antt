@@ -1,5 +1,5 @@
 -- A message (RFC 1035 4.1).
-use Rattle.std.specs.Prelude.{◌≡◌, ℕ, List, length}
+use Rattle.std.specs.Prelude.{ℕ, List, length}
 use Rattle.dns_message.specs.Places.{AllAt}
 use Rattle.dns_message.specs.Headers.{HeaderAt, CountsAt}
 use Rattle.dns_message.specs.Questions.{QuestionAt}

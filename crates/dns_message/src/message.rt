@@ -4,10 +4,11 @@ ghost use Rattle.dns_message.specs.Messages.{Spells};
 ghost use Rattle.dns_message.specs.declared.message.Message as message;
 
 use crate::header::{Header, header_at};
-use crate::question::{Asked, questions_at};
+use crate::question::{Asked, question_section_at};
 use crate::refusal::{MessageRefusal, Part};
-use crate::resource::{Record, records_at};
+use crate::resource::{Record, record_section_at};
 use crate::section::Section;
+use dns_name::{name_rests_before_its_end, one_name_at_a_place};
 use std::alloc::Global;
 
 /// The most octets of a message (RFC 1035 4.2.2).
@@ -43,27 +44,33 @@ pub fn read_message(alloc: Global, bytes: &[u8]) -> Result<Message, MessageRefus
         → MatchResult result (λ found'. found' ≡ found) (λ refusal. refusal ≡ MessageRefusal.Memory) }
     ensures too_long { (result ≡ Err MessageRefusal.TooLong) ↔ (65535 < length bytes.now) }
 {
+    one_name_at_a_place();
+    name_rests_before_its_end();
     if bytes.len() > MESSAGE_LIMIT {
         return Err(MessageRefusal::TooLong);
     }
     let (header, counts) = header_at(bytes).ok_or(MessageRefusal::Malformed(Part::Header))?;
-    let (questions, place) = questions_at(alloc, bytes, HEADER_END, counts.questions).map_err(
-        |refusal| refusal.of_part(Part::Questions),
+    let (questions, place) = question_section_at(alloc, bytes, HEADER_END, counts.questions)?;
+    let (answers, place) = record_section_at(alloc, bytes, place, counts.answers, Part::Answers)?;
+    let (authority, place) = record_section_at(
+        alloc,
+        bytes,
+        place,
+        counts.authority,
+        Part::Authority,
     )?;
-    let (answers, place) = records_at(alloc, bytes, place, counts.answers).map_err(
-        |refusal| refusal.of_part(Part::Answers),
-    )?;
-    let (authority, place) = records_at(alloc, bytes, place, counts.authority).map_err(
-        |refusal| refusal.of_part(Part::Authority),
-    )?;
-    let (additional, _) = records_at(alloc, bytes, place, counts.additional).map_err(
-        |refusal| refusal.of_part(Part::Additional),
+    let (additional, _) = record_section_at(
+        alloc,
+        bytes,
+        place,
+        counts.additional,
+        Part::Additional,
     )?;
     Ok(Message {
         header,
-        questions: Section::from_vec(questions),
-        answers: Section::from_vec(answers),
-        authority: Section::from_vec(authority),
-        additional: Section::from_vec(additional),
+        questions,
+        answers,
+        authority,
+        additional,
     })
 }

@@ -1,12 +1,14 @@
 //! Questions (RFC 1035 4.1.2).
-ghost use Rattle.std.specs.Prelude.{◌≡◌, ℕ, List, length, IfOk, MatchResult};
+ghost use Rattle.std.specs.Prelude.{◌≡◌, ℕ, List, length, IfOk, IfErr, MatchResult};
 ghost use Rattle.dns_message.specs.Questions.{QuestionAt};
 ghost use Rattle.dns_message.specs.Places.{AllAt};
+ghost use Rattle.dns_message.specs.Refusals.{IsOfPart};
 ghost use Rattle.dns_message.specs.declared.question.Asked as asked;
 
 use crate::kind::Kind;
 use crate::number::u16_at;
-use crate::refusal::EntryRefusal;
+use crate::refusal::{EntryRefusal, MessageRefusal, Part};
+use crate::section::Section;
 use dns_name::{Name, name_rests_before_its_end, one_name_at_a_place, read_name};
 use std::alloc::{AllocError, Global};
 
@@ -64,7 +66,7 @@ fn question_at(alloc: Global, bytes: &[u8], place: usize) -> Result<(Asked, usiz
 }
 
 /// Reads so many questions from a place on, and gives the place after them.
-pub(crate) fn questions_at(
+fn questions_at(
     alloc: Global,
     bytes: &[u8],
     place: usize,
@@ -83,4 +85,22 @@ pub(crate) fn questions_at(
         place = after;
     }
     Ok((questions, place))
+}
+
+/// Reads the section of so many questions, and gives the place after it.
+pub(crate) fn question_section_at(
+    alloc: Global,
+    bytes: &[u8],
+    place: usize,
+    count: u16,
+) -> Result<(Section<Asked>, usize), MessageRefusal>
+    ensures found { IfOk result (λ found. AllAt (QuestionAt bytes.now) place found.0 found.1 × (length found.0 ≡ count)) }
+    ensures read { (questions : List asked.Asked) (end : ℕ) → AllAt (QuestionAt bytes.now) place questions end → length questions ≡ count
+        → MatchResult result (λ found. (found.0 ≡ questions) × (found.1 ≡ end)) (λ refusal. refusal ≡ MessageRefusal.Memory) }
+    ensures refused { IfErr result (λ refusal. IsOfPart refusal Part.Questions) }
+{
+    match questions_at(alloc, bytes, place, count) {
+        Ok((questions, after)) => Ok((Section::from_vec(questions), after)),
+        Err(refusal) => Err(refusal.of_part(Part::Questions)),
+    }
 }

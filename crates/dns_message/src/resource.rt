@@ -1,12 +1,14 @@
 //! Resource records (RFC 1035 4.1.3).
-ghost use Rattle.std.specs.Prelude.{◌≡◌, ◌+◌, ◌<◌, ◌≤◌, ℕ, List, length, IfOk, MatchOption, MatchResult};
+ghost use Rattle.std.specs.Prelude.{◌≡◌, ◌+◌, ◌<◌, ◌≤◌, ℕ, List, length, IfOk, IfErr, MatchOption, MatchResult};
 ghost use Rattle.dns_message.specs.Places.{AllAt};
+ghost use Rattle.dns_message.specs.Refusals.{IsOfPart};
 ghost use Rattle.dns_message.specs.Records.{FixedAt, RecordAt};
 ghost use Rattle.dns_message.specs.declared.resource.Record as resource;
 
 use crate::number::{u16_at, u32_at};
 use crate::rdata::{Rdata, rdata_at};
-use crate::refusal::EntryRefusal;
+use crate::refusal::{EntryRefusal, MessageRefusal, Part};
+use crate::section::Section;
 use dns_name::{Name, name_rests_before_its_end, one_name_at_a_place, read_name};
 use std::alloc::Global;
 
@@ -67,7 +69,7 @@ fn record_at(alloc: Global, bytes: &[u8], place: usize) -> Result<(Record, usize
 }
 
 /// Reads so many records from a place on, and gives the place after them.
-pub(crate) fn records_at(
+fn records_at(
     alloc: Global,
     bytes: &[u8],
     place: usize,
@@ -87,4 +89,23 @@ pub(crate) fn records_at(
         place = after;
     }
     Ok((records, place))
+}
+
+/// Reads the section of so many records, as this part of the message, and gives the place after it.
+pub(crate) fn record_section_at(
+    alloc: Global,
+    bytes: &[u8],
+    place: usize,
+    count: u16,
+    part: Part,
+) -> Result<(Section<Record>, usize), MessageRefusal>
+    ensures found { IfOk result (λ found. AllAt (RecordAt bytes.now) place found.0 found.1 × (length found.0 ≡ count)) }
+    ensures read { (entries : List resource.Record) (end : ℕ) → AllAt (RecordAt bytes.now) place entries end → length entries ≡ count
+        → MatchResult result (λ found. (found.0 ≡ entries) × (found.1 ≡ end)) (λ refusal. refusal ≡ MessageRefusal.Memory) }
+    ensures refused { IfErr result (λ refusal. IsOfPart refusal part) }
+{
+    match records_at(alloc, bytes, place, count) {
+        Ok((records, after)) => Ok((Section::from_vec(records), after)),
+        Err(refusal) => Err(refusal.of_part(part)),
+    }
 }

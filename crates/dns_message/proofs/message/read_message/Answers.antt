@@ -1,0 +1,91 @@
+use Rattle.std.proofs.Common.{ℕ, length, take, ◌∙◌}
+use Rattle.std.proofs.lemmas.Result.{err_from_is_err_and}
+use Rattle.dns_message.specs.Headers.{HeaderAt, CountsAt}
+use Rattle.dns_message.specs.Messages.{MessageAt, Spells}
+use Rattle.dns_message.specs.declared.message.Message.{Message}
+use Rattle.dns_message.proofs.Messages.{IsCounted, counted, CountsAt-counted, one_message, MessageAt-whole, MessageAt-within, Spells-front}
+use Rattle.dns_message.proofs.message.read_message.Goals as goal
+use Rattle.dns_message.proofs.message.read_message.Goals.{In_ok-header, In_ok-additional}
+
+header : (c : In_ok-header) → HeaderAt c.args.bytes.now c.in_ok-header.header × CountsAt c.args.bytes.now c.in_ok-header.counts
+header c = rw c.in_ok-header.ensures.ok_part at c.header_at.ensures
+
+-- what is said to stand in front of the octets stands there, with the counts that were read
+whole : (c : In_ok-header) (found : Message) (end : ℕ) → Spells (take end c.args.bytes.now) found → MessageAt c.args.bytes.now found (length (take end c.args.bytes.now)) × IsCounted c.in_ok-header.counts found
+whole c found end spelled =
+    let there = MessageAt-whole c.name_rests_before_its_end.ensures.within c.name_rests_before_its_end.ensures.local c.args.bytes.now found end spelled in
+    (there, counted c.args.bytes.now c.in_ok-header.counts found _ (header c).1 there)
+
+abbrev message_read : In_ok-additional → Message
+message_read c = record {
+  header = c.in_ok-header.header;
+  questions = c.in_ok-questions.questions;
+  answers = c.in_ok-answers.answers;
+  authority = c.in_ok-authority.authority;
+  additional = c.in_ok-additional.additional;
+}
+
+-- what was read stands there
+this : (c : In_ok-additional) → HeaderAt c.args.bytes.now c.in_ok-header.header × CountsAt c.args.bytes.now c.in_ok-header.counts → MessageAt c.args.bytes.now (message_read c) c.in_ok-additional.field-0-1
+this c read =
+    let questions = c.in_ok-questions.ensures.found in
+    let answers = c.in_ok-answers.ensures.found in
+    let authority = c.in_ok-authority.ensures.found in
+    let additional = c.in_ok-additional.ensures.found in
+    record {
+      header = read.0;
+      counts = CountsAt-counted c.args.bytes.now c.in_ok-header.counts (message_read c) read.1 (record { questions = questions.1; answers = answers.1; authority = authority.1; additional = additional.1 });
+      answers_start = c.in_ok-questions.place;
+      authority_start = c.in_ok-answers.place;
+      additional_start = c.in_ok-authority.place;
+      questions = questions.0;
+      answers = answers.0;
+      authority = authority.0;
+      additional = additional.0;
+    }
+
+pub returns-clause-found : goal.returns-clause-found
+returns-clause-found c =
+    let at = goal.at.returns-clause-found c in
+    let laws = c.name_rests_before_its_end.ensures in
+    let end : ℕ = c.in_ok-additional.field-0-1 in
+    let read = this at.In_ok-additional (header at.In_ok-header) in
+    let within = MessageAt-within c.args.bytes.now (message_read at.In_ok-additional) end read in
+    (end, within, Spells-front laws.within laws.local c.args.bytes.now (message_read at.In_ok-additional) end within read)
+
+pub returns-clause-read : goal.returns-clause-read
+returns-clause-read c = λ end found spelled short.
+    let at = goal.at.returns-clause-read c in
+    one_message c.one_name_at_a_place.ensures c.args.bytes.now (message_read at.In_ok-additional) found c.in_ok-additional.field-0-1 (length (take end c.args.bytes.now)) (this at.In_ok-additional (header at.In_ok-header)) (whole at.In_ok-header found end spelled).0
+
+-- ---- where reading stops, it stops for want of memory
+
+pub returns-in_err-questions-clause-read : goal.returns-in_err-questions-clause-read
+returns-in_err-questions-clause-read c = λ end found spelled short.
+    let w = whole (goal.at.returns-in_err-questions-clause-read c).In_ok-header found end spelled in
+    let p = err_from_is_err_and c.from_residual-in_err-questions.result c.from_residual-in_err-questions.ensures.1 in
+    rw p.1 (p.2 ∙ c.in_err-questions.ensures.read found.questions w.0.answers_start w.0.questions w.1.questions)
+
+pub returns-in_err-answers-clause-read : goal.returns-in_err-answers-clause-read
+returns-in_err-answers-clause-read c = λ end found spelled short.
+    let w = whole (goal.at.returns-in_err-answers-clause-read c).In_ok-header found end spelled in
+    let e0 = c.in_ok-questions.ensures.read found.questions w.0.answers_start w.0.questions w.1.questions in
+    let p = err_from_is_err_and c.from_residual-in_err-answers.result c.from_residual-in_err-answers.ensures.1 in
+    rw p.1 (p.2 ∙ c.in_err-answers.ensures.read found.answers w.0.authority_start (rw e0.1 w.0.answers) w.1.answers)
+
+pub returns-in_err-authority-clause-read : goal.returns-in_err-authority-clause-read
+returns-in_err-authority-clause-read c = λ end found spelled short.
+    let w = whole (goal.at.returns-in_err-authority-clause-read c).In_ok-header found end spelled in
+    let e0 = c.in_ok-questions.ensures.read found.questions w.0.answers_start w.0.questions w.1.questions in
+    let e1 = c.in_ok-answers.ensures.read found.answers w.0.authority_start (rw e0.1 w.0.answers) w.1.answers in
+    let p = err_from_is_err_and c.from_residual-in_err-authority.result c.from_residual-in_err-authority.ensures.1 in
+    rw p.1 (p.2 ∙ c.in_err-authority.ensures.read found.authority w.0.additional_start (rw e1.1 w.0.authority) w.1.authority)
+
+pub returns-in_err-additional-clause-read : goal.returns-in_err-additional-clause-read
+returns-in_err-additional-clause-read c = λ end found spelled short.
+    let w = whole (goal.at.returns-in_err-additional-clause-read c).In_ok-header found end spelled in
+    let e0 = c.in_ok-questions.ensures.read found.questions w.0.answers_start w.0.questions w.1.questions in
+    let e1 = c.in_ok-answers.ensures.read found.answers w.0.authority_start (rw e0.1 w.0.answers) w.1.answers in
+    let e2 = c.in_ok-authority.ensures.read found.authority w.0.additional_start (rw e1.1 w.0.authority) w.1.authority in
+    let p = err_from_is_err_and c.from_residual-in_err-additional.result c.from_residual-in_err-additional.ensures.1 in
+    rw p.1 (p.2 ∙ c.in_err-additional.ensures.read found.additional (length (take end c.args.bytes.now)) (rw e2.1 w.0.additional) w.1.additional)
