@@ -1,31 +1,36 @@
 -- A resource record of a message (RFC 1035 4.1.3).
-use Rattle.std.specs.Prelude.{◌≡◌, ℕ, ◌+◌, List, length}
+use Rattle.std.specs.Prelude.{◌≡◌, ℕ, ◌+◌, ◌≤◌, List, length}
 use Rattle.std.specs.Int.{w16, w32}
 use Rattle.dns_name.specs.Places.{NameAt}
 use Rattle.dns_message.specs.Places.{NumberAt, OctetsAt}
-use Rattle.dns_message.specs.Data.{OtherOctets, CanBeOther}
+use Rattle.dns_message.specs.Data.{data_format}
+use Rattle.dns_message.specs.declared.rdata.DataFormat.{DataFormat}
+use Rattle.dns_message.specs.declared.rdata.DataFormat.TheVariants as format
 use Rattle.dns_message.specs.declared.rdata.Rdata.{Rdata}
 use Rattle.dns_message.specs.declared.rdata.Rdata.TheVariants.{Addr4, Other}
 use Rattle.dns_message.specs.declared.resource.Record.{Record}
 
--- type A in class IN: four octets
-pub record AddressAt (message : List ℕ) (place code class_code : ℕ) (address : List ℕ) (end : ℕ) : Type 0 where
-  pub code-is : code ≡ 1
-  pub class_code-is : class_code ≡ 1
+-- A: the four octets of an address
+pub record AddressAt (message : List ℕ) (place : ℕ) (rdata : Rdata) (end : ℕ) : Type 0 where
+  pub address : List ℕ
+  pub is : rdata ≡ Addr4 address
   pub four : length address ≡ 4
-  pub octets : OctetsAt message place address end
+  pub stands : OctetsAt message place address end
 
--- any other type or class: the octets as they stand
-pub record OtherAt (message : List ℕ) (place code class_code : ℕ) (other : OtherOctets) (end : ℕ) : Type 0 where
-  pub code-is : code ≡ other.code
-  pub class_code-is : class_code ≡ other.class_code
-  pub can : CanBeOther other.code other.class_code other.octets
-  pub octets : OctetsAt message place other.octets end
+-- of any other type or class: the octets as they stand
+pub record OtherAt (message : List ℕ) (place code class_code : ℕ) (rdata : Rdata) (end : ℕ) : Type 0 where
+  pub octets : List ℕ
+  pub is : rdata ≡ Other (record { code = code; class_code = class_code; octets = octets })
+  pub short : length octets ≤ 65535
+  pub stands : OctetsAt message place octets end
+
+abbrev pub FormatAt : DataFormat → List ℕ → ℕ → ℕ → ℕ → Rdata → ℕ → Type 0
+FormatAt format.A message place code class_code rdata end = AddressAt message place rdata end
+FormatAt format.Other message place code class_code rdata end = OtherAt message place code class_code rdata end
 
 -- RDATA of this type and class stands from a place to another
 abbrev pub RdataAt : List ℕ → ℕ → ℕ → ℕ → Rdata → ℕ → Type 0
-RdataAt message place code class_code (Addr4 address) end = AddressAt message place code class_code address end
-RdataAt message place code class_code (Other other) end = OtherAt message place code class_code other end
+RdataAt message place code class_code rdata end = FormatAt (data_format code class_code) message place code class_code rdata end
 
 -- TYPE, CLASS, TTL and RDLENGTH stand at a place
 pub record FixedAt (message : List ℕ) (place code class_code ttl size : ℕ) : Type 0 where

@@ -1,6 +1,7 @@
 //! The data of records (RFC 1035 3.2.1, 3.3, 3.4).
 ghost use Rattle.std.specs.Prelude.{◌≡◌, ◌↔◌, ◌≤◌, ℕ, List, length, IsSome, IfSome, IfOk, MatchResult};
-ghost use Rattle.dns_message.specs.Data.{is_known, CanBeOther};
+ghost use Rattle.dns_message.specs.Data.{CanBeOther};
+ghost use Rattle.dns_message.specs.Data as spec;
 ghost use Rattle.dns_message.specs.Records.{RdataAt};
 ghost use Rattle.dns_message.specs.declared.rdata.Rdata as rdata;
 
@@ -44,11 +45,21 @@ impl Model for OtherData {
     ghost invariant = { λ other. CanBeOther other.code other.class_code other.octets.items };
 }
 
-/// Whether a type has a variant of its own in a class.
-fn has_variant(code: u16, class_code: u16) -> bool
-    ensures { result ≡ is_known code class_code }
+/// How data is laid out.
+#[derive(Clone, Copy)]
+enum DataFormat {
+    A,
+    Other,
+}
+
+/// How the data of a type and class is laid out.
+fn data_format(code: u16, class_code: u16) -> DataFormat
+    ensures { result ≡ spec.data_format code class_code }
 {
-    class_code == CLASS_IN && code == TYPE_A
+    match (class_code, code) {
+        (CLASS_IN, TYPE_A) => DataFormat::A,
+        _ => DataFormat::Other,
+    }
 }
 
 impl OtherData {
@@ -57,14 +68,14 @@ impl OtherData {
         ensures made { IsSome result ↔ CanBeOther code class_code octets.items }
         ensures is { IfSome result (λ other. other ≡ record { code = code; class_code = class_code; octets = octets.items }) }
     {
-        if has_variant(code, class_code) || octets.len() > DATA_LIMIT {
-            return None;
+        match data_format(code, class_code) {
+            DataFormat::Other if octets.len() <= DATA_LIMIT => Some(OtherData {
+                code,
+                class_code,
+                octets,
+            }),
+            _ => None,
         }
-        Some(OtherData {
-            code,
-            class_code,
-            octets,
-        })
     }
 
     /// The number of its type.
@@ -104,12 +115,12 @@ pub(crate) fn rdata_at(
         → MatchResult result (λ found. found ≡ data') (λ refusal. refusal ≡ EntryRefusal.Memory) }
 {
     let octets = bytes.get(place..end).ok_or(EntryRefusal::Malformed)?;
-    match (class_code, code) {
-        (CLASS_IN, TYPE_A) => match octets {
+    match data_format(code, class_code) {
+        DataFormat::A => match octets {
             [first, second, third, fourth] => Ok(Rdata::Addr4([*first, *second, *third, *fourth])),
             _ => Err(EntryRefusal::Malformed),
         },
-        _ => {
+        DataFormat::Other => {
             let octets = Vec::from_slice(alloc, octets)?;
             OtherData::new(code, class_code, octets)
                 .map(Rdata::Other)

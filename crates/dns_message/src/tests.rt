@@ -17,10 +17,11 @@ const A_EXAMPLE: &[u8] = b"\x01a\x07example\x00";
 
 /// Octets with some of them changed.
 fn changed(alloc: Global, octets: &[u8], at: usize, to: &[u8]) -> Result<Vec<u8>, Fail> {
-    let mut all = Vec::from_slice(alloc, octets)?;
-    for (index, octet) in to.iter().enumerate() {
-        all.as_mut_slice()[at + index] = *octet;
-    }
+    let (front, behind) = octets.split_at_checked(at).ok_or("past the end")?;
+    let behind = behind.get(to.len()..).ok_or("past the end")?;
+    let mut all = Vec::from_slice(alloc, front)?;
+    all.extend_from_slice(to)?;
+    all.extend_from_slice(behind)?;
     Ok(all)
 }
 
