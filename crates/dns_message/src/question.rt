@@ -13,7 +13,7 @@ use dns_name::{Name, name_rests_before_its_end, one_name_at_a_place, read_name};
 use std::alloc::{AllocError, Global};
 
 /// A question to ask, in class IN.
-#[derive(Debug, Drop)]
+#[derive(Debug, PartialEq, Eq, Drop)]
 pub struct Question {
     /// The name of which it is asked.
     pub name: Name,
@@ -34,7 +34,7 @@ impl Question {
 }
 
 /// A question as a message has it.
-#[derive(Debug, Drop)]
+#[derive(Debug, PartialEq, Eq, Drop)]
 pub struct Asked {
     /// QNAME: the name of which it is asked.
     pub name: Name,

@@ -276,6 +276,18 @@ fn other_data(rt: HostRuntime) -> Result<(), Fail> {
 }
 
 #[test]
+fn sections(rt: HostRuntime) -> Result<(), Fail> {
+    let items = vec![in rt.alloc(); 3u8, 1, 2]?;
+    let section = Section::from_vec(items);
+    assert_eq!(rt; section.as_slice(), [3, 1, 2].as_slice());
+    assert_eq!(rt; section.len(), 3);
+    assert!(rt; !section.is_empty());
+    let items: Vec<u8> = section.into_vec();
+    assert_eq!(rt; items.as_slice(), [3, 1, 2].as_slice());
+    Ok(())
+}
+
+#[test]
 fn kinds(rt: HostRuntime) -> Result<(), Fail> {
     let rows = [
         (Kind::A, 1u16),
@@ -287,8 +299,7 @@ fn kinds(rt: HostRuntime) -> Result<(), Fail> {
         let name = Name::from_text(rt.alloc(), "a.example")?;
         let question = Question { name, kind };
         let copy = question.try_clone()?;
-        assert_eq!(rt; copy.kind, kind);
-        assert!(rt; copy.name == question.name);
+        assert!(rt; copy == question);
         assert_eq!(rt; copy.kind.code(), code);
     }
     Ok(())
