@@ -31,10 +31,10 @@ same_message a b e0 e1 e2 e3 e4 =
 
 pub one_message : OneName → (octets : List ℕ) (a b : Message) (end end' : ℕ) → MessageAt octets a end → MessageAt octets b end' → a ≡ b
 one_message one octets a b end end' x y =
-    let questions = AllAt-one (QuestionAt octets) (one_question one octets) 12 x.answers_start y.answers_start a.questions b.questions x.questions y.questions (one_number w16 octets 4 (length a.questions) (length b.questions) x.counts.questions y.counts.questions) in
-    let answers = AllAt-one (RecordAt octets) (one_record one octets) y.answers_start x.authority_start y.authority_start a.answers b.answers (rw questions.1 at x.answers) y.answers (one_number w16 octets 6 (length a.answers) (length b.answers) x.counts.answers y.counts.answers) in
-    let authority = AllAt-one (RecordAt octets) (one_record one octets) y.authority_start x.additional_start y.additional_start a.authority b.authority (rw answers.1 at x.authority) y.authority (one_number w16 octets 8 (length a.authority) (length b.authority) x.counts.authority y.counts.authority) in
-    let additional = AllAt-one (RecordAt octets) (one_record one octets) y.additional_start end end' a.additional b.additional (rw authority.1 at x.additional) y.additional (one_number w16 octets 10 (length a.additional) (length b.additional) x.counts.additional y.counts.additional) in
+    let questions = AllAt-one (QuestionAt octets) (one_question one octets) 12 x.answers_start y.answers_start a.questions b.questions x.questions y.questions (one_number w16 octets 4 (length a.questions) (length b.questions) x.question_count y.question_count) in
+    let answers = AllAt-one (RecordAt octets) (one_record one octets) y.answers_start x.authority_start y.authority_start a.answers b.answers (rw questions.1 at x.answers) y.answers (one_number w16 octets 6 (length a.answers) (length b.answers) x.answer_count y.answer_count) in
+    let authority = AllAt-one (RecordAt octets) (one_record one octets) y.authority_start x.additional_start y.additional_start a.authority b.authority (rw answers.1 at x.authority) y.authority (one_number w16 octets 8 (length a.authority) (length b.authority) x.authority_count y.authority_count) in
+    let additional = AllAt-one (RecordAt octets) (one_record one octets) y.additional_start end end' a.additional b.additional (rw authority.1 at x.additional) y.additional (one_number w16 octets 10 (length a.additional) (length b.additional) x.additional_count y.additional_count) in
     same_message a b (one_header_at octets a.header b.header x.header y.header) questions.0 answers.0 authority.0 additional.0
 
 -- ---- the header's counts and the message's
@@ -47,19 +47,10 @@ pub record IsCounted (counts : Counts) (a : Message) : Type 0 where
 
 pub counted : (octets : List ℕ) (counts : Counts) (a : Message) (end : ℕ) → CountsAt octets counts → MessageAt octets a end → IsCounted counts a
 counted octets counts a end at x = record {
-  questions = one_number w16 octets 4 (length a.questions) counts.questions x.counts.questions at.questions;
-  answers = one_number w16 octets 6 (length a.answers) counts.answers x.counts.answers at.answers;
-  authority = one_number w16 octets 8 (length a.authority) counts.authority x.counts.authority at.authority;
-  additional = one_number w16 octets 10 (length a.additional) counts.additional x.counts.additional at.additional;
-}
-
-pub CountsAt-counted : (octets : List ℕ) (counts : Counts) (a : Message) → CountsAt octets counts → IsCounted counts a
-    → CountsAt octets (record { questions = length a.questions; answers = length a.answers; authority = length a.authority; additional = length a.additional })
-CountsAt-counted octets counts a at n = record {
-  questions = rw n.questions at.questions;
-  answers = rw n.answers at.answers;
-  authority = rw n.authority at.authority;
-  additional = rw n.additional at.additional;
+  questions = one_number w16 octets 4 (length a.questions) counts.questions x.question_count at.questions;
+  answers = one_number w16 octets 6 (length a.answers) counts.answers x.answer_count at.answers;
+  authority = one_number w16 octets 8 (length a.authority) counts.authority x.authority_count at.authority;
+  additional = one_number w16 octets 10 (length a.additional) counts.additional x.additional_count at.additional;
 }
 
 -- ---- the octets before its end are enough
@@ -75,14 +66,6 @@ HeaderAt-other octets other limit a same le x = record {
   low = rw (← index-other octets other limit 3 same (omega (arith, le))) x.low;
 }
 
-CountsAt-other : (octets other : List ℕ) (limit : ℕ) (counts : Counts) → take limit octets ≡ take limit other → 12 ≤ limit → CountsAt octets counts → CountsAt other counts
-CountsAt-other octets other limit counts same le x = record {
-  questions = NumberAt-other w16 octets other limit 4 counts.questions same (omega (arith, le)) x.questions;
-  answers = NumberAt-other w16 octets other limit 6 counts.answers same (omega (arith, le)) x.answers;
-  authority = NumberAt-other w16 octets other limit 8 counts.authority same (omega (arith, le)) x.authority;
-  additional = NumberAt-other w16 octets other limit 10 counts.additional same (omega (arith, le)) x.additional;
-}
-
 pub MessageAt-other : WithinEnd → IsLocal → (octets other : List ℕ) (limit : ℕ) (a : Message) (end : ℕ) → take limit octets ≡ take limit other → end ≤ limit → MessageAt octets a end → MessageAt other a end
 MessageAt-other within local octets other limit a end same le x =
     let questions_on = question_goes_on within octets in
@@ -94,7 +77,10 @@ MessageAt-other within local octets other limit a end same le x =
     let move = RecordAt-other local octets other limit same in
     record {
       header = HeaderAt-other octets other limit a.header same (omega arith) x.header;
-      counts = CountsAt-other octets other limit _ same (omega arith) x.counts;
+      question_count = NumberAt-other w16 octets other limit 4 (length a.questions) same (omega arith) x.question_count;
+      answer_count = NumberAt-other w16 octets other limit 6 (length a.answers) same (omega arith) x.answer_count;
+      authority_count = NumberAt-other w16 octets other limit 8 (length a.authority) same (omega arith) x.authority_count;
+      additional_count = NumberAt-other w16 octets other limit 10 (length a.additional) same (omega arith) x.additional_count;
       answers_start = x.answers_start;
       authority_start = x.authority_start;
       additional_start = x.additional_start;
@@ -110,7 +96,7 @@ MessageAt-goes_on within octets a end x =
 
 pub MessageAt-within : (octets : List ℕ) (a : Message) (end : ℕ) → MessageAt octets a end → end ≤ length octets
 MessageAt-within octets a end x =
-    let le0 = AllAt-within (QuestionAt octets) (length octets) (question_within octets) x.questions (omega (arith, x.counts.additional.within)) in
+    let le0 = AllAt-within (QuestionAt octets) (length octets) (question_within octets) x.questions (omega (arith, x.additional_count.within)) in
     let le1 = AllAt-within (RecordAt octets) (length octets) (record_within octets) x.answers le0 in
     let le2 = AllAt-within (RecordAt octets) (length octets) (record_within octets) x.authority le1 in
     AllAt-within (RecordAt octets) (length octets) (record_within octets) x.additional le2

@@ -12,7 +12,8 @@ bit false = 0
 -- the octet of QR, OPCODE, AA, TC and RD, from the highest bit down
 pub record HighFlags (octet : ℕ) (header : Header) : Type 0 where
   pub opcode : header.opcode < 16
-  pub is : octet ≡ 128 * bit header.reply + 8 * header.opcode + 4 * bit header.authoritative + 2 * bit header.truncated + bit header.recursion_desired
+  pub is : octet ≡ 128 * bit header.reply + 8 * header.opcode + 4 * bit header.authoritative
+      + 2 * bit header.truncated + bit header.recursion_desired
 
 -- the octet of RA, the three bits of Z, which mean nothing, and RCODE
 pub record LowFlags (octet : ℕ) (header : Header) : Type 0 where

@@ -16,4 +16,5 @@ pub record OctetsAt (message : List ℕ) (place : ℕ) (octets : List ℕ) (end 
 -- what stands one after the other from a place to another
 pub data AllAt {X : Type 0} (At : ℕ → X → ℕ → Type 0) : ℕ → List X → ℕ → Type 0 where
   none : {place end : ℕ} → end ≡ place → AllAt At place [] end
-  next : {place end : ℕ} {first : X} {others : List X} (after : ℕ) → At place first after → AllAt At after others end → AllAt At place (first ∷ others) end
+  next : {place end : ℕ} {first : X} {others : List X} (after : ℕ) → At place first after → AllAt At after others end
+      → AllAt At place (first ∷ others) end

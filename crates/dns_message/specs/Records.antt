@@ -30,7 +30,8 @@ FormatAt format.Other message place code class_code rdata end = OtherAt message 
 
 -- RDATA of this type and class stands from a place to another
 abbrev pub RdataAt : List ℕ → ℕ → ℕ → ℕ → Rdata → ℕ → Type 0
-RdataAt message place code class_code rdata end = FormatAt (data_format code class_code) message place code class_code rdata end
+RdataAt message place code class_code rdata end =
+    FormatAt (data_format code class_code) message place code class_code rdata end
 
 -- TYPE, CLASS, TTL and RDLENGTH stand at a place
 pub record FixedAt (message : List ℕ) (place code class_code ttl size : ℕ) : Type 0 where

@@ -67,7 +67,8 @@ fn counts_at(bytes: &[u8]) -> Option<Counts>
 
 /// The header, in the first 12 octets.
 pub(crate) fn header_at(bytes: &[u8]) -> Option<(Header, Counts)>
-    ensures { MatchOption result (length bytes.now < 12) (λ found. HeaderAt bytes.now found.0 × CountsAt bytes.now found.1) }
+    ensures { MatchOption result (length bytes.now < 12)
+        (λ found. HeaderAt bytes.now found.0 × CountsAt bytes.now found.1) }
 {
     Some((flags_at(bytes)?, counts_at(bytes)?))
 }

@@ -7,7 +7,8 @@ use dns_name::{name_rests_before_its_end, one_name_at_a_place};
 
 /// In front of octets stands at most one message.
 pub fn one_message_in_front()
-    ensures { (bytes : List ℕ) (end end' : ℕ) (message message' : Message) → Spells (take end bytes) message → Spells (take end' bytes) message' → message ≡ message' }
+    ensures { (bytes : List ℕ) (end end' : ℕ) (message message' : Message) → Spells (take end bytes) message
+        → Spells (take end' bytes) message' → message ≡ message' }
 {
     one_name_at_a_place();
     name_rests_before_its_end();

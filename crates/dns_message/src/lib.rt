@@ -1,4 +1,18 @@
 //! DNS messages (RFC 1035 section 4).
+//!
+//! A message is read where octets begin with one, and nothing else is taken for one: octets begin with at most one
+//! message, and `read_message` gives that one, with each name spelled out, or says in which part of the octets there
+//! is none. It gives up for want of memory alone, and takes memory only for what it has read. Here A records of
+//! class IN have their address; all other data is kept as it stands.
+//!
+//! ```text
+//! let message = read_message(alloc, octets)?;
+//! for record in message.answers.as_slice() {
+//!     if let Rdata::Addr4([a, b, c, d]) = &record.rdata {
+//!         println!(rt; "{a}.{b}.{c}.{d} for {} seconds", record.ttl)?;
+//!     }
+//! }
+//! ```
 #![tactic(auto)]
 
 mod header;
@@ -22,5 +36,7 @@ pub use refusal::{MessageRefusal, Part};
 pub use resource::Record;
 pub use section::Section;
 
+#[cfg(test)]
+mod refusals;
 #[cfg(test)]
 mod tests;

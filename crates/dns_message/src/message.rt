@@ -32,15 +32,18 @@ pub struct Message {
     pub additional: Section<Record>,
 }
 
-/// Reads the message in front of these octets. What stands after its counted questions and records is ignored.
+/// Reads the message in front of these octets. What stands after its counted questions and records
+/// is ignored.
 ///
 /// Memory is taken as questions and records are read, and never for a count of the header.
 pub fn read_message(alloc: Global, bytes: &[u8]) -> Result<Message, MessageRefusal>
     // What is read stands in front of the octets.
-    ensures found { IfOk result (λ found. (end : ℕ) × (end ≤ length bytes.now) × Spells (take end bytes.now) found) }
-    // A message that stands in front of them is read, unless memory is refused: so `Malformed` comes only where
-    // none does.
-    ensures read { (end : ℕ) (found : message.Message) → Spells (take end bytes.now) found → length bytes.now ≤ 65535
+    ensures found { IfOk result (λ found.
+        (end : ℕ) × (end ≤ length bytes.now) × Spells (take end bytes.now) found) }
+    // A message that stands in front of them is read, unless memory is refused: so `Malformed` comes
+    // only where none does.
+    ensures read { (end : ℕ) (found : message.Message) → Spells (take end bytes.now) found
+        → length bytes.now ≤ 65535
         → MatchResult result (λ found'. found' ≡ found) (λ refusal. refusal ≡ MessageRefusal.Memory) }
     ensures too_long { (result ≡ Err MessageRefusal.TooLong) ↔ (65535 < length bytes.now) }
 {

@@ -48,7 +48,8 @@ pub struct Asked {
 fn question_at(alloc: Global, bytes: &[u8], place: usize) -> Result<(Asked, usize), EntryRefusal>
     ensures found { IfOk result (λ found. QuestionAt bytes.now place found.0 found.1) }
     ensures read { (question : asked.Asked) (end : ℕ) → QuestionAt bytes.now place question end
-        → MatchResult result (λ found. (found.0 ≡ question) × (found.1 ≡ end)) (λ refusal. refusal ≡ EntryRefusal.Memory) }
+        → MatchResult result (λ found. (found.0 ≡ question) × (found.1 ≡ end))
+        (λ refusal. refusal ≡ EntryRefusal.Memory) }
 {
     name_rests_before_its_end();
     one_name_at_a_place();
@@ -72,9 +73,12 @@ fn questions_at(
     place: usize,
     count: u16,
 ) -> Result<(Vec<Asked>, usize), EntryRefusal>
-    ensures found { IfOk result (λ found. AllAt (QuestionAt bytes.now) place found.0.items found.1 × (length found.0.items ≡ count)) }
-    ensures read { (questions : List asked.Asked) (end : ℕ) → AllAt (QuestionAt bytes.now) place questions end → length questions ≡ count
-        → MatchResult result (λ found. (found.0.items ≡ questions) × (found.1 ≡ end)) (λ refusal. refusal ≡ EntryRefusal.Memory) }
+    ensures found { IfOk result (λ found. AllAt (QuestionAt bytes.now) place found.0.items found.1
+        × (length found.0.items ≡ count)) }
+    ensures read { (questions : List asked.Asked) (end : ℕ) → AllAt (QuestionAt bytes.now) place questions end
+        → length questions ≡ count
+        → MatchResult result (λ found. (found.0.items ≡ questions) × (found.1 ≡ end))
+        (λ refusal. refusal ≡ EntryRefusal.Memory) }
 {
     one_name_at_a_place();
     let mut questions = Vec::new(alloc);
@@ -94,9 +98,12 @@ pub(crate) fn question_section_at(
     place: usize,
     count: u16,
 ) -> Result<(Section<Asked>, usize), MessageRefusal>
-    ensures found { IfOk result (λ found. AllAt (QuestionAt bytes.now) place found.0 found.1 × (length found.0 ≡ count)) }
-    ensures read { (questions : List asked.Asked) (end : ℕ) → AllAt (QuestionAt bytes.now) place questions end → length questions ≡ count
-        → MatchResult result (λ found. (found.0 ≡ questions) × (found.1 ≡ end)) (λ refusal. refusal ≡ MessageRefusal.Memory) }
+    ensures found { IfOk result (λ found. AllAt (QuestionAt bytes.now) place found.0 found.1
+        × (length found.0 ≡ count)) }
+    ensures read { (questions : List asked.Asked) (end : ℕ) → AllAt (QuestionAt bytes.now) place questions end
+        → length questions ≡ count
+        → MatchResult result (λ found. (found.0 ≡ questions) × (found.1 ≡ end))
+        (λ refusal. refusal ≡ MessageRefusal.Memory) }
     ensures refused { IfErr result (λ refusal. IsOfPart refusal Part.Questions) }
 {
     match questions_at(alloc, bytes, place, count) {

@@ -40,7 +40,8 @@ impl Model for OtherData {
 
     ghost Value = { OtherOctets };
 
-    ghost view = { λ other. record { code = other.code; class_code = other.class_code; octets = other.octets.items } };
+    ghost view = { λ other.
+        record { code = other.code; class_code = other.class_code; octets = other.octets.items } };
 
     ghost invariant = { λ other. CanBeOther other.code other.class_code other.octets.items };
 }
@@ -66,7 +67,8 @@ impl OtherData {
     /// Data of a type and class, unless that has a variant of its own or there are more than 65,535 octets.
     pub fn new(code: u16, class_code: u16, octets: Vec<u8>) -> Option<OtherData>
         ensures made { IsSome result ↔ CanBeOther code class_code octets.items }
-        ensures is { IfSome result (λ other. other ≡ record { code = code; class_code = class_code; octets = octets.items }) }
+        ensures is { IfSome result (λ other. other
+            ≡ record { code = code; class_code = class_code; octets = octets.items }) }
     {
         match data_format(code, class_code) {
             DataFormat::Other if octets.len() <= DATA_LIMIT => Some(OtherData {

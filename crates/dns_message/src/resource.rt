@@ -35,7 +35,8 @@ struct Fixed {
 /// These numbers, in ten octets at a place.
 fn fixed_at(bytes: &[u8], place: usize) -> Option<Fixed>
     requires { place ≤ length bytes.now }
-    ensures { MatchOption result (length bytes.now < place + 10) (λ fixed. FixedAt bytes.now place fixed.code fixed.class_code fixed.ttl fixed.size) }
+    ensures { MatchOption result (length bytes.now < place + 10)
+        (λ fixed. FixedAt bytes.now place fixed.code fixed.class_code fixed.ttl fixed.size) }
 {
     Some(Fixed {
         code: u16_at(bytes, place)?,
@@ -49,7 +50,8 @@ fn fixed_at(bytes: &[u8], place: usize) -> Option<Fixed>
 fn record_at(alloc: Global, bytes: &[u8], place: usize) -> Result<(Record, usize), EntryRefusal>
     ensures found { IfOk result (λ found. RecordAt bytes.now place found.0 found.1) }
     ensures read { (entry : resource.Record) (end : ℕ) → RecordAt bytes.now place entry end
-        → MatchResult result (λ found. (found.0 ≡ entry) × (found.1 ≡ end)) (λ refusal. refusal ≡ EntryRefusal.Memory) }
+        → MatchResult result (λ found. (found.0 ≡ entry) × (found.1 ≡ end))
+        (λ refusal. refusal ≡ EntryRefusal.Memory) }
 {
     name_rests_before_its_end();
     one_name_at_a_place();
@@ -75,9 +77,12 @@ fn records_at(
     place: usize,
     count: u16,
 ) -> Result<(Vec<Record>, usize), EntryRefusal>
-    ensures found { IfOk result (λ found. AllAt (RecordAt bytes.now) place found.0.items found.1 × (length found.0.items ≡ count)) }
-    ensures read { (entries : List resource.Record) (end : ℕ) → AllAt (RecordAt bytes.now) place entries end → length entries ≡ count
-        → MatchResult result (λ found. (found.0.items ≡ entries) × (found.1 ≡ end)) (λ refusal. refusal ≡ EntryRefusal.Memory) }
+    ensures found { IfOk result (λ found. AllAt (RecordAt bytes.now) place found.0.items found.1
+        × (length found.0.items ≡ count)) }
+    ensures read { (entries : List resource.Record) (end : ℕ) → AllAt (RecordAt bytes.now) place entries end
+        → length entries ≡ count
+        → MatchResult result (λ found. (found.0.items ≡ entries) × (found.1 ≡ end))
+        (λ refusal. refusal ≡ EntryRefusal.Memory) }
 {
     name_rests_before_its_end();
     one_name_at_a_place();
@@ -99,9 +104,12 @@ pub(crate) fn record_section_at(
     count: u16,
     part: Part,
 ) -> Result<(Section<Record>, usize), MessageRefusal>
-    ensures found { IfOk result (λ found. AllAt (RecordAt bytes.now) place found.0 found.1 × (length found.0 ≡ count)) }
-    ensures read { (entries : List resource.Record) (end : ℕ) → AllAt (RecordAt bytes.now) place entries end → length entries ≡ count
-        → MatchResult result (λ found. (found.0 ≡ entries) × (found.1 ≡ end)) (λ refusal. refusal ≡ MessageRefusal.Memory) }
+    ensures found { IfOk result (λ found. AllAt (RecordAt bytes.now) place found.0 found.1
+        × (length found.0 ≡ count)) }
+    ensures read { (entries : List resource.Record) (end : ℕ) → AllAt (RecordAt bytes.now) place entries end
+        → length entries ≡ count
+        → MatchResult result (λ found. (found.0 ≡ entries) × (found.1 ≡ end))
+        (λ refusal. refusal ≡ MessageRefusal.Memory) }
     ensures refused { IfErr result (λ refusal. IsOfPart refusal part) }
 {
     match records_at(alloc, bytes, place, count) {

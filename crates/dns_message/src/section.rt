@@ -3,8 +3,9 @@ ghost use Rattle.std.specs.Prelude.{◌≡◌, ◌↔◌, List, [], length, IsTr
 
 use std::marker::Model;
 
-/// A section of a message (RFC 1035 4.1): its questions or records in the order of the message. It is made from a
-/// `Vec` and gives it back, and takes no memory for either.
+/// A section of a message (RFC 1035 4.1): its questions or records, in the order of the message.
+///
+/// It is made from a `Vec` and gives it back, and takes no memory for either.
 #[derive(Debug, Drop)]
 pub struct Section<T> {
     items: Vec<T>,
@@ -30,7 +31,8 @@ impl<T> Section<T> {
     pub fn into_vec(self) -> Vec<T>
         ensures { result.items ≡ self }
     {
-        self.items
+        let Section { items } = self;
+        items
     }
 
     /// What is in it.

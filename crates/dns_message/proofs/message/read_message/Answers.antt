@@ -3,7 +3,7 @@ use Rattle.std.proofs.lemmas.Result.{err_from_is_err_and}
 use Rattle.dns_message.specs.Headers.{HeaderAt, CountsAt}
 use Rattle.dns_message.specs.Messages.{MessageAt, Spells}
 use Rattle.dns_message.specs.declared.message.Message.{Message}
-use Rattle.dns_message.proofs.Messages.{IsCounted, counted, CountsAt-counted, one_message, MessageAt-whole, MessageAt-within, Spells-front}
+use Rattle.dns_message.proofs.Messages.{IsCounted, counted, one_message, MessageAt-whole, MessageAt-within, Spells-front}
 use Rattle.dns_message.proofs.message.read_message.Goals as goal
 use Rattle.dns_message.proofs.message.read_message.Goals.{In_ok-header, In_ok-additional}
 
@@ -34,7 +34,10 @@ this c read =
     let additional = c.in_ok-additional.ensures.found in
     record {
       header = read.0;
-      counts = CountsAt-counted c.args.bytes.now c.in_ok-header.counts (message_read c) read.1 (record { questions = questions.1; answers = answers.1; authority = authority.1; additional = additional.1 });
+      question_count = rw questions.1 read.1.questions;
+      answer_count = rw answers.1 read.1.answers;
+      authority_count = rw authority.1 read.1.authority;
+      additional_count = rw additional.1 read.1.additional;
       answers_start = c.in_ok-questions.place;
       authority_start = c.in_ok-answers.place;
       additional_start = c.in_ok-authority.place;
