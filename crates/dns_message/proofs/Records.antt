@@ -51,10 +51,10 @@ pub one_record : OneName → (message : List ℕ) (p end end' : ℕ) (a b : Reco
 one_record one message p end end' a b x y =
     let k = one message p p x.after y.after a.owner b.owner x.owner y.owner in
     let fixed = rw k.1 at x.fixed in
-    let code : x.code ≡ y.code = one_number w16 message y.after x.code y.code fixed.code-at y.fixed.code-at in
-    let class_code : x.class_code ≡ y.class_code = one_number w16 message (y.after + 2) x.class_code y.class_code fixed.class_code-at y.fixed.class_code-at in
-    let ttl : a.ttl ≡ b.ttl = one_number w32 message (y.after + 4) a.ttl b.ttl fixed.ttl-at y.fixed.ttl-at in
-    let size : x.size ≡ y.size = one_number w16 message (y.after + 8) x.size y.size fixed.size-at y.fixed.size-at in
+    let code : x.code ≡ y.code = one_number w16 message y.after x.code y.code fixed.code_at y.fixed.code_at in
+    let class_code : x.class_code ≡ y.class_code = one_number w16 message (y.after + 2) x.class_code y.class_code fixed.class_code_at y.fixed.class_code_at in
+    let ttl : a.ttl ≡ b.ttl = one_number w32 message (y.after + 4) a.ttl b.ttl fixed.ttl_at y.fixed.ttl_at in
+    let size : x.size ≡ y.size = one_number w16 message (y.after + 8) x.size y.size fixed.size_at y.fixed.size_at in
     let ends : end ≡ end' = omega (arith, x.ends, y.ends, k.1, size) in
     let rdata = rw (k.1, code, class_code, ends) at x.rdata in
     (same_record a b k.0 ttl (one_format (data_format y.code y.class_code) message (y.after + 10) y.code y.class_code end' a.rdata b.rdata rdata y.rdata), ends)
@@ -73,10 +73,10 @@ RecordAt-other local message other limit same p end a x le = record {
   size = x.size;
   owner = local message other p x.after a.owner x.owner (take_less message other limit x.after same (omega (arith, x.ends, le)));
   fixed = record {
-    code-at = NumberAt-other w16 message other limit x.after x.code same (omega (arith, x.ends, le)) x.fixed.code-at;
-    class_code-at = NumberAt-other w16 message other limit (x.after + 2) x.class_code same (omega (arith, x.ends, le)) x.fixed.class_code-at;
-    ttl-at = NumberAt-other w32 message other limit (x.after + 4) a.ttl same (omega (arith, x.ends, le)) x.fixed.ttl-at;
-    size-at = NumberAt-other w16 message other limit (x.after + 8) x.size same (omega (arith, x.ends, le)) x.fixed.size-at;
+    code_at = NumberAt-other w16 message other limit x.after x.code same (omega (arith, x.ends, le)) x.fixed.code_at;
+    class_code_at = NumberAt-other w16 message other limit (x.after + 2) x.class_code same (omega (arith, x.ends, le)) x.fixed.class_code_at;
+    ttl_at = NumberAt-other w32 message other limit (x.after + 4) a.ttl same (omega (arith, x.ends, le)) x.fixed.ttl_at;
+    size_at = NumberAt-other w16 message other limit (x.after + 8) x.size same (omega (arith, x.ends, le)) x.fixed.size_at;
   };
   ends = x.ends;
   rdata = FormatAt-other (data_format x.code x.class_code) message other limit same (x.after + 10) x.code x.class_code end a.rdata x.rdata le;

@@ -35,10 +35,10 @@ RdataAt message place code class_code rdata end =
 
 -- TYPE, CLASS, TTL and RDLENGTH stand at a place
 pub record FixedAt (message : List ℕ) (place code class_code ttl size : ℕ) : Type 0 where
-  pub code-at : NumberAt w16 message place code
-  pub class_code-at : NumberAt w16 message (place + 2) class_code
-  pub ttl-at : NumberAt w32 message (place + 4) ttl
-  pub size-at : NumberAt w16 message (place + 8) size
+  pub code_at : NumberAt w16 message place code
+  pub class_code_at : NumberAt w16 message (place + 2) class_code
+  pub ttl_at : NumberAt w32 message (place + 4) ttl
+  pub size_at : NumberAt w16 message (place + 8) size
 
 -- NAME, TYPE, CLASS, TTL, RDLENGTH and RDATA stand from a place to another
 pub record RecordAt (message : List ℕ) (place : ℕ) (entry : Record) (end : ℕ) : Type 0 where

@@ -84,7 +84,6 @@ fn records_at(
         → MatchResult result (λ found. (found.0.items ≡ entries) × (found.1 ≡ end))
         (λ refusal. refusal ≡ EntryRefusal.Memory) }
 {
-    name_rests_before_its_end();
     one_name_at_a_place();
     let mut records = Vec::new(alloc);
     let mut place = place;
