@@ -1,22 +1,21 @@
 -- The two octets of flags, and what they say.
-use Rattle.std.proofs.Common.{◌≡◌, ℕ, ◌+◌, ◌*◌, ◌/◌, ◌%◌, ◌<◌, Bool, true, false, nat_eq, refl, arith}
-use lib.Dec.{leb}
+use Rattle.std.proofs.Common.{◌≡◌, ℕ, ◌+◌, ◌*◌, ◌/◌, ◌%◌, ◌<◌, Bool, true, false, nat_eq, nat_le, refl, arith}
 use Rattle.std.proofs.lemmas.Bool.Decides.{nat_tests}
 use Rattle.dns_message.specs.Headers.{bit, HighFlags, LowFlags}
 use Rattle.dns_message.specs.declared.header.Header.{Header}
 
 -- ---- an octet is made of what is read from it
 
-bit-top : (octet : ℕ) → octet < 256 → bit (leb 128 octet) ≡ octet / 128
+bit-top : (octet : ℕ) → octet < 256 → bit (nat_le 128 octet) ≡ octet / 128
 bit-top octet fits = grind (arith, nat_tests)
 
 bit-odd : (n : ℕ) → bit (nat_eq (n % 2) 1) ≡ n % 2
 bit-odd n = grind (arith, nat_tests)
 
-pub high_octet : (octet : ℕ) → octet < 256 → octet ≡ 128 * bit (leb 128 octet) + 8 * (octet / 8 % 16) + 4 * bit (nat_eq (octet / 4 % 2) 1) + 2 * bit (nat_eq (octet / 2 % 2) 1) + bit (nat_eq (octet % 2) 1)
+pub high_octet : (octet : ℕ) → octet < 256 → octet ≡ 128 * bit (nat_le 128 octet) + 8 * (octet / 8 % 16) + 4 * bit (nat_eq (octet / 4 % 2) 1) + 2 * bit (nat_eq (octet / 2 % 2) 1) + bit (nat_eq (octet % 2) 1)
 high_octet octet fits = omega (arith, bit-top octet fits, bit-odd (octet / 4), bit-odd (octet / 2), bit-odd octet)
 
-pub low_octet : (octet : ℕ) → octet < 256 → octet ≡ 128 * bit (leb 128 octet) + 16 * (octet / 16 % 8) + octet % 16
+pub low_octet : (octet : ℕ) → octet < 256 → octet ≡ 128 * bit (nat_le 128 octet) + 16 * (octet / 16 % 8) + octet % 16
 low_octet octet fits = omega (arith, bit-top octet fits)
 
 -- ---- an octet says one thing
