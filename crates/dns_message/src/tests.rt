@@ -1,8 +1,9 @@
 //! Messages by hand, as tables (RFC 1035 4.1).
 use super::*;
-use dns_name::Name;
 use std::alloc::Global;
 use std::test::Fail;
+
+mod values;
 
 /// A query for A of a.example.
 const QUERY: &[u8] =
@@ -99,6 +100,63 @@ fn a_reply_with_pointer(rt: HostRuntime) -> Result<(), Fail> {
     Ok(())
 }
 
+/// A reply with a record in each section: an address, a name server's name with a pointer, and EDNS.
+const FULL_REPLY: &[u8] =
+    b"\x00\x07\x85\x80\x00\x01\x00\x01\x00\x01\x00\x01\x01b\x07example\x00\x00\x01\x00\x01\xc0\x0c\x00\x01\x00\x01\x00\x00\x0e\x10\x00\x04\xc0\x00\x02\x14\xc0\x0e\x00\x02\x00\x01\x00\x01\x51\x80\x00\x05\x02ns\xc0\x0e\x00\x00\x29\x10\x00\x00\x00\x00\x00\x00\x00";
+
+/// Whether these are the one record of this owner and TTL, and of these data that are kept as they stand.
+fn is_other(
+    records: &[Record],
+    owner: &[u8],
+    ttl: u32,
+    code: u16,
+    class_code: u16,
+    octets: &[u8],
+) -> bool {
+    match records {
+        [one] => match &one.rdata {
+            Rdata::Addr4(_) => false,
+            Rdata::Other(other) => {
+                one.owner.wire() == owner
+                    && one.ttl == ttl
+                    && other.code() == code
+                    && other.class_code() == class_code
+                    && other.octets() == octets
+            }
+        },
+        _ => false,
+    }
+}
+
+#[test]
+fn a_reply_with_all_sections(rt: HostRuntime) -> Result<(), Fail> {
+    let message = read_message(rt.alloc(), FULL_REPLY)?;
+    assert!(rt; message.header.authoritative);
+    let answered = match message.answers.as_slice() {
+        [one] => {
+            one.owner.wire() == b"\x01b\x07example\x00".as_slice()
+                && one.ttl == 3600
+                && matches!(&one.rdata, Rdata::Addr4([192, 0, 2, 20]))
+        }
+        _ => false,
+    };
+    assert!(rt; answered);
+    let authority = message.authority.as_slice();
+    assert!(rt;
+        is_other(
+            authority,
+            b"\x07example\x00",
+            86_400,
+            2,
+            1,
+            b"\x02ns\xc0\x0e"
+        )
+    );
+    let additional = message.additional.as_slice();
+    assert!(rt; is_other(additional, b"\x00", 0, 41, 4096, b""));
+    Ok(())
+}
+
 #[test]
 fn a_reply_cut_anywhere(rt: HostRuntime) {
     for end in 0..REPLY.len() {
@@ -115,66 +173,28 @@ fn a_reply_cut_anywhere(rt: HostRuntime) {
     }
 }
 
-/// Octets of the reply that are changed, and where reading stops then.
-struct BrokenRow {
-    at: usize,
-    to: &'static [u8],
-    part: Part,
-}
-
-const BROKEN: [BrokenRow; 8] = [
+/// A place of the reply, octets that are put there, and the part in which reading stops then.
+const BROKEN: [(usize, &[u8], Part); 8] = [
     // two questions
-    BrokenRow {
-        at: 4,
-        to: b"\x00\x02",
-        part: Part::Answers,
-    },
+    (4, b"\x00\x02", Part::Answers),
     // no question
-    BrokenRow {
-        at: 4,
-        to: b"\x00\x00",
-        part: Part::Answers,
-    },
+    (4, b"\x00\x00", Part::Answers),
     // two answers
-    BrokenRow {
-        at: 6,
-        to: b"\x00\x02",
-        part: Part::Answers,
-    },
+    (6, b"\x00\x02", Part::Answers),
     // an authority
-    BrokenRow {
-        at: 8,
-        to: b"\x00\x01",
-        part: Part::Authority,
-    },
+    (8, b"\x00\x01", Part::Authority),
     // an additional record
-    BrokenRow {
-        at: 10,
-        to: b"\x00\x01",
-        part: Part::Additional,
-    },
+    (10, b"\x00\x01", Part::Additional),
     // data of three and of five octets
-    BrokenRow {
-        at: 37,
-        to: b"\x00\x03",
-        part: Part::Answers,
-    },
-    BrokenRow {
-        at: 37,
-        to: b"\x00\x05",
-        part: Part::Answers,
-    },
+    (37, b"\x00\x03", Part::Answers),
+    (37, b"\x00\x05", Part::Answers),
     // a name that leads to itself
-    BrokenRow {
-        at: 28,
-        to: b"\x1b",
-        part: Part::Answers,
-    },
+    (28, b"\x1b", Part::Answers),
 ];
 
 #[test]
 fn broken(rt: HostRuntime) -> Result<(), Fail> {
-    for BrokenRow { at, to, part } in &BROKEN {
+    for (at, to, part) in &BROKEN {
         let octets = changed(rt.alloc(), REPLY, *at, to)?;
         assert_eq!(rt;
             refusal(rt.alloc(), octets.as_slice()),
@@ -250,57 +270,5 @@ fn lengths(rt: HostRuntime) -> Result<(), Fail> {
         refusal(rt.alloc(), counts),
         Some(MessageRefusal::Malformed(Part::Questions))
     );
-    Ok(())
-}
-
-#[test]
-fn other_data(rt: HostRuntime) -> Result<(), Fail> {
-    let rows = [
-        (1u16, 1u16, 4usize, false),
-        (1, 3, 4, true),
-        (16, 1, 65_535, true),
-        (16, 1, 65_536, false),
-    ];
-    for (code, class_code, size, made) in rows {
-        let octets = vec![in rt.alloc(); 7u8; size]?;
-        match OtherData::new(code, class_code, octets) {
-            None => assert!(rt; !made, "{code} {class_code} {size}"),
-            Some(other) => {
-                assert!(rt; made, "{code} {class_code} {size}");
-                assert_eq!(rt; (other.code(), other.class_code()), (code, class_code));
-                assert_eq!(rt; other.octets().len(), size);
-            }
-        }
-    }
-    Ok(())
-}
-
-#[test]
-fn sections(rt: HostRuntime) -> Result<(), Fail> {
-    let items = vec![in rt.alloc(); 3u8, 1, 2]?;
-    let section = Section::from_vec(items);
-    assert_eq!(rt; section.as_slice(), [3, 1, 2].as_slice());
-    assert_eq!(rt; section.len(), 3);
-    assert!(rt; !section.is_empty());
-    let items: Vec<u8> = section.into_vec();
-    assert_eq!(rt; items.as_slice(), [3, 1, 2].as_slice());
-    Ok(())
-}
-
-#[test]
-fn kinds(rt: HostRuntime) -> Result<(), Fail> {
-    let rows = [
-        (Kind::A, 1u16),
-        (Kind::Aaaa, 28),
-        (Kind::Srv, 33),
-        (Kind::Naptr, 35),
-    ];
-    for (kind, code) in rows {
-        let name = Name::from_text(rt.alloc(), "a.example")?;
-        let question = Question { name, kind };
-        let copy = question.try_clone()?;
-        assert!(rt; copy == question);
-        assert_eq!(rt; copy.kind.code(), code);
-    }
     Ok(())
 }
