@@ -1,0 +1,17 @@
+-- A text, cut at an octet.
+use Rattle.std.specs.Prelude.{ℕ, ◌==◌, cond, List, [], ◌∷◌, Option, Some, None}
+use Rattle.std.specs.List.{slice_split}
+
+-- what stands before the first octet of a kind
+abbrev pub before : ℕ → List ℕ → List ℕ
+before octet [] = []
+before octet (x ∷ xs) = cond (x == octet) [] (x ∷ before octet xs)
+
+-- what stands behind it, if there is one
+abbrev pub behind : ℕ → List ℕ → Option (List ℕ)
+behind octet [] = None
+behind octet (x ∷ xs) = cond (x == octet) (Some xs) (behind octet xs)
+
+-- all the parts between octets of a kind
+abbrev pub parted : ℕ → List ℕ → List (List ℕ)
+parted octet text = slice_split (λ (x : ℕ). x == octet) text

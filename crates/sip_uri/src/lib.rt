@@ -1,0 +1,25 @@
+//! SIP URIs and Vias of RFC 3261, with the hosts in them.
+//!
+//! A text is read whole: `read_uri` gives the URI that it spells, or the first fault from the left.
+#![tactic(auto)]
+
+mod address;
+mod host;
+mod ipv4;
+mod ipv6;
+mod numbers;
+mod numeric;
+mod parts;
+mod refusal;
+mod transport;
+mod uri;
+
+pub use address::{address_from_text, address_text};
+pub use host::Host;
+pub use numeric::Address;
+pub use refusal::UriRefusal;
+pub use transport::{Spoken, Transport};
+pub use uri::SipUri;
+
+#[cfg(test)]
+mod tests;

@@ -1,0 +1,41 @@
+//! SIP and SIPS URIs (RFC 3261 19.1).
+ghost use Rattle.std.specs.Prelude.{◌≡◌, IfOk};
+
+use crate::host::Host;
+use crate::transport::Spoken;
+use std::alloc::AllocError;
+
+/// What a SIP or SIPS URI says of where a request goes (RFC 3261 19.1.1).
+#[derive(Debug, Drop)]
+pub struct SipUri {
+    /// Whether it is a SIPS URI.
+    pub secure: bool,
+    /// The host.
+    pub host: Host,
+    /// The port, where it is written.
+    pub port: Option<u16>,
+    /// The parameter `transport`, where it is written.
+    pub transport: Option<Spoken>,
+    /// The parameter `maddr`, where it is written.
+    pub maddr: Option<Host>,
+}
+
+impl SipUri {
+    /// A copy.
+    pub fn try_clone(&self) -> Result<SipUri, AllocError>
+        ensures { IfOk result (λ copy. copy ≡ self.now) }
+    {
+        let host = self.host.try_clone()?;
+        let maddr = match &self.maddr {
+            None => None,
+            Some(maddr) => Some(maddr.try_clone()?),
+        };
+        Ok(SipUri {
+            secure: self.secure,
+            host,
+            port: self.port,
+            transport: self.transport,
+            maddr,
+        })
+    }
+}
