@@ -4,7 +4,7 @@ use Rattle.std.specs.List.{list_all, slice_split, join_with_byte, AllByRecursion
 use Rattle.std.proofs.lemmas.Bool.Decides.{nat_tests}
 use Rattle.std.proofs.lemmas.Bool.{cases_Bool}
 use Rattle.std.proofs.lemmas.List.{append-nil, drop_more, take_more, drop_all, take_all}
-use Rattle.sip_uri.specs.Parts.{before, behind}
+use Rattle.sip_uri.specs.Parts.{before, behind, parted}
 
 -- no octet of the text is this one
 abbrev pub lacks : ℕ → List ℕ → Bool
@@ -57,6 +57,12 @@ parts_are octet (x ∷ xs) =
       | inl is ↦ rw is refl
       | inr no' ↦ rw no' (rw (parts_are octet xs) refl)
     ]
+
+pub parts_more : (octet : ℕ) (text rest : List ℕ) → behind octet text ≡ Some rest → parted octet text ≡ before octet text ∷ parted octet rest
+parts_more octet text rest e = parts_are octet text ∙ rw e refl
+
+pub parts_last : (octet : ℕ) (text : List ℕ) → behind octet text ≡ None → parted octet text ≡ before octet text ∷ []
+parts_last octet text e = parts_are octet text ∙ rw e refl
 
 -- texts joined by an octet that they lack are the parts again
 pub parts-joined : (octet : ℕ) (texts : List (List ℕ)) → 0 < length texts → AllByRecursion (λ (text : List ℕ). lacks octet text ≡ true) texts

@@ -5,3 +5,7 @@ mod Lists
 mod V4Texts
 mod V6Texts
 mod AddressTexts
+mod Hostnames
+mod DomainTexts
+mod HostOctets
+mod ParamSteps

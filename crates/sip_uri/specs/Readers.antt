@@ -1,9 +1,11 @@
 -- What the readers of the parts of a text give, as functions on lists.
-use Rattle.std.specs.Prelude.{ℕ, ◌+◌, ◌-◌, ◌/◌, ◌%◌, ◌==◌, nat_lt, Bool, true, false, not, ◌||◌, ◌&&◌, List, [], ◌∷◌, ◌++◌, length, replicate, Option, Some, None, if◌then◌else◌}
+use Rattle.std.specs.Prelude.{ℕ, ◌+◌, ◌-◌, ◌/◌, ◌%◌, ◌==◌, nat_lt, nat_le, slice_index, Bool, true, false, not, ◌||◌, ◌&&◌, List, [], ◌∷◌, ◌++◌, length, replicate, Option, Some, None, if◌then◌else◌}
 use Rattle.std.specs.List.{list_all}
 use Rattle.std.specs.Option.{option_map, option_and_then, option_or}
-use Rattle.std.specs.Char.{digit_value, is_ascii_digit, is_ascii_hexdigit}
+use Rattle.std.specs.Char.{digit_value, is_ascii_digit, is_ascii_hexdigit, is_ascii_alphanumeric, is_ascii_alphabetic}
 use Rattle.sip_uri.specs.Numbers.{decimal, hexadecimal}
+use Rattle.sip_uri.specs.Hosts.{is_label_octet}
+use Rattle.dns_name.specs.Texts.{without_closing_dot}
 use Rattle.sip_uri.specs.Parts.{before, behind, parted}
 
 infixl 10 ◌>>=◌
@@ -80,3 +82,18 @@ ipv6_around text (Some sides) = shortened sides.0 sides.1
 
 abbrev pub ipv6 : List ℕ → Option (List ℕ)
 ipv6 text = ipv6_around text (around_colons text)
+
+-- ---- hostnames
+
+abbrev pub is_label : List ℕ → Bool
+is_label label =
+    nat_lt 0 (length label) && nat_le (length label) 63 && list_all is_label_octet label
+    && is_ascii_alphanumeric (slice_index label 0) && is_ascii_alphanumeric (slice_index label (length label - 1))
+
+abbrev pub are_labels : List (List ℕ) → Bool
+are_labels [] = false
+are_labels (label ∷ []) = is_label label && is_ascii_alphabetic (slice_index label 0)
+are_labels (label ∷ next ∷ labels) = is_label label && are_labels (next ∷ labels)
+
+abbrev pub is_hostname : List ℕ → Bool
+is_hostname text = nat_le (length (without_closing_dot text)) 253 && are_labels (parted 46 (without_closing_dot text))

@@ -4,15 +4,22 @@
 #![tactic(auto)]
 
 mod address;
+mod classes;
+mod headers;
 mod host;
+mod host_part;
+mod hostname;
 mod ipv4;
 mod ipv6;
 mod numbers;
 mod numeric;
+mod params;
 mod parts;
 mod refusal;
 mod transport;
 mod uri;
+mod uri_parts;
+mod user;
 
 pub use address::{address_from_text, address_text};
 pub use host::Host;

@@ -1,0 +1,70 @@
+//! Hostnames (RFC 3261 25.1).
+ghost use Rattle.std.specs.Prelude.{◌≡◌};
+ghost use Rattle.std.specs.List.{list_all};
+ghost use Rattle.sip_uri.specs.Hosts as host;
+ghost use Rattle.sip_uri.specs.Parts.{parted};
+ghost use Rattle.sip_uri.specs.Readers as spec;
+ghost use Rattle.dns_name.specs.Texts.{without_closing_dot};
+
+use crate::parts::next_part;
+
+/// Whether an octet may stand in a label of a hostname.
+fn is_label_octet(octet: u8) -> bool
+    ensures { result ≡ host.is_label_octet octet }
+{
+    octet.is_ascii_alphanumeric() || octet == b'-'
+}
+
+/// Whether each octet may stand in a label of a hostname.
+fn are_label_octets(octets: &[u8]) -> bool
+    ensures { result ≡ list_all host.is_label_octet octets.now }
+{
+    octets.iter().all(|octet| is_label_octet(*octet))
+}
+
+/// Whether it is a label: letters, digits and hyphens, with a letter or digit in front and at the end.
+fn is_label(label: &[u8]) -> bool
+    ensures { result ≡ spec.is_label label.now }
+{
+    if label.is_empty() || label.len() > 63 {
+        return false;
+    }
+    are_label_octets(label)
+        && label[0].is_ascii_alphanumeric()
+        && label[label.len() - 1].is_ascii_alphanumeric()
+}
+
+/// Whether they are labels with dots between them, the last of which begins with a letter.
+fn are_labels(text: &[u8]) -> bool
+    ensures { result ≡ spec.are_labels (parted 46 text.now) }
+{
+    let mut rest = text;
+    loop {
+        let (label, behind) = next_part(rest, b'.');
+        if !is_label(label) {
+            return false;
+        }
+        match behind {
+            None => return label[0].is_ascii_alphabetic(),
+            Some(behind) => rest = behind,
+        }
+    }
+}
+
+/// A text without its closing dot, if it has one.
+fn without_dot(text: &[u8]) -> &[u8]
+    ensures { result.now ≡ without_closing_dot text.now }
+{
+    match text {
+        [front @ .., b'.'] => front,
+        _ => text,
+    }
+}
+
+/// Whether a text is a hostname.
+pub(crate) fn is_hostname(text: &[u8]) -> bool
+    ensures { result ≡ spec.is_hostname text.now }
+{
+    let dotted = without_dot(text);
+    dotted.len() <= 253 && are_labels(dotted)
+}

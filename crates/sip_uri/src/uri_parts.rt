@@ -1,0 +1,161 @@
+//! The parts of a URI, before memory is taken for the names in it (RFC 3261 19.1.1, 25.1).
+ghost use Rattle.std.specs.Prelude.{◌≡◌, IfOk, IfSome, List, ℕ};
+ghost use Rattle.std.specs.Option.{option_map};
+ghost use Rattle.sip_uri.specs.HostReaders as host;
+ghost use Rattle.sip_uri.specs.UriReaders as spec;
+
+use crate::headers::are_headers;
+use crate::host_part::{HostPart, host_in_front, host_part};
+use crate::numbers::decimal;
+use crate::params::{check_params, value_of};
+use crate::parts::next_part;
+use crate::refusal::UriRefusal;
+use crate::transport::{Spoken, spoken_of};
+use crate::user::is_userinfo;
+
+/// A URI as it stands in a text.
+#[derive(Clone, Copy)]
+pub(crate) struct UriParts<'a> {
+    /// Whether it is a SIPS URI.
+    pub(crate) secure: bool,
+    /// The host.
+    pub(crate) host: HostPart<'a>,
+    /// The port.
+    pub(crate) port: Option<u16>,
+    /// The parameter `transport`.
+    pub(crate) transport: Option<Spoken>,
+    /// The parameter `maddr`.
+    pub(crate) maddr: Option<HostPart<'a>>,
+}
+
+/// Whether a scheme is that of SIPS, if it is one of SIP or SIPS.
+fn is_secure(scheme: &[u8]) -> Option<bool>
+    ensures { result ≡ spec.is_secure scheme.now }
+{
+    if scheme.eq_ignore_ascii_case(b"sip") {
+        Some(false)
+    } else if scheme.eq_ignore_ascii_case(b"sips") {
+        Some(true)
+    } else {
+        None
+    }
+}
+
+/// Whether the scheme is that of SIPS, and what follows its colon.
+#[tactic(auto, unfolding(crate::specs::UriReaders::behind_scheme))]
+fn behind_scheme(text: &[u8]) -> Result<(bool, &[u8]), UriRefusal>
+    ensures { spec.seen (λ found. (found.0, found.1.now)) result ≡ spec.behind_scheme text.now }
+{
+    let (scheme, rest) = next_part(text, b':');
+    match (is_secure(scheme), rest) {
+        (Some(secure), Some(rest)) => Ok((secure, rest)),
+        _ => Err(UriRefusal::BadScheme),
+    }
+}
+
+/// What follows the user and its `@`, if there is one.
+#[tactic(auto, unfolding(crate::specs::UriReaders::behind_user))]
+fn behind_user(text: &[u8]) -> Result<&[u8], UriRefusal>
+    ensures { spec.seen (λ rest. rest.now) result ≡ spec.behind_user text.now }
+{
+    match next_part(text, b'@') {
+        (_, None) => Ok(text),
+        (user, Some(rest)) => {
+            if is_userinfo(user) {
+                Ok(rest)
+            } else {
+                Err(UriRefusal::BadUser)
+            }
+        }
+    }
+}
+
+/// A port from 1 to 65535.
+#[tactic(auto, unfolding(crate::specs::UriReaders::port_number))]
+fn port_number(text: &[u8]) -> Option<u16>
+    ensures { result ≡ spec.port_number text.now }
+{
+    match decimal(text, 65535)? {
+        0 => None,
+        port => Some(port as u16),
+    }
+}
+
+/// The port of its digits, where a colon stands before them.
+#[tactic(auto, unfolding(crate::specs::UriReaders::port_of))]
+pub(crate) fn port_of(text: Option<&[u8]>) -> Result<Option<u16>, UriRefusal>
+    ensures { result ≡ spec.port_of (option_map (λ digits. digits.now) text.entry) }
+{
+    match text {
+        None => Ok(None),
+        Some(text) => match port_number(text) {
+            None => Err(UriRefusal::BadPort),
+            port => Ok(port),
+        },
+    }
+}
+
+/// The host and the port.
+#[tactic(auto, unfolding(crate::specs::UriReaders::place_of))]
+fn place_of(text: &[u8]) -> Result<(HostPart<'_>, Option<u16>), UriRefusal>
+    ensures value { spec.seen (λ found. (host.host_of found.0, found.1)) result ≡ spec.place_of text.now }
+    ensures hostname { IfOk result (λ found. host.IsHostPart found.0) }
+{
+    let (host, port) = host_in_front(text).ok_or(UriRefusal::BadHost)?;
+    Ok((host, port_of(port)?))
+}
+
+/// What the parameters say of the transport and of the host.
+#[tactic(auto, unfolding(crate::specs::UriReaders::said_by))]
+fn said_by(params: Option<&[u8]>) -> Result<(Option<Spoken>, Option<HostPart<'_>>), UriRefusal>
+    ensures value { spec.seen (λ said. (said.0, option_map host.host_of said.1)) result ≡ spec.said_by (option_map (λ text. text.now) params.entry) }
+    ensures hostname { IfOk result (λ said. IfSome said.1 host.IsHostPart) }
+{
+    let Some(params) = params else {
+        return Ok((None, None));
+    };
+    check_params(params)?;
+    let transport = value_of(params, b"transport").map(|name| spoken_of(name));
+    let maddr = value_of(params, b"maddr").and_then(|text| host_part(text));
+    Ok((transport, maddr))
+}
+
+/// Refuses what are no headers.
+#[tactic(auto, unfolding(crate::specs::UriReaders::check_headers))]
+fn check_headers(headers: Option<&[u8]>) -> Result<(), UriRefusal>
+    ensures { result ≡ spec.check_headers (option_map (λ text. text.now) headers.entry) }
+{
+    match headers {
+        None => Ok(()),
+        Some(headers) => {
+            if are_headers(headers) {
+                Ok(())
+            } else {
+                Err(UriRefusal::BadHeader)
+            }
+        }
+    }
+}
+
+/// The parts of a URI, or its first fault from the left.
+#[tactic(auto, unfolding(crate::specs::UriReaders::uri_parts))]
+pub(crate) fn uri_parts(text: &[u8]) -> Result<UriParts<'_>, UriRefusal>
+    ensures value { spec.seen spec.uri_of result ≡ spec.uri_parts text.now }
+    ensures host { IfOk result (λ parts. host.IsHostPart parts.host) }
+    ensures maddr { IfOk result (λ parts. IfSome parts.maddr host.IsHostPart) }
+{
+    let (secure, rest) = behind_scheme(text)?;
+    let rest = behind_user(rest)?;
+    let (front, headers) = next_part(rest, b'?');
+    let (place, params) = next_part(front, b';');
+    let (host, port) = place_of(place)?;
+    let (transport, maddr) = said_by(params)?;
+    check_headers(headers)?;
+    Ok(UriParts {
+        secure,
+        host,
+        port,
+        transport,
+        maddr,
+    })
+}
