@@ -110,3 +110,8 @@ module _ (octet : ℕ) (text : List ℕ) (at : ℕ) (passed : Passed octet text 
       let none : drop at text ≡ [] = drop_all at text all in
       let whole : take at text ≡ text = take_all at text all in
       (sym (append-nil text) ∙ rw (none, whole) at passed.front, rw none at passed.back)
+
+-- a front that lacks the octet, and the octet and what follows it, or nothing
+pub cut_back : (octet : ℕ) (front : List ℕ) (rest : Option (List ℕ)) → lacks octet front ≡ true → (before octet (front ++ back octet rest) ≡ front) × (behind octet (front ++ back octet rest) ≡ rest)
+cut_back octet front None e = let k = alone octet front e in rw append-nil k
+cut_back octet front (Some rest) e = at_first octet front rest e

@@ -9,3 +9,11 @@ mod Hostnames
 mod DomainTexts
 mod HostOctets
 mod ParamSteps
+mod RunTexts
+mod HostTexts
+mod Places
+mod ParamTexts
+mod ParamLists
+mod ParamBlocks
+mod UriPieces
+mod UriTexts

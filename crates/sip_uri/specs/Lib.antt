@@ -10,3 +10,4 @@ pub mod Runs
 pub mod Shown
 pub mod Transports
 pub mod UriReaders
+pub mod Uris

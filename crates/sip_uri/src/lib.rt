@@ -11,6 +11,7 @@ mod host_part;
 mod hostname;
 mod ipv4;
 mod ipv6;
+mod laws;
 mod numbers;
 mod numeric;
 mod params;
