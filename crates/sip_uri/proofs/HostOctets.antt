@@ -1,7 +1,7 @@
 -- The octets of a host.
-use Rattle.std.proofs.Common.{◌≡◌, ℕ, zero, suc, ◌<◌, Bool, true, false, ◌||◌, List, [], ◌∷◌, ◌++◌, length, get_or, refl, sym, ap, ◌∙◌, inl, inr, arith, eqb}
-use Rattle.std.specs.List.{list_all, join_with_byte, AllByRecursion}
-use Rattle.std.specs.Char.{is_ascii_alphanumeric, is_ascii_hexdigit}
+use Rattle.std.proofs.Common.{◌≡◌, ℕ, zero, suc, Bool, true, false, ◌||◌, List, [], ◌∷◌, refl, inl, inr, arith, eqb}
+use Rattle.std.specs.List.{list_all, join_with_byte}
+use Rattle.std.specs.Char.{is_ascii_alphanumeric}
 use Rattle.std.specs.Str.{IsUtf8, IsAscii}
 use Rattle.std.proofs.lemmas.Bool.{cases_Bool}
 use Rattle.std.proofs.lemmas.Bool.Decides.{nat_tests}

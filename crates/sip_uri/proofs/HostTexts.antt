@@ -1,26 +1,15 @@
 -- Hosts are what their readers read.
-use Rattle.std.proofs.Common.{◌≡◌, ℕ, ◌+◌, ◌<◌, ◌≤◌, Bool, true, false, not, ◌&&◌, ◌||◌, List, [], ◌∷◌, ◌++◌, length, drop, slice_index, Option, Some, None, refl, sym, ap, ◌∙◌, inl, inr, arith, eqb}
+use Rattle.std.proofs.Common.{◌≡◌, ℕ, Bool, true, false, not, List, [], ◌∷◌, refl, inl, inr, arith, eqb}
 use Rattle.std.specs.List.{list_all, join_with_byte}
-use Rattle.std.specs.Option.{option_map, option_or}
-use Rattle.std.specs.Char.{is_ascii_alphabetic, is_ascii_hexdigit, is_ascii_digit}
-use Rattle.std.proofs.lemmas.Bool.{cases_Bool}
+use Rattle.std.specs.Char.{is_ascii_hexdigit}
 use Rattle.std.proofs.lemmas.Bool.Decides.{nat_tests}
-use Rattle.std.proofs.lemmas.Option.{same_Some}
-use Rattle.std.proofs.lemmas.List.{append-nil}
-use Rattle.dns_name.specs.Texts.{IsDotted}
-use Rattle.sip_uri.specs.Parts.{before, behind}
-use Rattle.sip_uri.specs.Addresses.{V4Text, numbers, GroupText, AreGroups, GroupsText, SideText, V6Text, whole, shortened}
-use Rattle.sip_uri.specs.Hosts.{HostLabel, AreHostLabels, DomainText, HostText}
-use Rattle.sip_uri.specs.Readers.{ipv4, ipv6, is_hostname}
-use Rattle.sip_uri.specs.Readers as reader
-use Rattle.sip_uri.specs.HostReaders.{name_of, plain_host, port_part, host_in_brackets, host_in_front, without_port, host}
+use Rattle.sip_uri.specs.Addresses.{V4Text, GroupText, AreGroups, SideText, V6Text, whole, shortened}
+use Rattle.sip_uri.specs.Hosts.{HostText}
 use Rattle.sip_uri.specs.declared.host.Host.{Host}
 use Rattle.sip_uri.specs.declared.host.Host.TheVariants.{V4, V6, Domain}
-use Rattle.sip_uri.proofs.Cutting.{lacks, joined, alone, at_first}
-use Rattle.sip_uri.proofs.Lists.{steps_of, mapped_from, either_of, all_weaker, all-append, all_of-append}
-use Rattle.sip_uri.proofs.V4Texts.{ipv4_read, ipv4_again, is_dotted_octet, ipv4_octets}
-use Rattle.sip_uri.proofs.V6Texts.{ipv6_read, ipv6_again}
-use Rattle.sip_uri.proofs.DomainTexts.{hostname_read, hostname_again}
+use Rattle.sip_uri.proofs.Cutting.{lacks}
+use Rattle.sip_uri.proofs.Lists.{all_weaker, all-append}
+use Rattle.sip_uri.proofs.V4Texts.{is_dotted_octet, ipv4_octets}
 use Rattle.sip_uri.proofs.HostOctets.{is_host_octet, hostname_octets}
 
 -- ---- the octets of addresses

@@ -1,5 +1,5 @@
 -- A reader of labels that has come to a place.
-use Rattle.std.proofs.Common.{◌≡◌, ℕ, ◌+◌, ◌-◌, ◌<◌, ◌≤◌, Bool, true, false, ◌&&◌, List, [], ◌∷◌, ◌++◌, length, Option, Some, None, slice_index, refl, sym, ap, ◌∙◌, arith}
+use Rattle.std.proofs.Common.{◌≡◌, ℕ, true, false, ◌&&◌, List, [], ◌∷◌, Option, Some, None, slice_index, refl, sym, ap, ◌∙◌}
 use Rattle.std.specs.Char.{is_ascii_alphabetic}
 use Rattle.sip_uri.specs.Parts.{before, behind, parted}
 use Rattle.sip_uri.specs.Readers.{is_label, are_labels}

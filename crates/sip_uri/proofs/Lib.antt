@@ -17,3 +17,4 @@ mod ParamLists
 mod ParamBlocks
 mod UriPieces
 mod UriTexts
+mod NotLong

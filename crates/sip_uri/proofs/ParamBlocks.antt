@@ -1,6 +1,6 @@
 -- What all parameters of a URI say is what their reader reads.
-use Rattle.std.proofs.Common.{◌≡◌, ℕ, zero, suc, ◌+◌, ◌<◌, ◌≤◌, Bool, true, false, not, List, [], ◌∷◌, ◌++◌, length, map, get_or, Option, Some, None, Result, Ok, Err, is_some, IfSome, IsSome, refl, sym, ap, ◌∙◌, inl, inr, arith, eqb, subst, append_assoc}
-use Rattle.std.specs.List.{AllByRecursion, AllPairs, flat_map, join_with_byte}
+use Rattle.std.proofs.Common.{◌≡◌, ℕ, suc, ◌<◌, true, false, not, List, [], ◌∷◌, ◌++◌, length, map, get_or, Option, Some, None, Ok, is_some, IfSome, refl, sym, ap, ◌∙◌, inl, inr, arith, eqb}
+use Rattle.std.specs.List.{AllByRecursion, AllPairs, join_with_byte}
 use Rattle.std.specs.Option.{option_map, option_and_then}
 use Rattle.std.specs.Str.{bytes_eq}
 use Rattle.std.specs.Char.{is_ascii_hexdigit}
@@ -8,23 +8,21 @@ use Rattle.std.proofs.lemmas.Bool.{cases_Bool}
 use Rattle.std.proofs.lemmas.Slice.Eq.{bytes_eq-Decides}
 use Rattle.std.proofs.lemmas.List.{append-nil}
 use Rattle.std.proofs.lemmas.List.Splits.{join_with_byte-slice_split, length-slice_split}
-use Rattle.dns_name.specs.Labels.{small_letters}
-use Rattle.sip_uri.specs.Parts.{before, behind, parted}
-use Rattle.sip_uri.specs.Classes.{IsRun, is_param_octet}
-use Rattle.sip_uri.specs.Hosts.{HostText}
+use Rattle.sip_uri.specs.Parts.{behind, parted}
+use Rattle.sip_uri.specs.Classes.{is_param_octet}
 use Rattle.sip_uri.specs.Transports.{spoken_of}
 use Rattle.sip_uri.specs.Uris.{IsSomeRun, Param, valued_text, param_text, key_of, transport_key, maddr_key, IsParam, value_at, HostValue, params_text}
 use Rattle.sip_uri.specs.HostReaders.{host}
-use Rattle.sip_uri.specs.ParamReaders.{name_of, is_same, is_param, params_fault, value_of, transport_name, maddr_name}
+use Rattle.sip_uri.specs.ParamReaders.{name_of, is_same, params_fault, value_of, transport_name, maddr_name}
 use Rattle.sip_uri.specs.UriReaders.{said, said_unless, said_by}
 use Rattle.sip_uri.specs.declared.host.Host.{Host}
 use Rattle.sip_uri.specs.declared.transport.Spoken.{Spoken}
 use Rattle.sip_uri.specs.declared.refusal.UriRefusal.{UriRefusal}
-use Rattle.sip_uri.proofs.Cutting.{lacks, back, joined, parts-joined}
+use Rattle.sip_uri.proofs.Cutting.{lacks, back, parts-joined}
 use Rattle.sip_uri.proofs.Lists.{all-append, same_Ok}
 use Rattle.sip_uri.proofs.RunTexts.{run_lacks}
 use Rattle.sip_uri.proofs.Places.{host_read, host_again}
-use Rattle.sip_uri.proofs.ParamTexts.{same_names, names_same, param_of, param_text-of, IsHosted, param_read, param_again, part_of, hosted_read, valued_of}
+use Rattle.sip_uri.proofs.ParamTexts.{same_names, param_of, param_text-of, IsHosted, param_read, param_again, part_of, hosted_read, valued_of}
 use Rattle.sip_uri.proofs.ParamLists.{Part, Differ, part_key, keys, Good, none_bad, good_none, value_of-at}
 
 -- ---- the value of maddr
@@ -34,9 +32,9 @@ hosted_of [] value each e = absurd cc
 hosted_of (part ∷ parts) value each e =
     elim (cases_Bool (is_same (name_of part) maddr_name)) [
       | inl is ↦ (
-        let here : behind 61 part ≡ Some value = rw is at e in
-        let hosted = hosted_read (name_of part) (behind 61 part) (valued_of part each.0) (same_names (name_of part) maddr_name is) in
-        rw here at hosted)
+          let here : behind 61 part ≡ Some value = rw is at e in
+          let hosted = hosted_read (name_of part) (behind 61 part) (valued_of part each.0) (same_names (name_of part) maddr_name is) in
+          rw here at hosted)
       | inr no' ↦ hosted_of parts value each.1 (rw no' at e)
     ]
 
@@ -128,9 +126,9 @@ all_hosted [] maddr apart is = tt
 all_hosted (param ∷ params) maddr apart is =
     elim (cases_Bool (bytes_eq (key_of param) maddr_key)) [
       | inl named ↦ (
-        let key : key_of param ≡ maddr_key = (bytes_eq-Decides (key_of param) maddr_key).0 named in
-        let here : HostValue param.value maddr = rw named at is in
-        (λ _. hosted_here param.value maddr here, none_named params (λ k d within same. head_apart (key_of param) (map key_of params) apart k d within (same ∙ sym key))))
+          let key : key_of param ≡ maddr_key = (bytes_eq-Decides (key_of param) maddr_key).0 named in
+          let here : HostValue param.value maddr = rw named at is in
+          (λ _. hosted_here param.value maddr here, none_named params (λ k d within same. head_apart (key_of param) (map key_of params) apart k d within (same ∙ sym key))))
       | inr other ↦ (λ key. absurd (let no : false ≡ true = sym other ∙ (bytes_eq-Decides (key_of param) maddr_key).1 key in cc), all_hosted params maddr (tail_apart (key_of param) (map key_of params) apart) (rw other at is))
     ]
 

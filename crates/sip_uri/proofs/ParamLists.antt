@@ -1,28 +1,16 @@
 -- Parameters one after another are what their readers read.
-use Rattle.std.proofs.Common.{◌≡◌, ℕ, zero, suc, ◌+◌, ◌-◌, ◌<◌, ◌≤◌, Bool, true, false, not, ◌&&◌, ◌||◌, List, [], ◌∷◌, ◌++◌, length, map, get_or, Option, Some, None, is_some, IfSome, IsSome, refl, sym, ap, ◌∙◌, inl, inr, arith, eqb, append_assoc}
-use Rattle.std.specs.List.{AllByRecursion, AllPairs, list_any, flat_map, join_with_byte}
-use Rattle.std.specs.Option.{option_map, option_and_then}
+use Rattle.std.proofs.Common.{◌≡◌, ℕ, zero, suc, ◌<◌, true, false, List, [], ◌∷◌, ◌++◌, length, map, get_or, Some, None, refl, sym, ◌∙◌, inl, inr, arith, append_assoc}
+use Rattle.std.specs.List.{AllByRecursion, AllPairs}
 use Rattle.std.specs.Str.{bytes_eq}
 use Rattle.std.proofs.lemmas.Bool.{cases_Bool}
-use Rattle.std.proofs.lemmas.Slice.Eq.{bytes_eq-Decides}
-use Rattle.std.proofs.lemmas.List.{append-nil, map-append, length-append, length-map, get_or_append_left, get_or_at}
+use Rattle.std.proofs.lemmas.List.{append-nil, map-append, length-append, get_or_append_left, get_or_at}
 use Rattle.std.proofs.lemmas.List.Quantifiers.{all_pairs_push}
-use Rattle.std.proofs.lemmas.List.Splits.{join_with_byte-slice_split}
 use Rattle.dns_name.specs.Labels.{small_letters}
-use Rattle.sip_uri.specs.Parts.{before, behind, parted}
-use Rattle.sip_uri.specs.Classes.{IsRun, is_param_octet}
-use Rattle.sip_uri.specs.Hosts.{HostText}
-use Rattle.sip_uri.specs.Uris.{IsSomeRun, Param, valued_text, param_text, key_of, transport_key, maddr_key, IsParam, value_at, HostValue, params_text}
-use Rattle.sip_uri.specs.HostReaders.{host}
-use Rattle.sip_uri.specs.ParamReaders.{name_of, is_same, is_param, stands_in, fault_behind, params_fault, value_of, transport_name, maddr_name}
-use Rattle.sip_uri.specs.declared.host.Host.{Host}
-use Rattle.sip_uri.specs.declared.refusal.UriRefusal.{UriRefusal}
+use Rattle.sip_uri.specs.Parts.{before}
+use Rattle.sip_uri.specs.Uris.{value_at}
+use Rattle.sip_uri.specs.ParamReaders.{name_of, is_same, is_param, stands_in, fault_behind, params_fault, value_of}
 use Rattle.sip_uri.specs.declared.refusal.UriRefusal.TheVariants.{BadParam, RepeatedParam}
-use Rattle.sip_uri.proofs.Cutting.{lacks, back, joined, parts-joined}
-use Rattle.sip_uri.proofs.Lists.{all-append}
-use Rattle.sip_uri.proofs.RunTexts.{run_lacks}
-use Rattle.sip_uri.proofs.Places.{host_read, host_again}
-use Rattle.sip_uri.proofs.ParamTexts.{same_names, names_same, other_names, names_other, param_of, param_text-of, IsHosted, param_read, param_again, part_of, hosted_read}
+use Rattle.sip_uri.proofs.ParamTexts.{names_same, names_other, param_of}
 
 abbrev pub Part : List ℕ → Type 0
 Part part = is_param part ≡ true
@@ -70,9 +58,9 @@ no_fault_behind earlier (part ∷ parts) e apart =
       | inl good ↦ elim (cases_Bool (stands_in earlier part)) [
         | inl again ↦ (let no : Some RepeatedParam ≡ None = rw (good, again) at e in absurd cc)
         | inr new ↦ (
-          let apart' : AllPairs Differ (keys (earlier ++ part ∷ [])) = rw keys_push (all_pairs_push Differ (keys earlier) (part_key part) apart (new_key earlier part new)) in
-          let rest = no_fault_behind (earlier ++ part ∷ []) parts (rw (good, new) at e) apart' in
-          record { each = (good, rest.each); apart = rw append_assoc at rest.apart })
+            let apart' : AllPairs Differ (keys (earlier ++ part ∷ [])) = rw keys_push (all_pairs_push Differ (keys earlier) (part_key part) apart (new_key earlier part new)) in
+            let rest = no_fault_behind (earlier ++ part ∷ []) parts (rw (good, new) at e) apart' in
+            record { each = (good, rest.each); apart = rw append_assoc at rest.apart })
       ]
       | inr bad ↦ (let no : Some BadParam ≡ None = rw bad at e in absurd cc)
     ]

@@ -1,33 +1,20 @@
 -- Parameters are what their readers read.
-use Rattle.std.proofs.Common.{◌≡◌, ℕ, suc, ◌+◌, ◌-◌, ◌<◌, ◌≤◌, Bool, true, false, not, ◌&&◌, ◌||◌, List, [], ◌∷◌, ◌++◌, length, map, get_or, Option, Some, None, is_some, IfSome, IsSome, refl, sym, ap, ◌∙◌, inl, inr, arith, eqb, append_assoc}
-use Rattle.std.specs.List.{AllByRecursion, AllPairs, list_any, flat_map, join_with_byte}
-use Rattle.std.specs.Option.{option_map, option_and_then}
-use Rattle.std.specs.Str.{str_eq_ignore_ascii_case, bytes_eq}
-use Rattle.std.specs.Char.{to_ascii_lowercase}
+use Rattle.std.proofs.Common.{◌≡◌, ℕ, true, false, not, ◌||◌, List, ◌++◌, Option, Some, None, is_some, IfSome, IsSome, refl, sym, ◌∙◌, inl, inr}
 use Rattle.std.proofs.lemmas.Bool.{cases_Bool}
 use Rattle.std.proofs.lemmas.Slice.Eq.{bytes_eq-Decides}
-use Rattle.std.proofs.lemmas.List.{append-nil, map-append, length-append, length-map}
-use Rattle.std.proofs.lemmas.List.Quantifiers.{all_pairs_push}
-use Rattle.std.proofs.lemmas.List.Splits.{join_with_byte-slice_split}
+use Rattle.std.proofs.lemmas.List.{append-nil}
 use Rattle.dns_name.specs.Labels.{small_letters}
-use Rattle.sip_uri.specs.Parts.{before, behind, parted}
-use Rattle.sip_uri.specs.Classes.{IsRun, is_param_octet}
-use Rattle.sip_uri.specs.Hosts.{HostText}
-use Rattle.sip_uri.specs.Uris.{IsSomeRun, Param, valued_text, param_text, key_of, transport_key, maddr_key, IsParam, value_at, HostValue, params_text}
+use Rattle.sip_uri.specs.Parts.{before, behind}
+use Rattle.sip_uri.specs.Classes.{is_param_octet}
+use Rattle.sip_uri.specs.Uris.{IsSomeRun, Param, valued_text, param_text, key_of, transport_key, maddr_key, IsParam}
 use Rattle.sip_uri.specs.HostReaders.{host}
 use Rattle.sip_uri.specs.Runs.{is_some_run}
-use Rattle.sip_uri.specs.ParamReaders.{name_of, is_same, is_value_of, is_valued, is_param, stands_in, fault_behind, params_fault, value_of, transport_name, maddr_name}
-use Rattle.sip_uri.specs.declared.host.Host.{Host}
-use Rattle.sip_uri.specs.declared.refusal.UriRefusal.{UriRefusal}
-use Rattle.sip_uri.proofs.Cutting.{lacks, back, joined, cut_back, parts-joined}
+use Rattle.sip_uri.specs.ParamReaders.{name_of, is_same, is_value_of, is_valued, is_param, transport_name, maddr_name}
+use Rattle.sip_uri.proofs.Cutting.{back, joined, cut_back}
 use Rattle.sip_uri.proofs.DomainTexts.{both_of}
 use Rattle.sip_uri.proofs.RunTexts.{some_read, some_again, run_lacks}
-use Rattle.sip_uri.proofs.Places.{host_read, host_again}
 
 -- ---- names
-
-
-
 
 pub same_names : (a b : List ℕ) → is_same a b ≡ true → small_letters a ≡ small_letters b
 same_names a b e = (bytes_eq-Decides (small_letters a) (small_letters b)).0 e

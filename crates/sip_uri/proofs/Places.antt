@@ -1,15 +1,14 @@
 -- Hosts are what their readers read, alone and with a port behind them.
-use Rattle.std.proofs.Common.{◌≡◌, ℕ, ◌+◌, ◌<◌, ◌≤◌, Bool, true, false, not, ◌&&◌, ◌||◌, List, [], ◌∷◌, ◌++◌, length, drop, slice_index, Option, Some, None, refl, sym, ap, ◌∙◌, inl, inr, arith, eqb, append_assoc}
+use Rattle.std.proofs.Common.{◌≡◌, ℕ, ◌<◌, true, false, not, List, [], ◌∷◌, ◌++◌, length, drop, slice_index, Option, Some, None, refl, sym, ap, ◌∙◌, inl, inr, arith, eqb, append_assoc}
 use Rattle.std.specs.List.{list_all, join_with_byte}
-use Rattle.std.specs.Option.{option_map, option_or, option_and_then}
-use Rattle.std.specs.Char.{is_ascii_alphabetic}
+use Rattle.std.specs.Option.{option_map}
 use Rattle.std.proofs.lemmas.Bool.{cases_Bool}
 use Rattle.std.proofs.lemmas.Bool.Decides.{nat_tests}
 use Rattle.std.proofs.lemmas.Option.{same_Some}
 use Rattle.std.proofs.lemmas.List.{append-nil, length-append}
 use Rattle.dns_name.specs.Texts.{IsDotted}
 use Rattle.sip_uri.specs.Parts.{before, behind}
-use Rattle.sip_uri.specs.Addresses.{V4Text, V6Text}
+use Rattle.sip_uri.specs.Addresses.{V4Text}
 use Rattle.sip_uri.specs.Hosts.{HostLabel, AreHostLabels, DomainText, HostText, is_label_octet}
 use Rattle.sip_uri.specs.Readers.{ipv4, ipv6, is_hostname}
 use Rattle.sip_uri.specs.HostReaders.{name_of, plain_host, port_part, host_in_brackets, host_in_front, without_port, host}
@@ -131,9 +130,9 @@ port_read [] port e = ap (back 58) (same_Some None port e)
 port_read (x ∷ text) port e =
     elim (cases_Bool (eqb x 58)) [
       | inl is ↦ (
-        let colon : x ≡ 58 = grind (arith, nat_tests) in
-        let same : Some text ≡ port = same_Some (Some text) port (rw is at e) in
-        rw (← same, colon) refl)
+          let colon : x ≡ 58 = grind (arith, nat_tests) in
+          let same : Some text ≡ port = same_Some (Some text) port (rw is at e) in
+          rw (← same, colon) refl)
       | inr no' ↦ (let no : None ≡ Some port = rw no' at e in absurd cc)
     ]
 
@@ -167,18 +166,18 @@ pub front_read : (text : List ℕ) (h : Host) (port : Option (List ℕ)) → hos
 front_read text h port e =
     elim (cases_Bool (eqb (slice_index text 0) 91)) [
       | inl is ↦ (
-        let placed = brackets_read (drop 1 text) h port (rw is at e) in
-        record { front = placed.front; is = placed.is; joined = first_bracket text is ∙ placed.joined })
+          let placed = brackets_read (drop 1 text) h port (rw is at e) in
+          record { front = placed.front; is = placed.is; joined = first_bracket text is ∙ placed.joined })
       | inr no' ↦ (
-        let k = steps_of (λ (found : Host). Some (found, behind 58 text)) (plain_host (before 58 text)) (h, port) (rw no' at e) in
-        let same = same_Some (k.0, behind 58 text) (h, port) k.2 in
-        let same_host : k.0 ≡ h = ap (λ (p : Host × Option (List ℕ)). p.0) same in
-        let same_port : behind 58 text ≡ port = ap (λ (p : Host × Option (List ℕ)). p.1) same in
-        record {
-          front = before 58 text;
-          is = rw same_host at (plain_read (before 58 text) k.0 k.1);
-          joined = rw (← same_port) (sym (joined 58 text));
-        })
+          let k = steps_of (λ (found : Host). Some (found, behind 58 text)) (plain_host (before 58 text)) (h, port) (rw no' at e) in
+          let same = same_Some (k.0, behind 58 text) (h, port) k.2 in
+          let same_host : k.0 ≡ h = ap (λ (p : Host × Option (List ℕ)). p.0) same in
+          let same_port : behind 58 text ≡ port = ap (λ (p : Host × Option (List ℕ)). p.1) same in
+          record {
+            front = before 58 text;
+            is = rw same_host at (plain_read (before 58 text) k.0 k.1);
+            joined = rw (← same_port) (sym (joined 58 text));
+          })
     ]
 
 pub front_again : (text : List ℕ) (h : Host) (port : Option (List ℕ)) → HostText text h → host_in_front (text ++ back 58 port) ≡ Some (h, port)

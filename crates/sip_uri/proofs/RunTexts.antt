@@ -1,6 +1,5 @@
 -- Runs are what their reader accepts.
-use Rattle.std.proofs.Common.{◌≡◌, ℕ, zero, suc, ◌+◌, ◌<◌, ◌≤◌, Bool, true, false, not, ◌&&◌, ◌||◌, List, [], ◌∷◌, ◌++◌, length, refl, sym, ap, ◌∙◌, inl, inr, arith, eqb}
-use Rattle.std.specs.List.{list_all}
+use Rattle.std.proofs.Common.{◌≡◌, ℕ, zero, suc, Bool, true, false, not, List, [], ◌∷◌, length, refl, sym, ap, ◌∙◌, inl, inr, arith, eqb}
 use Rattle.std.specs.Char.{is_ascii_hexdigit}
 use Rattle.std.proofs.lemmas.Bool.{cases_Bool}
 use Rattle.std.proofs.lemmas.Bool.Decides.{nat_tests}
@@ -42,9 +41,9 @@ run_again class percent text none = refl
 run_again class percent text (plain octet rest good run) =
     elim (cases_Bool (eqb octet 37)) [
       | inl is ↦ (
-        let same : octet ≡ 37 = grind (arith, nat_tests) in
-        let no : false ≡ true = sym percent ∙ ap class (sym same) ∙ good in
-        absurd cc)
+          let same : octet ≡ 37 = grind (arith, nat_tests) in
+          let no : false ≡ true = sym percent ∙ ap class (sym same) ∙ good in
+          absurd cc)
       | inr no' ↦ rw (no', good) (run_again class percent rest run)
     ]
 run_again class percent text (escaped high low rest good good' run) = rw (good, good') (run_again class percent rest run)
@@ -66,9 +65,9 @@ run_lacks class octet other digit percent text none = refl
 run_lacks class octet other digit percent text (plain x rest good run) =
     elim (cases_Bool (eqb x octet)) [
       | inl is ↦ (
-        let same : x ≡ octet = grind (arith, nat_tests) in
-        let no : false ≡ true = sym other ∙ ap class (sym same) ∙ good in
-        absurd cc)
+          let same : x ≡ octet = grind (arith, nat_tests) in
+          let no : false ≡ true = sym other ∙ ap class (sym same) ∙ good in
+          absurd cc)
       | inr no' ↦ rw no' (run_lacks class octet other digit percent rest run)
     ]
 run_lacks class octet other digit percent text (escaped high low rest good good' run) =

@@ -1,7 +1,7 @@
 -- The pieces of a URI are what their readers read.
-use Rattle.std.proofs.Common.{◌≡◌, ℕ, zero, suc, ◌+◌, ◌<◌, ◌≤◌, Bool, true, false, not, ◌&&◌, List, [], ◌∷◌, ◌++◌, length, map, Option, Some, None, Result, Ok, Err, refl, sym, ap, ◌∙◌, inl, inr, arith, eqb, append_assoc}
+use Rattle.std.proofs.Common.{◌≡◌, ℕ, zero, suc, ◌<◌, ◌≤◌, Bool, true, false, not, List, [], ◌∷◌, ◌++◌, length, Option, Some, None, Result, Ok, Err, refl, sym, ap, ◌∙◌, inl, inr, arith, eqb, append_assoc}
 use Rattle.std.specs.List.{AllByRecursion, list_all, join_with_byte}
-use Rattle.std.specs.Option.{option_map, option_and_then, ok_or}
+use Rattle.std.specs.Option.{option_map, ok_or}
 use Rattle.std.specs.Char.{is_ascii_digit, is_ascii_hexdigit, to_ascii_lowercase}
 use Rattle.std.proofs.lemmas.Bool.{cases_Bool}
 use Rattle.std.proofs.lemmas.Bool.Decides.{nat_tests}
@@ -11,9 +11,9 @@ use Rattle.std.proofs.lemmas.List.Splits.{join_with_byte-slice_split, length-sli
 use Rattle.dns_name.specs.Labels.{small_letters}
 use Rattle.sip_uri.specs.Numbers.{decimal}
 use Rattle.sip_uri.specs.Parts.{before, behind, parted}
-use Rattle.sip_uri.specs.Classes.{IsRun, is_user_octet, is_password_octet, is_header_octet}
+use Rattle.sip_uri.specs.Classes.{is_user_octet, is_password_octet, is_header_octet}
 use Rattle.sip_uri.specs.Hosts.{HostText}
-use Rattle.sip_uri.specs.Runs.{is_run, is_some_run}
+use Rattle.sip_uri.specs.Runs.{is_some_run}
 use Rattle.sip_uri.specs.Readers.{decimal_within}
 use Rattle.sip_uri.specs.Uris.{IsSomeRun, SchemeText, UserText, nobody, alone, with_password, PortNumber, PortText, HeaderText, headers_text}
 use Rattle.sip_uri.specs.HostReaders.{host_in_front}
@@ -30,7 +30,7 @@ use Rattle.sip_uri.proofs.RunTexts.{run_read, run_again, some_read, some_again, 
 use Rattle.sip_uri.proofs.DomainTexts.{both_of}
 use Rattle.sip_uri.proofs.HostOctets.{is_host_octet}
 use Rattle.sip_uri.proofs.HostTexts.{host_octets}
-use Rattle.sip_uri.proofs.Places.{Placed, front_read, front_again}
+use Rattle.sip_uri.proofs.Places.{front_read, front_again}
 use Rattle.sip_uri.proofs.ParamTexts.{same_names, names_same, names_other}
 
 pub bind_of : {A B : Type 0} (f : A → Result B UriRefusal) (r : Result A UriRefusal) (y : B) → reader.◌>>=◌ r f ≡ Ok y → (x : A) × (r ≡ Ok x) × (f x ≡ Ok y)
@@ -126,13 +126,13 @@ without_read text rest None e read = record { user = []; is = nobody refl; text_
 without_read text rest (Some found) e read =
     elim (cases_Bool (is_userinfo (before 64 text))) [
       | inl is ↦ (
-        let same : found ≡ rest = same_Ok found rest (rw is at read) in
-        let cut : before 64 text ++ 64 ∷ found ≡ text = rw e at (joined 64 text) in
-        record {
-          user = before 64 text ++ 64 ∷ [];
-          is = user_read (before 64 text) is;
-          text_is = sym (append_assoc (before 64 text) (64 ∷ []) rest ∙ ap (λ (t : List ℕ). before 64 text ++ 64 ∷ t) (sym same) ∙ cut);
-        })
+          let same : found ≡ rest = same_Ok found rest (rw is at read) in
+          let cut : before 64 text ++ 64 ∷ found ≡ text = rw e at (joined 64 text) in
+          record {
+            user = before 64 text ++ 64 ∷ [];
+            is = user_read (before 64 text) is;
+            text_is = sym (append_assoc (before 64 text) (64 ∷ []) rest ∙ ap (λ (t : List ℕ). before 64 text ++ 64 ∷ t) (sym same) ∙ cut);
+          })
       | inr bad ↦ (let no : Err BadUser ≡ Ok rest = rw bad at read in absurd cc)
     ]
 

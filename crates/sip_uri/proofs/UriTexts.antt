@@ -1,16 +1,16 @@
 -- A text spells a URI exactly where its reader reads that URI.
-use Rattle.std.proofs.Common.{◌≡◌, ℕ, ◌≤◌, Bool, true, false, not, List, [], ◌∷◌, ◌++◌, length, map, Option, Some, None, Result, Ok, Err, refl, sym, ap, ◌∙◌, eqb, append_assoc}
+use Rattle.std.proofs.Common.{◌≡◌, ℕ, ◌≤◌, Bool, true, false, not, List, ◌∷◌, ◌++◌, length, Option, Result, Ok, Err, refl, sym, ap, ◌∙◌, eqb, append_assoc}
 use Rattle.std.specs.Char.{is_ascii_digit}
+use Rattle.std.specs.Prelude.{MatchResult, IfOk}
 use Rattle.sip_uri.specs.Parts.{before, behind}
-use Rattle.sip_uri.specs.Uris.{SchemeText, UserText, PortText, params_text, headers_text, UriText}
-use Rattle.sip_uri.specs.Hosts.{HostText}
+use Rattle.sip_uri.specs.Uris.{params_text, headers_text, UriText}
 use Rattle.sip_uri.specs.UriReaders.{behind_scheme, behind_user, place_of, said_by, check_headers, uri_parts}
-use Rattle.sip_uri.specs.UriReaders as reader
 use Rattle.sip_uri.specs.declared.host.Host.{Host}
 use Rattle.sip_uri.specs.declared.transport.Spoken.{Spoken}
 use Rattle.sip_uri.specs.declared.uri.SipUri.{SipUri}
 use Rattle.sip_uri.specs.declared.refusal.UriRefusal.{UriRefusal}
-use Rattle.sip_uri.proofs.Cutting.{lacks, back, joined, cut_back}
+use Rattle.sip_uri.specs.declared.refusal.UriRefusal.TheVariants.{Memory}
+use Rattle.sip_uri.proofs.Cutting.{lacks, joined, cut_back}
 use Rattle.sip_uri.proofs.Lists.{all-append, same_Ok}
 use Rattle.sip_uri.proofs.HostOctets.{is_host_octet}
 use Rattle.sip_uri.proofs.ParamBlocks.{ParamsRead, said_read, said_again, block_of, block_text, block_lacks}
@@ -128,7 +128,7 @@ module _ (text : List ℕ) (uri : SipUri) (is : UriText text uri) where
   whole_text : text ≡ is.scheme ++ 58 ∷ (is.user ++ left_text)
   unfolding left_text front_text place_text
   whole_text =
-      is.joined ∙ ap (λ (t : List ℕ). is.scheme ++ 58 ∷ (is.user ++ t)) (sym (append_assoc (place_text ) (params_text is.params) (headers_text is.headers) ∙ append_assoc is.host is.port (params_text is.params ++ headers_text is.headers)))
+      is.joined ∙ ap (λ (t : List ℕ). is.scheme ++ 58 ∷ (is.user ++ t)) (sym (append_assoc (place_text) (params_text is.params) (headers_text is.headers) ∙ append_assoc is.host is.port (params_text is.params ++ headers_text is.headers)))
 
   at_place : place_of place_text ≡ Ok (uri.host, uri.port)
   unfolding place_text
@@ -143,3 +143,14 @@ module _ (text : List ℕ) (uri : SipUri) (is : UriText text uri) where
       let four = said_again is.params uri.transport uri.maddr is.are_params is.apart is.transport is.maddr in
       let five = check_again is.headers is.are_headers in
       ap uri_parts whole_text ∙ rw one (rw two (rw (cut_headers.0, cut_headers.1) (rw (cut_params.0, cut_params.1) (rw three (rw four (rw five refl))))))
+
+-- ---- what the reader answers, with memory for names or without
+
+module _ (text : List ℕ) (parts : SipUri) (read : uri_parts text ≡ Ok parts) where
+  pub found_is : (r : Result SipUri UriRefusal) → MatchResult r (λ uri. uri ≡ parts) (λ refusal. refusal ≡ Memory) → length text ≤ 1024 → IfOk r (λ uri. UriText text uri)
+  found_is (Ok uri) is short = rw is (uri_read text parts short read)
+  found_is (Err refusal) is short = tt
+
+  pub read_is : (r : Result SipUri UriRefusal) → MatchResult r (λ uri. uri ≡ parts) (λ refusal. refusal ≡ Memory) → (uri : SipUri) → UriText text uri → MatchResult r (λ found. found ≡ uri) (λ refusal. refusal ≡ Memory)
+  read_is (Ok found) is uri spells = is ∙ same_Ok parts uri (sym read ∙ uri_again text uri spells)
+  read_is (Err refusal) is uri spells = is

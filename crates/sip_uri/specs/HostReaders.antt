@@ -1,5 +1,5 @@
 -- What the readers of hosts give, as functions on lists.
-use Rattle.std.specs.Prelude.{◌≡◌, ℕ, ◌==◌, Bool, true, List, [], ◌∷◌, map, slice_index, drop, Option, Some, None, if◌then◌else◌, ⊤}
+use Rattle.std.specs.Prelude.{◌≡◌, ℕ, ◌==◌, true, List, [], ◌∷◌, map, slice_index, drop, Option, Some, None, if◌then◌else◌, ⊤}
 use Rattle.std.specs.Option.{option_map, option_or}
 use Rattle.dns_name.specs.Labels.{small_letters}
 use Rattle.dns_name.specs.Texts.{without_closing_dot}

@@ -1,5 +1,5 @@
 //! Hosts in a text, before memory is taken for their names (RFC 3261 25.1).
-ghost use Rattle.std.specs.Prelude.{◌≡◌, IfSome, IfOk, IfErr};
+ghost use Rattle.std.specs.Prelude.{◌≡◌, IfSome, MatchResult};
 ghost use Rattle.std.specs.Option.{option_map};
 ghost use Rattle.sip_uri.specs.HostReaders as spec;
 
@@ -8,6 +8,9 @@ use crate::hostname::is_hostname;
 use crate::ipv4::ipv4;
 use crate::ipv6::ipv6;
 use crate::parts::next_part;
+use crate::refusal::UriRefusal;
+use dns_name::Name;
+use std::alloc::Global;
 use std::str;
 
 /// A host as it stands in a text.
@@ -79,5 +82,21 @@ pub(crate) fn host_part(text: &[u8]) -> Option<HostPart<'_>>
     match host_in_front(text)? {
         (host, None) => Some(host),
         _ => None,
+    }
+}
+
+/// The host, with memory for its name.
+pub(crate) fn with_name(alloc: Global, part: HostPart<'_>) -> Result<Host, UriRefusal>
+    requires { spec.IsHostPart part }
+    ensures { MatchResult result (λ host. host ≡ spec.host_of part.entry) (λ refusal. refusal ≡ UriRefusal.Memory) }
+{
+    match part {
+        HostPart::V4(octets) => Ok(Host::V4(octets)),
+        HostPart::V6(octets) => Ok(Host::V6(octets)),
+        HostPart::Domain(text) => match Name::from_text(alloc, text) {
+            Ok(name) => Ok(Host::Domain(name)),
+            // The name of a hostname is refused for want of memory alone.
+            Err(_) => Err(UriRefusal::Memory),
+        },
     }
 }

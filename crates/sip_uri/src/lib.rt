@@ -20,14 +20,17 @@ mod refusal;
 mod transport;
 mod uri;
 mod uri_parts;
+mod uri_text;
 mod user;
 
 pub use address::{address_from_text, address_text};
 pub use host::Host;
+pub use laws::one_uri_of_a_text;
 pub use numeric::Address;
 pub use refusal::UriRefusal;
 pub use transport::{Spoken, Transport};
 pub use uri::SipUri;
+pub use uri_text::read_uri;
 
 #[cfg(test)]
 mod tests;

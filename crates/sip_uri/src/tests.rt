@@ -1,5 +1,6 @@
 //! Values from RFC 3261, RFC 4291, RFC 4475 and RFC 5118, and by hand, as tables.
 use super::*;
+use std::alloc::Global;
 use std::test::Fail;
 
 /// A text, and the address that it spells.
@@ -173,4 +174,303 @@ fn shown(rt: HostRuntime) -> Result<(), Fail> {
         assert_eq!(rt; address_text(rt.alloc(), address)?.as_str(), *written);
     }
     Ok(())
+}
+
+/// The text of a host: an address as `address_text` writes it, or a name with a dot behind each label.
+fn host_text(alloc: Global, host: &Host) -> Result<String, Fail> {
+    match host {
+        Host::V4(octets) => Ok(address_text(alloc, Address::V4(*octets))?),
+        Host::V6(octets) => Ok(address_text(alloc, Address::V6(*octets))?),
+        Host::Domain(name) => Ok(name.text()?),
+    }
+}
+
+/// What a URI says, in one line.
+fn uri_line(alloc: Global, uri: &SipUri) -> Result<String, Fail> {
+    let host = host_text(alloc, &uri.host)?;
+    let maddr = match &uri.maddr {
+        None => String::from_str(alloc, "-")?,
+        Some(maddr) => host_text(alloc, maddr)?,
+    };
+    let (host, maddr) = (host.as_str(), maddr.as_str());
+    let secure = uri.secure;
+    Ok(format!(in alloc;
+        "{secure} {host} {:?} {:?} {maddr}",
+        uri.port, uri.transport
+    )?)
+}
+
+/// Texts of URIs, and what they say.
+const URIS: [(&str, &str); 40] = [
+    // RFC 3261 19.1.3
+    ("sip:alice@atlanta.com", "false atlanta.com. None None -"),
+    (
+        "sip:alice:secretword@atlanta.com;transport=tcp",
+        "false atlanta.com. None Some(Known(Tcp)) -",
+    ),
+    (
+        "sips:alice@atlanta.com?subject=project%20x&priority=urgent",
+        "true atlanta.com. None None -",
+    ),
+    (
+        "sip:+1-212-555-1212:1234@gateway.com;user=phone",
+        "false gateway.com. None None -",
+    ),
+    ("sips:1212@gateway.com", "true gateway.com. None None -"),
+    ("sip:alice@192.0.2.4", "false 192.0.2.4 None None -"),
+    (
+        "sip:atlanta.com;method=REGISTER?to=alice%40atlanta.com",
+        "false atlanta.com. None None -",
+    ),
+    (
+        "sip:alice;day=tuesday@atlanta.com",
+        "false atlanta.com. None None -",
+    ),
+    // RFC 3261 19.1.4
+    (
+        "sip:%61lice@atlanta.com;transport=TCP",
+        "false atlanta.com. None Some(Known(Tcp)) -",
+    ),
+    (
+        "sip:alice@AtLanTa.CoM;Transport=tcp",
+        "false atlanta.com. None Some(Known(Tcp)) -",
+    ),
+    (
+        "sip:carol@chicago.com;newparam=5",
+        "false chicago.com. None None -",
+    ),
+    (
+        "sip:biloxi.com;transport=tcp;method=REGISTER?to=sip:bob%40biloxi.com",
+        "false biloxi.com. None Some(Known(Tcp)) -",
+    ),
+    // RFC 4475 3.1.1
+    (
+        "sip:vivekg@chair-dnrc.example.com;unknownparam",
+        "false chair-dnrc.example.com. None None -",
+    ),
+    (
+        "sip:1_unusual.URI~(to-be!sure)&isn't+it$/crazy?,/;;*:&it+has=1,weird!*pas$wo~d_too.(doesn't-it)@example.com",
+        "false example.com. None None -",
+    ),
+    (
+        "sip:sips%3Auser%40example.com@example.net",
+        "false example.net. None None -",
+    ),
+    (
+        "sip:null-%00-null@example.com",
+        "false example.com. None None -",
+    ),
+    (
+        "sip:user;par=u%40example.net@example.com",
+        "false example.com. None None -",
+    ),
+    // RFC 5118 4
+    (
+        "sip:[2001:db8::10]",
+        "false 2001:db8:0:0:0:0:0:10 None None -",
+    ),
+    (
+        "sip:[2001:db8::10]:5070",
+        "false 2001:db8:0:0:0:0:0:10 Some(5070) None -",
+    ),
+    (
+        "sip:user@[2001:db8::10]",
+        "false 2001:db8:0:0:0:0:0:10 None None -",
+    ),
+    (
+        "sips:[2001:db8::1]",
+        "true 2001:db8:0:0:0:0:0:1 None None -",
+    ),
+    (
+        "sip:[::ffff:192.0.2.7]",
+        "false 0:0:0:0:0:ffff:c000:207 None None -",
+    ),
+    // by hand
+    (
+        "sip:u@c.example;maddr=192.0.2.9;transport=tcp",
+        "false c.example. None Some(Known(Tcp)) 192.0.2.9",
+    ),
+    (
+        "sip:192.0.2.7;transport=sctp",
+        "false 192.0.2.7 None Some(Known(Sctp)) -",
+    ),
+    (
+        "sip:c.example;transport=ws",
+        "false c.example. None Some(Other) -",
+    ),
+    (
+        "sips:c.example;transport=udp",
+        "true c.example. None Some(Known(Udp)) -",
+    ),
+    (
+        "SiPs:c.example;TRANSPORT=Tls",
+        "true c.example. None Some(Known(Tls)) -",
+    ),
+    ("sip:c.example.", "false c.example. None None -"),
+    ("sip:c.example:005060", "false c.example. Some(5060) None -"),
+    ("sip:c.example:65535", "false c.example. Some(65535) None -"),
+    ("sip:c.example:1", "false c.example. Some(1) None -"),
+    ("sip:1.2.3.x4", "false 1.2.3.x4. None None -"),
+    ("sip:u:@c.example", "false c.example. None None -"),
+    (
+        "sip:c.example;maddr=[::1];x=[]/:&+$",
+        "false c.example. None None 0:0:0:0:0:0:0:1",
+    ),
+    (
+        "sip:c.example;maddr=D.example",
+        "false c.example. None None d.example.",
+    ),
+    ("sip:c.example;%61=1;a=1", "false c.example. None None -"),
+    ("sip:c.example?a=", "false c.example. None None -"),
+    (
+        "sip:c.example?a=1&b=[]/?:+$",
+        "false c.example. None None -",
+    ),
+    ("sip:c.example;lr?a=1", "false c.example. None None -"),
+    ("sip:%41%7f@c.example", "false c.example. None None -"),
+];
+
+#[test]
+fn uris(rt: HostRuntime) -> Result<(), Fail> {
+    for (text, line) in &URIS {
+        match read_uri(rt.alloc(), text) {
+            Ok(uri) => assert_eq!(rt; uri_line(rt.alloc(), &uri)?.as_str(), *line, "{text:?}"),
+            Err(refusal) => return Err(Fail::new(format_args!("{text:?} {refusal:?}"))),
+        }
+    }
+    Ok(())
+}
+
+/// Texts of no URI, and their first fault from the left.
+const FAULTS: [(&str, UriRefusal); 62] = [
+    ("", UriRefusal::BadScheme),
+    ("sip", UriRefusal::BadScheme),
+    ("c.example", UriRefusal::BadScheme),
+    ("tel:+1", UriRefusal::BadScheme),
+    ("sipx:c.example", UriRefusal::BadScheme),
+    (" sip:c.example", UriRefusal::BadScheme),
+    (
+        "nobodyKnowsThisScheme:totallyopaquecontent",
+        UriRefusal::BadScheme,
+    ),
+    ("sip:@c.example", UriRefusal::BadUser),
+    ("sip::p@c.example", UriRefusal::BadUser),
+    ("sip:u:p:q@c.example", UriRefusal::BadUser),
+    ("sip:u:p;q@c.example", UriRefusal::BadUser),
+    ("sip:u[@c.example", UriRefusal::BadUser),
+    ("sip:u u@c.example", UriRefusal::BadUser),
+    ("sip:u%4@c.example", UriRefusal::BadUser),
+    ("sip:u%4g@c.example", UriRefusal::BadUser),
+    ("sip:u%@c.example", UriRefusal::BadUser),
+    ("sip:u%255%@c.example", UriRefusal::BadUser),
+    ("sip:\u{e9}@c.example", UriRefusal::BadUser),
+    ("sip:", UriRefusal::BadHost),
+    ("sip:u@", UriRefusal::BadHost),
+    ("sip:u@u@c.example", UriRefusal::BadHost),
+    ("sip:1.2.3.4.5", UriRefusal::BadHost),
+    ("sip:1.2.3", UriRefusal::BadHost),
+    ("sip:192.0.2.256", UriRefusal::BadHost),
+    ("sip:c.1example", UriRefusal::BadHost),
+    ("sip:c..example", UriRefusal::BadHost),
+    ("sip:.", UriRefusal::BadHost),
+    ("sip:.c", UriRefusal::BadHost),
+    ("sip:-c.example", UriRefusal::BadHost),
+    ("sip:c-.example", UriRefusal::BadHost),
+    ("sip:c_d.example", UriRefusal::BadHost),
+    ("sip:c%61.example", UriRefusal::BadHost),
+    ("sip:[::1", UriRefusal::BadHost),
+    ("sip:[::1]x", UriRefusal::BadHost),
+    ("sip:[::1;x]", UriRefusal::BadHost),
+    ("sip:::1", UriRefusal::BadHost),
+    ("sip:[192.0.2.7]", UriRefusal::BadHost),
+    ("sip:[::1]]", UriRefusal::BadHost),
+    // RFC 5118 4.2
+    ("sip:2001:db8::10", UriRefusal::BadHost),
+    ("sip:c.example:", UriRefusal::BadPort),
+    ("sip:c.example:0", UriRefusal::BadPort),
+    ("sip:c.example:65536", UriRefusal::BadPort),
+    ("sip:c.example:5060:5060", UriRefusal::BadPort),
+    ("sip:c.example:-1", UriRefusal::BadPort),
+    ("sip:c.example:4294967297", UriRefusal::BadPort),
+    ("sip:[::1]:x", UriRefusal::BadPort),
+    ("sip:c.example;", UriRefusal::BadParam),
+    ("sip:c.example;;a", UriRefusal::BadParam),
+    ("sip:c.example;a=", UriRefusal::BadParam),
+    ("sip:c.example;=a", UriRefusal::BadParam),
+    ("sip:c.example;a=b=c", UriRefusal::BadParam),
+    ("sip:c.example;a=1@2", UriRefusal::BadParam),
+    ("sip:c.example;transport", UriRefusal::BadParam),
+    ("sip:c.example;maddr", UriRefusal::BadParam),
+    ("sip:c.example;maddr=1.2.3.4.5", UriRefusal::BadParam),
+    ("sip:c.example;maddr=c.example:5060", UriRefusal::BadParam),
+    ("sip:c.example;x;x=%", UriRefusal::BadParam),
+    (
+        "sip:c.example;transport=udp;transport",
+        UriRefusal::BadParam,
+    ),
+    (
+        "sip:c.example;transport=tcp;Transport=udp",
+        UriRefusal::RepeatedParam,
+    ),
+    ("sip:c.example;x;y;X=1?", UriRefusal::RepeatedParam),
+    ("sip:192.0.2.7?a", UriRefusal::BadHeader),
+    ("sip:c.example?a=1&", UriRefusal::BadHeader),
+];
+
+/// The refusal of a text of no URI.
+fn fault_of(alloc: Global, text: &str) -> Option<UriRefusal> {
+    match read_uri(alloc, text) {
+        Ok(_) => None,
+        Err(refusal) => Some(refusal),
+    }
+}
+
+#[test]
+fn faults(rt: HostRuntime) {
+    for (text, fault) in &FAULTS {
+        assert_eq!(rt; fault_of(rt.alloc(), text), Some(*fault), "{text:?}");
+    }
+}
+
+/// A URI of so many octets.
+fn long_uri(alloc: Global, octets: usize) -> Result<String, Fail> {
+    let mut text = String::from_str(alloc, "sip:192.0.2.7;x=")?;
+    while text.len() < octets {
+        text.push('a')?;
+    }
+    Ok(text)
+}
+
+#[test]
+fn lengths(rt: HostRuntime) -> Result<(), Fail> {
+    assert_eq!(rt;
+        fault_of(rt.alloc(), long_uri(rt.alloc(), 1024)?.as_str()),
+        None
+    );
+    assert_eq!(rt;
+        fault_of(rt.alloc(), long_uri(rt.alloc(), 1025)?.as_str()),
+        Some(UriRefusal::TooLong)
+    );
+    Ok(())
+}
+
+#[test]
+fn copied(rt: HostRuntime) -> Result<(), Fail> {
+    let uri = read_uri(
+        rt.alloc(),
+        "sips:c.example:5061;transport=tls;maddr=d.example",
+    )?;
+    let copy = uri.try_clone()?;
+    let host = uri.host.try_clone()?;
+    assert_eq!(rt;
+        uri_line(rt.alloc(), &copy)?.as_str(),
+        "true c.example. Some(5061) Some(Known(Tls)) d.example."
+    );
+    assert_eq!(rt; host_text(rt.alloc(), &host)?.as_str(), "c.example.");
+    Ok(())
+}
+
+#[test]
+fn laws() {
+    one_uri_of_a_text();
 }

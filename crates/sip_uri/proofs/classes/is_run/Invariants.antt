@@ -1,4 +1,4 @@
-use Rattle.std.proofs.Common.{◌≡◌, ◌≤◌, drop}
+use Rattle.std.proofs.Common.{◌≡◌, drop}
 use Rattle.sip_uri.specs.Runs.{octets_of, run_from, is_run}
 use Rattle.sip_uri.proofs.classes.is_run.Given as goal
 

@@ -1,4 +1,4 @@
-use Rattle.std.proofs.Common.{◌≡◌, true, false, Some, None, sym, ap, ◌∙◌, rules, slice_index}
+use Rattle.std.proofs.Common.{◌≡◌, true, false, Some, None, sym, ◌∙◌, slice_index}
 use Rattle.sip_uri.specs.Parts.{before, behind}
 use Rattle.sip_uri.specs.Readers.{is_label}
 use Rattle.std.specs.Char.{is_ascii_alphabetic}

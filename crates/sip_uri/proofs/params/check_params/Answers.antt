@@ -1,4 +1,4 @@
-use Rattle.std.proofs.Common.{◌≡◌, ◌<◌, length, take, true, false, Some, None, sym, ap, ◌∙◌}
+use Rattle.std.proofs.Common.{◌≡◌, ◌<◌, length, take, true, false, Some, None, sym, ◌∙◌}
 use Rattle.sip_uri.specs.Parts.{before, behind, parted}
 use Rattle.sip_uri.specs.ParamReaders.{is_param, stands_in}
 use Rattle.sip_uri.proofs.Groups.{length_behind}

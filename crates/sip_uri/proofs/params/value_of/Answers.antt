@@ -1,4 +1,4 @@
-use Rattle.std.proofs.Common.{◌≡◌, true, false, Some, None, sym, ap, ◌∙◌, refl}
+use Rattle.std.proofs.Common.{◌≡◌, true, false, Some, None, sym, ◌∙◌}
 use Rattle.sip_uri.specs.Parts.{before, behind}
 use Rattle.sip_uri.specs.ParamReaders.{is_same, name_of}
 use Rattle.sip_uri.proofs.Groups.{length_behind}
