@@ -1,0 +1,124 @@
+-- Where a request goes (RFC 3263 4.1, 4.2), as far as the questions about it are answered.
+use Rattle.std.specs.Prelude.{ℕ, ◌==◌, Bool, true, false, ◌&&◌, List, [], ◌∷◌, ◌++◌, length, map, Option, Some, None, unwrap_or, is_none, option_and_then, Result, Ok, Err, if◌then◌else◌}
+use Rattle.dns_message.specs.Kinds.{kind_code}
+use Rattle.dns_message.specs.declared.kind.Kind.TheVariants as kind
+use Rattle.dns_message.specs.declared.message.Message.{Message}
+use Rattle.dns_message.specs.declared.question.Question.{Question}
+use Rattle.sip_uri.specs.declared.numeric.Address.{Address}
+use Rattle.sip_uri.specs.declared.numeric.Address.TheVariants as address
+use Rattle.sip_uri.specs.declared.host.Host.{Host}
+use Rattle.sip_uri.specs.declared.host.Host.TheVariants as host
+use Rattle.sip_uri.specs.declared.transport.Spoken.{Spoken}
+use Rattle.sip_uri.specs.declared.transport.Spoken.TheVariants as spoken
+use Rattle.sip_uri.specs.declared.transport.Transport.{Transport}
+use Rattle.sip_uri.specs.declared.transport.Transport.TheVariants.{Udp, Tcp, Sctp, Tls}
+use Rattle.sip_uri.specs.declared.uri.SipUri.{SipUri}
+use Rattle.siplocate.specs.declared.arguments.Families.{Families}
+use Rattle.siplocate.specs.declared.arguments.Families.TheVariants as family
+use Rattle.siplocate.specs.declared.choice.Reason.{Reason}
+use Rattle.siplocate.specs.declared.choice.Reason.TheVariants.{TransportUnsupported, TransportNotSecure, NoAddress}
+use Rattle.siplocate.specs.declared.choice.Target.{Target}
+use Rattle.siplocate.specs.Answers.{same_name, reply_fault, addresses_in}
+
+-- questions with their answers, the addresses of a name
+pub record Known : Type 0 where
+  pub question : Question
+  pub addresses : List (List ℕ)
+
+pub data Outcome : Type 0 where
+  targets : List Target → Outcome
+  refused : Reason → Outcome
+  need : Question → Outcome
+  -- it needs records that are not asked for yet
+  unready : Outcome
+
+-- ---- the transport (RFC 3263 4.1)
+
+abbrev pub secure_transport : Option Spoken → Result Transport Reason
+secure_transport None = Ok Tls
+secure_transport (Some (spoken.Known Udp)) = Err TransportNotSecure
+secure_transport (Some (spoken.Known Tcp)) = Ok Tls
+secure_transport (Some (spoken.Known Sctp)) = Err TransportUnsupported
+secure_transport (Some (spoken.Known Tls)) = Ok Tls
+secure_transport (Some spoken.Other) = Err TransportUnsupported
+
+abbrev pub plain_transport : Option Spoken → Result Transport Reason
+plain_transport None = Ok Udp
+plain_transport (Some (spoken.Known transport)) = Ok transport
+plain_transport (Some spoken.Other) = Err TransportUnsupported
+
+abbrev pub transport_of : SipUri → Result Transport Reason
+transport_of uri = if uri.secure then secure_transport uri.transport else plain_transport uri.transport
+
+abbrev pub default_port : Transport → ℕ
+default_port Tls = 5061
+default_port Udp = 5060
+default_port Tcp = 5060
+default_port Sctp = 5060
+
+-- ---- the addresses (RFC 3263 4.2)
+
+-- addresses of IPv4 of a name
+abbrev pub question_of : List (List ℕ) → Question
+question_of name = record { name = name; kind = kind.A }
+
+abbrev pub same_question : Question → Question → Bool
+same_question a b = same_name a.name b.name && kind_code a.kind == kind_code b.kind
+
+-- the answer to a question
+abbrev pub find : Question → List Known → Option (List (List ℕ))
+find question [] = None
+find question (known ∷ others) = if same_question known.question question then Some known.addresses else find question others
+
+abbrev pub target_at : Transport → ℕ → List ℕ → Target
+target_at transport port octets = record { transport = transport; address = address.V4 octets; port = port }
+
+abbrev pub targets_of : Transport → ℕ → List (List ℕ) → Outcome
+targets_of transport port addresses = if length addresses == 0 then refused NoAddress else targets (map (target_at transport port) addresses)
+
+abbrev pub addresses_of : Transport → ℕ → Question → Option (List (List ℕ)) → Outcome
+addresses_of transport port question None = need question
+addresses_of transport port question (Some addresses) = targets_of transport port addresses
+
+-- TARGET is the parameter maddr where there is one, else the host
+abbrev pub target_host : SipUri → Host
+target_host uri = unwrap_or uri.maddr uri.host
+
+abbrev pub locate_address : Transport → Option ℕ → Address → Outcome
+locate_address transport port address = targets (record { transport = transport; address = address; port = unwrap_or port (default_port transport) } ∷ [])
+
+abbrev pub locate_host : Transport → Option ℕ → Host → List Known → Outcome
+locate_host transport port (host.V4 octets) known = locate_address transport port (address.V4 octets)
+locate_host transport port (host.V6 octets) known = locate_address transport port (address.V6 octets)
+locate_host transport (Some port) (host.Domain name) known = addresses_of transport port (question_of name) (find (question_of name) known)
+locate_host transport None (host.Domain name) known = unready
+
+-- addresses of IPv4 alone are asked for yet
+abbrev pub locate_over : Result Transport Reason → Families → SipUri → List Known → Outcome
+locate_over (Err reason) families uri known = refused reason
+locate_over (Ok transport) family.V4 uri known = locate_host transport uri.port (target_host uri) known
+locate_over (Ok transport) family.V6 uri known = unready
+locate_over (Ok transport) family.V4ThenV6 uri known = unready
+locate_over (Ok transport) family.V6ThenV4 uri known = unready
+
+abbrev pub locate : Families → SipUri → List Known → Outcome
+locate families uri known = locate_over (transport_of uri) families uri known
+
+-- ---- what messages build up
+
+-- the question that is needed and the answer of a message, unless nothing is needed or the message is no answer
+abbrev pub told : Outcome → Message → Option Known
+told (need question) message =
+    if is_none (reply_fault question message) then Some (record { question = question; addresses = addresses_in question message }) else None
+told (targets list) message = None
+told (refused reason) message = None
+told unready message = None
+
+-- what is known after messages, each of which answers the question that is needed then
+abbrev pub talk_from : Families → SipUri → List Known → List Message → Option (List Known)
+talk_from families uri known [] = Some known
+talk_from families uri known (message ∷ messages) =
+    option_and_then (λ (more : Known). talk_from families uri (known ++ more ∷ []) messages) (told (locate families uri known) message)
+
+abbrev pub talk : Families → SipUri → List Message → Option (List Known)
+talk families uri messages = talk_from families uri [] messages

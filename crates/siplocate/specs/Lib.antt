@@ -1,0 +1,8 @@
+pub mod Answers
+pub mod Choice
+pub mod Commands
+pub mod Refusals
+pub mod Replies
+pub mod Requests
+pub mod Views
+pub mod Words

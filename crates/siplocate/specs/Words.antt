@@ -1,0 +1,96 @@
+-- What the program prints.
+use Rattle.std.specs.Prelude.{◌≡◌, ◌⊎◌, ℕ, List, [], ◌∷◌, ◌++◌, codes}
+use Rattle.std.specs.List.{flat_map}
+use Rattle.std.specs.Fmt.{decimal}
+use Rattle.dns_name.specs.Texts.{text_of}
+use Rattle.dns_message.specs.declared.kind.Kind.{Kind}
+use Rattle.dns_message.specs.declared.kind.Kind.TheVariants.{A, Aaaa, Srv, Naptr}
+use Rattle.dns_message.specs.declared.question.Question.{Question}
+use Rattle.sip_uri.specs.Shown.{address_text}
+use Rattle.sip_uri.specs.declared.transport.Transport.{Transport}
+use Rattle.sip_uri.specs.declared.transport.Transport.TheVariants.{Udp, Tcp, Sctp, Tls}
+use Rattle.sip_uri.specs.declared.refusal.UriRefusal.{UriRefusal}
+use Rattle.sip_uri.specs.declared.refusal.UriRefusal.TheVariants as uri
+use Rattle.siplocate.specs.declared.answer.ReplyFault.{ReplyFault}
+use Rattle.siplocate.specs.declared.answer.ReplyFault.TheVariants.{NotReply, OtherQuestion, Truncated, ServerFault}
+use Rattle.siplocate.specs.declared.reply.BadReply.{BadReply}
+use Rattle.siplocate.specs.declared.reply.BadReply.TheVariants as bad
+use Rattle.siplocate.specs.declared.choice.Reason.{Reason}
+use Rattle.siplocate.specs.declared.choice.Reason.TheVariants.{TransportUnsupported, TransportNotSecure, NotOffered, NoAddress}
+use Rattle.siplocate.specs.declared.choice.Target.{Target}
+use Rattle.siplocate.specs.Choice.{Outcome, targets, refused, need, unready}
+
+abbrev pub transport_word : Transport → List ℕ
+transport_word Udp = codes "udp"
+transport_word Tcp = codes "tcp"
+transport_word Sctp = codes "sctp"
+transport_word Tls = codes "tls"
+
+abbrev pub reason_word : Reason → List ℕ
+reason_word TransportUnsupported = codes "TransportUnsupported"
+reason_word TransportNotSecure = codes "TransportNotSecure"
+reason_word NotOffered = codes "NotOffered"
+reason_word NoAddress = codes "NoAddress"
+
+abbrev pub kind_word : Kind → List ℕ
+kind_word A = codes "A"
+kind_word Aaaa = codes "AAAA"
+kind_word Srv = codes "SRV"
+kind_word Naptr = codes "NAPTR"
+
+abbrev pub request_word : UriRefusal → List ℕ
+request_word uri.TooLong = codes "TooLong"
+request_word uri.BadScheme = codes "BadScheme"
+request_word uri.BadUser = codes "BadUser"
+request_word uri.BadHost = codes "BadHost"
+request_word uri.BadPort = codes "BadPort"
+request_word uri.BadParam = codes "BadParam"
+request_word uri.RepeatedParam = codes "RepeatedParam"
+request_word uri.BadHeader = codes "BadHeader"
+request_word uri.BadVia = codes "BadVia"
+request_word uri.Memory = codes "Memory"
+
+abbrev pub fault_word : ReplyFault → List ℕ
+fault_word NotReply = codes "NotReply"
+fault_word OtherQuestion = codes "OtherQuestion"
+fault_word Truncated = codes "Truncated"
+fault_word ServerFault = codes "ServerFault"
+
+abbrev pub reply_word : BadReply → List ℕ
+reply_word bad.NotHex = codes "NotHex"
+reply_word bad.NothingAsked = codes "NothingAsked"
+reply_word bad.TooLong = codes "TooLong"
+reply_word bad.Malformed = codes "Malformed"
+reply_word (bad.Fault fault) = fault_word fault
+reply_word bad.Memory = codes "Memory"
+
+-- the line for a first line that is no request, and for a further line that is no reply
+abbrev pub bad_request_line : UriRefusal → List ℕ
+bad_request_line refusal = codes "bad request " ++ request_word refusal ++ 10 ∷ []
+
+abbrev pub bad_reply_line : BadReply → List ℕ
+bad_reply_line reply = codes "bad reply " ++ reply_word reply ++ 10 ∷ []
+
+abbrev pub IsBadLine : List ℕ → Type 0
+IsBadLine line = ((refusal : UriRefusal) × (line ≡ bad_request_line refusal)) ⊎ ((reply : BadReply) × (line ≡ bad_reply_line reply))
+
+-- a target's line
+abbrev pub target_line : Target → List ℕ
+target_line target = transport_word target.transport ++ (32 ∷ address_text target.address) ++ (32 ∷ decimal target.port) ++ 10 ∷ []
+
+-- a question's line
+abbrev pub question_line : Question → List ℕ
+question_line question = codes "ask " ++ kind_word question.kind ++ 32 ∷ text_of question.name ++ 10 ∷ []
+
+-- the lines of an outcome, and its status
+abbrev pub shown : Outcome → List ℕ
+shown (targets list) = flat_map target_line list
+shown (need question) = question_line question
+shown (refused reason) = codes "refused " ++ reason_word reason ++ 10 ∷ []
+shown unready = codes "fault unready\n"
+
+abbrev pub status_of : Outcome → ℕ
+status_of (targets list) = 0
+status_of (need question) = 1
+status_of (refused reason) = 2
+status_of unready = 5

@@ -1,0 +1,231 @@
+//! Where a request goes (RFC 3263 4.1, 4.2).
+ghost use Rattle.std.specs.Prelude.{◌≡◌, map, IfOk};
+ghost use Rattle.std.specs.Option.{option_copied};
+ghost use Rattle.siplocate.specs.Choice as spec;
+ghost use Rattle.siplocate.specs.Views.{known_of, outcome_of};
+
+use crate::arguments::Families;
+use dns_message::{Kind, Question};
+use dns_name::Name;
+use sip_uri::{Address, Host, SipUri, Spoken, Transport};
+use std::alloc::{AllocError, Global};
+
+/// Where a request can be sent.
+#[derive(Clone, Copy, Debug, PartialEq, Eq)]
+pub struct Target {
+    /// Over what.
+    pub transport: Transport,
+    /// To which address.
+    pub address: Address,
+    /// To which port of it.
+    pub port: u16,
+}
+
+/// Why a request can't be sent.
+#[derive(Clone, Copy, Debug, PartialEq, Eq)]
+pub enum Reason {
+    /// Its transport is not one of ours, or not one of SIPS (RFC 3263 4.1).
+    TransportUnsupported,
+    /// Its transport is not secure, as a SIPS URI demands (RFC 3261 26.2.2).
+    TransportNotSecure,
+    /// The domain does not offer the service (RFC 2782).
+    NotOffered,
+    /// The name has no address.
+    NoAddress,
+}
+
+/// A question with its answer: the addresses of a name.
+#[derive(Debug, Drop)]
+pub struct Answered {
+    /// What was asked.
+    pub question: Question,
+    /// What was answered.
+    pub addresses: Vec<[u8; 4]>,
+}
+
+/// Where a request goes, as far as is known.
+#[derive(Debug, Drop)]
+pub enum Located {
+    /// To these targets, in this order.
+    Targets(Vec<Target>),
+    /// Nowhere.
+    Refused(Reason),
+    /// This question comes first.
+    Ask(Question),
+    /// It needs records that are not asked for yet.
+    Unready,
+}
+
+/// The transport of a SIPS URI with this parameter (RFC 3263 4.1).
+fn secure_transport(spoken: Option<Spoken>) -> Result<Transport, Reason>
+    ensures { result ≡ spec.secure_transport spoken }
+{
+    match spoken {
+        None | Some(Spoken::Known(Transport::Tcp | Transport::Tls)) => Ok(Transport::Tls),
+        Some(Spoken::Known(Transport::Udp)) => Err(Reason::TransportNotSecure),
+        Some(Spoken::Known(Transport::Sctp) | Spoken::Other) => Err(Reason::TransportUnsupported),
+    }
+}
+
+/// The transport of a SIP URI with this parameter (RFC 3263 4.1).
+fn plain_transport(spoken: Option<Spoken>) -> Result<Transport, Reason>
+    ensures { result ≡ spec.plain_transport spoken }
+{
+    match spoken {
+        None => Ok(Transport::Udp),
+        Some(Spoken::Known(transport)) => Ok(transport),
+        Some(Spoken::Other) => Err(Reason::TransportUnsupported),
+    }
+}
+
+/// The transport of a URI.
+fn transport_of(uri: &SipUri) -> Result<Transport, Reason>
+    ensures { result ≡ spec.transport_of uri.now }
+{
+    if uri.secure {
+        secure_transport(uri.transport)
+    } else {
+        plain_transport(uri.transport)
+    }
+}
+
+/// The port of a transport where none is written (RFC 3261 18.1.1, 19.1.2).
+fn default_port(transport: Transport) -> u16
+    ensures { result ≡ spec.default_port transport }
+{
+    match transport {
+        Transport::Udp | Transport::Tcp | Transport::Sctp => 5060,
+        Transport::Tls => 5061,
+    }
+}
+
+/// Whether two questions are the same.
+fn same_question(a: &Question, b: &Question) -> bool
+    ensures { result ≡ spec.same_question a.now b.now }
+{
+    a.name == b.name && a.kind.code() == b.kind.code()
+}
+
+/// The answer to a question.
+fn find<'a>(question: &Question, known: &'a [Answered]) -> Option<&'a [[u8; 4]]>
+    ensures { option_copied result ≡ spec.find question.now (map known_of known.now) }
+{
+    for answered in known {
+        if same_question(&answered.question, question) {
+            return Some(answered.addresses.as_slice());
+        }
+    }
+    None
+}
+
+/// These addresses at a port.
+fn targets_at(
+    alloc: Global,
+    transport: Transport,
+    port: u16,
+    addresses: &[[u8; 4]],
+) -> Result<Vec<Target>, AllocError>
+    ensures { IfOk result (λ targets. targets.items ≡ map (spec.target_at transport port) addresses.now) }
+{
+    addresses
+        .iter()
+        .map(|octets| Target {
+            transport,
+            address: Address::V4(*octets),
+            port,
+        })
+        .collect(alloc)
+}
+
+/// The targets of these addresses.
+fn targets_of(
+    alloc: Global,
+    transport: Transport,
+    port: u16,
+    addresses: &[[u8; 4]],
+) -> Result<Located, AllocError>
+    ensures { IfOk result (λ located. outcome_of located ≡ spec.targets_of transport port addresses.now) }
+{
+    if addresses.is_empty() {
+        return Ok(Located::Refused(Reason::NoAddress));
+    }
+    Ok(Located::Targets(targets_at(alloc, transport, port, addresses)?))
+}
+
+/// The targets of the addresses of a name at a port.
+fn locate_name(
+    alloc: Global,
+    transport: Transport,
+    port: u16,
+    name: &Name,
+    known: &[Answered],
+) -> Result<Located, AllocError>
+    ensures { IfOk result (λ located. outcome_of located ≡ spec.addresses_of transport port (spec.question_of name.now) (spec.find (spec.question_of name.now) (map known_of known.now))) }
+{
+    let question = Question {
+        name: name.try_clone()?,
+        kind: Kind::A,
+    };
+    match find(&question, known) {
+        None => Ok(Located::Ask(question)),
+        Some(addresses) => targets_of(alloc, transport, port, addresses),
+    }
+}
+
+/// The one target of an address.
+fn locate_address(
+    alloc: Global,
+    transport: Transport,
+    port: Option<u16>,
+    address: Address,
+) -> Result<Located, AllocError>
+    ensures { IfOk result (λ located. outcome_of located ≡ spec.locate_address transport port address) }
+{
+    let port = port.unwrap_or(default_port(transport));
+    let target = Target {
+        transport,
+        address,
+        port,
+    };
+    Ok(Located::Targets(vec![in alloc; target]?))
+}
+
+/// The targets of a host.
+fn locate_host(
+    alloc: Global,
+    transport: Transport,
+    port: Option<u16>,
+    host: &Host,
+    known: &[Answered],
+) -> Result<Located, AllocError>
+    ensures { IfOk result (λ located. outcome_of located ≡ spec.locate_host transport port host.now (map known_of known.now)) }
+{
+    match host {
+        Host::V4(octets) => locate_address(alloc, transport, port, Address::V4(*octets)),
+        Host::V6(octets) => locate_address(alloc, transport, port, Address::V6(*octets)),
+        Host::Domain(name) => match port {
+            Some(port) => locate_name(alloc, transport, port, name, known),
+            None => Ok(Located::Unready),
+        },
+    }
+}
+
+/// Where a request to a URI goes, as far as is known.
+pub fn locate(
+    alloc: Global,
+    families: Families,
+    uri: &SipUri,
+    known: &[Answered],
+) -> Result<Located, AllocError>
+    ensures { IfOk result (λ located. outcome_of located ≡ spec.locate families uri.now (map known_of known.now)) }
+{
+    let transport = match transport_of(uri) {
+        Ok(transport) => transport,
+        Err(reason) => return Ok(Located::Refused(reason)),
+    };
+    if families != Families::V4 {
+        return Ok(Located::Unready);
+    }
+    let host = uri.maddr.as_ref().unwrap_or(&uri.host);
+    locate_host(alloc, transport, uri.port, host, known)
+}

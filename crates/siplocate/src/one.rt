@@ -1,0 +1,118 @@
+//! One request, from its text to what is printed.
+ghost use Rattle.std.specs.Prelude.{◌≡◌, ◌⊎◌, ℕ, List, map, Some, IfOk, MatchResult};
+ghost use Rattle.std.specs.List.{AllZip};
+ghost use Rattle.std.specs.String.{string_bytes};
+ghost use Rattle.dns_message.specs.declared.message.Message as message;
+ghost use Rattle.siplocate.specs.Choice as spec;
+ghost use Rattle.siplocate.specs.Replies.{ReplyLine};
+ghost use Rattle.siplocate.specs.Requests.{LocatesTo, first_line as first_line_of, other_lines};
+ghost use Rattle.siplocate.specs.Refusals.{of_request, of_reply};
+ghost use Rattle.siplocate.specs.declared.one.OneRefusal.TheVariants as refusals;
+ghost use Rattle.siplocate.specs.Views.{known_of, outcome_of};
+ghost use Rattle.siplocate.specs.Words as words;
+
+use crate::arguments::Families;
+use crate::choice::{Located, locate};
+use crate::output::{bad_reply, bad_request, shown, status_of};
+use crate::reply::{BadReply, answered};
+use sip_uri::{SipUri, UriRefusal, read_uri};
+use std::alloc::{AllocError, Global};
+
+/// The status of what is no request, or has a reply that is none.
+const BAD_STATUS: u8 = 3;
+
+/// Why a text is no request with replies.
+#[derive(Clone, Copy)]
+enum OneRefusal {
+    /// The first line is no request.
+    Request(UriRefusal),
+    /// A further line is no reply.
+    Reply(BadReply),
+    /// Memory was refused.
+    Memory,
+}
+
+impl From<UriRefusal> for OneRefusal {
+    ghost from_gives = { λ refusal one. one ≡ of_request refusal };
+
+    fn from(refusal: UriRefusal) -> OneRefusal {
+        match refusal {
+            UriRefusal::Memory => OneRefusal::Memory,
+            _ => OneRefusal::Request(refusal),
+        }
+    }
+}
+
+impl From<BadReply> for OneRefusal {
+    ghost from_gives = { λ reply one. one ≡ of_reply reply };
+
+    fn from(reply: BadReply) -> OneRefusal {
+        match reply {
+            BadReply::Memory => OneRefusal::Memory,
+            _ => OneRefusal::Reply(reply),
+        }
+    }
+}
+
+impl From<AllocError> for OneRefusal {
+    ghost from_gives = { λ _ one. one ≡ refusals.Memory };
+
+    fn from(_: AllocError) -> OneRefusal {
+        OneRefusal::Memory
+    }
+}
+
+/// The first line of a text, which is empty where there is none.
+fn first_line(text: &str) -> &str
+    ensures { result.now ≡ first_line_of text.now }
+{
+    text.lines().next().unwrap_or("")
+}
+
+/// Where a request goes, with the replies in the lines after the first one.
+fn talk(alloc: Global, families: Families, uri: &SipUri, text: &str) -> Result<Located, BadReply>
+    ensures found { IfOk result (λ located. (messages : List message.Message) × (known : List spec.Known) × AllZip ReplyLine (other_lines text.now) messages
+        × (spec.talk families uri.now messages ≡ Some known) × (outcome_of located ≡ spec.locate families uri.now known)) }
+    ensures read { (messages : List message.Message) (known : List spec.Known) → AllZip ReplyLine (other_lines text.now) messages → spec.talk families uri.now messages ≡ Some known
+        → MatchResult result (λ located. outcome_of located ≡ spec.locate families uri.now known) (λ reply. reply ≡ BadReply.Memory) }
+{
+    let mut known = Vec::new(alloc);
+    let mut located = locate(alloc, families, uri, known.as_slice())?;
+    for line in text.lines().skip(1) {
+        let next = answered(alloc, &located, line)?;
+        known.push(next)?;
+        located = locate(alloc, families, uri, known.as_slice())?;
+    }
+    Ok(located)
+}
+
+/// What becomes of the request in the first line of a text, with the replies in the others.
+fn located(alloc: Global, families: Families, text: &str) -> Result<Located, OneRefusal>
+    ensures found { IfOk result (λ located. LocatesTo families text.now (outcome_of located)) }
+    ensures read { (outcome : spec.Outcome) → LocatesTo families text.now outcome
+        → MatchResult result (λ located. outcome_of located ≡ outcome) (λ refusal. refusal ≡ OneRefusal.Memory) }
+{
+    let uri = read_uri(alloc, first_line(text))?;
+    let located = locate(alloc, families, &uri, &[])?;
+    if let Located::Unready = located {
+        return Ok(located);
+    }
+    Ok(talk(alloc, families, &uri, text)?)
+}
+
+/// What the program prints for a request with replies, and its status.
+pub fn one_text(alloc: Global, families: Families, text: &str) -> Result<(String, u8), AllocError>
+    // What becomes of the request is printed.
+    ensures located { (outcome : spec.Outcome) → LocatesTo families text.now outcome
+        → IfOk result (λ told. (string_bytes told.0 ≡ words.shown outcome) × (told.1 ≡ words.status_of outcome)) }
+    // Nothing else is printed but what is wrong, under status 3.
+    ensures only { IfOk result (λ told. ((told.1 ≡ 3) × words.IsBadLine (string_bytes told.0)) ⊎ ((outcome : spec.Outcome) × LocatesTo families text.now outcome
+        × (string_bytes told.0 ≡ words.shown outcome) × (told.1 ≡ words.status_of outcome))) }
+{
+    match located(alloc, families, text) {
+        Ok(located) => Ok((shown(alloc, &located)?, status_of(&located))),
+        Err(OneRefusal::Memory) => Err(AllocError),
+        Err(OneRefusal::Request(refusal)) => Ok((bad_request(alloc, refusal)?, BAD_STATUS)),
+        Err(OneRefusal::Reply(reply)) => Ok((bad_reply(alloc, reply)?, BAD_STATUS)),
+    }
+}

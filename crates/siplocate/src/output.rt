@@ -1,0 +1,155 @@
+//! What the program prints.
+ghost use Rattle.std.specs.Prelude.{◌≡◌, IfOk};
+ghost use Rattle.std.specs.List.{flat_map};
+ghost use Rattle.std.specs.String.{string_bytes};
+ghost use Rattle.siplocate.specs.Views.{outcome_of};
+ghost use Rattle.siplocate.specs.Words as spec;
+
+use crate::answer::ReplyFault;
+use crate::choice::{Located, Reason, Target};
+use crate::reply::BadReply;
+use dns_message::{Kind, Question};
+use sip_uri::{Transport, UriRefusal, address_text};
+use std::alloc::{AllocError, Global};
+
+fn transport_word(transport: Transport) -> &'static str
+    ensures { result.now ≡ spec.transport_word transport }
+{
+    match transport {
+        Transport::Udp => "udp",
+        Transport::Tcp => "tcp",
+        Transport::Sctp => "sctp",
+        Transport::Tls => "tls",
+    }
+}
+
+fn reason_word(reason: Reason) -> &'static str
+    ensures { result.now ≡ spec.reason_word reason }
+{
+    match reason {
+        Reason::TransportUnsupported => "TransportUnsupported",
+        Reason::TransportNotSecure => "TransportNotSecure",
+        Reason::NotOffered => "NotOffered",
+        Reason::NoAddress => "NoAddress",
+    }
+}
+
+fn kind_word(kind: Kind) -> &'static str
+    ensures { result.now ≡ spec.kind_word kind }
+{
+    match kind {
+        Kind::A => "A",
+        Kind::Aaaa => "AAAA",
+        Kind::Srv => "SRV",
+        Kind::Naptr => "NAPTR",
+    }
+}
+
+/// The line of a target.
+fn target_line(alloc: Global, target: &Target) -> Result<String, AllocError>
+    ensures { IfOk result (λ line. string_bytes line ≡ spec.target_line target.now) }
+{
+    let address = address_text(alloc, target.address)?;
+    let port = target.port;
+    let mut line = String::from_str(alloc, transport_word(target.transport))?;
+    line.push_str(" ")?;
+    line.push_str(&address)?;
+    line.push_str(&format!(in alloc; " {port}\n")?)?;
+    Ok(line)
+}
+
+/// The lines of targets.
+fn target_lines(alloc: Global, targets: &[Target]) -> Result<String, AllocError>
+    ensures { IfOk result (λ lines. string_bytes lines ≡ flat_map spec.target_line targets.now) }
+{
+    let mut lines = String::new(alloc);
+    for target in targets {
+        lines.push_str(&target_line(alloc, target)?)?;
+    }
+    Ok(lines)
+}
+
+/// The line of a question.
+fn question_line(alloc: Global, question: &Question) -> Result<String, AllocError>
+    ensures { IfOk result (λ line. string_bytes line ≡ spec.question_line question.now) }
+{
+    let kind = kind_word(question.kind);
+    let name = question.name.text()?;
+    format!(in alloc; "ask {kind} {name}\n")
+}
+
+/// The lines of an outcome.
+pub fn shown(alloc: Global, located: &Located) -> Result<String, AllocError>
+    ensures { IfOk result (λ lines. string_bytes lines ≡ spec.shown (outcome_of located.now)) }
+{
+    match located {
+        Located::Targets(targets) => target_lines(alloc, targets),
+        Located::Ask(question) => question_line(alloc, question),
+        Located::Refused(reason) => {
+            let reason = reason_word(*reason);
+            format!(in alloc; "refused {reason}\n")
+        }
+        Located::Unready => String::from_str(alloc, "fault unready\n"),
+    }
+}
+
+/// The status of an outcome.
+pub fn status_of(located: &Located) -> u8
+    ensures { result ≡ spec.status_of (outcome_of located.now) }
+{
+    match located {
+        Located::Targets(_) => 0,
+        Located::Ask(_) => 1,
+        Located::Refused(_) => 2,
+        Located::Unready => 5,
+    }
+}
+
+fn request_word(refusal: UriRefusal) -> &'static str
+    ensures { result.now ≡ spec.request_word refusal }
+{
+    match refusal {
+        UriRefusal::TooLong => "TooLong",
+        UriRefusal::BadScheme => "BadScheme",
+        UriRefusal::BadUser => "BadUser",
+        UriRefusal::BadHost => "BadHost",
+        UriRefusal::BadPort => "BadPort",
+        UriRefusal::BadParam => "BadParam",
+        UriRefusal::RepeatedParam => "RepeatedParam",
+        UriRefusal::BadHeader => "BadHeader",
+        UriRefusal::BadVia => "BadVia",
+        UriRefusal::Memory => "Memory",
+    }
+}
+
+fn reply_word(reply: BadReply) -> &'static str
+    ensures { result.now ≡ spec.reply_word reply }
+{
+    match reply {
+        BadReply::NotHex => "NotHex",
+        BadReply::NothingAsked => "NothingAsked",
+        BadReply::TooLong => "TooLong",
+        BadReply::Malformed => "Malformed",
+        BadReply::Fault(ReplyFault::NotReply) => "NotReply",
+        BadReply::Fault(ReplyFault::OtherQuestion) => "OtherQuestion",
+        BadReply::Fault(ReplyFault::Truncated) => "Truncated",
+        BadReply::Fault(ReplyFault::ServerFault) => "ServerFault",
+        BadReply::Memory => "Memory",
+    }
+}
+
+/// The line for a first line that is no request.
+pub fn bad_request(alloc: Global, refusal: UriRefusal) -> Result<String, AllocError>
+    ensures { IfOk result (λ line. string_bytes line ≡ spec.bad_request_line refusal) }
+{
+    let word = request_word(refusal);
+    format!(in alloc; "bad request {word}\n")
+}
+
+/// The line for a further line that is no reply.
+pub fn bad_reply(alloc: Global, reply: BadReply) -> Result<String, AllocError>
+    ensures { IfOk result (λ line. string_bytes line ≡ spec.bad_reply_line reply) }
+{
+    let word = reply_word(reply);
+    format!(in alloc; "bad reply {word}\n")
+}

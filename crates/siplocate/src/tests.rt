@@ -1,0 +1,260 @@
+//! The program's main job, by rows worked out by hand, and its edges by a reader and a writer that fail.
+use super::*;
+use crate::arguments::Families;
+use std::io::Read;
+use std::test::Fail;
+
+/// A reply to A of a.example.: 192.0.2.7, TTL 300, with a pointer to the question (RFC 1035 4.1.4).
+const REPLY: &str =
+    "1234 8180 0001 0001 0000 0000 0161076578616d706c6500 0001 0001 c00c 0001 0001 0000012c 0004 c0000207";
+
+/// The query for A of a.example.
+const QUERY: &str = "1234 0100 0001 0000 0000 0000 0161076578616d706c6500 0001 0001";
+
+/// Lines of input, and what is printed with which status.
+struct Row {
+    lines: [&'static str; 3],
+    printed: &'static str,
+    status: u8,
+}
+
+const ROWS: [Row; 26] = [
+    Row {
+        lines: ["sip:192.0.2.7:5080", "", ""],
+        printed: "udp 192.0.2.7 5080\n",
+        status: 0,
+    },
+    Row {
+        lines: ["sips:192.0.2.7", "", ""],
+        printed: "tls 192.0.2.7 5061\n",
+        status: 0,
+    },
+    Row {
+        lines: ["SIP:192.0.2.7\r", "", ""],
+        printed: "udp 192.0.2.7 5060\n",
+        status: 0,
+    },
+    Row {
+        lines: ["sip:a.example:5070", "", ""],
+        printed: "ask A a.example.\n",
+        status: 1,
+    },
+    Row {
+        lines: ["sip:a.example:5070", REPLY, ""],
+        printed: "udp 192.0.2.7 5070\n",
+        status: 0,
+    },
+    Row {
+        lines: ["sips:A.Example.:5070", REPLY, ""],
+        printed: "tls 192.0.2.7 5070\n",
+        status: 0,
+    },
+    Row {
+        lines: ["sip:a.example:5070", REPLY, REPLY],
+        printed: "bad reply NothingAsked\n",
+        status: 3,
+    },
+    Row {
+        lines: ["sip:192.0.2.7", REPLY, ""],
+        printed: "bad reply NothingAsked\n",
+        status: 3,
+    },
+    Row {
+        lines: ["sip:192.0.2.7", "0", ""],
+        printed: "bad reply NotHex\n",
+        status: 3,
+    },
+    Row {
+        lines: ["sip:a.example:5070", "0g", ""],
+        printed: "bad reply NotHex\n",
+        status: 3,
+    },
+    Row {
+        lines: ["sip:a.example:5070", " ", ""],
+        printed: "bad reply Malformed\n",
+        status: 3,
+    },
+    Row {
+        lines: ["sip:a.example:5070", QUERY, ""],
+        printed: "bad reply NotReply\n",
+        status: 3,
+    },
+    Row {
+        lines: ["sip:b.example:5070", REPLY, ""],
+        printed: "bad reply OtherQuestion\n",
+        status: 3,
+    },
+    // TC set; server failure; name error, which is an answer without addresses.
+    Row {
+        lines: [
+            "sip:a.example:5070",
+            "1234 8380 0001 0000 0000 0000 0161076578616D706C6500 0001 0001",
+            "",
+        ],
+        printed: "bad reply Truncated\n",
+        status: 3,
+    },
+    Row {
+        lines: [
+            "sip:a.example:5070",
+            "1234 8182 0001 0000 0000 0000 0161076578616d706c6500 0001 0001",
+            "",
+        ],
+        printed: "bad reply ServerFault\n",
+        status: 3,
+    },
+    Row {
+        lines: [
+            "sip:a.example:5070",
+            "1234 8183 0001 0000 0000 0000 0161076578616d706c6500 0001 0001",
+            "",
+        ],
+        printed: "refused NoAddress\n",
+        status: 2,
+    },
+    // A question of class 3, and an opcode that is not 0.
+    Row {
+        lines: [
+            "sip:a.example:5070",
+            "1234 8180 0001 0000 0000 0000 0161076578616d706c6500 0001 0003",
+            "",
+        ],
+        printed: "bad reply OtherQuestion\n",
+        status: 3,
+    },
+    Row {
+        lines: [
+            "sip:a.example:5070",
+            "1234 8980 0001 0000 0000 0000 0161076578616d706c6500 0001 0001",
+            "",
+        ],
+        printed: "bad reply NotReply\n",
+        status: 3,
+    },
+    Row {
+        lines: ["sip:192.0.2.7:65535", "", ""],
+        printed: "udp 192.0.2.7 65535\n",
+        status: 0,
+    },
+    Row {
+        lines: ["sip:192.0.2.7:65536", "", ""],
+        printed: "bad request BadPort\n",
+        status: 3,
+    },
+    Row {
+        lines: ["sip:192.0.2.7:0", "", ""],
+        printed: "bad request BadPort\n",
+        status: 3,
+    },
+    Row {
+        lines: ["sip:192.0.2.7:", "", ""],
+        printed: "bad request BadPort\n",
+        status: 3,
+    },
+    Row {
+        lines: ["sip:300.1.1.1", "", ""],
+        printed: "bad request BadHost\n",
+        status: 3,
+    },
+    Row {
+        lines: ["sip:a.example", "0", ""],
+        printed: "fault unready\n",
+        status: 5,
+    },
+    Row {
+        lines: ["", "", ""],
+        printed: "bad request BadScheme\n",
+        status: 3,
+    },
+    Row {
+        lines: ["tel:+1", "", ""],
+        printed: "bad request BadScheme\n",
+        status: 3,
+    },
+];
+
+#[test]
+fn rows(rt: HostRuntime) -> Result<(), Fail> {
+    for row in &ROWS {
+        let mut text = String::new(rt.alloc());
+        for line in &row.lines {
+            if !line.is_empty() {
+                text.push_str(line)?;
+                text.push('\n')?;
+            }
+        }
+        let (printed, status) = one_text(rt.alloc(), Families::V4, &text)?;
+        assert_eq!(rt; printed.as_str(), row.printed, "{text}");
+        assert_eq!(rt; status, row.status, "{text}");
+    }
+    Ok(())
+}
+
+#[test]
+fn without_line_ends(rt: HostRuntime) -> Result<(), Fail> {
+    let (printed, status) = one_text(rt.alloc(), Families::V4, "")?;
+    assert_eq!(rt; (printed.as_str(), status), ("bad request BadScheme\n", 3));
+    let (printed, status) = one_text(rt.alloc(), Families::V4, "sip:192.0.2.7")?;
+    assert_eq!(rt; (printed.as_str(), status), ("udp 192.0.2.7 5060\n", 0));
+    Ok(())
+}
+
+#[test]
+fn other_families(rt: HostRuntime) -> Result<(), Fail> {
+    for families in [Families::V6, Families::V4ThenV6, Families::V6ThenV4] {
+        let (printed, status) = one_text(rt.alloc(), families, "sip:a.example:5070\n")?;
+        assert_eq!(rt; (printed.as_str(), status), ("fault unready\n", 5));
+    }
+    Ok(())
+}
+
+#[test]
+fn commands(rt: HostRuntime) -> Result<(), Fail> {
+    let alloc = rt.alloc();
+    let one = vec![in alloc; String::from_str(alloc, "one")?]?;
+    assert_eq!(rt; arguments(&one), Command::One(Families::V4));
+    let run = vec![in alloc; String::from_str(alloc, "run")?]?;
+    assert_eq!(rt; arguments(&run), Command::Usage);
+    assert_eq!(rt; arguments(&[]), Command::Usage);
+    Ok(())
+}
+
+/// A reader that fails, and a writer.
+#[derive(Drop)]
+struct Broken;
+
+impl Read for Broken {
+    fn read(&mut self, _buf: &mut [u8]) -> io::Result<usize> {
+        Err(io::Error::from(ErrorKind::Other))
+    }
+}
+
+impl Write for Broken {
+    fn write(&mut self, _buf: &[u8]) -> io::Result<usize> {
+        Err(io::Error::from(ErrorKind::Other))
+    }
+
+    fn flush(&mut self) -> io::Result<()> {
+        Ok(())
+    }
+}
+
+#[test]
+fn input(rt: HostRuntime) -> Result<(), Fail> {
+    let text = input_text(rt.alloc(), &mut b"sip:a.example\n".as_slice())?;
+    assert_eq!(rt; text.as_str(), "sip:a.example\n");
+    let no_text = input_text(rt.alloc(), &mut b"\xff".as_slice()).err();
+    assert_eq!(rt; no_text, Some(InputRefusal::Input));
+    let limit = vec![in rt.alloc(); b'a'; 1_048_576]?;
+    assert_eq!(rt;
+        input_text(rt.alloc(), &mut limit.as_slice())?.len(),
+        1_048_576
+    );
+    let long = vec![in rt.alloc(); b'a'; 1_048_577]?;
+    let refusal = input_text(rt.alloc(), &mut long.as_slice()).err();
+    assert_eq!(rt; refusal, Some(InputRefusal::Input));
+    let failed = input_text(rt.alloc(), &mut Broken).err();
+    assert_eq!(rt; failed, Some(InputRefusal::Input));
+    assert!(rt; write_text(&mut Broken, "udp").is_err());
+    Ok(())
+}

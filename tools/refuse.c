@@ -1,0 +1,42 @@
+/*
+ * To be preloaded: refuses the allocation whose number is in REFUSE_AT, counted from 1, and writes one octet to the
+ * descriptor in REFUSE_TOLD when it does. It needs no headers.
+ */
+typedef unsigned long size_t;
+extern void *dlsym(void *handle, const char *symbol);
+extern char *getenv(const char *name);
+extern int atoi(const char *text);
+extern long write(int descriptor, const void *octets, size_t count);
+extern void abort(void);
+
+#define NEXT ((void *)-1L)
+
+static void *(*next_malloc)(size_t);
+static void *(*next_realloc)(void *, size_t);
+static int left;
+static int told;
+
+__attribute__((constructor)) static void start(void) {
+    const char *at = getenv("REFUSE_AT");
+    const char *descriptor = getenv("REFUSE_TOLD");
+    next_malloc = (void *(*)(size_t))dlsym(NEXT, "malloc");
+    next_realloc = (void *(*)(void *, size_t))dlsym(NEXT, "realloc");
+    told = descriptor ? atoi(descriptor) : 2;
+    left = at ? atoi(at) : 0;
+}
+
+static int refuses(void) {
+    if (left <= 0 || __atomic_sub_fetch(&left, 1, __ATOMIC_SEQ_CST) != 0) return 0;
+    if (write(told, "r", 1) != 1) abort();
+    return 1;
+}
+
+void *malloc(size_t size) {
+    if (!next_malloc) next_malloc = (void *(*)(size_t))dlsym(NEXT, "malloc");
+    return refuses() ? (void *)0 : next_malloc(size);
+}
+
+void *realloc(void *block, size_t size) {
+    if (!next_realloc) next_realloc = (void *(*)(void *, size_t))dlsym(NEXT, "realloc");
+    return refuses() ? (void *)0 : next_realloc(block, size);
+}
