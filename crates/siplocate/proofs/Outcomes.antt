@@ -5,7 +5,7 @@ use Rattle.dns_message.specs.declared.message.Message.{Message}
 use Rattle.sip_uri.specs.Uris.{UriText}
 use Rattle.sip_uri.specs.declared.uri.SipUri.{SipUri}
 use Rattle.siplocate.specs.declared.arguments.Families.{Families}
-use Rattle.siplocate.specs.Choice.{Known, Outcome, unready, told, locate, talk, talk_from}
+use Rattle.siplocate.specs.Choice.{Known, Outcome, unready, locate, talk}
 use Rattle.siplocate.specs.Replies.{ReplyLine}
 use Rattle.siplocate.specs.Views.{outcome_of}
 use Rattle.siplocate.specs.declared.choice.Located.{Located}

@@ -1,9 +1,8 @@
 -- The answer that a reply has for a question (RFC 1034 3.6.2, RFC 1035 4.1).
-use Rattle.std.specs.Prelude.{ℕ, ◌==◌, Bool, true, false, ◌&&◌, ◌||◌, not, nat_eq, List, [], ◌∷◌, take, Option, Some, None, if◌then◌else◌}
+use Rattle.std.specs.Prelude.{ℕ, ◌==◌, Bool, false, ◌&&◌, ◌||◌, not, nat_eq, List, [], ◌∷◌, take, Option, Some, None, if◌then◌else◌}
 use Rattle.std.specs.List.{filter_map}
 use Rattle.std.specs.Cmp.Lexicographic.{pointwise}
 use Rattle.dns_message.specs.Kinds.{kind_code}
-use Rattle.dns_message.specs.declared.kind.Kind.TheVariants.{A}
 use Rattle.dns_message.specs.declared.message.Message.{Message}
 use Rattle.dns_message.specs.declared.question.Asked.{Asked}
 use Rattle.dns_message.specs.declared.question.Question.{Question}

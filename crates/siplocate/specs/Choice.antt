@@ -1,5 +1,5 @@
 -- Where a request goes (RFC 3263 4.1, 4.2), as far as the questions about it are answered.
-use Rattle.std.specs.Prelude.{ℕ, ◌==◌, Bool, true, false, ◌&&◌, List, [], ◌∷◌, ◌++◌, length, map, Option, Some, None, unwrap_or, is_none, option_and_then, Result, Ok, Err, if◌then◌else◌}
+use Rattle.std.specs.Prelude.{ℕ, ◌==◌, Bool, ◌&&◌, List, [], ◌∷◌, ◌++◌, length, map, Option, Some, None, unwrap_or, is_none, option_and_then, Result, Ok, Err, if◌then◌else◌}
 use Rattle.dns_message.specs.Kinds.{kind_code}
 use Rattle.dns_message.specs.declared.kind.Kind.TheVariants as kind
 use Rattle.dns_message.specs.declared.message.Message.{Message}

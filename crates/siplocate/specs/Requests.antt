@@ -1,5 +1,5 @@
 -- A request with replies, in lines.
-use Rattle.std.specs.Prelude.{◌≡◌, ℕ, List, [], drop, Option, Some, slice_index_or}
+use Rattle.std.specs.Prelude.{◌≡◌, ℕ, List, [], drop, Some, slice_index_or}
 use Rattle.std.specs.List.{AllZip}
 use Rattle.std.specs.Str.Lines.{lines}
 use Rattle.dns_message.specs.declared.message.Message.{Message}

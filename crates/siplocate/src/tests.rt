@@ -1,6 +1,7 @@
 //! The program's main job, by rows worked out by hand, and its edges by a reader and a writer that fail.
 use super::*;
 use crate::arguments::Families;
+use std::alloc::Global;
 use std::io::Read;
 use std::test::Fail;
 
@@ -13,176 +14,175 @@ const QUERY: &str = "1234 0100 0001 0000 0000 0000 0161076578616d706c6500 0001 0
 
 /// Lines of input, and what is printed with which status.
 struct Row {
-    lines: [&'static str; 3],
+    lines: &'static [&'static str],
     printed: &'static str,
     status: u8,
 }
 
 const ROWS: [Row; 26] = [
     Row {
-        lines: ["sip:192.0.2.7:5080", "", ""],
+        lines: &["sip:192.0.2.7:5080"],
         printed: "udp 192.0.2.7 5080\n",
         status: 0,
     },
     Row {
-        lines: ["sips:192.0.2.7", "", ""],
+        lines: &["sips:192.0.2.7"],
         printed: "tls 192.0.2.7 5061\n",
         status: 0,
     },
     Row {
-        lines: ["SIP:192.0.2.7\r", "", ""],
+        lines: &["SIP:192.0.2.7\r"],
         printed: "udp 192.0.2.7 5060\n",
         status: 0,
     },
     Row {
-        lines: ["sip:a.example:5070", "", ""],
+        lines: &["sip:a.example:5070"],
         printed: "ask A a.example.\n",
         status: 1,
     },
     Row {
-        lines: ["sip:a.example:5070", REPLY, ""],
+        lines: &["sip:a.example:5070", REPLY],
         printed: "udp 192.0.2.7 5070\n",
         status: 0,
     },
     Row {
-        lines: ["sips:A.Example.:5070", REPLY, ""],
+        lines: &["sips:A.Example.:5070", REPLY],
         printed: "tls 192.0.2.7 5070\n",
         status: 0,
     },
     Row {
-        lines: ["sip:a.example:5070", REPLY, REPLY],
+        lines: &["sip:a.example:5070", REPLY, REPLY],
         printed: "bad reply NothingAsked\n",
         status: 3,
     },
     Row {
-        lines: ["sip:192.0.2.7", REPLY, ""],
+        lines: &["sip:192.0.2.7", REPLY],
         printed: "bad reply NothingAsked\n",
         status: 3,
     },
     Row {
-        lines: ["sip:192.0.2.7", "0", ""],
+        lines: &["sip:192.0.2.7", "0"],
         printed: "bad reply NotHex\n",
         status: 3,
     },
     Row {
-        lines: ["sip:a.example:5070", "0g", ""],
+        lines: &["sip:a.example:5070", "0g"],
         printed: "bad reply NotHex\n",
         status: 3,
     },
     Row {
-        lines: ["sip:a.example:5070", " ", ""],
+        lines: &["sip:a.example:5070", " "],
         printed: "bad reply Malformed\n",
         status: 3,
     },
     Row {
-        lines: ["sip:a.example:5070", QUERY, ""],
+        lines: &["sip:a.example:5070", QUERY],
         printed: "bad reply NotReply\n",
         status: 3,
     },
     Row {
-        lines: ["sip:b.example:5070", REPLY, ""],
+        lines: &["sip:b.example:5070", REPLY],
         printed: "bad reply OtherQuestion\n",
         status: 3,
     },
     // TC set; server failure; name error, which is an answer without addresses.
     Row {
-        lines: [
+        lines: &[
             "sip:a.example:5070",
             "1234 8380 0001 0000 0000 0000 0161076578616D706C6500 0001 0001",
-            "",
         ],
         printed: "bad reply Truncated\n",
         status: 3,
     },
     Row {
-        lines: [
+        lines: &[
             "sip:a.example:5070",
             "1234 8182 0001 0000 0000 0000 0161076578616d706c6500 0001 0001",
-            "",
         ],
         printed: "bad reply ServerFault\n",
         status: 3,
     },
     Row {
-        lines: [
+        lines: &[
             "sip:a.example:5070",
             "1234 8183 0001 0000 0000 0000 0161076578616d706c6500 0001 0001",
-            "",
         ],
         printed: "refused NoAddress\n",
         status: 2,
     },
     // A question of class 3, and an opcode that is not 0.
     Row {
-        lines: [
+        lines: &[
             "sip:a.example:5070",
             "1234 8180 0001 0000 0000 0000 0161076578616d706c6500 0001 0003",
-            "",
         ],
         printed: "bad reply OtherQuestion\n",
         status: 3,
     },
     Row {
-        lines: [
+        lines: &[
             "sip:a.example:5070",
             "1234 8980 0001 0000 0000 0000 0161076578616d706c6500 0001 0001",
-            "",
         ],
         printed: "bad reply NotReply\n",
         status: 3,
     },
     Row {
-        lines: ["sip:192.0.2.7:65535", "", ""],
+        lines: &["sip:192.0.2.7:65535"],
         printed: "udp 192.0.2.7 65535\n",
         status: 0,
     },
     Row {
-        lines: ["sip:192.0.2.7:65536", "", ""],
+        lines: &["sip:192.0.2.7:65536"],
         printed: "bad request BadPort\n",
         status: 3,
     },
     Row {
-        lines: ["sip:192.0.2.7:0", "", ""],
+        lines: &["sip:192.0.2.7:0"],
         printed: "bad request BadPort\n",
         status: 3,
     },
     Row {
-        lines: ["sip:192.0.2.7:", "", ""],
+        lines: &["sip:192.0.2.7:"],
         printed: "bad request BadPort\n",
         status: 3,
     },
     Row {
-        lines: ["sip:300.1.1.1", "", ""],
+        lines: &["sip:300.1.1.1"],
         printed: "bad request BadHost\n",
         status: 3,
     },
     Row {
-        lines: ["sip:a.example", "0", ""],
+        lines: &["sip:a.example", "0"],
         printed: "fault unready\n",
         status: 5,
     },
     Row {
-        lines: ["", "", ""],
+        lines: &[],
         printed: "bad request BadScheme\n",
         status: 3,
     },
     Row {
-        lines: ["tel:+1", "", ""],
+        lines: &["tel:+1"],
         printed: "bad request BadScheme\n",
         status: 3,
     },
 ];
 
+/// The text of lines, each with its end.
+fn text_of(alloc: Global, lines: &[&str]) -> Result<String, AllocError> {
+    let mut text = String::new(alloc);
+    for line in lines {
+        text.push_str(line)?;
+        text.push('\n')?;
+    }
+    Ok(text)
+}
+
 #[test]
 fn rows(rt: HostRuntime) -> Result<(), Fail> {
     for row in &ROWS {
-        let mut text = String::new(rt.alloc());
-        for line in &row.lines {
-            if !line.is_empty() {
-                text.push_str(line)?;
-                text.push('\n')?;
-            }
-        }
+        let text = text_of(rt.alloc(), row.lines)?;
         let (printed, status) = one_text(rt.alloc(), Families::V4, &text)?;
         assert_eq!(rt; printed.as_str(), row.printed, "{text}");
         assert_eq!(rt; status, row.status, "{text}");

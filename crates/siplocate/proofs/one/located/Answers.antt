@@ -1,12 +1,10 @@
-use Rattle.std.proofs.Common.{◌≡◌, ℕ, List, [], Some, refl, sym, ap, ◌∙◌}
+use Rattle.std.proofs.Common.{◌≡◌, List, Some, refl, sym, ap, ◌∙◌}
 use Rattle.std.proofs.lemmas.Result.{err_from_is_err_and}
-use Rattle.sip_uri.specs.Uris.{UriText}
-use Rattle.sip_uri.specs.declared.uri.SipUri.{SipUri}
 use Rattle.std.specs.List.{AllZip}
 use Rattle.dns_message.specs.declared.message.Message.{Message}
 use Rattle.siplocate.specs.Replies.{ReplyLine}
 use Rattle.siplocate.specs.Choice.{Known, Outcome, unready, locate, talk}
-use Rattle.siplocate.specs.Requests.{LocatesTo, talked, waits, first_line, other_lines}
+use Rattle.siplocate.specs.Requests.{LocatesTo, talked, waits, other_lines}
 use Rattle.siplocate.specs.Views.{outcome_of}
 use Rattle.siplocate.proofs.Outcomes.{is_unready, is_talked, unready_is, request_of}
 use Rattle.siplocate.proofs.one.located.Goals as goal
