@@ -398,7 +398,7 @@ const FAULTS: [(&str, UriRefusal); 62] = [
     ("sip:c.example;a=", UriRefusal::BadParam),
     ("sip:c.example;=a", UriRefusal::BadParam),
     ("sip:c.example;a=b=c", UriRefusal::BadParam),
-    ("sip:c.example;a=1@2", UriRefusal::BadParam),
+    ("sip:c.example;a=1@2", UriRefusal::BadHost),
     ("sip:c.example;transport", UriRefusal::BadParam),
     ("sip:c.example;maddr", UriRefusal::BadParam),
     ("sip:c.example;maddr=1.2.3.4.5", UriRefusal::BadParam),
