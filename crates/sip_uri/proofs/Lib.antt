@@ -18,3 +18,6 @@ mod ParamBlocks
 mod UriPieces
 mod UriTexts
 mod NotLong
+mod ViaRows
+mod ViaSteps
+mod ViaLists

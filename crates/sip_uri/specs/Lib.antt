@@ -11,3 +11,7 @@ pub mod Shown
 pub mod Transports
 pub mod UriReaders
 pub mod Uris
+pub mod ViaClasses
+pub mod ViaReaders
+pub mod ViaFronts
+pub mod Vias

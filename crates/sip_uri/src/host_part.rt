@@ -25,7 +25,7 @@ pub(crate) enum HostPart<'a> {
 }
 
 /// The host of a text that is an IPv4 address or a hostname.
-fn plain_host(text: &[u8]) -> Option<HostPart<'_>>
+pub(crate) fn plain_host(text: &[u8]) -> Option<HostPart<'_>>
     ensures host { option_map spec.host_of result ≡ spec.plain_host text.now }
     ensures hostname { IfSome result spec.IsHostPart }
 {

@@ -17,11 +17,15 @@ mod numeric;
 mod params;
 mod parts;
 mod refusal;
+mod rows;
 mod transport;
 mod uri;
 mod uri_parts;
 mod uri_text;
 mod user;
+mod via;
+mod via_params;
+mod via_parts;
 
 pub use address::{address_from_text, address_text};
 pub use host::Host;
@@ -31,6 +35,7 @@ pub use refusal::UriRefusal;
 pub use transport::{Spoken, Transport};
 pub use uri::SipUri;
 pub use uri_text::read_uri;
+pub use via::Via;
 
 #[cfg(test)]
 mod tests;

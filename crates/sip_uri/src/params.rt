@@ -19,7 +19,7 @@ fn name_of(param: &[u8]) -> &[u8]
 }
 
 /// Whether two names are equal but for the case of letters.
-fn is_same(name: &[u8], other: &[u8]) -> bool
+pub(crate) fn is_same(name: &[u8], other: &[u8]) -> bool
     ensures { result ≡ spec.is_same name.now other.now }
 {
     name.eq_ignore_ascii_case(other)

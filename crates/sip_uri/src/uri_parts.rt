@@ -72,7 +72,7 @@ fn behind_user(text: &[u8]) -> Result<&[u8], UriRefusal>
 
 /// A port from 1 to 65535.
 #[tactic(auto, unfolding(crate::specs::UriReaders::port_number))]
-fn port_number(text: &[u8]) -> Option<u16>
+pub(crate) fn port_number(text: &[u8]) -> Option<u16>
     ensures { result ≡ spec.port_number text.now }
 {
     match decimal(text, 65535)? {

@@ -1,0 +1,116 @@
+//! The parts of a Via, before memory is taken for the name in it (RFC 3261 20.42, 25.1).
+ghost use Rattle.std.specs.Prelude.{◌≡◌, IfOk, IfSome};
+ghost use Rattle.std.specs.Option.{option_map};
+ghost use Rattle.sip_uri.specs.HostReaders as host;
+ghost use Rattle.sip_uri.specs.UriReaders.{seen};
+ghost use Rattle.sip_uri.specs.ViaFronts as spec;
+
+use crate::host_part::{HostPart, plain_host};
+use crate::ipv6::ipv6;
+use crate::parts::next_part;
+use crate::refusal::UriRefusal;
+use crate::rows::{Row, behind_blanks, behind_mark, cut_row};
+use crate::transport::{Spoken, spoken_of};
+use crate::uri_parts::port_number;
+
+/// A Via as it stands in a text, without its parameters.
+#[derive(Clone, Copy)]
+pub(crate) struct ViaParts<'a> {
+    /// The transport.
+    pub(crate) transport: Spoken,
+    /// The host.
+    pub(crate) host: HostPart<'a>,
+    /// The port.
+    pub(crate) port: Option<u16>,
+}
+
+/// What follows a token and a slash, if the token is the one that is wanted, in letters of any case.
+#[tactic(auto, unfolding(crate::specs::ViaFronts::behind_token))]
+fn behind_token<'a>(text: &'a [u8], token: &[u8]) -> Option<&'a [u8]>
+    ensures { option_map (λ rest. rest.now) result ≡ spec.behind_token text.now token.now }
+{
+    let (found, rest) = cut_row(Row::Token, text);
+    if !found.eq_ignore_ascii_case(token) {
+        return None;
+    }
+    behind_mark(rest, b'/')
+}
+
+/// The transport, and what follows it and the blanks behind it.
+#[tactic(auto, unfolding(crate::specs::ViaFronts::behind_protocol))]
+fn behind_protocol(text: &[u8]) -> Option<(&[u8], &[u8])>
+    ensures { option_map (λ found. (found.0.now, found.1.now)) result ≡ spec.behind_protocol text.now }
+{
+    let rest = behind_token(behind_blanks(text), b"SIP")?;
+    let rest = behind_token(rest, b"2.0")?;
+    let (transport, rest) = cut_row(Row::Token, rest);
+    let (blanks, rest) = cut_row(Row::Blank, rest);
+    if transport.is_empty() || blanks.is_empty() {
+        return None;
+    }
+    Some((transport, rest))
+}
+
+/// The host up to a closing bracket, and what follows it.
+#[tactic(auto, unfolding(crate::specs::ViaFronts::host_in_brackets))]
+fn via_host_in_brackets(text: &[u8]) -> Option<(HostPart<'_>, &[u8])>
+    ensures host { option_map (λ found. (host.host_of found.0, found.1.now)) result ≡ spec.host_in_brackets text.now }
+    ensures hostname { IfSome result (λ found. host.IsHostPart found.0) }
+{
+    let (inner, behind) = next_part(text, b']');
+    let behind = behind?;
+    if !cut_row(Row::Host, behind).0.is_empty() {
+        return None;
+    }
+    Some((HostPart::V6(ipv6(inner)?), behind))
+}
+
+/// The host in front, and what follows it.
+#[tactic(auto, unfolding(crate::specs::ViaFronts::via_host))]
+fn via_host(text: &[u8]) -> Option<(HostPart<'_>, &[u8])>
+    ensures host { option_map (λ found. (host.host_of found.0, found.1.now)) result ≡ spec.via_host text.now }
+    ensures hostname { IfSome result (λ found. host.IsHostPart found.0) }
+{
+    if let [b'[', rest @ ..] = text {
+        return via_host_in_brackets(rest);
+    }
+    let (host, rest) = cut_row(Row::Host, text);
+    Some((plain_host(host)?, rest))
+}
+
+/// The port, where a colon stands before it, and what follows it.
+#[tactic(auto, unfolding(crate::specs::ViaFronts::via_port))]
+fn via_port(text: &[u8]) -> Result<(Option<u16>, &[u8]), UriRefusal>
+    ensures { seen (λ found. (found.0, found.1.now)) result ≡ spec.via_port text.now }
+{
+    match behind_mark(text, b':') {
+        None => Ok((None, text)),
+        Some(behind) => {
+            let (digits, rest) = cut_row(Row::Port, behind);
+            match port_number(digits) {
+                None => Err(UriRefusal::BadPort),
+                port => Ok((port, rest)),
+            }
+        }
+    }
+}
+
+/// The parts of a Via and what follows its port, or the first fault from the left.
+#[tactic(auto, unfolding(crate::specs::ViaFronts::via_parts))]
+pub(crate) fn via_parts(text: &[u8]) -> Result<(ViaParts<'_>, &[u8]), UriRefusal>
+    ensures value { seen (λ found. (spec.via_of found.0, found.1.now)) result ≡ spec.via_parts text.now }
+    ensures host { IfOk result (λ found. host.IsHostPart found.0.host) }
+{
+    let (transport, rest) = behind_protocol(text).ok_or(UriRefusal::BadVia)?;
+    let (host, rest) = via_host(rest).ok_or(UriRefusal::BadHost)?;
+    let (port, rest) = via_port(rest)?;
+    let transport = spoken_of(transport);
+    Ok((
+        ViaParts {
+            transport,
+            host,
+            port,
+        },
+        rest,
+    ))
+}
