@@ -21,3 +21,5 @@ mod NotLong
 mod ViaRows
 mod ViaSteps
 mod ViaLists
+mod ViaPieces
+mod ViaTexts

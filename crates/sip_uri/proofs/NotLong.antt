@@ -11,7 +11,7 @@ use Rattle.sip_uri.specs.HostReaders.{host_in_front}
 use Rattle.sip_uri.specs.declared.refusal.UriRefusal.{UriRefusal}
 use Rattle.sip_uri.specs.declared.refusal.UriRefusal.TheVariants.{TooLong, BadScheme, BadUser, BadHost, BadPort, BadParam, RepeatedParam, BadHeader}
 
-abbrev NotLong : {A : Type 0} → Result A UriRefusal → Type 0
+abbrev pub NotLong : {A : Type 0} → Result A UriRefusal → Type 0
 NotLong r = r ≡ Err TooLong → ⊥
 
 pub same_Err : {A : Type 0} (fault other : UriRefusal) → ◌≡◌ {A = Result A UriRefusal} (Err fault) (Err other) → fault ≡ other
@@ -20,13 +20,13 @@ same_Err fault other e = cc
 bad_not : {A : Type 0} (fault : UriRefusal) → (fault ≡ TooLong → ⊥) → NotLong {A = A} (Err fault)
 bad_not {A} fault other e = other (same_Err {A = A} fault TooLong e)
 
-either_not : {A B : Type 0} (r : Result A UriRefusal) (f : A → Result B UriRefusal) → NotLong r → ((x : A) → NotLong (f x)) → NotLong (reader.◌>>=◌ r f)
+pub either_not : {A B : Type 0} (r : Result A UriRefusal) (f : A → Result B UriRefusal) → NotLong r → ((x : A) → NotLong (f x)) → NotLong (reader.◌>>=◌ r f)
 either_not (Ok x) f one two e = two x e
 either_not {A} {B} (Err fault) f one two e =
     let same : fault ≡ TooLong = same_Err {A = B} fault TooLong e in
     one (ap (λ (x : UriRefusal). Err x) same)
 
-or_not : {A : Type 0} (o : Option A) (fault : UriRefusal) → (fault ≡ TooLong → ⊥) → NotLong (ok_or o fault)
+pub or_not : {A : Type 0} (o : Option A) (fault : UriRefusal) → (fault ≡ TooLong → ⊥) → NotLong (ok_or o fault)
 or_not None fault other e = other (same_Err fault TooLong e)
 or_not (Some x) fault other e = cc
 

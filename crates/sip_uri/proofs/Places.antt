@@ -64,13 +64,13 @@ some_in_labels [] are = absurd are
 some_in_labels (label ∷ []) are = are.0.some
 some_in_labels (label ∷ next ∷ labels) are = omega (arith, are.0.some, length-append label (46 ∷ join_with_byte 46 (next ∷ labels)))
 
-some_in_dotted : (labels : List (List ℕ)) (text : List ℕ) → AreHostLabels labels → IsDotted labels text → 0 < length text
+pub some_in_dotted : (labels : List (List ℕ)) (text : List ℕ) → AreHostLabels labels → IsDotted labels text → 0 < length text
 some_in_dotted labels text are (inl is) = rw is (some_in_labels labels are)
 some_in_dotted labels text are (inr is) = omega (arith, ap length is, length-append (join_with_byte 46 labels) (46 ∷ []), some_in_labels labels are)
 
 -- ---- hosts without brackets
 
-plain_read : (text : List ℕ) (h : Host) → plain_host text ≡ Some h → HostText text h
+pub plain_read : (text : List ℕ) (h : Host) → plain_host text ≡ Some h → HostText text h
 plain_read text h e =
     elim (either_of (option_map (λ (octets : List ℕ). V4 octets) (ipv4 text)) _ h e) [
       | inl four ↦ (let k = mapped_from (λ (octets : List ℕ). V4 octets) (ipv4 text) h four in rw (← k.2) (ipv4_read text k.0 k.1))
@@ -81,13 +81,13 @@ plain_read text h e =
     ]
 
 -- a host without brackets
-record IsPlain (text : List ℕ) (h : Host) : Type 0 where
-  some : 0 < length text
-  no_bracket : lacks 91 text ≡ true
-  no_colon : lacks 58 text ≡ true
-  is : plain_host text ≡ Some h
+pub record IsPlain (text : List ℕ) (h : Host) : Type 0 where
+  pub some : 0 < length text
+  pub no_bracket : lacks 91 text ≡ true
+  pub no_colon : lacks 58 text ≡ true
+  pub is : plain_host text ≡ Some h
 
-plain_v4 : (text octets : List ℕ) → V4Text text octets → IsPlain text (V4 octets)
+pub plain_v4 : (text octets : List ℕ) → V4Text text octets → IsPlain text (V4 octets)
 unfolding is_dotted_octet
 plain_v4 text octets is = record {
   some = some_in_ipv4 text octets is;
@@ -96,7 +96,7 @@ plain_v4 text octets is = record {
   is = rw (ipv4_again text octets is) refl;
 }
 
-plain_domain : (text : List ℕ) (name : List (List ℕ)) → DomainText text name → IsPlain text (Domain name)
+pub plain_domain : (text : List ℕ) (name : List (List ℕ)) → DomainText text name → IsPlain text (Domain name)
 plain_domain text name is =
     let k = hostname_again text name is in
     record {
@@ -106,7 +106,7 @@ plain_domain text name is =
       is = rw (no_address text name (ipv4 text) refl is, k.0, k.1) refl;
     }
 
-first_no_bracket : (text rest : List ℕ) → 0 < length text → lacks 91 text ≡ true → eqb (slice_index (text ++ rest) 0) 91 ≡ false
+pub first_no_bracket : (text rest : List ℕ) → 0 < length text → lacks 91 text ≡ true → eqb (slice_index (text ++ rest) 0) 91 ≡ false
 first_no_bracket [] rest some e = absurd (omega arith)
 first_no_bracket (x ∷ text) rest some e =
     elim (cases_Bool (eqb x 91)) [
@@ -158,7 +158,7 @@ brackets_read text h port e =
       joined = sym (append_assoc (91 ∷ before 93 text) (93 ∷ []) (back 58 port) ∙ ap (λ (t : List ℕ). 91 ∷ (before 93 text ++ 93 ∷ t)) (sym rest) ∙ ap (λ (t : List ℕ). 91 ∷ t) cut);
     }
 
-first_bracket : (text : List ℕ) → eqb (slice_index text 0) 91 ≡ true → text ≡ 91 ∷ drop 1 text
+pub first_bracket : (text : List ℕ) → eqb (slice_index text 0) 91 ≡ true → text ≡ 91 ∷ drop 1 text
 first_bracket [] e = absurd (let no : false ≡ true = e in cc)
 first_bracket (x ∷ text) e = let is : x ≡ 91 = grind (arith, nat_tests) in rw is refl
 

@@ -168,7 +168,7 @@ one_or_more : (number port : ℕ) → from_one number ≡ Some port → (number 
 one_or_more zero port e = absurd cc
 one_or_more (suc number) port e = let same = same_Some (suc number) port e in (same, omega arith)
 
-number_read : (text : List ℕ) (port : ℕ) → port_number text ≡ Some port → PortNumber text port
+pub number_read : (text : List ℕ) (port : ℕ) → port_number text ≡ Some port → PortNumber text port
 unfolding port_number
 number_read text port e =
     let k = steps_of from_one (decimal_within 65535 text) port e in
@@ -182,7 +182,7 @@ number_read text port e =
       upto = (let n : k.0 ≤ 65535 = grind (arith, nat_tests, read) in omega (arith, same.0));
     }
 
-number_again : (text : List ℕ) (port : ℕ) → PortNumber text port → port_number text ≡ Some port
+pub number_again : (text : List ℕ) (port : ℕ) → PortNumber text port → port_number text ≡ Some port
 unfolding port_number
 number_again text zero is = absurd (omega (arith, is.from))
 number_again text (suc port) is =

@@ -1,18 +1,18 @@
 -- All parameters of a Via are what their reader reads.
-use Rattle.std.proofs.Common.{◌≡◌, ℕ, zero, suc, ◌+◌, ◌<◌, ◌≤◌, Bool, true, false, not, List, [], ◌∷◌, ◌++◌, length, map, get_or, Option, Some, None, refl, sym, ap, ◌∙◌, inl, inr, arith, append_assoc, add_assoc, zero-add}
-use Rattle.std.specs.List.{AllPairs, list_all, list_any}
+use Rattle.std.proofs.Common.{◌≡◌, ℕ, zero, suc, ◌+◌, ◌<◌, ◌≤◌, true, false, List, [], ◌∷◌, ◌++◌, length, map, get_or, Some, None, refl, sym, ap, ◌∙◌, inl, inr, arith, append_assoc, add_assoc, zero-add}
+use Rattle.std.specs.List.{AllPairs}
 use Rattle.std.specs.Str.{str_eq_ignore_ascii_case}
 use Rattle.std.proofs.lemmas.Bool.{cases_Bool}
 use Rattle.std.proofs.lemmas.Option.{same_Some}
-use Rattle.std.proofs.lemmas.List.{append-nil, length-append, length-map, map-append, get_or_append_left, get_or_at}
+use Rattle.std.proofs.lemmas.List.{append-nil, length-append, map-append, get_or_append_left, get_or_at}
 use Rattle.std.proofs.lemmas.List.Quantifiers.{all_pairs_push}
 use Rattle.dns_name.specs.Labels.{small_letters}
 use Rattle.sip_uri.specs.ViaClasses.{is_blank, row, behind_row}
-use Rattle.sip_uri.specs.ViaReaders.{behind_mark, next_param, names, names_of, stands_in}
-use Rattle.sip_uri.specs.Vias.{IsBlanks, IsToken, ParamsText, nothing, param, ViaParams}
-use Rattle.sip_uri.proofs.ParamTexts.{same_names, names_same, names_other}
+use Rattle.sip_uri.specs.ViaReaders.{behind_mark, next_param, names, stands_in}
+use Rattle.sip_uri.specs.Vias.{IsBlanks, ParamsText, nothing, param, ViaParams}
+use Rattle.sip_uri.proofs.ParamTexts.{names_same, names_other}
 use Rattle.sip_uri.proofs.ParamLists.{Differ}
-use Rattle.sip_uri.proofs.ViaRows.{Ends, row_and, row_all, behind_ends, row_alone, no_mark, Differs}
+use Rattle.sip_uri.proofs.ViaRows.{row_and, row_all, row_alone, no_mark}
 use Rattle.sip_uri.proofs.ViaSteps.{follows, next_read, next_again}
 
 abbrev pub keys_of : List (List ℕ) → List (List ℕ)

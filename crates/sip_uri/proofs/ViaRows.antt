@@ -1,12 +1,11 @@
 -- Rows of octets, and what follows them.
-use Rattle.std.proofs.Common.{◌≡◌, ℕ, zero, suc, ◌+◌, ◌-◌, ◌<◌, ◌≤◌, Bool, true, false, not, ◌&&◌, ◌||◌, List, [], ◌∷◌, ◌++◌, length, map, get_or, Option, Some, None, refl, sym, ap, ◌∙◌, inl, inr, ◌⊎◌, arith, eqb, append_assoc}
-use Rattle.std.specs.List.{list_all, list_any}
-use Rattle.std.specs.Option.{option_map, option_and_then}
+use Rattle.std.proofs.Common.{◌≡◌, ℕ, ◌<◌, Bool, true, false, List, [], ◌∷◌, ◌++◌, length, Some, None, refl, sym, ap, ◌∙◌, inl, inr, arith, eqb}
+use Rattle.std.specs.List.{list_all}
 use Rattle.std.proofs.lemmas.Bool.{cases_Bool}
 use Rattle.std.proofs.lemmas.Bool.Decides.{nat_tests}
 use Rattle.std.proofs.lemmas.Option.{same_Some}
-use Rattle.std.proofs.lemmas.List.{append-nil, length-append}
-use Rattle.sip_uri.specs.ViaClasses.{is_blank, is_token_octet, is_in_host, is_in_port, is_value_octet, row, behind_row}
+use Rattle.std.proofs.lemmas.List.{append-nil}
+use Rattle.sip_uri.specs.ViaClasses.{is_blank, row, behind_row}
 use Rattle.sip_uri.specs.ViaReaders.{behind_first, behind_mark}
 use Rattle.sip_uri.specs.Vias.{IsBlanks}
 

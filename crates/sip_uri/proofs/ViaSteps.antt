@@ -1,7 +1,6 @@
 -- Parameters of a Via are what their readers read.
-use Rattle.std.proofs.Common.{◌≡◌, ℕ, zero, suc, ◌+◌, ◌-◌, ◌<◌, ◌≤◌, Bool, true, false, not, ◌&&◌, ◌||◌, List, [], ◌∷◌, ◌++◌, length, map, drop, slice_index, Option, Some, None, refl, sym, ap, ◌∙◌, inl, inr, ◌⊎◌, arith, eqb, nat_lt, append_assoc}
-use Rattle.std.specs.List.{list_all, list_any}
-use Rattle.std.specs.Option.{option_map, option_and_then}
+use Rattle.std.proofs.Common.{◌≡◌, ℕ, suc, ◌+◌, ◌-◌, ◌<◌, Bool, true, false, ◌||◌, List, [], ◌∷◌, ◌++◌, length, drop, slice_index, Option, Some, None, refl, sym, ap, ◌∙◌, inl, inr, ◌⊎◌, arith, eqb, nat_lt, append_assoc}
+use Rattle.std.specs.List.{list_all}
 use Rattle.std.specs.Str.{str_eq_ignore_ascii_case}
 use Rattle.std.proofs.lemmas.Bool.{cases_Bool}
 use Rattle.std.proofs.lemmas.Bool.Decides.{nat_tests}
@@ -9,12 +8,11 @@ use Rattle.std.proofs.lemmas.Option.{same_Some}
 use Rattle.std.proofs.lemmas.List.{append-nil, length-append}
 use Rattle.dns_name.specs.Labels.{small_letters}
 use Rattle.sip_uri.specs.ViaClasses.{is_blank, is_token_octet, is_value_octet, row, behind_row}
-use Rattle.sip_uri.specs.ViaReaders.{behind_mark, quoted_from, behind_quoted, some_value, behind_value, valued, behind_valued, named, next_param, names, names_of, stands_in}
-use Rattle.sip_uri.specs.ViaReaders as reader
+use Rattle.sip_uri.specs.ViaReaders.{behind_mark, quoted_from, behind_quoted, some_value, behind_value, valued, behind_valued, named, next_param, names, stands_in}
 use Rattle.sip_uri.specs.Vias.{IsBlanks, IsToken, IsQuoted, done, character, pair, IsValue, word, quoted, ValueText, without, ParamsText, nothing, param}
 use Rattle.sip_uri.specs.Vias as via
 use Rattle.sip_uri.proofs.Lists.{steps_of, mapped_from}
-use Rattle.sip_uri.proofs.ViaRows.{Ends, row_and, row_all, behind_ends, row_again, row_alone, MarkRead, mark_read, mark_again, Differs, no_mark, begins_apart}
+use Rattle.sip_uri.proofs.ViaRows.{Ends, row_and, row_all, row_again, mark_read, mark_again, Differs, no_mark, begins_apart}
 
 -- ---- a name among the first parameters
 
@@ -53,21 +51,21 @@ quoted_read false (x ∷ text) rest e =
       | inl line ↦ (let no : None ≡ Some rest = rw line at e in absurd cc)
       | inr other ↦ elim (cases_Bool (eqb x 92)) [
         | inl back ↦ (
-          let k = quoted_read true text rest (rw (other, back) at e) in
-          let same : x ≡ 92 = grind (arith, nat_tests) in
-          record { inner = 92 ∷ k.inner; is = after_escape k.inner k.is; joined = ap (λ (y : ℕ). y ∷ text) same ∙ ap (λ (t : List ℕ). 92 ∷ t) k.joined })
+            let k = quoted_read true text rest (rw (other, back) at e) in
+            let same : x ≡ 92 = grind (arith, nat_tests) in
+            record { inner = 92 ∷ k.inner; is = after_escape k.inner k.is; joined = ap (λ (y : ℕ). y ∷ text) same ∙ ap (λ (t : List ℕ). 92 ∷ t) k.joined })
         | inr no_back ↦ elim (cases_Bool (eqb x 34)) [
           | inl quote ↦ (
-            let same : x ≡ 34 = grind (arith, nat_tests) in
-            let found : text ≡ rest = same_Some text rest (rw (other, no_back, quote) at e) in
-            record { inner = []; is = done; joined = ap (λ (y : ℕ). y ∷ text) same ∙ ap (λ (t : List ℕ). 34 ∷ t) found })
+              let same : x ≡ 34 = grind (arith, nat_tests) in
+              let found : text ≡ rest = same_Some text rest (rw (other, no_back, quote) at e) in
+              record { inner = []; is = done; joined = ap (λ (y : ℕ). y ∷ text) same ∙ ap (λ (t : List ℕ). 34 ∷ t) found })
           | inr no_quote ↦ (
-            let k = quoted_read false text rest (rw (other, no_back, no_quote) at e) in
-            record {
-              inner = x ∷ k.inner;
-              is = character x k.inner (λ s. grind (arith, nat_tests, no_quote, s)) (λ s. grind (arith, nat_tests, no_back, s)) (λ s. grind (arith, nat_tests, other, s)) (λ s. grind (arith, nat_tests, other, s)) k.is;
-              joined = ap (λ (t : List ℕ). x ∷ t) k.joined;
-            })
+              let k = quoted_read false text rest (rw (other, no_back, no_quote) at e) in
+              record {
+                inner = x ∷ k.inner;
+                is = character x k.inner (λ s. grind (arith, nat_tests, no_quote, s)) (λ s. grind (arith, nat_tests, no_back, s)) (λ s. grind (arith, nat_tests, other, s)) (λ s. grind (arith, nat_tests, other, s)) k.is;
+                joined = ap (λ (t : List ℕ). x ∷ t) k.joined;
+              })
         ]
       ]
     ]
@@ -76,12 +74,12 @@ quoted_read true (x ∷ text) rest e =
       | inl line ↦ (let no : None ≡ Some rest = rw line at e in absurd cc)
       | inr other ↦ elim (cases_Bool (nat_lt x 128)) [
         | inl ascii ↦ (
-          let k = quoted_read false text rest (rw (other, ascii) at e) in
-          record {
-            inner = x ∷ k.inner;
-            is = (grind (arith, nat_tests, ascii), (λ s. grind (arith, nat_tests, other, s)), (λ s. grind (arith, nat_tests, other, s)), k.is);
-            joined = ap (λ (t : List ℕ). x ∷ t) k.joined;
-          })
+            let k = quoted_read false text rest (rw (other, ascii) at e) in
+            record {
+              inner = x ∷ k.inner;
+              is = (grind (arith, nat_tests, ascii), (λ s. grind (arith, nat_tests, other, s)), (λ s. grind (arith, nat_tests, other, s)), k.is);
+              joined = ap (λ (t : List ℕ). x ∷ t) k.joined;
+            })
         | inr high ↦ (let no : None ≡ Some rest = rw (other, high) at e in absurd cc)
       ]
     ]
@@ -118,19 +116,19 @@ unfolding behind_value
 value_read text rest e =
     elim (cases_Bool (eqb (slice_index text 0) 34)) [
       | inl is ↦ (
-        let k = quoted_read false (drop 1 text) rest (rw is at e) in
-        record {
-          value = 34 ∷ k.inner ++ 34 ∷ [];
-          is = quoted k.inner k.is refl;
-          joined = first_quote text is ∙ ap (λ (t : List ℕ). 34 ∷ t) k.joined ∙ sym (append_assoc (34 ∷ k.inner) (34 ∷ []) rest);
-        })
+          let k = quoted_read false (drop 1 text) rest (rw is at e) in
+          record {
+            value = 34 ∷ k.inner ++ 34 ∷ [];
+            is = quoted k.inner k.is refl;
+            joined = first_quote text is ∙ ap (λ (t : List ℕ). 34 ∷ t) k.joined ∙ sym (append_assoc (34 ∷ k.inner) (34 ∷ []) rest);
+          })
       | inr no' ↦ (
-        let k = some_read (row is_value_octet text) (behind_row is_value_octet text) rest (rw no' at e) in
-        record {
-          value = row is_value_octet text;
-          is = word k.0 (row_all is_value_octet text);
-          joined = sym (row_and is_value_octet text) ∙ ap (λ (t : List ℕ). row is_value_octet text ++ t) k.1;
-        })
+          let k = some_read (row is_value_octet text) (behind_row is_value_octet text) rest (rw no' at e) in
+          record {
+            value = row is_value_octet text;
+            is = word k.0 (row_all is_value_octet text);
+            joined = sym (row_and is_value_octet text) ∙ ap (λ (t : List ℕ). row is_value_octet text ++ t) k.1;
+          })
     ]
 
 first_no_quote : (value rest : List ℕ) → 0 < length value → list_all is_value_octet value ≡ true → eqb (slice_index (value ++ rest) 0) 34 ≡ false

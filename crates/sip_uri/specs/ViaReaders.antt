@@ -1,15 +1,10 @@
 -- What the readers of the parts of a Via give, as functions on lists.
-use Rattle.std.specs.Prelude.{ℕ, zero, suc, ◌==◌, nat_lt, Bool, true, false, not, ◌&&◌, ◌||◌, List, [], ◌∷◌, length, slice_index, drop, map, Option, Some, None, Result, Ok, Err, if◌then◌else◌}
+use Rattle.std.specs.Prelude.{ℕ, zero, suc, ◌==◌, nat_lt, Bool, true, false, ◌||◌, List, [], ◌∷◌, slice_index, drop, Option, Some, None, if◌then◌else◌}
 use Rattle.std.specs.List.{list_any}
-use Rattle.std.specs.Option.{option_map, option_and_then, ok_or}
-use Rattle.std.specs.Str.{str_eq_ignore_ascii_case, bytes_eq}
-use Rattle.sip_uri.specs.Parts.{before, behind}
-use Rattle.sip_uri.specs.Readers.{◌>>=◌, ipv6}
-use Rattle.sip_uri.specs.HostReaders.{host_of, plain_host}
-use Rattle.sip_uri.specs.UriReaders.{port_number}
+use Rattle.std.specs.Option.{option_map}
+use Rattle.std.specs.Str.{str_eq_ignore_ascii_case}
+use Rattle.sip_uri.specs.Readers.{◌>>=◌}
 use Rattle.sip_uri.specs.ViaClasses.{is_blank, is_token_octet, is_in_host, is_in_port, is_value_octet, row, behind_row}
-use Rattle.sip_uri.specs.declared.host.Host.{Host}
-use Rattle.sip_uri.specs.declared.host.Host.TheVariants.{V6}
 use Rattle.sip_uri.specs.declared.rows.Row.{Row}
 use Rattle.sip_uri.specs.declared.rows.Row.TheVariants as class
 

@@ -1,5 +1,5 @@
 -- Vias as texts (RFC 3261 20.42, 25.1).
-use Rattle.std.specs.Prelude.{◌≡◌, ℕ, ◌<◌, ◌≤◌, IsTrue, List, [], ◌∷◌, ◌++◌, length, Option, Some, None, ◌⊎◌}
+use Rattle.std.specs.Prelude.{◌≡◌, ℕ, ◌<◌, ◌≤◌, IsTrue, List, [], ◌∷◌, ◌++◌, length, Option, Some, None}
 use Rattle.std.specs.List.{AllPairs, list_all}
 use Rattle.dns_name.specs.Labels.{small_letters}
 use Rattle.sip_uri.specs.Hosts.{HostText}
@@ -60,7 +60,7 @@ pub record ProtocolText (text transport : List ℕ) : Type 0 where
   pub fourth : List ℕ
   pub fifth : List ℕ
   pub last : List ℕ
-  pub joined : text ≡ first ++ (sip ++ (second ++ 47 ∷ (third ++ (50 ∷ 46 ∷ 48 ∷ []) ++ (fourth ++ 47 ∷ (fifth ++ (transport ++ last))))))
+  pub joined : text ≡ first ++ (sip ++ (second ++ 47 ∷ (third ++ ((50 ∷ 46 ∷ 48 ∷ []) ++ (fourth ++ 47 ∷ (fifth ++ (transport ++ last)))))))
   pub is_sip : small_letters sip ≡ 115 ∷ 105 ∷ 112 ∷ []
   pub is_transport : IsToken transport
   pub first_blank : IsBlanks first

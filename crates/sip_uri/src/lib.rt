@@ -26,16 +26,18 @@ mod user;
 mod via;
 mod via_params;
 mod via_parts;
+mod via_text;
 
 pub use address::{address_from_text, address_text};
 pub use host::Host;
-pub use laws::one_uri_of_a_text;
+pub use laws::{one_uri_of_a_text, one_via_of_a_text};
 pub use numeric::Address;
 pub use refusal::UriRefusal;
 pub use transport::{Spoken, Transport};
 pub use uri::SipUri;
 pub use uri_text::read_uri;
 pub use via::Via;
+pub use via_text::read_via;
 
 #[cfg(test)]
 mod tests;

@@ -1,4 +1,4 @@
-use Rattle.std.proofs.Common.{◌≡◌, ◌<◌, length, true, false, Some, None, sym, ap, ◌∙◌, List, ℕ, [], arith}
+use Rattle.std.proofs.Common.{◌≡◌, ◌<◌, length, true, false, Some, None, sym, ◌∙◌, arith}
 use Rattle.std.proofs.lemmas.Bool.Decides.{nat_tests}
 use Rattle.std.proofs.lemmas.List.{nil_from_length}
 use Rattle.sip_uri.specs.ViaClasses.{is_blank, behind_row}
