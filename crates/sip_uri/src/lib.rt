@@ -40,4 +40,8 @@ pub use via::Via;
 pub use via_text::read_via;
 
 #[cfg(test)]
-mod tests;
+mod address_tests;
+#[cfg(test)]
+mod uri_tests;
+#[cfg(test)]
+mod via_tests;

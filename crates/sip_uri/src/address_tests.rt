@@ -1,0 +1,94 @@
+//! Tests of addresses, with values of RFC 4291 2.2 and by hand.
+use crate::{Address, Host, address_from_text, address_text};
+use std::alloc::Global;
+use std::test::Fail;
+
+/// Texts, and the addresses that they spell as `address_text` writes them.
+const ADDRESSES: [(&str, &str); 17] = [
+    ("192.0.2.7", "192.0.2.7"),
+    ("192.000.002.007", "192.0.2.7"),
+    ("255.10.99.100", "255.10.99.100"),
+    // RFC 4291 2.2
+    ("::", "0:0:0:0:0:0:0:0"),
+    ("::1", "0:0:0:0:0:0:0:1"),
+    ("0:0:0:0:0:0:0:1", "0:0:0:0:0:0:0:1"),
+    ("2001:DB8::8:800:200C:417A", "2001:db8:0:0:8:800:200c:417a"),
+    ("FF01:0:0:0:0:0:0:101", "ff01:0:0:0:0:0:0:101"),
+    ("::13.1.68.3", "0:0:0:0:0:0:d01:4403"),
+    ("::FFFF:129.144.52.38", "0:0:0:0:0:ffff:8190:3426"),
+    // by hand
+    ("2001:0db8::0:0010", "2001:db8:0:0:0:0:0:10"),
+    ("0:0:0:0:0:ffff:192.0.2.7", "0:0:0:0:0:ffff:c000:207"),
+    ("1:2:3:4:5:6:7::", "1:2:3:4:5:6:7:0"),
+    ("::2:3:4:5:6:7:8", "0:2:3:4:5:6:7:8"),
+    ("1:2:3:4:5:6:7:8", "1:2:3:4:5:6:7:8"),
+    ("1::5:6:7:192.0.2.7", "1:0:0:5:6:7:c000:207"),
+    (
+        "fedc:ba98:7654:3210:f:10:abc:1000",
+        "fedc:ba98:7654:3210:f:10:abc:1000",
+    ),
+];
+
+#[test]
+fn addresses(rt: HostRuntime) -> Result<(), Fail> {
+    for (text, written) in &ADDRESSES {
+        let Some(address) = address_from_text(text) else {
+            return Err(Fail::new(format_args!("{text:?}")));
+        };
+        assert_eq!(rt;
+            address_text(rt.alloc(), address)?.as_str(),
+            *written,
+            "{text:?}"
+        );
+    }
+    Ok(())
+}
+
+#[test]
+fn octets(rt: HostRuntime) {
+    assert_eq!(rt;
+        address_from_text("192.0.2.7"),
+        Some(Address::V4([192, 0, 2, 7]))
+    );
+    let loopback = [0, 0, 0, 0, 0, 0, 0, 0, 0, 0, 0, 0, 0, 0, 0, 1];
+    assert_eq!(rt; address_from_text("::1"), Some(Address::V6(loopback)));
+}
+
+/// Texts of no address.
+const FAULTS: [&str; 19] = [
+    "192.0.2.256",
+    "192.0.2.0007",
+    "192.0.2",
+    "192.0.2.7.",
+    "192..2.7",
+    "192.0.2.7.8",
+    " 192.0.2.7",
+    "",
+    "1:2:3:4:5:6:7::8",
+    "1:2:3:4:5:6:7",
+    "1:2:3:4:5:6:7:8:9",
+    "1::2::3",
+    ":::",
+    ":1",
+    "12345::",
+    "192.0.2.7::",
+    "::g",
+    "[::1]",
+    "1:2:3:4:5:6:7:192.0.2.7",
+];
+
+#[test]
+fn faults(rt: HostRuntime) {
+    for text in &FAULTS {
+        assert_eq!(rt; address_from_text(text), None, "{text:?}");
+    }
+}
+
+/// The text of a host: an address as `address_text` writes it, or a name with a dot behind each label.
+pub(crate) fn host_text(alloc: Global, host: &Host) -> Result<String, Fail> {
+    match host {
+        Host::V4(octets) => Ok(address_text(alloc, Address::V4(*octets))?),
+        Host::V6(octets) => Ok(address_text(alloc, Address::V6(*octets))?),
+        Host::Domain(name) => Ok(name.text()?),
+    }
+}

@@ -1,0 +1,200 @@
+//! Tests of Vias, with values of RFC 3261, RFC 4475 and RFC 5118 and by hand.
+use crate::address_tests::host_text;
+use crate::{UriRefusal, Via, one_via_of_a_text, read_via};
+use std::alloc::Global;
+use std::test::Fail;
+
+/// What a Via says, in one line.
+fn via_line(alloc: Global, via: &Via) -> Result<String, Fail> {
+    let host = host_text(alloc, &via.host)?;
+    let host = host.as_str();
+    Ok(format!(in alloc; "{:?} {host} {:?}", via.transport, via.port)?)
+}
+
+/// Texts of Vias, and what they say.
+const VIAS: [(&str, &str); 22] = [
+    // RFC 3261 20.42
+    (
+        "SIP/2.0/UDP erlang.bell-telephone.com:5060;branch=z9hG4bK87asdks7",
+        "Known(Udp) erlang.bell-telephone.com. Some(5060)",
+    ),
+    (
+        "SIP/2.0/UDP 192.0.2.1:5060 ;received=192.0.2.207 ;branch=z9hG4bK77asjd",
+        "Known(Udp) 192.0.2.1 Some(5060)",
+    ),
+    (
+        "SIP / 2.0 / UDP first.example.com: 4000;ttl=16 ;maddr=224.2.0.1 ;branch=z9hG4bKa7c6a8dlze.1",
+        "Known(Udp) first.example.com. Some(4000)",
+    ),
+    // RFC 4475 3.1.1.1
+    (
+        "SIP  /   2.0 /UDP    192.0.2.2;branch=390skdjuw",
+        "Known(Udp) 192.0.2.2 None",
+    ),
+    (
+        "  SIP  / 2.0  / TCP     spindle.example.com   ;  branch  =   z9hG4bK9ikj8  ",
+        "Known(Tcp) spindle.example.com. None",
+    ),
+    (
+        "SIP  /    2.0   / UDP  192.168.255.111   ; branch= z9hG4bK30239",
+        "Known(Udp) 192.168.255.111 None",
+    ),
+    // RFC 4475 3.1.1.10
+    (
+        "SIP/2.0/SCTP t2.example.com;branch=z9hG4bKklasjdhf",
+        "Known(Sctp) t2.example.com. None",
+    ),
+    (
+        "SIP/2.0/TLS t3.example.com;branch=z9hG4bK2980unddj",
+        "Known(Tls) t3.example.com. None",
+    ),
+    (
+        "SIP/2.0/UNKNOWN t4.example.com;branch=z9hG4bKasd0f3en",
+        "Other t4.example.com. None",
+    ),
+    (
+        "SIP/2.0/TCP t5.example.com;branch=z9hG4bK0a9idfnee",
+        "Known(Tcp) t5.example.com. None",
+    ),
+    // RFC 5118 4.4, 4.5
+    (
+        "SIP/2.0/UDP [2001:db8::9:1];received=[2001:db8::9:255];branch=z9hG4bKas3-111",
+        "Known(Udp) 2001:db8:0:0:0:0:9:1 None",
+    ),
+    (
+        "SIP/2.0/UDP [2001:db8::9:1];received=2001:db8::9:255;branch=z9hG4bKas3",
+        "Known(Udp) 2001:db8:0:0:0:0:9:1 None",
+    ),
+    // by hand
+    (" SIP/2.0/TLS d.example", "Known(Tls) d.example. None"),
+    ("sip/2.0/tls D.Example.", "Known(Tls) d.example. None"),
+    (
+        "\tSIP\t/\t2.0\t/\tUDP\td.example\t:\t05061\t;\ta\t=\tb\t",
+        "Known(Udp) d.example. Some(5061)",
+    ),
+    ("SIP/2.0/%x!` d.example", "Other d.example. None"),
+    (
+        "SIP/2.0/UDP [::1] :5060",
+        "Known(Udp) 0:0:0:0:0:0:0:1 Some(5060)",
+    ),
+    (
+        "SIP/2.0/UDP [::1]:5060;a",
+        "Known(Udp) 0:0:0:0:0:0:0:1 Some(5060)",
+    ),
+    ("SIP/2.0/UDP d.example;a=\"\"", "Known(Udp) d.example. None"),
+    (
+        "SIP/2.0/UDP d.example;a=\"b;c,d=\\\"\\\\ \u{e9}\" ;e",
+        "Known(Udp) d.example. None",
+    ),
+    (
+        "SIP/2.0/UDP d.example;a=[:]=@?!~",
+        "Known(Udp) d.example. None",
+    ),
+    ("SIP/2.0/UDP d.example;%61;a", "Known(Udp) d.example. None"),
+];
+
+#[test]
+fn vias(rt: HostRuntime) -> Result<(), Fail> {
+    for (text, line) in &VIAS {
+        match read_via(rt.alloc(), text) {
+            Ok(via) => assert_eq!(rt; via_line(rt.alloc(), &via)?.as_str(), *line, "{text:?}"),
+            Err(refusal) => return Err(Fail::new(format_args!("{text:?} {refusal:?}"))),
+        }
+    }
+    Ok(())
+}
+
+/// Texts of no Via, and their first fault from the left.
+const FAULTS: [(&str, UriRefusal); 45] = [
+    ("", UriRefusal::BadVia),
+    ("SIP", UriRefusal::BadVia),
+    ("SIP/2.0", UriRefusal::BadVia),
+    ("SIP/2.0/UDP", UriRefusal::BadVia),
+    ("SIP/2.0/UDP[::1]", UriRefusal::BadVia),
+    ("SIP/2.0/ d.example", UriRefusal::BadVia),
+    ("SIP/2.0/:5060", UriRefusal::BadVia),
+    ("SIP/2.0 UDP d.example", UriRefusal::BadVia),
+    ("SIP 2.0/UDP d.example", UriRefusal::BadVia),
+    ("SIP/3.0/UDP d.example", UriRefusal::BadVia),
+    ("SIP/2.00/UDP d.example", UriRefusal::BadVia),
+    ("SIPS/2.0/UDP d.example", UriRefusal::BadVia),
+    ("SIP//UDP d.example", UriRefusal::BadVia),
+    ("SIP/2.0/UD@P d.example", UriRefusal::BadVia),
+    ("SIP/2.0/UDP\nd.example", UriRefusal::BadVia),
+    ("SIP/2.0/UDP ", UriRefusal::BadHost),
+    ("SIP/2.0/UDP ;a", UriRefusal::BadHost),
+    ("SIP/2.0/UDP 1.2.3", UriRefusal::BadHost),
+    ("SIP/2.0/UDP ::1", UriRefusal::BadHost),
+    ("SIP/2.0/UDP [::1", UriRefusal::BadHost),
+    ("SIP/2.0/UDP [::1]x", UriRefusal::BadHost),
+    ("SIP/2.0/UDP [ ::1]", UriRefusal::BadHost),
+    ("SIP/2.0/UDP u@d.example", UriRefusal::BadHost),
+    ("SIP/2.0/UDP d.example,", UriRefusal::BadHost),
+    ("SIP/2.0/UDP d.example:", UriRefusal::BadPort),
+    ("SIP/2.0/UDP d.example : 0", UriRefusal::BadPort),
+    ("SIP/2.0/UDP d.example:65536", UriRefusal::BadPort),
+    ("SIP/2.0/UDP d.example:5060:5060", UriRefusal::BadPort),
+    ("SIP/2.0/UDP d.example:5060,", UriRefusal::BadPort),
+    ("SIP/2.0/UDP d.example x", UriRefusal::BadParam),
+    ("SIP/2.0/UDP d.example:5060 5061", UriRefusal::BadParam),
+    ("SIP/2.0/UDP d.example;", UriRefusal::BadParam),
+    ("SIP/2.0/UDP d.example; ;a", UriRefusal::BadParam),
+    ("SIP/2.0/UDP d.example;=a", UriRefusal::BadParam),
+    ("SIP/2.0/UDP d.example;a=", UriRefusal::BadParam),
+    ("SIP/2.0/UDP d.example;a b", UriRefusal::BadParam),
+    ("SIP/2.0/UDP d.example;a=1,2", UriRefusal::BadParam),
+    ("SIP/2.0/UDP d.example;a=b\"c", UriRefusal::BadParam),
+    ("SIP/2.0/UDP d.example;a=\"1", UriRefusal::BadParam),
+    ("SIP/2.0/UDP d.example;a=\"1\"2", UriRefusal::BadParam),
+    ("SIP/2.0/UDP d.example;a=\"\r\"", UriRefusal::BadParam),
+    ("SIP/2.0/UDP d.example;a=\"\\\n\"", UriRefusal::BadParam),
+    ("SIP/2.0/UDP d.example;a=\"\\\u{e9}\"", UriRefusal::BadParam),
+    ("SIP/2.0/UDP d.example;a=1;b;A", UriRefusal::RepeatedParam),
+    ("SIP/2.0/UDP d.example;a;a=1,2", UriRefusal::RepeatedParam),
+];
+
+/// The refusal of a text of no Via.
+fn fault_of(alloc: Global, text: &str) -> Option<UriRefusal> {
+    match read_via(alloc, text) {
+        Ok(_) => None,
+        Err(refusal) => Some(refusal),
+    }
+}
+
+#[test]
+fn faults(rt: HostRuntime) {
+    for (text, fault) in &FAULTS {
+        assert_eq!(rt; fault_of(rt.alloc(), text), Some(*fault), "{text:?}");
+    }
+}
+
+#[test]
+fn lengths(rt: HostRuntime) -> Result<(), Fail> {
+    let mut text = String::from_str(rt.alloc(), "SIP/2.0/UDP 192.0.2.7")?;
+    while text.len() < 1024 {
+        text.push(' ')?;
+    }
+    assert_eq!(rt; fault_of(rt.alloc(), text.as_str()), None);
+    text.push(' ')?;
+    assert_eq!(rt;
+        fault_of(rt.alloc(), text.as_str()),
+        Some(UriRefusal::TooLong)
+    );
+    Ok(())
+}
+
+#[test]
+fn copied(rt: HostRuntime) -> Result<(), Fail> {
+    let via = read_via(rt.alloc(), "SIP/2.0/TLS d.example:5061")?;
+    let copy = via.try_clone()?;
+    assert_eq!(rt;
+        via_line(rt.alloc(), &copy)?.as_str(),
+        "Known(Tls) d.example. Some(5061)"
+    );
+    Ok(())
+}
+
+#[test]
+fn laws() {
+    one_via_of_a_text();
+}
