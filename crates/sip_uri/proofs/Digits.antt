@@ -1,9 +1,9 @@
 -- Readers of digits that have come to a place.
-use Rattle.std.proofs.Common.{◌≡◌, ℕ, ◌+◌, ◌-◌, ◌*◌, ◌<◌, ◌≤◌, true, false, List, [], ◌∷◌, length, drop, get_or, Some, None, refl, sym, ◌∙◌, arith}
+use Rattle.std.proofs.Common.{◌≡◌, ℕ, ◌+◌, ◌-◌, ◌*◌, ◌<◌, ◌≤◌, true, List, [], ◌∷◌, length, drop, get_or, None, arith}
 use Rattle.std.specs.List.{list_all}
 use Rattle.std.specs.Char.{is_ascii_digit, is_ascii_hexdigit}
 use Rattle.std.proofs.lemmas.Bool.Decides.{nat_tests}
-use Rattle.std.proofs.lemmas.List.{drop_more, drop_all}
+use Rattle.std.proofs.lemmas.List.{drop_more}
 use Rattle.sip_uri.specs.Numbers.{decimal_from, decimal, hexadecimal_from, hexadecimal}
 use Rattle.sip_uri.specs.Readers.{decimal_within}
 
@@ -21,29 +21,10 @@ module _ (limit : ℕ) (text : List ℕ) (at number : ℕ) (so_far : DecimalSoFa
     here : drop at text ≡ digit ∷ drop (at + 1) text
     here = rw is (drop_more text at 0 within)
 
-    pub no_decimal : is_ascii_digit digit ≡ false → None ≡ decimal_within limit text
-    no_decimal bad =
-        let all : list_all is_ascii_digit text ≡ false = sym so_far.digits ∙ rw (here, bad) refl in
-        grind (arith, nat_tests, all)
-
     pub large_decimal : is_ascii_digit digit ≡ true → limit < 10 * number + (digit - 48) → None ≡ decimal_within limit text
     large_decimal good large =
         let value : decimal_from (10 * number + (digit - 48)) (drop (at + 1) text) ≡ decimal text = rw here at so_far.value in
         grind (arith, nat_tests, value, decimal_grows (10 * number + (digit - 48)) (drop (at + 1) text))
-
-    pub decimal_goes_on : is_ascii_digit digit ≡ true → 10 * number + (digit - 48) ≤ limit → DecimalSoFar limit text (at + 1) (10 * number + (digit - 48))
-    decimal_goes_on good low' = record {
-      low = low';
-      digits = (let one : list_all is_ascii_digit (digit ∷ drop (at + 1) text) ≡ list_all is_ascii_digit (drop (at + 1) text) = rw good refl in sym one ∙ rw here at so_far.digits);
-      value = rw here at so_far.value;
-    }
-
-  pub decimal_read : length text ≤ at → 0 < length text → Some number ≡ decimal_within limit text
-  decimal_read past some =
-      let none : drop at text ≡ [] = drop_all at text past in
-      let all : list_all is_ascii_digit text ≡ true = sym so_far.digits ∙ rw none refl in
-      let value : number ≡ decimal text = rw none at so_far.value in
-      rw (← value) (grind (arith, nat_tests, all, so_far.low))
 
 -- at most so much after so many hexadecimal digits
 abbrev pub below_digits : ℕ → ℕ → Type 0

@@ -16,10 +16,12 @@ mod ParamTexts
 mod ParamLists
 mod ParamBlocks
 mod UriPieces
+mod UriHeaders
 mod UriTexts
 mod NotLong
 mod ViaRows
 mod ViaSteps
 mod ViaLists
 mod ViaPieces
+mod ViaPlaces
 mod ViaTexts

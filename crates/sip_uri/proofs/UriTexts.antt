@@ -14,7 +14,8 @@ use Rattle.sip_uri.proofs.Cutting.{lacks, joined, cut_back}
 use Rattle.sip_uri.proofs.Lists.{all-append, same_Ok}
 use Rattle.sip_uri.proofs.HostOctets.{is_host_octet}
 use Rattle.sip_uri.proofs.ParamBlocks.{ParamsRead, said_read, said_again, block_of, block_text, block_lacks}
-use Rattle.sip_uri.proofs.UriPieces.{bind_of, SchemeRead, scheme_read, scheme_again, UserRead, behind_user_read, user_again, PlaceRead, place_read, place_again, host_lacks, port_lacks, HeadersRead, check_read, check_again, headers_of, headers_back, headers_no_at}
+use Rattle.sip_uri.proofs.UriPieces.{bind_of, SchemeRead, scheme_read, scheme_again, UserRead, behind_user_read, user_again, PlaceRead, place_read, place_again, host_lacks, port_lacks}
+use Rattle.sip_uri.proofs.UriHeaders.{HeadersRead, check_read, check_again, headers_of, headers_back, headers_no_at}
 
 -- ---- what is read is spelled
 

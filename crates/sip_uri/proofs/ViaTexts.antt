@@ -22,7 +22,8 @@ use Rattle.sip_uri.proofs.UriPieces.{bind_of, from_ok_or}
 use Rattle.sip_uri.proofs.NotLong.{NotLong, either_not, or_not}
 use Rattle.sip_uri.proofs.ViaRows.{Ends, begins_apart}
 use Rattle.sip_uri.proofs.ViaSteps.{follows}
-use Rattle.sip_uri.proofs.ViaPieces.{protocol_read, protocol_again, via_host_read, via_host_again, some_in_host, via_port_read, via_port_again, port_follows}
+use Rattle.sip_uri.proofs.ViaPieces.{protocol_read, protocol_again}
+use Rattle.sip_uri.proofs.ViaPlaces.{via_host_read, via_host_again, some_in_host, via_port_read, via_port_again, port_follows}
 
 -- ---- what is read is spelled
 
