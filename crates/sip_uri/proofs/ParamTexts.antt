@@ -22,9 +22,6 @@ same_names a b e = (bytes_eq-Decides (small_letters a) (small_letters b)).0 e
 pub names_same : (a b : List ℕ) → small_letters a ≡ small_letters b → is_same a b ≡ true
 names_same a b e = (bytes_eq-Decides (small_letters a) (small_letters b)).1 e
 
-pub other_names : (a b : List ℕ) → is_same a b ≡ false → small_letters a ≡ small_letters b → ⊥
-other_names a b e same = let no : false ≡ true = sym e ∙ names_same a b same in cc
-
 pub names_other : (a b : List ℕ) → (small_letters a ≡ small_letters b → ⊥) → is_same a b ≡ false
 names_other a b other =
     elim (cases_Bool (is_same a b)) [

@@ -1,5 +1,5 @@
 -- All parameters of a Via are what their reader reads.
-use Rattle.std.proofs.Common.{◌≡◌, ℕ, zero, suc, ◌+◌, ◌<◌, ◌≤◌, true, false, List, [], ◌∷◌, ◌++◌, length, map, get_or, Some, None, refl, sym, ap, ◌∙◌, inl, inr, arith, append_assoc, add_assoc, zero-add}
+use Rattle.std.proofs.Common.{◌≡◌, ℕ, zero, suc, ◌+◌, ◌<◌, ◌≤◌, true, false, List, [], ◌∷◌, ◌++◌, length, map, get_or, Some, None, refl, sym, ap, ◌∙◌, inl, inr, arith, append_assoc, add_assoc}
 use Rattle.std.specs.List.{AllPairs}
 use Rattle.std.specs.Str.{str_eq_ignore_ascii_case}
 use Rattle.std.proofs.lemmas.Bool.{cases_Bool}
@@ -85,15 +85,6 @@ pub record WalkedSoFar (text rest : List ℕ) (count : ℕ) : Type 0 where
   pub apart : AllPairs Differ (keys_of (names count text))
   pub further : (m : ℕ) → names (count + m) text ≡ names count text ++ names m rest
   pub bound : count + length rest ≤ length text
-
-pub walked_none : (text : List ℕ) → WalkedSoFar text text 0
-walked_none text = record {
-  forth = λ keys are. are;
-  back = λ all are. (all, are, refl);
-  apart = λ i j d lt within. absurd (omega arith);
-  further = λ m. ap (λ (n : ℕ). names n text) (zero-add m);
-  bound = omega arith;
-}
 
 module _ (text rest : List ℕ) (count : ℕ) (so_far : WalkedSoFar text rest count) where
   pub all_read : behind_row is_blank rest ≡ [] → ViaParams text

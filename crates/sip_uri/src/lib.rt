@@ -1,6 +1,17 @@
-//! SIP URIs and Vias of RFC 3261, with the hosts in them.
+//! SIP URIs and Vias of RFC 3261, and the hosts in them.
 //!
-//! A text is read whole: `read_uri` gives the URI that it spells, or the first fault from the left.
+//! `read_uri` gives the URI that a text spells, and `read_via` the Via, by the whole grammar of RFC 3261 25.1 with IPv6
+//! addresses in brackets: exactly where the text is one, and of one text at most one. Else the first fault from the left
+//! is named. Escapes are checked and never undone; parameters and headers that say nothing of where a request goes are
+//! checked and dropped. Both read texts of at most 1,024 octets and take memory for the names of hosts alone.
+//! `address_from_text` and `address_text` read and write addresses of IPv4 and IPv6.
+//!
+//! ```
+//! let uri = read_uri(rt.alloc(), "sips:alice@c.example:5061;transport=tcp")?;
+//! assert!(rt; uri.secure);
+//! assert_eq!(rt; uri.port, Some(5061));
+//! assert_eq!(rt; uri.transport, Some(Spoken::Known(Transport::Tcp)));
+//! ```
 #![tactic(auto)]
 
 mod address;

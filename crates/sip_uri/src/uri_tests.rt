@@ -251,10 +251,10 @@ fn faults(rt: HostRuntime) {
     }
 }
 
-/// A URI of so many octets.
-fn long_uri(alloc: Global, octets: usize) -> Result<String, Fail> {
+/// A URI of sixteen octets and so many letters.
+fn long_uri(alloc: Global, letters: u16) -> Result<String, Fail> {
     let mut text = String::from_str(alloc, "sip:192.0.2.7;x=")?;
-    while text.len() < octets {
+    for _ in 0..letters {
         text.push('a')?;
     }
     Ok(text)
@@ -263,11 +263,11 @@ fn long_uri(alloc: Global, octets: usize) -> Result<String, Fail> {
 #[test]
 fn lengths(rt: HostRuntime) -> Result<(), Fail> {
     assert_eq!(rt;
-        fault_of(rt.alloc(), long_uri(rt.alloc(), 1024)?.as_str()),
+        fault_of(rt.alloc(), long_uri(rt.alloc(), 1008)?.as_str()),
         None
     );
     assert_eq!(rt;
-        fault_of(rt.alloc(), long_uri(rt.alloc(), 1025)?.as_str()),
+        fault_of(rt.alloc(), long_uri(rt.alloc(), 1009)?.as_str()),
         Some(UriRefusal::TooLong)
     );
     Ok(())

@@ -171,7 +171,7 @@ fn faults(rt: HostRuntime) {
 #[test]
 fn lengths(rt: HostRuntime) -> Result<(), Fail> {
     let mut text = String::from_str(rt.alloc(), "SIP/2.0/UDP 192.0.2.7")?;
-    while text.len() < 1024 {
+    for _ in 21..1024u16 {
         text.push(' ')?;
     }
     assert_eq!(rt; fault_of(rt.alloc(), text.as_str()), None);
