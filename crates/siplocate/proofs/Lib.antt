@@ -1,2 +1,3 @@
 mod Talks
 mod Outcomes
+mod Colons

@@ -2,39 +2,38 @@
 use Rattle.std.proofs.Common.{◌≡◌, ℕ, List, [], ◌∷◌, Some, None, refl, sym, ap, ◌∙◌}
 use Rattle.std.specs.List.{AllZip}
 use Rattle.dns_message.specs.declared.message.Message.{Message}
-use Rattle.sip_uri.specs.Uris.{UriText}
-use Rattle.sip_uri.specs.declared.uri.SipUri.{SipUri}
+use Rattle.siplocate.specs.declared.request.Request.{Request}
 use Rattle.siplocate.specs.declared.arguments.Families.{Families}
 use Rattle.siplocate.specs.Choice.{Known, Outcome, unready, locate, talk}
 use Rattle.siplocate.specs.Replies.{ReplyLine}
 use Rattle.siplocate.specs.Views.{outcome_of}
 use Rattle.siplocate.specs.declared.choice.Located.{Located}
 use Rattle.siplocate.specs.declared.choice.Located.TheVariants.{Targets, Refused, Ask, Unready}
-use Rattle.siplocate.specs.Requests.{LocatesTo, talked, waits, first_line, other_lines}
+use Rattle.siplocate.specs.Requests.{LocatesTo, RequestText, talked, waits, first_line, other_lines}
 
-module _ (families : Families) (text : List ℕ) (uri : SipUri) (one : (other : SipUri) → UriText (first_line text) other → uri ≡ other) where
+module _ (families : Families) (text : List ℕ) (request : Request) (one : (other : Request) → RequestText (first_line text) other → request ≡ other) where
   -- where nothing is asked
-  unready_talk : (messages : List Message) (known : List Known) → locate families uri [] ≡ unready → talk families uri messages ≡ Some known → known ≡ []
+  unready_talk : (messages : List Message) (known : List Known) → locate families request [] ≡ unready → talk families request messages ≡ Some known → known ≡ []
   unready_talk [] known e t = cc
   unready_talk (message ∷ messages) known e t =
-      let none : talk families uri (message ∷ messages) ≡ None = rw e refl in
+      let none : talk families request (message ∷ messages) ≡ None = rw e refl in
       let no : None ≡ Some known = sym none ∙ t in
       absurd cc
 
-  pub is_unready : locate families uri [] ≡ unready → (outcome : Outcome) → LocatesTo families text outcome → unready ≡ outcome
+  pub is_unready : locate families request [] ≡ unready → (outcome : Outcome) → LocatesTo families text outcome → unready ≡ outcome
   is_unready e outcome (talked other messages known spelled replies t is) =
       let same = one other spelled in
       let none = unready_talk messages known e (rw same t) in
-      sym e ∙ ap (locate families uri) (sym none) ∙ ap (λ (u : SipUri). locate families u known) same ∙ sym is
+      sym e ∙ ap (locate families request) (sym none) ∙ ap (λ (u : Request). locate families u known) same ∙ sym is
   is_unready e outcome (waits other spelled e' is) = sym is
 
-  pub is_talked : (located : Outcome) → located ≡ locate families uri [] → (located ≡ unready → ⊥) → (outcome : Outcome) → LocatesTo families text outcome
-      → (messages : List Message) × (known : List Known) × AllZip ReplyLine (other_lines text) messages × (talk families uri messages ≡ Some known) × (outcome ≡ locate families uri known)
+  pub is_talked : (located : Outcome) → located ≡ locate families request [] → (located ≡ unready → ⊥) → (outcome : Outcome) → LocatesTo families text outcome
+      → (messages : List Message) × (known : List Known) × AllZip ReplyLine (other_lines text) messages × (talk families request messages ≡ Some known) × (outcome ≡ locate families request known)
   is_talked located e not outcome (talked other messages known spelled replies t is) =
       let same = one other spelled in
       (messages, known, replies, rw same t, rw same is)
   is_talked located e not outcome (waits other spelled e' is) =
-      absurd (not (e ∙ ap (λ (u : SipUri). locate families u []) (one other spelled) ∙ e'))
+      absurd (not (e ∙ ap (λ (u : Request). locate families u []) (one other spelled) ∙ e'))
 
 pub unready_is : (located : Located) → outcome_of located ≡ unready → located ≡ Unready
 unready_is (Targets list) e = absurd cc
@@ -43,6 +42,6 @@ unready_is (Ask question) e = absurd cc
 unready_is Unready e = refl
 
 -- the request of a text that locates to an outcome
-pub request_of : (families : Families) (text : List ℕ) (outcome : Outcome) → LocatesTo families text outcome → (uri : SipUri) × UriText (first_line text) uri
-request_of families text outcome (talked uri messages known spelled replies t is) = (uri, spelled)
-request_of families text outcome (waits uri spelled e is) = (uri, spelled)
+pub request_of : (families : Families) (text : List ℕ) (outcome : Outcome) → LocatesTo families text outcome → (request : Request) × RequestText (first_line text) request
+request_of families text outcome (talked request messages known spelled replies t is) = (request, spelled)
+request_of families text outcome (waits request spelled e is) = (request, spelled)

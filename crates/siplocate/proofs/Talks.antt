@@ -4,7 +4,7 @@ use Rattle.std.specs.List.{AllZip}
 use Rattle.std.specs.Option.{option_and_then}
 use Rattle.std.proofs.lemmas.List.{drop_more, take_more, drop_all, take_all}
 use Rattle.dns_message.specs.declared.message.Message.{Message}
-use Rattle.sip_uri.specs.declared.uri.SipUri.{SipUri}
+use Rattle.siplocate.specs.declared.request.Request.{Request}
 use Rattle.siplocate.specs.declared.arguments.Families.{Families}
 use Rattle.siplocate.specs.Choice.{Known, Outcome, told, locate, talk, talk_from}
 use Rattle.siplocate.specs.Replies.{ReplyLine}
@@ -34,31 +34,31 @@ no_reply : (messages : List Message) → AllZip ReplyLine [] messages → messag
 no_reply [] all = refl
 no_reply (message ∷ others) none = absurd none
 
-module _ (families : Families) (uri : SipUri) where
-  talk-push : (known : List Known) (messages : List Message) (known' : List Known) (message : Message) (more : Known) → talk_from families uri known messages ≡ Some known'
-      → told (locate families uri known') message ≡ Some more
-      → talk_from families uri known (messages ++ message ∷ []) ≡ Some (known' ++ more ∷ [])
+module _ (families : Families) (request : Request) where
+  talk-push : (known : List Known) (messages : List Message) (known' : List Known) (message : Message) (more : Known) → talk_from families request known messages ≡ Some known'
+      → told (locate families request known') message ≡ Some more
+      → talk_from families request known (messages ++ message ∷ []) ≡ Some (known' ++ more ∷ [])
   talk-push known [] known' message more e t =
       let same : known ≡ known' = cc in
-      let here : told (locate families uri known) message ≡ Some more = rw same t in
+      let here : told (locate families request known) message ≡ Some more = rw same t in
       rw (here, same) refl
   talk-push known (m ∷ messages) known' message more e t =
       carried
-      (λ (k : Known). talk_from families uri (known ++ k ∷ []) messages)
-      (λ (k : Known). talk_from families uri (known ++ k ∷ []) (messages ++ message ∷ []))
-      known' (known' ++ more ∷ []) (told (locate families uri known) m)
+      (λ (k : Known). talk_from families request (known ++ k ∷ []) messages)
+      (λ (k : Known). talk_from families request (known ++ k ∷ []) (messages ++ message ∷ []))
+      known' (known' ++ more ∷ []) (told (locate families request known) m)
       (λ k e'. talk-push (known ++ k ∷ []) messages known' message more e' t) e
 
   -- after so many lines this is known, and this is the outcome
   pub record Talking (lines : List (List ℕ)) (count : ℕ) (known : List Known) (outcome : Outcome) : Type 0 where
-    pub is : outcome ≡ locate families uri known
+    pub is : outcome ≡ locate families request known
     pub messages : List Message
     pub replies : AllZip ReplyLine (take count lines) messages
-    pub talked : talk families uri messages ≡ Some known
+    pub talked : talk families request messages ≡ Some known
     pub goes_on : (all : List Message) → AllZip ReplyLine lines all
-        → (rest : List Message) × AllZip ReplyLine (drop count lines) rest × (talk_from families uri known rest ≡ talk families uri all)
+        → (rest : List Message) × AllZip ReplyLine (drop count lines) rest × (talk_from families request known rest ≡ talk families request all)
 
-  pub begun : (lines : List (List ℕ)) (outcome : Outcome) → outcome ≡ locate families uri [] → Talking lines 0 [] outcome
+  pub begun : (lines : List (List ℕ)) (outcome : Outcome) → outcome ≡ locate families request [] → Talking lines 0 [] outcome
   begun lines outcome e = record { is = e; messages = []; replies = tt; talked = refl; goes_on = λ all replies. (all, replies, refl) }
 
   module _ (lines : List (List ℕ)) (count : ℕ) (known : List Known) (outcome : Outcome) (so_far : Talking lines count known outcome) where
@@ -71,7 +71,7 @@ module _ (families : Families) (uri : SipUri) where
 
       pub next : (message : Message) (more : Known) (outcome' : Outcome) → ReplyLine line message → told outcome message ≡ Some more
           → ((found : Message) → ReplyLine line found → told outcome found ≡ Some more)
-          → outcome' ≡ locate families uri (known ++ more ∷ [])
+          → outcome' ≡ locate families request (known ++ more ∷ [])
           → Talking lines (count + 1) (known ++ more ∷ []) outcome'
       next message more outcome' reply t each e = record {
         is = e;
@@ -81,26 +81,26 @@ module _ (families : Families) (uri : SipUri) where
         goes_on = λ all replies.
             let k = so_far.goes_on all replies in
             let f = first_reply line (drop (count + 1) lines) k.0 (rw rest-is at k.1) in
-            let told-is : told (locate families uri known) f.0 ≡ Some more = rw so_far.is at each f.0 f.3 in
-            let one : talk_from families uri (known ++ more ∷ []) f.1 ≡ talk_from families uri known (f.0 ∷ f.1) = rw told-is refl in
-            (f.1, f.4, one ∙ ap (talk_from families uri known) (sym f.2) ∙ k.2);
+            let told-is : told (locate families request known) f.0 ≡ Some more = rw so_far.is at each f.0 f.3 in
+            let one : talk_from families request (known ++ more ∷ []) f.1 ≡ talk_from families request known (f.0 ∷ f.1) = rw told-is refl in
+            (f.1, f.4, one ∙ ap (talk_from families request known) (sym f.2) ∙ k.2);
       }
 
       -- where all lines are replies, this one is
-      pub has_reply : (all : List Message) (known' : List Known) → AllZip ReplyLine lines all → talk families uri all ≡ Some known' → (message : Message) × (more : Known) × ReplyLine line message × (told outcome message ≡ Some more)
+      pub has_reply : (all : List Message) (known' : List Known) → AllZip ReplyLine lines all → talk families request all ≡ Some known' → (message : Message) × (more : Known) × ReplyLine line message × (told outcome message ≡ Some more)
       has_reply all known' replies e =
           let k = so_far.goes_on all replies in
           let f = first_reply line (drop (count + 1) lines) k.0 (rw rest-is at k.1) in
-          let whole : talk_from families uri known (f.0 ∷ f.1) ≡ Some known' = ap (talk_from families uri known) (sym f.2) ∙ k.2 ∙ e in
-          let more = led (λ (k : Known). talk_from families uri (known ++ k ∷ []) f.1) known' (told (locate families uri known) f.0) whole in
+          let whole : talk_from families request known (f.0 ∷ f.1) ≡ Some known' = ap (talk_from families request known) (sym f.2) ∙ k.2 ∙ e in
+          let more = led (λ (k : Known). talk_from families request (known ++ k ∷ []) f.1) known' (told (locate families request known) f.0) whole in
           (f.0, more.0, f.3, ap (λ (o : Outcome). told o f.0) so_far.is ∙ more.1)
 
     pub ends : count ≡ length lines → AllZip ReplyLine lines so_far.messages
     ends all = rw (take_all count lines (omega arith)) at so_far.replies
 
-    pub all_known : count ≡ length lines → (all : List Message) (known' : List Known) → AllZip ReplyLine lines all → talk families uri all ≡ Some known' → known ≡ known'
+    pub all_known : count ≡ length lines → (all : List Message) (known' : List Known) → AllZip ReplyLine lines all → talk families request all ≡ Some known' → known ≡ known'
     all_known done all known' replies e =
         let k = so_far.goes_on all replies in
         let none = no_reply k.0 (rw (drop_all count lines (omega arith)) at k.1) in
-        let is : talk_from families uri known [] ≡ Some known' = ap (talk_from families uri known) (sym none) ∙ k.2 ∙ e in
+        let is : talk_from families request known [] ≡ Some known' = ap (talk_from families request known) (sym none) ∙ k.2 ∙ e in
         cc

@@ -1,4 +1,4 @@
--- Where a request goes (RFC 3263 4.1, 4.2), as far as the questions about it are answered.
+-- Where a request goes (RFC 3263 4.1, 4.2, 5), as far as the questions about it are answered.
 use Rattle.std.specs.Prelude.{ℕ, ◌==◌, Bool, ◌&&◌, List, [], ◌∷◌, ◌++◌, length, map, Option, Some, None, unwrap_or, is_none, option_and_then, Result, Ok, Err, if◌then◌else◌}
 use Rattle.dns_message.specs.Kinds.{kind_code}
 use Rattle.dns_message.specs.declared.kind.Kind.TheVariants as kind
@@ -13,6 +13,8 @@ use Rattle.sip_uri.specs.declared.transport.Spoken.TheVariants as spoken
 use Rattle.sip_uri.specs.declared.transport.Transport.{Transport}
 use Rattle.sip_uri.specs.declared.transport.Transport.TheVariants.{Udp, Tcp, Sctp, Tls}
 use Rattle.sip_uri.specs.declared.uri.SipUri.{SipUri}
+use Rattle.siplocate.specs.declared.request.Request.{Request}
+use Rattle.siplocate.specs.declared.request.Request.TheVariants.{Uri, Via}
 use Rattle.siplocate.specs.declared.arguments.Families.{Families}
 use Rattle.siplocate.specs.declared.arguments.Families.TheVariants as family
 use Rattle.siplocate.specs.declared.choice.Reason.{Reason}
@@ -32,7 +34,7 @@ pub data Outcome : Type 0 where
   -- it needs records that are not asked for yet
   unready : Outcome
 
--- ---- the transport (RFC 3263 4.1)
+-- ---- the transport (RFC 3263 4.1, 5)
 
 abbrev pub secure_transport : Option Spoken → Result Transport Reason
 secure_transport None = Ok Tls
@@ -42,13 +44,21 @@ secure_transport (Some (spoken.Known Sctp)) = Err TransportUnsupported
 secure_transport (Some (spoken.Known Tls)) = Ok Tls
 secure_transport (Some spoken.Other) = Err TransportUnsupported
 
+-- a transport that is written
+abbrev pub written_transport : Spoken → Result Transport Reason
+written_transport (spoken.Known transport) = Ok transport
+written_transport spoken.Other = Err TransportUnsupported
+
 abbrev pub plain_transport : Option Spoken → Result Transport Reason
 plain_transport None = Ok Udp
-plain_transport (Some (spoken.Known transport)) = Ok transport
-plain_transport (Some spoken.Other) = Err TransportUnsupported
+plain_transport (Some spoken) = written_transport spoken
 
-abbrev pub transport_of : SipUri → Result Transport Reason
-transport_of uri = if uri.secure then secure_transport uri.transport else plain_transport uri.transport
+abbrev pub transport_of_uri : SipUri → Result Transport Reason
+transport_of_uri uri = if uri.secure then secure_transport uri.transport else plain_transport uri.transport
+
+abbrev pub transport_of : Request → Result Transport Reason
+transport_of (Uri uri) = transport_of_uri uri
+transport_of (Via via) = written_transport via.transport
 
 abbrev pub default_port : Transport → ℕ
 default_port Tls = 5061
@@ -80,9 +90,14 @@ abbrev pub addresses_of : Transport → ℕ → Question → Option (List (List 
 addresses_of transport port question None = need question
 addresses_of transport port question (Some addresses) = targets_of transport port addresses
 
--- TARGET is the parameter maddr where there is one, else the host
-abbrev pub target_host : SipUri → Host
-target_host uri = unwrap_or uri.maddr uri.host
+-- TARGET: of a URI the parameter maddr where there is one, else the host
+abbrev pub target_of : Request → Host
+target_of (Uri uri) = unwrap_or uri.maddr uri.host
+target_of (Via via) = via.host
+
+abbrev pub port_of : Request → Option ℕ
+port_of (Uri uri) = uri.port
+port_of (Via via) = via.port
 
 abbrev pub locate_address : Transport → Option ℕ → Address → Outcome
 locate_address transport port address = targets (record { transport = transport; address = address; port = unwrap_or port (default_port transport) } ∷ [])
@@ -94,15 +109,15 @@ locate_host transport (Some port) (host.Domain name) known = addresses_of transp
 locate_host transport None (host.Domain name) known = unready
 
 -- addresses of IPv4 alone are asked for yet
-abbrev pub locate_over : Result Transport Reason → Families → SipUri → List Known → Outcome
-locate_over (Err reason) families uri known = refused reason
-locate_over (Ok transport) family.V4 uri known = locate_host transport uri.port (target_host uri) known
-locate_over (Ok transport) family.V6 uri known = unready
-locate_over (Ok transport) family.V4ThenV6 uri known = unready
-locate_over (Ok transport) family.V6ThenV4 uri known = unready
+abbrev pub locate_over : Result Transport Reason → Families → Request → List Known → Outcome
+locate_over (Err reason) families request known = refused reason
+locate_over (Ok transport) family.V4 request known = locate_host transport (port_of request) (target_of request) known
+locate_over (Ok transport) family.V6 request known = unready
+locate_over (Ok transport) family.V4ThenV6 request known = unready
+locate_over (Ok transport) family.V6ThenV4 request known = unready
 
-abbrev pub locate : Families → SipUri → List Known → Outcome
-locate families uri known = locate_over (transport_of uri) families uri known
+abbrev pub locate : Families → Request → List Known → Outcome
+locate families request known = locate_over (transport_of request) families request known
 
 -- ---- what messages build up
 
@@ -115,10 +130,10 @@ told (refused reason) message = None
 told unready message = None
 
 -- what is known after messages, each of which answers the question that is needed then
-abbrev pub talk_from : Families → SipUri → List Known → List Message → Option (List Known)
-talk_from families uri known [] = Some known
-talk_from families uri known (message ∷ messages) =
-    option_and_then (λ (more : Known). talk_from families uri (known ++ more ∷ []) messages) (told (locate families uri known) message)
+abbrev pub talk_from : Families → Request → List Known → List Message → Option (List Known)
+talk_from families request known [] = Some known
+talk_from families request known (message ∷ messages) =
+    option_and_then (λ (more : Known). talk_from families request (known ++ more ∷ []) messages) (told (locate families request known) message)
 
-abbrev pub talk : Families → SipUri → List Message → Option (List Known)
-talk families uri messages = talk_from families uri [] messages
+abbrev pub talk : Families → Request → List Message → Option (List Known)
+talk families request messages = talk_from families request [] messages

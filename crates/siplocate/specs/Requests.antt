@@ -1,11 +1,14 @@
 -- A request with replies, in lines.
-use Rattle.std.specs.Prelude.{◌≡◌, ℕ, List, [], drop, Some, slice_index_or}
+use Rattle.std.specs.Prelude.{◌≡◌, ℕ, List, [], ◌∷◌, ◌++◌, codes, drop, Some, slice_index_or}
 use Rattle.std.specs.List.{AllZip}
 use Rattle.std.specs.Str.Lines.{lines}
+use Rattle.dns_name.specs.Labels.{small_letters}
 use Rattle.dns_message.specs.declared.message.Message.{Message}
 use Rattle.sip_uri.specs.Uris.{UriText}
-use Rattle.sip_uri.specs.declared.uri.SipUri.{SipUri}
+use Rattle.sip_uri.specs.Vias.{ViaText}
 use Rattle.siplocate.specs.declared.arguments.Families.{Families}
+use Rattle.siplocate.specs.declared.request.Request.{Request}
+use Rattle.siplocate.specs.declared.request.Request.TheVariants.{Uri, Via}
 use Rattle.siplocate.specs.Choice.{Known, Outcome, unready, locate, talk}
 use Rattle.siplocate.specs.Replies.{ReplyLine}
 
@@ -16,16 +19,27 @@ first_line text = slice_index_or (lines text) 0 []
 abbrev pub other_lines : List ℕ → List (List ℕ)
 other_lines text = drop 1 (lines text)
 
+-- a line is `Via:`, in letters of any case, and this
+pub record BeginsVia (line rest : List ℕ) : Type 0 where
+  pub word : List ℕ
+  pub joined : line ≡ word ++ 58 ∷ rest
+  pub is : small_letters word ≡ codes "via"
+
+-- a line is a URI, or a Via behind `Via:`
+abbrev pub RequestText : List ℕ → Request → Type 0
+RequestText line (Uri uri) = UriText line uri
+RequestText line (Via via) = (rest : List ℕ) × BeginsVia line rest × ViaText rest via
+
 -- What becomes of the request in the first line, with the replies in the others.
 pub data LocatesTo (families : Families) (text : List ℕ) : Outcome → Type 0 where
   -- each of the other lines is a reply to the question that is needed then
-  talked : {outcome : Outcome} (uri : SipUri) (messages : List Message) (known : List Known) → UriText (first_line text) uri
+  talked : {outcome : Outcome} (request : Request) (messages : List Message) (known : List Known) → RequestText (first_line text) request
       → AllZip ReplyLine (other_lines text) messages
-      → talk families uri messages ≡ Some known
-      → outcome ≡ locate families uri known
+      → talk families request messages ≡ Some known
+      → outcome ≡ locate families request known
       → LocatesTo families text outcome
   -- it needs records that are not asked for yet, and the other lines are not looked at
-  waits : {outcome : Outcome} (uri : SipUri) → UriText (first_line text) uri
-      → locate families uri [] ≡ unready
+  waits : {outcome : Outcome} (request : Request) → RequestText (first_line text) request
+      → locate families request [] ≡ unready
       → outcome ≡ unready
       → LocatesTo families text outcome

@@ -1,13 +1,14 @@
-//! Where a request goes (RFC 3263 4.1, 4.2).
+//! Where a request goes (RFC 3263 4.1, 4.2, 5).
 ghost use Rattle.std.specs.Prelude.{◌≡◌, map, IfOk};
 ghost use Rattle.std.specs.Option.{option_copied};
 ghost use Rattle.siplocate.specs.Choice as spec;
 ghost use Rattle.siplocate.specs.Views.{known_of, outcome_of};
 
 use crate::arguments::Families;
+use crate::request::Request;
 use dns_message::{Kind, Question};
 use dns_name::Name;
-use sip_uri::{Address, Host, SipUri, Spoken, Transport};
+use sip_uri::{Address, Host, Transport};
 use std::alloc::{AllocError, Global};
 
 /// Where a request can be sent.
@@ -54,39 +55,6 @@ pub enum Located {
     Ask(Question),
     /// It needs records that are not asked for yet.
     Unready,
-}
-
-/// The transport of a SIPS URI with this parameter (RFC 3263 4.1).
-fn secure_transport(spoken: Option<Spoken>) -> Result<Transport, Reason>
-    ensures { result ≡ spec.secure_transport spoken }
-{
-    match spoken {
-        None | Some(Spoken::Known(Transport::Tcp | Transport::Tls)) => Ok(Transport::Tls),
-        Some(Spoken::Known(Transport::Udp)) => Err(Reason::TransportNotSecure),
-        Some(Spoken::Known(Transport::Sctp) | Spoken::Other) => Err(Reason::TransportUnsupported),
-    }
-}
-
-/// The transport of a SIP URI with this parameter (RFC 3263 4.1).
-fn plain_transport(spoken: Option<Spoken>) -> Result<Transport, Reason>
-    ensures { result ≡ spec.plain_transport spoken }
-{
-    match spoken {
-        None => Ok(Transport::Udp),
-        Some(Spoken::Known(transport)) => Ok(transport),
-        Some(Spoken::Other) => Err(Reason::TransportUnsupported),
-    }
-}
-
-/// The transport of a URI.
-fn transport_of(uri: &SipUri) -> Result<Transport, Reason>
-    ensures { result ≡ spec.transport_of uri.now }
-{
-    if uri.secure {
-        secure_transport(uri.transport)
-    } else {
-        plain_transport(uri.transport)
-    }
 }
 
 /// The port of a transport where none is written (RFC 3261 18.1.1, 19.1.2).
@@ -210,22 +178,21 @@ fn locate_host(
     }
 }
 
-/// Where a request to a URI goes, as far as is known.
+/// Where a request goes, as far as is known.
 pub fn locate(
     alloc: Global,
     families: Families,
-    uri: &SipUri,
+    request: &Request,
     known: &[Answered],
 ) -> Result<Located, AllocError>
-    ensures { IfOk result (λ located. outcome_of located ≡ spec.locate families uri.now (map known_of known.now)) }
+    ensures { IfOk result (λ located. outcome_of located ≡ spec.locate families request.now (map known_of known.now)) }
 {
-    let transport = match transport_of(uri) {
+    let transport = match request.transport() {
         Ok(transport) => transport,
         Err(reason) => return Ok(Located::Refused(reason)),
     };
     if families != Families::V4 {
         return Ok(Located::Unready);
     }
-    let host = uri.maddr.as_ref().unwrap_or(&uri.host);
-    locate_host(alloc, transport, uri.port, host, known)
+    locate_host(alloc, transport, request.port(), request.target(), known)
 }

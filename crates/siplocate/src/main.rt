@@ -11,6 +11,7 @@ mod input;
 mod one;
 mod output;
 mod reply;
+mod request;
 #[cfg(test)]
 mod tests;
 

@@ -15,7 +15,8 @@ use crate::arguments::Families;
 use crate::choice::{Located, locate};
 use crate::output::{bad_reply, bad_request, shown, status_of};
 use crate::reply::{BadReply, answered};
-use sip_uri::{SipUri, UriRefusal, read_uri};
+use crate::request::{Request, read_request};
+use sip_uri::UriRefusal;
 use std::alloc::{AllocError, Global};
 
 /// The status of what is no request, or has a reply that is none.
@@ -70,18 +71,23 @@ fn first_line(text: &str) -> &str
 }
 
 /// Where a request goes, with the replies in the lines after the first one.
-fn talk(alloc: Global, families: Families, uri: &SipUri, text: &str) -> Result<Located, BadReply>
+fn talk(
+    alloc: Global,
+    families: Families,
+    request: &Request,
+    text: &str,
+) -> Result<Located, BadReply>
     ensures found { IfOk result (λ located. (messages : List message.Message) × (known : List spec.Known) × AllZip ReplyLine (other_lines text.now) messages
-        × (spec.talk families uri.now messages ≡ Some known) × (outcome_of located ≡ spec.locate families uri.now known)) }
-    ensures read { (messages : List message.Message) (known : List spec.Known) → AllZip ReplyLine (other_lines text.now) messages → spec.talk families uri.now messages ≡ Some known
-        → MatchResult result (λ located. outcome_of located ≡ spec.locate families uri.now known) (λ reply. reply ≡ BadReply.Memory) }
+        × (spec.talk families request.now messages ≡ Some known) × (outcome_of located ≡ spec.locate families request.now known)) }
+    ensures read { (messages : List message.Message) (known : List spec.Known) → AllZip ReplyLine (other_lines text.now) messages → spec.talk families request.now messages ≡ Some known
+        → MatchResult result (λ located. outcome_of located ≡ spec.locate families request.now known) (λ reply. reply ≡ BadReply.Memory) }
 {
     let mut known = Vec::new(alloc);
-    let mut located = locate(alloc, families, uri, known.as_slice())?;
+    let mut located = locate(alloc, families, request, known.as_slice())?;
     for line in text.lines().skip(1) {
         let next = answered(alloc, &located, line)?;
         known.push(next)?;
-        located = locate(alloc, families, uri, known.as_slice())?;
+        located = locate(alloc, families, request, known.as_slice())?;
     }
     Ok(located)
 }
@@ -92,12 +98,12 @@ fn located(alloc: Global, families: Families, text: &str) -> Result<Located, One
     ensures read { (outcome : spec.Outcome) → LocatesTo families text.now outcome
         → MatchResult result (λ located. outcome_of located ≡ outcome) (λ refusal. refusal ≡ OneRefusal.Memory) }
 {
-    let uri = read_uri(alloc, first_line(text))?;
-    let located = locate(alloc, families, &uri, &[])?;
+    let request = read_request(alloc, first_line(text))?;
+    let located = locate(alloc, families, &request, &[])?;
     if let Located::Unready = located {
         return Ok(located);
     }
-    Ok(talk(alloc, families, &uri, text)?)
+    Ok(talk(alloc, families, &request, text)?)
 }
 
 /// What the program prints for a request with replies, and its status.

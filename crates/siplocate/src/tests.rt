@@ -19,7 +19,7 @@ struct Row {
     status: u8,
 }
 
-const ROWS: [Row; 26] = [
+const ROWS: [Row; 50] = [
     Row {
         lines: &["sip:192.0.2.7:5080"],
         printed: "udp 192.0.2.7 5080\n",
@@ -167,6 +167,126 @@ const ROWS: [Row; 26] = [
         printed: "bad request BadScheme\n",
         status: 3,
     },
+    Row {
+        lines: &["sips:[2001:db8::1]"],
+        printed: "tls 2001:db8:0:0:0:0:0:1 5061\n",
+        status: 0,
+    },
+    Row {
+        lines: &["sip:[::ffff:192.0.2.7]"],
+        printed: "udp 0:0:0:0:0:ffff:c000:207 5060\n",
+        status: 0,
+    },
+    Row {
+        lines: &["sip:u@c.example;maddr=192.0.2.9;transport=tcp"],
+        printed: "tcp 192.0.2.9 5060\n",
+        status: 0,
+    },
+    Row {
+        lines: &["sip:c.example;transport=tcp;Transport=udp"],
+        printed: "bad request RepeatedParam\n",
+        status: 3,
+    },
+    Row {
+        lines: &["sips:c.example;transport=udp"],
+        printed: "refused TransportNotSecure\n",
+        status: 2,
+    },
+    Row {
+        lines: &["sips:c.example;transport=sctp"],
+        printed: "refused TransportUnsupported\n",
+        status: 2,
+    },
+    Row {
+        lines: &["sips:192.0.2.7;transport=tcp"],
+        printed: "tls 192.0.2.7 5061\n",
+        status: 0,
+    },
+    Row {
+        lines: &["sip:192.0.2.7;transport=sctp"],
+        printed: "sctp 192.0.2.7 5060\n",
+        status: 0,
+    },
+    Row {
+        lines: &["sip:192.0.2.7;transport=tls"],
+        printed: "tls 192.0.2.7 5061\n",
+        status: 0,
+    },
+    Row {
+        lines: &["sip:c.example;transport=ws"],
+        printed: "refused TransportUnsupported\n",
+        status: 2,
+    },
+    Row {
+        lines: &["sip:c.example;transport=tls"],
+        printed: "fault unready\n",
+        status: 5,
+    },
+    Row {
+        lines: &["sip:192.0.2.7;maddr=a.example:5070"],
+        printed: "bad request BadParam\n",
+        status: 3,
+    },
+    Row {
+        lines: &["sip:192.0.2.7:5070;maddr=a.example", REPLY],
+        printed: "udp 192.0.2.7 5070\n",
+        status: 0,
+    },
+    Row {
+        lines: &["sip:@c.example"],
+        printed: "bad request BadUser\n",
+        status: 3,
+    },
+    Row {
+        lines: &["sip:192.0.2.7?a"],
+        printed: "bad request BadHeader\n",
+        status: 3,
+    },
+    Row {
+        lines: &["Via: SIP / 2.0 / TLS d.example:5099 ;branch=z9hG4bK1"],
+        printed: "ask A d.example.\n",
+        status: 1,
+    },
+    Row {
+        lines: &["VIA:SIP/2.0/TCP a.example:5099", REPLY],
+        printed: "tcp 192.0.2.7 5099\n",
+        status: 0,
+    },
+    Row {
+        lines: &["via: SIP/2.0/TLS 192.0.2.7"],
+        printed: "tls 192.0.2.7 5061\n",
+        status: 0,
+    },
+    Row {
+        lines: &["Via: SIP/2.0/SCTP [2001:db8::9:1]"],
+        printed: "sctp 2001:db8:0:0:0:0:9:1 5060\n",
+        status: 0,
+    },
+    Row {
+        lines: &["Via: SIP/2.0/UNKNOWN d.example:5099"],
+        printed: "refused TransportUnsupported\n",
+        status: 2,
+    },
+    Row {
+        lines: &["Via: SIP/2.0/UDP d.example"],
+        printed: "fault unready\n",
+        status: 5,
+    },
+    Row {
+        lines: &["Via: SIP/3.0/UDP d.example"],
+        printed: "bad request BadVia\n",
+        status: 3,
+    },
+    Row {
+        lines: &["Via : SIP/2.0/UDP d.example"],
+        printed: "bad request BadScheme\n",
+        status: 3,
+    },
+    Row {
+        lines: &["Via:"],
+        printed: "bad request BadVia\n",
+        status: 3,
+    },
 ];
 
 /// The text of lines, each with its end.
@@ -196,6 +316,28 @@ fn without_line_ends(rt: HostRuntime) -> Result<(), Fail> {
     assert_eq!(rt; (printed.as_str(), status), ("bad request BadScheme\n", 3));
     let (printed, status) = one_text(rt.alloc(), Families::V4, "sip:192.0.2.7")?;
     assert_eq!(rt; (printed.as_str(), status), ("udp 192.0.2.7 5060\n", 0));
+    Ok(())
+}
+
+/// A request of 16 octets and so many letters.
+fn long_request(alloc: Global, letters: usize) -> Result<String, AllocError> {
+    let mut text = String::from_str(alloc, "sip:192.0.2.7;x=")?;
+    for _ in 0..letters {
+        text.push('a')?;
+    }
+    Ok(text)
+}
+
+#[test]
+fn long_requests(rt: HostRuntime) -> Result<(), Fail> {
+    for (letters, line) in [
+        (1008, "udp 192.0.2.7 5060\n"),
+        (1009, "bad request TooLong\n"),
+    ] {
+        let text = long_request(rt.alloc(), letters)?;
+        let (printed, _) = one_text(rt.alloc(), Families::V4, &text)?;
+        assert_eq!(rt; printed.as_str(), line);
+    }
     Ok(())
 }
 

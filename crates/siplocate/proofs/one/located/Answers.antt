@@ -10,28 +10,28 @@ use Rattle.siplocate.proofs.Outcomes.{is_unready, is_talked, unready_is, request
 use Rattle.siplocate.proofs.one.located.Goals as goal
 use Rattle.siplocate.proofs.one.located.Goals.{In_default}
 
-pub returns-in_err-uri-clause-read : goal.returns-in_err-uri-clause-read
-returns-in_err-uri-clause-read c = λ outcome to.
+pub returns-in_err-request-clause-read : goal.returns-in_err-request-clause-read
+returns-in_err-request-clause-read c = λ outcome to.
     let r = err_from_is_err_and c.from_residual.result c.from_residual.ensures.1 in
     let k = request_of c.args.families c.args.text.now outcome to in
-    rw (r.1, r.2, c.in_err-uri.ensures.read k.0 (rw (← c.first_line.ensures) at k.1)) refl
+    rw (r.1, r.2, c.in_err-request.ensures.read k.0 (rw (← c.first_line.ensures) at k.1)) refl
 
 pub returns-in-Unready-clause-found : goal.returns-in-Unready-clause-found
 returns-in-Unready-clause-found c =
-    let uri = c.in_ok-uri.uri in
+    let request = c.in_ok-request.request in
     let none : outcome_of c.in_ok-located.located ≡ unready = ap outcome_of c.in-Unready.is in
-    waits uri (rw c.first_line.ensures at c.in_ok-uri.ensures.found) (sym c.in_ok-located.ensures ∙ none) none
+    waits request (rw c.first_line.ensures at c.in_ok-request.ensures.found) (sym c.in_ok-located.ensures ∙ none) none
 
 pub returns-in-Unready-clause-read : goal.returns-in-Unready-clause-read
 returns-in-Unready-clause-read c = λ outcome to.
-    let uri = c.in_ok-uri.uri in
+    let request = c.in_ok-request.request in
     let none : outcome_of c.in_ok-located.located ≡ unready = ap outcome_of c.in-Unready.is in
-    none ∙ is_unready c.args.families c.args.text.now uri (λ other spelled. c.in_ok-uri.ensures.read other (rw (← c.first_line.ensures) at spelled)) (sym c.in_ok-located.ensures ∙ none) outcome to
+    none ∙ is_unready c.args.families c.args.text.now request (λ other spelled. c.in_ok-request.ensures.read other (rw (← c.first_line.ensures) at spelled)) (sym c.in_ok-located.ensures ∙ none) outcome to
 
 -- what a text that locates to an outcome was told
 told_to : (c : In_default) (outcome : Outcome) → LocatesTo c.args.families c.args.text.now outcome
-    → (messages : List Message) × (known : List Known) × AllZip ReplyLine (other_lines c.args.text.now) messages × (talk c.args.families c.in_ok-uri.uri messages ≡ Some known) × (outcome ≡ locate c.args.families c.in_ok-uri.uri known)
-told_to c = is_talked c.args.families c.args.text.now c.in_ok-uri.uri (λ other spelled. c.in_ok-uri.ensures.read other (rw (← c.first_line.ensures) at spelled)) (outcome_of c.in_ok-located.located) c.in_ok-located.ensures (λ e. c.in_default.not-Unready (unready_is c.in_ok-located.located e))
+    → (messages : List Message) × (known : List Known) × AllZip ReplyLine (other_lines c.args.text.now) messages × (talk c.args.families c.in_ok-request.request messages ≡ Some known) × (outcome ≡ locate c.args.families c.in_ok-request.request known)
+told_to c = is_talked c.args.families c.args.text.now c.in_ok-request.request (λ other spelled. c.in_ok-request.ensures.read other (rw (← c.first_line.ensures) at spelled)) (outcome_of c.in_ok-located.located) c.in_ok-located.ensures (λ e. c.in_default.not-Unready (unready_is c.in_ok-located.located e))
 
 pub returns-in_err-talk : goal.returns-in_err-talk
 returns-in_err-talk c =
@@ -47,7 +47,7 @@ pub returns : goal.returns
 returns c =
     let found = c.in_ok-talk.ensures.found in
     record {
-      found = talked c.in_ok-uri.uri found.0 found.1 (rw c.first_line.ensures at c.in_ok-uri.ensures.found) found.2 found.3 found.4;
+      found = talked c.in_ok-request.request found.0 found.1 (rw c.first_line.ensures at c.in_ok-request.ensures.found) found.2 found.3 found.4;
       read = λ outcome to.
           let k = told_to (goal.at.returns c).In_default outcome to in
           c.in_ok-talk.ensures.read k.0 k.1 k.2 k.3 ∙ sym k.4;

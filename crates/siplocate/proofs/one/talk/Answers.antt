@@ -30,15 +30,15 @@ loop-line-init c = record {
   can_next = search rules;
   is_finite = search rules;
   talking =
-      let is : outcome_of c.in_ok-located.located ≡ locate c.args.families c.args.uri.now [] = rw (c.as_slice.ensures.value, c.new-known.ensures.items) at c.in_ok-located.ensures in
-      rw c.new-known.ensures.items (begun c.args.families c.args.uri.now (other_lines c.args.text.now) (outcome_of c.in_ok-located.located) is);
+      let is : outcome_of c.in_ok-located.located ≡ locate c.args.families c.args.request.now [] = rw (c.as_slice.ensures.value, c.new-known.ensures.items) at c.in_ok-located.ensures in
+      rw c.new-known.ensures.items (begun c.args.families c.args.request.now (other_lines c.args.text.now) (outcome_of c.in_ok-located.located) is);
 }
 
 pub returns-in_err-next-clause-read : goal.returns-in_err-next-clause-read
 returns-in_err-next-clause-read c = λ all known' replies e.
     let l = c.loop-line in
     let this = turn (goal.at.returns-in_err-next-clause-read c).In-Some in
-    let k = has_reply c.args.families c.args.uri.now (other_lines c.args.text.now) (length l.yielded) (map known_of l.known.items) (outcome_of l.located) l.invariant.talking c.in-Some.line.now this.0 this.1 all known' replies e in
+    let k = has_reply c.args.families c.args.request.now (other_lines c.args.text.now) (length l.yielded) (map known_of l.known.items) (outcome_of l.located) l.invariant.talking c.in-Some.line.now this.0 this.1 all known' replies e in
     let memory = c.in_err-next.ensures.read k.0 k.1 k.2 k.3 in
     let r = err_from_is_err_and c.from_residual-in_err-next.result c.from_residual-in_err-next.ensures.1 in
     rw (r.1, r.2) memory
@@ -52,9 +52,9 @@ loop-line-preserved c =
     let reply = c.in_ok-next.ensures.found in
     let count = length_push l.yielded c.in-Some.line in
     let grown : map known_of c.push.new.self.items ≡ known ++ more ∷ [] = ap (map known_of) c.in_ok-push.ensures.items ∙ map_push known_of l.known.items c.in_ok-next.next in
-    let is : outcome_of c.in_ok-located-2.located ≡ locate c.args.families c.args.uri.now (known ++ more ∷ []) =
-    c.in_ok-located-2.ensures ∙ ap (λ (items : List Answered). locate c.args.families c.args.uri.now (map known_of items)) c.as_slice-in-loop-line.ensures.value ∙ ap (locate c.args.families c.args.uri.now) grown in
-    let after = next c.args.families c.args.uri.now (other_lines c.args.text.now) (length l.yielded) known (outcome_of l.located) l.invariant.talking c.in-Some.line.now this.0 this.1 reply.0 more (outcome_of c.in_ok-located-2.located) reply.1 reply.2 c.in_ok-next.ensures.each is in
+    let is : outcome_of c.in_ok-located-2.located ≡ locate c.args.families c.args.request.now (known ++ more ∷ []) =
+    c.in_ok-located-2.ensures ∙ ap (λ (items : List Answered). locate c.args.families c.args.request.now (map known_of items)) c.as_slice-in-loop-line.ensures.value ∙ ap (locate c.args.families c.args.request.now) grown in
+    let after = next c.args.families c.args.request.now (other_lines c.args.text.now) (length l.yielded) known (outcome_of l.located) l.invariant.talking c.in-Some.line.now this.0 this.1 reply.0 more (outcome_of c.in_ok-located-2.located) reply.1 reply.2 c.in_ok-next.ensures.each is in
     record {
       can_next = search rules;
       is_finite = search rules;
@@ -66,12 +66,12 @@ returns-clause-found c =
     let l = c.loop-line in
     let talking = l.invariant.talking in
     let all = all_turns (goal.at.returns-clause-found c).In-None in
-    (talking.messages, map known_of l.known.items, ends c.args.families c.args.uri.now (other_lines c.args.text.now) (length l.yielded) (map known_of l.known.items) (outcome_of l.located) talking all, talking.talked, talking.is)
+    (talking.messages, map known_of l.known.items, ends c.args.families c.args.request.now (other_lines c.args.text.now) (length l.yielded) (map known_of l.known.items) (outcome_of l.located) talking all, talking.talked, talking.is)
 
 pub returns-clause-read : goal.returns-clause-read
 returns-clause-read c = λ all known' replies e.
     let l = c.loop-line in
     let talking = l.invariant.talking in
     let done = all_turns (goal.at.returns-clause-read c).In-None in
-    let same = all_known c.args.families c.args.uri.now (other_lines c.args.text.now) (length l.yielded) (map known_of l.known.items) (outcome_of l.located) talking done all known' replies e in
+    let same = all_known c.args.families c.args.request.now (other_lines c.args.text.now) (length l.yielded) (map known_of l.known.items) (outcome_of l.located) talking done all known' replies e in
     rw (← same) talking.is

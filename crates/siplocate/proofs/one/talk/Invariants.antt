@@ -8,5 +8,5 @@ abbrev pub invariant-loop-line : goal.invariant-loop-line
 invariant-loop-line l = record {
   can_next : (goal.iterator-loop-line).can_next l.line-iterator;
   is_finite : (goal.iterator-loop-line).is_finite l.line-iterator;
-  talking : Talking l.families l.uri (other_lines l.text) (length l.yielded) (map known_of l.known.items) (outcome_of l.located);
+  talking : Talking l.families l.request (other_lines l.text) (length l.yielded) (map known_of l.known.items) (outcome_of l.located);
 }
