@@ -12,7 +12,7 @@ fn via_line(alloc: Global, via: &Via) -> Result<String, Fail> {
 }
 
 /// Texts of Vias, and what they say.
-const VIAS: [(&str, &str); 22] = [
+const VIAS: [(&str, &str); 29] = [
     // RFC 3261 20.42
     (
         "SIP/2.0/UDP erlang.bell-telephone.com:5060;branch=z9hG4bK87asdks7",
@@ -38,6 +38,16 @@ const VIAS: [(&str, &str); 22] = [
     (
         "SIP  /    2.0   / UDP  192.168.255.111   ; branch= z9hG4bK30239",
         "Known(Udp) 192.168.255.111 None",
+    ),
+    // RFC 4475 3.1.1.2
+    (
+        "SIP/2.0/TCP host1.example.com;branch=z9hG4bK-.!%66*_+`'~",
+        "Known(Tcp) host1.example.com. None",
+    ),
+    // RFC 4475 3.1.1.5
+    (
+        "SIP/2.0/TCP host.example.com;branch=z9hG4bK209%fzsnel234",
+        "Known(Tcp) host.example.com. None",
     ),
     // RFC 4475 3.1.1.10
     (
@@ -91,6 +101,17 @@ const VIAS: [(&str, &str); 22] = [
         "Known(Udp) d.example. None",
     ),
     ("SIP/2.0/UDP d.example;%61;a", "Known(Udp) d.example. None"),
+    ("SIP/2.0/TLS-SCTP d.example", "Other d.example. None"),
+    ("SIP/2.0/2.0 192.0.2.7", "Other 192.0.2.7 None"),
+    (
+        "SIP/2.0/TCP [::ffff:192.0.2.7] : 5060 ;a",
+        "Known(Tcp) 0:0:0:0:0:ffff:c000:207 Some(5060)",
+    ),
+    ("SIP/2.0/UDP d.example;a==1=2", "Known(Udp) d.example. None"),
+    (
+        "SIP/2.0/UDP d.example;a=\"\u{e9}\t\0\"",
+        "Known(Udp) d.example. None",
+    ),
 ];
 
 #[test]
@@ -105,7 +126,7 @@ fn vias(rt: HostRuntime) -> Result<(), Fail> {
 }
 
 /// Texts of no Via, and their first fault from the left.
-const FAULTS: [(&str, UriRefusal); 45] = [
+const FAULTS: [(&str, UriRefusal); 53] = [
     ("", UriRefusal::BadVia),
     ("SIP", UriRefusal::BadVia),
     ("SIP/2.0", UriRefusal::BadVia),
@@ -151,6 +172,25 @@ const FAULTS: [(&str, UriRefusal); 45] = [
     ("SIP/2.0/UDP d.example;a=\"\\\u{e9}\"", UriRefusal::BadParam),
     ("SIP/2.0/UDP d.example;a=1;b;A", UriRefusal::RepeatedParam),
     ("SIP/2.0/UDP d.example;a;a=1,2", UriRefusal::RepeatedParam),
+    // RFC 4475 3.1.1.1: two Vias in one text
+    (
+        "SIP/2.0/TCP spindle.example.com;branch=z9hG4bK9ikj8  , SIP/2.0/UDP 192.168.255.111;branch=z9hG4bK30239",
+        UriRefusal::BadParam,
+    ),
+    // RFC 4475 3.1.2.1
+    ("SIP/2.0/UDP 192.0.2.15;;,;,,", UriRefusal::BadParam),
+    // RFC 4475 3.1.2.16
+    (
+        "SIP/7.0/UDP c.example.com;branch=z9hG4bKkdjuw",
+        UriRefusal::BadVia,
+    ),
+    // the address of RFC 5118 4.10
+    ("SIP/2.0/UDP [2001:db8:::192.0.2.1]", UriRefusal::BadHost),
+    // the first of several faults
+    ("SIP/3.0/UDP :", UriRefusal::BadVia),
+    ("SIP/2.0/UDP -:0;", UriRefusal::BadHost),
+    ("SIP/2.0/UDP d.example:0;;", UriRefusal::BadPort),
+    ("SIP/2.0/UDP d.example;a=\"b\\", UriRefusal::BadParam),
 ];
 
 /// The refusal of a text of no Via.

@@ -1,7 +1,7 @@
 //! The program `siplocate`: where a SIP request is sent (RFC 3263), over DNS replies that it is given.
 #![tactic(auto)]
 
-ghost use Rattle.std.specs.Prelude.{OnOk};
+ghost use Rattle.std.specs.Prelude.{◌≤◌, IfOk, OnOk};
 ghost use Rattle.std.specs.Io.KnownBytes.{Appends};
 
 mod answer;
@@ -45,7 +45,9 @@ fn command<R: Env + AllocGlobal>(rt: &R) -> Result<Command, AllocError> {
 }
 
 /// What the program prints, and its status.
-fn told<R: Env + Input + AllocGlobal>(rt: &R) -> Result<(String, u8), AllocError> {
+fn told<R: Env + Input + AllocGlobal>(rt: &R) -> Result<(String, u8), AllocError>
+    ensures { IfOk result (λ told. told.1 ≤ 5) }
+{
     let alloc = rt.alloc();
     match command(rt)? {
         Command::One(families) => match input_text(alloc, &mut rt.reader()) {
@@ -73,7 +75,9 @@ fn print<R: Print>(rt: &R, text: &str) -> io::Result<()> {
 }
 
 /// Prints what the program has to tell, and gives its status.
-fn run<R: Env + Input + Print + AllocGlobal>(rt: &R) -> u8 {
+fn run<R: Env + Input + Print + AllocGlobal>(rt: &R) -> u8
+    ensures { result ≤ 5 }
+{
     let printed = match told(rt) {
         Ok((text, status)) => print(rt, &text).map(|()| status),
         Err(AllocError) => print(rt, "fault memory\n").map(|()| FAULT_STATUS),

@@ -1,5 +1,5 @@
 //! One request, from its text to what is printed.
-ghost use Rattle.std.specs.Prelude.{◌≡◌, ◌⊎◌, ℕ, List, map, Some, IfOk, MatchResult};
+ghost use Rattle.std.specs.Prelude.{◌≡◌, ◌≤◌, ◌⊎◌, ℕ, List, map, Some, IfOk, MatchResult};
 ghost use Rattle.std.specs.List.{AllZip};
 ghost use Rattle.std.specs.String.{string_bytes};
 ghost use Rattle.dns_message.specs.declared.message.Message as message;
@@ -108,6 +108,7 @@ fn located(alloc: Global, families: Families, text: &str) -> Result<Located, One
 
 /// What the program prints for a request with replies, and its status.
 pub fn one_text(alloc: Global, families: Families, text: &str) -> Result<(String, u8), AllocError>
+    ensures status { IfOk result (λ told. told.1 ≤ 5) }
     // What becomes of the request is printed.
     ensures located { (outcome : spec.Outcome) → LocatesTo families text.now outcome
         → IfOk result (λ told. (string_bytes told.0 ≡ words.shown outcome) × (told.1 ≡ words.status_of outcome)) }

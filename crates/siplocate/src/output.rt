@@ -1,5 +1,5 @@
 //! What the program prints.
-ghost use Rattle.std.specs.Prelude.{◌≡◌, IfOk};
+ghost use Rattle.std.specs.Prelude.{◌≡◌, ◌≤◌, IfOk};
 ghost use Rattle.std.specs.List.{flat_map};
 ghost use Rattle.std.specs.String.{string_bytes};
 ghost use Rattle.siplocate.specs.Views.{outcome_of};
@@ -95,7 +95,8 @@ pub fn shown(alloc: Global, located: &Located) -> Result<String, AllocError>
 
 /// The status of an outcome.
 pub fn status_of(located: &Located) -> u8
-    ensures { result ≡ spec.status_of (outcome_of located.now) }
+    ensures status { result ≡ spec.status_of (outcome_of located.now) }
+    ensures range { result ≤ 5 }
 {
     match located {
         Located::Targets(_) => 0,
