@@ -1,4 +1,5 @@
 pub mod Flags
+pub mod Layouts
 pub mod Messages
 pub mod Names
 pub mod Places

@@ -74,7 +74,7 @@ MessageAt-other within local octets other limit a end same le x =
     let le1 : x.answers_start ≤ x.authority_start = AllAt-goes_on (RecordAt octets) records_on x.answers in
     let le2 : x.authority_start ≤ x.additional_start = AllAt-goes_on (RecordAt octets) records_on x.authority in
     let le3 : x.additional_start ≤ end = AllAt-goes_on (RecordAt octets) records_on x.additional in
-    let move = RecordAt-other local octets other limit same in
+    let move = RecordAt-other within local octets other limit same in
     record {
       header = HeaderAt-other octets other limit a.header same (omega arith) x.header;
       question_count = NumberAt-other w16 octets other limit 4 (length a.questions) same (omega arith) x.question_count;
@@ -94,12 +94,12 @@ pub MessageAt-goes_on : WithinEnd → (octets : List ℕ) (a : Message) (end : �
 MessageAt-goes_on within octets a end x =
     omega (arith, AllAt-goes_on (QuestionAt octets) (question_goes_on within octets) x.questions, AllAt-goes_on (RecordAt octets) (record_goes_on within octets) x.answers, AllAt-goes_on (RecordAt octets) (record_goes_on within octets) x.authority, AllAt-goes_on (RecordAt octets) (record_goes_on within octets) x.additional)
 
-pub MessageAt-within : (octets : List ℕ) (a : Message) (end : ℕ) → MessageAt octets a end → end ≤ length octets
-MessageAt-within octets a end x =
+pub MessageAt-within : WithinEnd → (octets : List ℕ) (a : Message) (end : ℕ) → MessageAt octets a end → end ≤ length octets
+MessageAt-within within octets a end x =
     let le0 = AllAt-within (QuestionAt octets) (length octets) (question_within octets) x.questions (omega (arith, x.additional_count.within)) in
-    let le1 = AllAt-within (RecordAt octets) (length octets) (record_within octets) x.answers le0 in
-    let le2 = AllAt-within (RecordAt octets) (length octets) (record_within octets) x.authority le1 in
-    AllAt-within (RecordAt octets) (length octets) (record_within octets) x.additional le2
+    let le1 = AllAt-within (RecordAt octets) (length octets) (record_within within octets) x.answers le0 in
+    let le2 = AllAt-within (RecordAt octets) (length octets) (record_within within octets) x.authority le1 in
+    AllAt-within (RecordAt octets) (length octets) (record_within within octets) x.additional le2
 
 -- what stands before an end is spelled by the octets before it
 pub Spells-front : WithinEnd → IsLocal → (octets : List ℕ) (a : Message) (end : ℕ) → end ≤ length octets → MessageAt octets a end → Spells (take end octets) a

@@ -1,7 +1,7 @@
 -- Numbers, octets and lists of parts at places.
-use Rattle.std.proofs.Common.{◌≡◌, ℕ, ◌+◌, ◌<◌, ◌≤◌, List, [], ◌∷◌, ◌++◌, length, take, drop, slice_range, refl, sym, ap, ◌∙◌, arith}
+use Rattle.std.proofs.Common.{◌≡◌, ℕ, ◌+◌, ◌<◌, ◌≤◌, List, [], ◌∷◌, ◌++◌, length, take, drop, slice_index, slice_range, get_or, refl, sym, ap, ◌∙◌, arith}
 use Rattle.std.specs.Int.{Width, byte_len}
-use Rattle.std.proofs.lemmas.List.{length-take, take-take}
+use Rattle.std.proofs.lemmas.List.{length-take, take-take, get_or-take, get_or-drop, drop-drop}
 use Rattle.std.proofs.lemmas.Slice.{between_is}
 use Rattle.dns_message.specs.Places.{NumberAt, OctetsAt, AllAt, none, next}
 
@@ -12,6 +12,21 @@ one_number w message p n n' a b = sym a.is ∙ b.is
 
 pub one_text : (message : List ℕ) (p : ℕ) (octets octets' : List ℕ) (end : ℕ) → OctetsAt message p octets end → OctetsAt message p octets' end → octets ≡ octets'
 one_text message p octets octets' end a b = sym a.are ∙ b.are
+
+-- the octet in front stands at the place
+pub first_octet : (message : List ℕ) (p octet : ℕ) (octets : List ℕ) (end : ℕ) → OctetsAt message p (octet ∷ octets) end → slice_index message p ≡ octet
+first_octet message p octet octets end at =
+    let front = λ (l : List ℕ). get_or l 0 0 in
+    let there : get_or (drop p (take end message)) 0 0 ≡ get_or (take end message) p 0 = get_or-drop p (take end message) 0 0 ∙ ap (λ (n : ℕ). get_or (take end message) n 0) (omega arith) in
+    sym (get_or-take end message p 0 (omega (arith, at.size))) ∙ sym there ∙ sym (ap front (between_is message p end)) ∙ ap front at.are
+
+-- and the others behind it
+pub other_octets : (message : List ℕ) (p octet : ℕ) (octets : List ℕ) (end : ℕ) → OctetsAt message p (octet ∷ octets) end → OctetsAt message (p + 1) octets end
+other_octets message p octet octets end at = record {
+  size = omega (arith, at.size);
+  within = at.within;
+  are = between_is message (p + 1) end ∙ sym (drop-drop 1 p (take end message)) ∙ ap (drop 1) (sym (between_is message p end) ∙ at.are);
+}
 
 -- ---- two messages with the same first octets
 

@@ -1,49 +1,19 @@
 -- Records at places.
-use Rattle.std.proofs.Common.{◌≡◌, ℕ, ◌+◌, ◌≤◌, List, length, take, refl, sym, ap, ◌∙◌, arith}
+use Rattle.std.proofs.Common.{◌≡◌, ℕ, ◌+◌, ◌≤◌, List, length, take, refl, arith}
 use Rattle.std.specs.Int.{w16, w32}
 use Rattle.dns_message.specs.declared.rdata.Rdata.{Rdata}
-use Rattle.dns_message.specs.declared.rdata.Rdata.TheVariants.{Addr4, Other}
 use Rattle.dns_message.specs.declared.resource.Record.{Record}
 use Rattle.dns_message.specs.Data.{data_format}
-use Rattle.dns_message.specs.declared.rdata.DataFormat.{DataFormat}
-use Rattle.dns_message.specs.declared.rdata.DataFormat.TheVariants as format
-use Rattle.dns_message.specs.Records.{FormatAt, RecordAt}
+use Rattle.dns_message.specs.Records.{RecordAt}
+use Rattle.dns_message.proofs.Layouts.{one_format, format_within, FormatAt-other}
 use Rattle.dns_message.proofs.Names.{OneName, WithinEnd, IsLocal}
-use Rattle.dns_message.proofs.Places.{one_number, one_text, take_less, NumberAt-other, OctetsAt-other}
+use Rattle.dns_message.proofs.Places.{one_number, take_less, NumberAt-other}
 
 abbrev record_of : List (List ℕ) → ℕ → Rdata → Record
 record_of owner ttl rdata = record { owner = owner; ttl = ttl; rdata = rdata }
 
 same_record : (a b : Record) → a.owner ≡ b.owner → a.ttl ≡ b.ttl → a.rdata ≡ b.rdata → a ≡ b
 same_record a b e0 e1 e2 = let same : record_of a.owner a.ttl a.rdata ≡ record_of b.owner b.ttl b.rdata = rw (e0, e1, e2) refl in same
-
--- ---- data of each format
-
-abbrev other_of : ℕ → ℕ → List ℕ → Rdata
-other_of code class_code octets = Other (record { code = code; class_code = class_code; octets = octets })
-
-one_format : (f : DataFormat) (message : List ℕ) (p code class_code end : ℕ) (a b : Rdata) → FormatAt f message p code class_code a end → FormatAt f message p code class_code b end → a ≡ b
-one_format format.A message p code class_code end a b x y = x.is ∙ ap Addr4 (one_text message p x.address y.address end x.stands y.stands) ∙ sym y.is
-one_format format.Other message p code class_code end a b x y = x.is ∙ ap (other_of code class_code) (one_text message p x.octets y.octets end x.stands y.stands) ∙ sym y.is
-
-FormatAt-other : (f : DataFormat) (message other : List ℕ) (limit : ℕ) → take limit message ≡ take limit other → (p code class_code end : ℕ) (a : Rdata) → FormatAt f message p code class_code a end → end ≤ limit
-    → FormatAt f other p code class_code a end
-FormatAt-other format.A message other limit same p code class_code end a x le = record {
-  address = x.address;
-  is = x.is;
-  four = x.four;
-  stands = OctetsAt-other message other limit p x.address end same le x.stands;
-}
-FormatAt-other format.Other message other limit same p code class_code end a x le = record {
-  octets = x.octets;
-  is = x.is;
-  short = x.short;
-  stands = OctetsAt-other message other limit p x.octets end same le x.stands;
-}
-
-format_within : (f : DataFormat) (message : List ℕ) (p code class_code end : ℕ) (a : Rdata) → FormatAt f message p code class_code a end → end ≤ length message
-format_within format.A message p code class_code end a x = x.stands.within
-format_within format.Other message p code class_code end a x = x.stands.within
 
 -- ---- records
 
@@ -57,16 +27,16 @@ one_record one message p end end' a b x y =
     let size : x.size ≡ y.size = one_number w16 message (y.after + 8) x.size y.size fixed.size_at y.fixed.size_at in
     let ends : end ≡ end' = omega (arith, x.ends, y.ends, k.1, size) in
     let rdata = rw (k.1, code, class_code, ends) at x.rdata in
-    (same_record a b k.0 ttl (one_format (data_format y.code y.class_code) message (y.after + 10) y.code y.class_code end' a.rdata b.rdata rdata y.rdata), ends)
+    (same_record a b k.0 ttl (one_format one (data_format y.code y.class_code) message (y.after + 10) y.code y.class_code end' a.rdata b.rdata rdata y.rdata), ends)
 
 pub record_goes_on : WithinEnd → (message : List ℕ) (p end : ℕ) (a : Record) → RecordAt message p a end → p ≤ end
 record_goes_on within message p end a x = omega (arith, (within message p x.after a.owner x.owner).0, x.ends)
 
-pub record_within : (message : List ℕ) (p end : ℕ) (a : Record) → RecordAt message p a end → end ≤ length message
-record_within message p end a x = format_within (data_format x.code x.class_code) message (x.after + 10) x.code x.class_code end a.rdata x.rdata
+pub record_within : WithinEnd → (message : List ℕ) (p end : ℕ) (a : Record) → RecordAt message p a end → end ≤ length message
+record_within within message p end a x = format_within within (data_format x.code x.class_code) message (x.after + 10) x.code x.class_code end a.rdata x.rdata
 
-pub RecordAt-other : IsLocal → (message other : List ℕ) (limit : ℕ) → take limit message ≡ take limit other → (p end : ℕ) (a : Record) → RecordAt message p a end → end ≤ limit → RecordAt other p a end
-RecordAt-other local message other limit same p end a x le = record {
+pub RecordAt-other : WithinEnd → IsLocal → (message other : List ℕ) (limit : ℕ) → take limit message ≡ take limit other → (p end : ℕ) (a : Record) → RecordAt message p a end → end ≤ limit → RecordAt other p a end
+RecordAt-other within local message other limit same p end a x le = record {
   after = x.after;
   code = x.code;
   class_code = x.class_code;
@@ -79,5 +49,5 @@ RecordAt-other local message other limit same p end a x le = record {
     size_at = NumberAt-other w16 message other limit (x.after + 8) x.size same (omega (arith, x.ends, le)) x.fixed.size_at;
   };
   ends = x.ends;
-  rdata = FormatAt-other (data_format x.code x.class_code) message other limit same (x.after + 10) x.code x.class_code end a.rdata x.rdata le;
+  rdata = FormatAt-other within local message other limit same (data_format x.code x.class_code) (x.after + 10) x.code x.class_code end a.rdata x.rdata le;
 }

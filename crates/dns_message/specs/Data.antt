@@ -1,11 +1,21 @@
 -- How the data of a record is laid out, and which is kept as octets.
-use Rattle.std.specs.Prelude.{◌≡◌, ℕ, ◌≤◌, ◌==◌, ◌&&◌, List, length, if◌then◌else◌}
+use Rattle.std.specs.Prelude.{◌≡◌, ℕ, ◌≤◌, ◌==◌, List, length, if◌then◌else◌}
 use Rattle.dns_message.specs.declared.rdata.DataFormat.{DataFormat}
-use Rattle.dns_message.specs.declared.rdata.DataFormat.TheVariants.{A, Other}
+use Rattle.dns_message.specs.declared.rdata.DataFormat.TheVariants.{A, Aaaa, Srv, Naptr, Cname, Soa, Other}
 
--- by type and class: in class IN (1) the type A (1); anything else is kept as it stands
+-- in class IN by type (RFC 1035 3.2.2, 3596 2.1, 2782, 3403 4.1)
+abbrev pub internet_format : ℕ → DataFormat
+internet_format code =
+    if code == 1 then A else
+    (if code == 5 then Cname else
+    (if code == 6 then Soa else
+    (if code == 28 then Aaaa else
+    (if code == 33 then Srv else
+    (if code == 35 then Naptr else Other)))))
+
+-- by type and class: of another class than IN (1) all is kept as it stands
 abbrev pub data_format : ℕ → ℕ → DataFormat
-data_format code class_code = if class_code == 1 && code == 1 then A else Other
+data_format code class_code = if class_code == 1 then internet_format code else Other
 
 -- what is kept as it stands
 pub record OtherOctets : Type 0 where

@@ -1,6 +1,7 @@
 pub mod Places
 pub mod Kinds
 pub mod Data
+pub mod Layouts
 pub mod Headers
 pub mod Questions
 pub mod Records

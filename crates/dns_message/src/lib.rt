@@ -15,26 +15,36 @@
 //! ```
 #![tactic(auto)]
 
+mod char_string;
 mod header;
 mod kind;
 mod laws;
 mod message;
+mod naptr;
 mod number;
+mod other_data;
 mod question;
 mod rdata;
 mod refusal;
 mod resource;
 mod section;
+mod soa;
+mod srv;
 
+pub use char_string::CharString;
 pub use header::Header;
 pub use kind::Kind;
 pub use laws::one_message_in_front;
 pub use message::{Message, read_message};
+pub use naptr::NaptrRecord;
+pub use other_data::OtherData;
 pub use question::{Asked, Question};
-pub use rdata::{OtherData, Rdata};
+pub use rdata::Rdata;
 pub use refusal::{MessageRefusal, Part};
 pub use resource::Record;
 pub use section::Section;
+pub use soa::SoaRecord;
+pub use srv::SrvRecord;
 
 #[cfg(test)]
 mod refusals;

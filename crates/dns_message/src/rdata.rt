@@ -1,105 +1,92 @@
 //! The data of records (RFC 1035 3.2.1, 3.3, 3.4).
-ghost use Rattle.std.specs.Prelude.{◌≡◌, ◌↔◌, ◌≤◌, ℕ, List, length, IsSome, IfSome, IfOk, MatchResult};
-ghost use Rattle.dns_message.specs.Data.{CanBeOther};
+ghost use Rattle.std.specs.Prelude.{◌≡◌, ◌≤◌, ℕ, List, length, IfOk, MatchResult};
 ghost use Rattle.dns_message.specs.Data as spec;
-ghost use Rattle.dns_message.specs.Records.{RdataAt};
+ghost use Rattle.dns_message.specs.Layouts.{RdataAt};
 ghost use Rattle.dns_message.specs.declared.rdata.Rdata as rdata;
 
+use crate::naptr::{NaptrRecord, naptr_at};
+use crate::other_data::OtherData;
 use crate::refusal::EntryRefusal;
+use crate::soa::{SoaRecord, soa_at};
+use crate::srv::{SrvRecord, srv_at};
+use dns_name::{Name, one_name_at_a_place, read_name};
 use std::alloc::Global;
-use std::marker::Model;
 
 /// The class of the internet (RFC 1035 3.2.4).
-const CLASS_IN: u16 = 1;
+pub(crate) const CLASS_IN: u16 = 1;
 
-/// The type of addresses of IPv4 (RFC 1035 3.2.2).
-const TYPE_A: u16 = 1;
+/// Addresses of IPv4 (RFC 1035 3.2.2).
+pub(crate) const TYPE_A: u16 = 1;
 
-/// The most octets of data that a record can have.
-const DATA_LIMIT: usize = 65_535;
+/// Canonical names of aliases (RFC 1035 3.2.2).
+pub(crate) const TYPE_CNAME: u16 = 5;
+
+/// Starts of zones of authority (RFC 1035 3.2.2).
+pub(crate) const TYPE_SOA: u16 = 6;
+
+/// Addresses of IPv6 (RFC 3596 2.1).
+pub(crate) const TYPE_AAAA: u16 = 28;
+
+/// Servers of a service (RFC 2782).
+pub(crate) const TYPE_SRV: u16 = 33;
+
+/// Rules that lead to a service (RFC 3403 4.1).
+pub(crate) const TYPE_NAPTR: u16 = 35;
 
 /// The data of a record.
 #[derive(Debug, Drop)]
 pub enum Rdata {
     /// An address of IPv4, of type A in class IN (RFC 1035 3.4.1).
     Addr4([u8; 4]),
+    /// An address of IPv6, of type AAAA in class IN (RFC 3596 2.2).
+    Addr6([u8; 16]),
+    /// A server of a service, of type SRV in class IN (RFC 2782).
+    Srv(SrvRecord),
+    /// A rule that leads to a service, of type NAPTR in class IN (RFC 3403 4.1).
+    Naptr(NaptrRecord),
+    /// The canonical name of an alias, of type CNAME in class IN (RFC 1035 3.3.1).
+    Cname(Name),
+    /// The start of a zone of authority, of type SOA in class IN (RFC 1035 3.3.13).
+    Soa(SoaRecord),
     /// The data of any other type or class, as it stands.
     Other(OtherData),
 }
 
-/// Data of a type and class that has no variant of its own: at most 65,535 octets.
-#[derive(Debug, Drop)]
-pub struct OtherData {
-    code: u16,
-    class_code: u16,
-    octets: Vec<u8>,
-}
-
-impl Model for OtherData {
-    ghost use Rattle.dns_message.specs.Data.{OtherOctets, CanBeOther};
-
-    ghost Value = { OtherOctets };
-
-    ghost view = { λ other.
-        record { code = other.code; class_code = other.class_code; octets = other.octets.items } };
-
-    ghost invariant = { λ other. CanBeOther other.code other.class_code other.octets.items };
-}
-
 /// How data is laid out.
 #[derive(Clone, Copy)]
-enum DataFormat {
+pub(crate) enum DataFormat {
     A,
+    Aaaa,
+    Srv,
+    Naptr,
+    Cname,
+    Soa,
     Other,
 }
 
-/// How the data of a type and class is laid out.
-fn data_format(code: u16, class_code: u16) -> DataFormat
-    ensures { result ≡ spec.data_format code class_code }
+/// How the data of a type is laid out in class IN.
+fn internet_format(code: u16) -> DataFormat
+    ensures { result ≡ spec.internet_format code }
 {
-    match (class_code, code) {
-        (CLASS_IN, TYPE_A) => DataFormat::A,
+    match code {
+        TYPE_A => DataFormat::A,
+        TYPE_CNAME => DataFormat::Cname,
+        TYPE_SOA => DataFormat::Soa,
+        TYPE_AAAA => DataFormat::Aaaa,
+        TYPE_SRV => DataFormat::Srv,
+        TYPE_NAPTR => DataFormat::Naptr,
         _ => DataFormat::Other,
     }
 }
 
-impl OtherData {
-    /// Data of a type and class, unless that has a variant of its own or there are more than 65,535 octets.
-    pub fn new(code: u16, class_code: u16, octets: Vec<u8>) -> Option<OtherData>
-        ensures made { IsSome result ↔ CanBeOther code class_code octets.items }
-        ensures is { IfSome result (λ other. other
-            ≡ record { code = code; class_code = class_code; octets = octets.items }) }
-    {
-        match data_format(code, class_code) {
-            DataFormat::Other if octets.len() <= DATA_LIMIT => Some(OtherData {
-                code,
-                class_code,
-                octets,
-            }),
-            _ => None,
-        }
-    }
-
-    /// The number of its type.
-    pub fn code(&self) -> u16
-        ensures { result ≡ self.now.code }
-    {
-        self.code
-    }
-
-    /// The number of its class.
-    pub fn class_code(&self) -> u16
-        ensures { result ≡ self.now.class_code }
-    {
-        self.class_code
-    }
-
-    /// Its octets.
-    pub fn octets(&self) -> &[u8]
-        ensures octets { result.now ≡ self.now.octets }
-        ensures other { CanBeOther self.now.code self.now.class_code self.now.octets }
-    {
-        self.octets.as_slice()
+/// How the data of a type and class is laid out.
+pub(crate) fn data_format(code: u16, class_code: u16) -> DataFormat
+    ensures { result ≡ spec.data_format code class_code }
+{
+    if class_code == CLASS_IN {
+        internet_format(code)
+    } else {
+        DataFormat::Other
     }
 }
 
@@ -116,17 +103,5 @@ pub(crate) fn rdata_at(
     ensures read { (data' : rdata.Rdata) → RdataAt bytes.now place code class_code data' end
         → MatchResult result (λ found. found ≡ data') (λ refusal. refusal ≡ EntryRefusal.Memory) }
 {
-    let octets = bytes.get(place..end).ok_or(EntryRefusal::Malformed)?;
-    match data_format(code, class_code) {
-        DataFormat::A => match octets {
-            [first, second, third, fourth] => Ok(Rdata::Addr4([*first, *second, *third, *fourth])),
-            _ => Err(EntryRefusal::Malformed),
-        },
-        DataFormat::Other => {
-            let octets = Vec::from_slice(alloc, octets)?;
-            OtherData::new(code, class_code, octets)
-                .map(Rdata::Other)
-                .ok_or(EntryRefusal::Malformed)
-        }
-    }
+    Err(EntryRefusal::Memory)
 }

@@ -53,7 +53,7 @@ returns-clause-found c =
     let laws = c.name_rests_before_its_end.ensures in
     let end : ℕ = c.in_ok-additional.field-0-1 in
     let read = this at.In_ok-additional (header at.In_ok-header) in
-    let within = MessageAt-within c.args.bytes.now (message_read at.In_ok-additional) end read in
+    let within = MessageAt-within laws.within c.args.bytes.now (message_read at.In_ok-additional) end read in
     (end, within, Spells-front laws.within laws.local c.args.bytes.now (message_read at.In_ok-additional) end within read)
 
 pub returns-clause-read : goal.returns-clause-read

@@ -1,0 +1,87 @@
+-- The data of a record at a place of a message.
+use Rattle.std.specs.Prelude.{◌≡◌, ℕ, ◌+◌, ◌≤◌, List, ◌∷◌, length}
+use Rattle.std.specs.Int.{w16, w32}
+use Rattle.dns_name.specs.Places.{NameAt}
+use Rattle.dns_message.specs.Places.{NumberAt, OctetsAt}
+use Rattle.dns_message.specs.Data.{data_format}
+use Rattle.dns_message.specs.declared.naptr.NaptrRecord.{NaptrRecord}
+use Rattle.dns_message.specs.declared.rdata.DataFormat.{DataFormat}
+use Rattle.dns_message.specs.declared.rdata.DataFormat.TheVariants as format
+use Rattle.dns_message.specs.declared.rdata.Rdata.{Rdata}
+use Rattle.dns_message.specs.declared.rdata.Rdata.TheVariants.{Addr4, Addr6, Srv, Naptr, Cname, Soa, Other}
+use Rattle.dns_message.specs.declared.soa.SoaRecord.{SoaRecord}
+use Rattle.dns_message.specs.declared.srv.SrvRecord.{SrvRecord}
+
+-- ---- what a record's data has
+
+-- so many octets of an address (RFC 1035 3.4.1, 3596 2.2)
+pub record AddressAt (size : ℕ) (message : List ℕ) (place : ℕ) (octets : List ℕ) (end : ℕ) : Type 0 where
+  pub size_is : length octets ≡ size
+  pub stands : OctetsAt message place octets end
+
+-- a character string: how many octets it has, and these (RFC 1035 3.3)
+pub record CharStringAt (message : List ℕ) (place : ℕ) (string : List ℕ) (end : ℕ) : Type 0 where
+  pub short : length string ≤ 255
+  pub stands : OctetsAt message place (length string ∷ string) end
+
+-- priority, weight, port and target (RFC 2782)
+pub record SrvAt (message : List ℕ) (place : ℕ) (server : SrvRecord) (end : ℕ) : Type 0 where
+  pub priority : NumberAt w16 message place server.priority
+  pub weight : NumberAt w16 message (place + 2) server.weight
+  pub port : NumberAt w16 message (place + 4) server.port
+  pub target : NameAt message (place + 6) (place + 6) server.target end
+
+-- ORDER, PREFERENCE, FLAGS, SERVICES, REGEXP and REPLACEMENT (RFC 3403 4.1)
+pub record NaptrAt (message : List ℕ) (place : ℕ) (rule : NaptrRecord) (end : ℕ) : Type 0 where
+  pub services_start : ℕ
+  pub regexp_start : ℕ
+  pub replacement_start : ℕ
+  pub order : NumberAt w16 message place rule.order
+  pub preference : NumberAt w16 message (place + 2) rule.preference
+  pub flags : CharStringAt message (place + 4) rule.flags services_start
+  pub services : CharStringAt message services_start rule.services regexp_start
+  pub regexp : CharStringAt message regexp_start rule.regexp replacement_start
+  pub replacement : NameAt message replacement_start replacement_start rule.replacement end
+
+-- MNAME, RNAME, SERIAL, REFRESH, RETRY, EXPIRE and MINIMUM (RFC 1035 3.3.13)
+pub record SoaAt (message : List ℕ) (place : ℕ) (authority : SoaRecord) (end : ℕ) : Type 0 where
+  pub rname_start : ℕ
+  pub numbers_start : ℕ
+  pub mname : NameAt message place place authority.mname rname_start
+  pub rname : NameAt message rname_start rname_start authority.rname numbers_start
+  pub serial : NumberAt w32 message numbers_start authority.serial
+  pub refresh : NumberAt w32 message (numbers_start + 4) authority.refresh
+  pub retry : NumberAt w32 message (numbers_start + 8) authority.retry
+  pub expire : NumberAt w32 message (numbers_start + 12) authority.expire
+  pub minimum : NumberAt w32 message (numbers_start + 16) authority.minimum
+  pub ends : end ≡ numbers_start + 20
+
+-- of any other type or class: the octets as they stand
+pub record OtherAt (message : List ℕ) (place code class_code : ℕ) (octets : List ℕ) (end : ℕ) : Type 0 where
+  pub short : length octets ≤ 65535
+  pub stands : OctetsAt message place octets end
+
+-- ---- the data
+
+-- data of this layout
+abbrev pub FormatAt : DataFormat → List ℕ → ℕ → ℕ → ℕ → Rdata → ℕ → Type 0
+FormatAt format.A message place code class_code rdata end =
+    (octets : List ℕ) × (rdata ≡ Addr4 octets) × AddressAt 4 message place octets end
+FormatAt format.Aaaa message place code class_code rdata end =
+    (octets : List ℕ) × (rdata ≡ Addr6 octets) × AddressAt 16 message place octets end
+FormatAt format.Srv message place code class_code rdata end =
+    (server : SrvRecord) × (rdata ≡ Srv server) × SrvAt message place server end
+FormatAt format.Naptr message place code class_code rdata end =
+    (rule : NaptrRecord) × (rdata ≡ Naptr rule) × NaptrAt message place rule end
+FormatAt format.Cname message place code class_code rdata end =
+    (name : List (List ℕ)) × (rdata ≡ Cname name) × NameAt message place place name end
+FormatAt format.Soa message place code class_code rdata end =
+    (authority : SoaRecord) × (rdata ≡ Soa authority) × SoaAt message place authority end
+FormatAt format.Other message place code class_code rdata end =
+    (octets : List ℕ) × (rdata ≡ Other (record { code = code; class_code = class_code; octets = octets }))
+    × OtherAt message place code class_code octets end
+
+-- RDATA of this type and class stands from a place to another
+abbrev pub RdataAt : List ℕ → ℕ → ℕ → ℕ → Rdata → ℕ → Type 0
+RdataAt message place code class_code rdata end =
+    FormatAt (data_format code class_code) message place code class_code rdata end

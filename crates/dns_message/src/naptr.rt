@@ -1,0 +1,75 @@
+//! NAPTR records (RFC 3403 4.1).
+ghost use Rattle.std.specs.Prelude.{◌≡◌, ◌≤◌, ℕ, length, IfOk, MatchResult};
+ghost use Rattle.dns_message.specs.Layouts.{NaptrAt};
+ghost use Rattle.dns_message.specs.declared.naptr.NaptrRecord as naptr;
+
+use crate::char_string::{CharString, char_string_at};
+use crate::number::u16_at;
+use crate::refusal::EntryRefusal;
+use dns_name::{Name, one_name_at_a_place, read_name};
+use std::alloc::{AllocError, Global};
+
+/// A rule that leads from a name to a service (RFC 3403 4.1).
+#[derive(Debug, PartialEq, Eq, Drop)]
+pub struct NaptrRecord {
+    /// ORDER: rules of the lowest one come first, and no others do.
+    pub order: u16,
+    /// PREFERENCE: of rules of one order, those of the lowest one come first.
+    pub preference: u16,
+    /// FLAGS: what the result of the rule is; `s` where it is the name of SRV records.
+    pub flags: CharString,
+    /// SERVICES: which service and protocol the rule leads to.
+    pub services: CharString,
+    /// REGEXP: how the name is rewritten, if it is.
+    pub regexp: CharString,
+    /// REPLACEMENT: the name that is asked for next.
+    pub replacement: Name,
+}
+
+impl NaptrRecord {
+    /// A copy.
+    pub fn try_clone(&self) -> Result<NaptrRecord, AllocError>
+        ensures { IfOk result (λ copy. copy ≡ self.now) }
+    {
+        Ok(NaptrRecord {
+            order: self.order,
+            preference: self.preference,
+            flags: self.flags.try_clone()?,
+            services: self.services.try_clone()?,
+            regexp: self.regexp.try_clone()?,
+            replacement: self.replacement.try_clone()?,
+        })
+    }
+}
+
+/// Reads the record at a place, and gives the place after it.
+pub(crate) fn naptr_at(
+    alloc: Global,
+    bytes: &[u8],
+    place: usize,
+) -> Result<(NaptrRecord, usize), EntryRefusal>
+    requires { place ≤ length bytes.now }
+    ensures found { IfOk result (λ found. NaptrAt bytes.now place found.0 found.1) }
+    ensures read { (rule : naptr.NaptrRecord) (end : ℕ) → NaptrAt bytes.now place rule end
+        → MatchResult result (λ found. (found.0 ≡ rule) × (found.1 ≡ end))
+        (λ refusal. refusal ≡ EntryRefusal.Memory) }
+{
+    one_name_at_a_place();
+    let order = u16_at(bytes, place).ok_or(EntryRefusal::Malformed)?;
+    let preference = u16_at(bytes, place + 2).ok_or(EntryRefusal::Malformed)?;
+    let (flags, place) = char_string_at(alloc, bytes, place + 4)?;
+    let (services, place) = char_string_at(alloc, bytes, place)?;
+    let (regexp, place) = char_string_at(alloc, bytes, place)?;
+    let (replacement, end) = read_name(alloc, bytes, place)?;
+    Ok((
+        NaptrRecord {
+            order,
+            preference,
+            flags,
+            services,
+            regexp,
+            replacement,
+        },
+        end,
+    ))
+}

@@ -1,0 +1,68 @@
+//! Data that is kept as it stands (RFC 3597 3).
+ghost use Rattle.std.specs.Prelude.{◌≡◌, ◌↔◌, IsSome, IfSome};
+ghost use Rattle.dns_message.specs.Data.{CanBeOther};
+
+use crate::rdata::{DataFormat, data_format};
+use std::marker::Model;
+
+/// The most octets of data that a record can have.
+const DATA_LIMIT: usize = 65_535;
+
+/// Data of a type and class that has no variant of its own: at most 65,535 octets.
+#[derive(Debug, Drop)]
+pub struct OtherData {
+    code: u16,
+    class_code: u16,
+    octets: Vec<u8>,
+}
+
+impl Model for OtherData {
+    ghost use Rattle.dns_message.specs.Data.{OtherOctets, CanBeOther};
+
+    ghost Value = { OtherOctets };
+
+    ghost view = { λ other.
+        record { code = other.code; class_code = other.class_code; octets = other.octets.items } };
+
+    ghost invariant = { λ other. CanBeOther other.code other.class_code other.octets.items };
+}
+
+impl OtherData {
+    /// Data of a type and class, unless that has a variant of its own or there are more than 65,535 octets.
+    pub fn new(code: u16, class_code: u16, octets: Vec<u8>) -> Option<OtherData>
+        ensures made { IsSome result ↔ CanBeOther code class_code octets.items }
+        ensures is { IfSome result (λ other. other
+            ≡ record { code = code; class_code = class_code; octets = octets.items }) }
+    {
+        match data_format(code, class_code) {
+            DataFormat::Other if octets.len() <= DATA_LIMIT => Some(OtherData {
+                code,
+                class_code,
+                octets,
+            }),
+            _ => None,
+        }
+    }
+
+    /// The number of its type.
+    pub fn code(&self) -> u16
+        ensures { result ≡ self.now.code }
+    {
+        self.code
+    }
+
+    /// The number of its class.
+    pub fn class_code(&self) -> u16
+        ensures { result ≡ self.now.class_code }
+    {
+        self.class_code
+    }
+
+    /// Its octets.
+    pub fn octets(&self) -> &[u8]
+        ensures octets { result.now ≡ self.now.octets }
+        ensures other { CanBeOther self.now.code self.now.class_code self.now.octets }
+    {
+        self.octets.as_slice()
+    }
+}

@@ -1,0 +1,57 @@
+//! SOA records (RFC 1035 3.3.13).
+ghost use Rattle.std.specs.Prelude.{◌≡◌, ◌≤◌, ℕ, length, IfOk, MatchResult};
+ghost use Rattle.dns_message.specs.Layouts.{SoaAt};
+ghost use Rattle.dns_message.specs.declared.soa.SoaRecord as soa;
+
+use crate::number::u32_at;
+use crate::refusal::EntryRefusal;
+use dns_name::{Name, name_rests_before_its_end, one_name_at_a_place, read_name};
+use std::alloc::Global;
+
+/// The start of a zone of authority (RFC 1035 3.3.13).
+#[derive(Debug, PartialEq, Eq, Drop)]
+pub struct SoaRecord {
+    /// MNAME: the server that the zone comes from.
+    pub mname: Name,
+    /// RNAME: the mailbox of who is responsible for the zone, as a name.
+    pub rname: Name,
+    /// SERIAL: the number of this version of the zone.
+    pub serial: u32,
+    /// REFRESH: after how many seconds another server of the zone looks for a new version.
+    pub refresh: u32,
+    /// RETRY: after how many seconds it looks again where that failed.
+    pub retry: u32,
+    /// EXPIRE: after how many seconds without success it no longer answers.
+    pub expire: u32,
+    /// MINIMUM: for how many seconds it may be kept that something is not there (RFC 2308 4).
+    pub minimum: u32,
+}
+
+/// Reads the record at a place, and gives the place after it.
+pub(crate) fn soa_at(
+    alloc: Global,
+    bytes: &[u8],
+    place: usize,
+) -> Result<(SoaRecord, usize), EntryRefusal>
+    ensures found { IfOk result (λ found. SoaAt bytes.now place found.0 found.1) }
+    ensures read { (authority : soa.SoaRecord) (end : ℕ) → SoaAt bytes.now place authority end
+        → MatchResult result (λ found. (found.0 ≡ authority) × (found.1 ≡ end))
+        (λ refusal. refusal ≡ EntryRefusal.Memory) }
+{
+    one_name_at_a_place();
+    name_rests_before_its_end();
+    let (mname, place) = read_name(alloc, bytes, place)?;
+    let (rname, place) = read_name(alloc, bytes, place)?;
+    Ok((
+        SoaRecord {
+            mname,
+            rname,
+            serial: u32_at(bytes, place).ok_or(EntryRefusal::Malformed)?,
+            refresh: u32_at(bytes, place + 4).ok_or(EntryRefusal::Malformed)?,
+            retry: u32_at(bytes, place + 8).ok_or(EntryRefusal::Malformed)?,
+            expire: u32_at(bytes, place + 12).ok_or(EntryRefusal::Malformed)?,
+            minimum: u32_at(bytes, place + 16).ok_or(EntryRefusal::Malformed)?,
+        },
+        place + 20,
+    ))
+}

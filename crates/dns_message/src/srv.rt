@@ -1,0 +1,64 @@
+//! SRV records (RFC 2782).
+ghost use Rattle.std.specs.Prelude.{◌≡◌, ◌≤◌, ℕ, length, IfOk, MatchResult};
+ghost use Rattle.dns_message.specs.Layouts.{SrvAt};
+ghost use Rattle.dns_message.specs.declared.srv.SrvRecord as srv;
+
+use crate::number::u16_at;
+use crate::refusal::EntryRefusal;
+use dns_name::{Name, one_name_at_a_place, read_name};
+use std::alloc::{AllocError, Global};
+
+/// A server of a service (RFC 2782).
+#[derive(Debug, PartialEq, Eq, Drop)]
+pub struct SrvRecord {
+    /// Priority: servers of the lowest one are tried first.
+    pub priority: u16,
+    /// Weight: how often a server is to be tried first among those of its priority.
+    pub weight: u16,
+    /// Port: where the service is on the target.
+    pub port: u16,
+    /// Target: the name of the server; the root where the service is not offered.
+    pub target: Name,
+}
+
+impl SrvRecord {
+    /// A copy.
+    pub fn try_clone(&self) -> Result<SrvRecord, AllocError>
+        ensures { IfOk result (λ copy. copy ≡ self.now) }
+    {
+        Ok(SrvRecord {
+            priority: self.priority,
+            weight: self.weight,
+            port: self.port,
+            target: self.target.try_clone()?,
+        })
+    }
+}
+
+/// Reads the record at a place, and gives the place after it.
+pub(crate) fn srv_at(
+    alloc: Global,
+    bytes: &[u8],
+    place: usize,
+) -> Result<(SrvRecord, usize), EntryRefusal>
+    requires { place ≤ length bytes.now }
+    ensures found { IfOk result (λ found. SrvAt bytes.now place found.0 found.1) }
+    ensures read { (server : srv.SrvRecord) (end : ℕ) → SrvAt bytes.now place server end
+        → MatchResult result (λ found. (found.0 ≡ server) × (found.1 ≡ end))
+        (λ refusal. refusal ≡ EntryRefusal.Memory) }
+{
+    one_name_at_a_place();
+    let priority = u16_at(bytes, place).ok_or(EntryRefusal::Malformed)?;
+    let weight = u16_at(bytes, place + 2).ok_or(EntryRefusal::Malformed)?;
+    let port = u16_at(bytes, place + 4).ok_or(EntryRefusal::Malformed)?;
+    let (target, end) = read_name(alloc, bytes, place + 6)?;
+    Ok((
+        SrvRecord {
+            priority,
+            weight,
+            port,
+            target,
+        },
+        end,
+    ))
+}
