@@ -2,7 +2,7 @@
 use Rattle.std.proofs.Common.{◌≡◌, ℕ, ◌+◌, ◌<◌, ◌≤◌, List, ◌∷◌, length, take, refl, sym, ap, ◌∙◌, arith}
 use Rattle.std.specs.Int.{w16, w32}
 use Rattle.dns_name.specs.Places.{NameAt}
-use Rattle.dns_message.specs.Layouts.{AddressAt, CharStringAt, SrvAt, NaptrAt, SoaAt, OtherAt, FormatAt}
+use Rattle.dns_message.specs.Layouts.{AddressAt, CharStringAt, SrvAt, NaptrAt, SoaAt, FormatAt}
 use Rattle.dns_message.specs.declared.naptr.NaptrRecord.{NaptrRecord}
 use Rattle.dns_message.specs.declared.rdata.DataFormat.{DataFormat}
 use Rattle.dns_message.specs.declared.rdata.DataFormat.TheVariants as format

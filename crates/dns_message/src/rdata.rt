@@ -1,5 +1,5 @@
 //! The data of records (RFC 1035 3.2.1, 3.3, 3.4).
-ghost use Rattle.std.specs.Prelude.{◌≡◌, ◌≤◌, ℕ, List, length, IfOk, MatchResult};
+ghost use Rattle.std.specs.Prelude.{◌≡◌, ◌≢◌, length, IfOk, MatchResult};
 ghost use Rattle.dns_message.specs.Data as spec;
 ghost use Rattle.dns_message.specs.Layouts.{RdataAt};
 ghost use Rattle.dns_message.specs.declared.rdata.Rdata as rdata;
@@ -9,7 +9,7 @@ use crate::other_data::OtherData;
 use crate::refusal::EntryRefusal;
 use crate::soa::{SoaRecord, soa_at};
 use crate::srv::{SrvRecord, srv_at};
-use dns_name::{Name, one_name_at_a_place, read_name};
+use dns_name::{Name, name_rests_before_its_end, one_name_at_a_place, read_name};
 use std::alloc::Global;
 
 /// The class of the internet (RFC 1035 3.2.4).
@@ -90,6 +90,29 @@ pub(crate) fn data_format(code: u16, class_code: u16) -> DataFormat
     }
 }
 
+/// An address that is these octets.
+fn address_of<const N: usize>(octets: &[u8]) -> Result<[u8; N], EntryRefusal>
+    ensures { MatchResult result (λ address. (address ≡ octets.now) × (length octets.now ≡ N))
+        (λ refusal. (refusal ≡ EntryRefusal.Malformed) × (length octets.now ≢ N)) }
+{
+    match <[u8; N]>::try_from(octets) {
+        Ok(address) => Ok(address),
+        Err(_) => Err(EntryRefusal::Malformed),
+    }
+}
+
+/// What was read, if it ends where the data does.
+fn ending_at<T: Drop>(found: (T, usize), end: usize) -> Result<T, EntryRefusal>
+    ensures { MatchResult result (λ value. (value ≡ found.0) × (found.1 ≡ end))
+        (λ refusal. (refusal ≡ EntryRefusal.Malformed) × (found.1 ≢ end)) }
+{
+    if found.1 == end {
+        Ok(found.0)
+    } else {
+        Err(EntryRefusal::Malformed)
+    }
+}
+
 /// Reads the data of a type and class between two places.
 pub(crate) fn rdata_at(
     alloc: Global,
@@ -103,5 +126,21 @@ pub(crate) fn rdata_at(
     ensures read { (data' : rdata.Rdata) → RdataAt bytes.now place code class_code data' end
         → MatchResult result (λ found. found ≡ data') (λ refusal. refusal ≡ EntryRefusal.Memory) }
 {
-    Err(EntryRefusal::Memory)
+    one_name_at_a_place();
+    name_rests_before_its_end();
+    let octets = bytes.get(place..end).ok_or(EntryRefusal::Malformed)?;
+    match data_format(code, class_code) {
+        DataFormat::A => Ok(Rdata::Addr4(address_of(octets)?)),
+        DataFormat::Aaaa => Ok(Rdata::Addr6(address_of(octets)?)),
+        DataFormat::Srv => Ok(Rdata::Srv(ending_at(srv_at(alloc, bytes, place)?, end)?)),
+        DataFormat::Naptr => Ok(Rdata::Naptr(ending_at(naptr_at(alloc, bytes, place)?, end)?)),
+        DataFormat::Cname => Ok(Rdata::Cname(ending_at(read_name(alloc, bytes, place)?, end)?)),
+        DataFormat::Soa => Ok(Rdata::Soa(ending_at(soa_at(alloc, bytes, place)?, end)?)),
+        DataFormat::Other => {
+            let octets = Vec::from_slice(alloc, octets)?;
+            OtherData::new(code, class_code, octets)
+                .map(Rdata::Other)
+                .ok_or(EntryRefusal::Malformed)
+        }
+    }
 }

@@ -1,5 +1,7 @@
 //! Where memory is refused: each call then says so, or has its answer all the same.
 use crate::tests::REPLY;
+use crate::tests::records::SRV_REPLY;
+use crate::tests::servers::{KNOT_NO_NAME, NSD_NAPTR_REPLY};
 use crate::*;
 use dns_name::Name;
 
@@ -20,6 +22,25 @@ fn copy_refused(rt: HostRuntime) {
         };
         if let Ok(copy) = question.try_clone() {
             assert!(rt; copy == question);
+        }
+    }
+}
+
+/// Whether the copies of the data of this record are equal to it, where memory was there for them.
+fn copied(entry: &Record) -> bool {
+    match &entry.rdata {
+        Rdata::Srv(server) => server.try_clone().map_or(true, |copy| copy == *server),
+        Rdata::Naptr(rule) => rule.try_clone().map_or(true, |copy| copy == *rule),
+        _ => true,
+    }
+}
+
+#[test]
+fn services_refused(rt: HostRuntime) {
+    for octets in [SRV_REPLY, NSD_NAPTR_REPLY, KNOT_NO_NAME] {
+        match read_message(rt.alloc(), octets) {
+            Ok(message) => assert!(rt; message.answers.as_slice().iter().all(copied)),
+            Err(refusal) => assert_eq!(rt; refusal, MessageRefusal::Memory),
         }
     }
 }

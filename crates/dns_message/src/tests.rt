@@ -3,6 +3,8 @@ use super::*;
 use std::alloc::Global;
 use std::test::Fail;
 
+pub(crate) mod records;
+pub(crate) mod servers;
 mod values;
 
 /// A query for A of a.example.
@@ -115,7 +117,6 @@ fn is_other(
 ) -> bool {
     match records {
         [one] => match &one.rdata {
-            Rdata::Addr4(_) => false,
             Rdata::Other(other) => {
                 one.owner.wire() == owner
                     && one.ttl == ttl
@@ -123,6 +124,7 @@ fn is_other(
                     && other.class_code() == class_code
                     && other.octets() == octets
             }
+            _ => false,
         },
         _ => false,
     }
@@ -229,6 +231,7 @@ fn types_and_classes(rt: HostRuntime) -> Result<(), Fail> {
                         && other.class_code() == *class_code
                         && other.octets() == b"\xc0\x00\x02\x07".as_slice()
                 }
+                _ => false,
             },
             _ => false,
         };

@@ -7,7 +7,19 @@ use std::test::Fail;
 fn other_data(rt: HostRuntime) -> Result<(), Fail> {
     let rows = [
         (1u16, 1u16, 4usize, false),
+        (5, 1, 4, false),
+        (6, 1, 4, false),
+        (28, 1, 4, false),
+        (33, 1, 4, false),
+        (35, 1, 4, false),
         (1, 3, 4, true),
+        (5, 4, 4, true),
+        (6, 254, 4, true),
+        (28, 255, 4, true),
+        (33, 0, 4, true),
+        (35, 4096, 4, true),
+        (2, 1, 4, true),
+        (39, 1, 4, true),
         (16, 1, 65_535, true),
         (16, 1, 65_536, false),
     ];
@@ -52,5 +64,46 @@ fn kinds(rt: HostRuntime) -> Result<(), Fail> {
         assert!(rt; copy == question);
         assert_eq!(rt; copy.kind.code(), code);
     }
+    Ok(())
+}
+
+#[test]
+fn char_strings(rt: HostRuntime) -> Result<(), Fail> {
+    for (size, made) in [(0usize, true), (1, true), (255, true), (256, false)] {
+        let octets = vec![in rt.alloc(); 7u8; size]?;
+        match CharString::new(octets) {
+            None => assert!(rt; !made, "{size}"),
+            Some(string) => {
+                assert!(rt; made, "{size}");
+                assert_eq!(rt; string.octets().len(), size);
+                let copy = string.try_clone()?;
+                assert!(rt; copy == string, "{size}");
+            }
+        }
+    }
+    let one = CharString::new(Vec::from_slice(rt.alloc(), b"s")?).ok_or("long")?;
+    let other = CharString::new(Vec::from_slice(rt.alloc(), b"u")?).ok_or("long")?;
+    assert!(rt; one != other);
+    Ok(())
+}
+
+#[test]
+fn copies(rt: HostRuntime) -> Result<(), Fail> {
+    let server = SrvRecord {
+        priority: 10,
+        weight: 60,
+        port: 5060,
+        target: Name::from_text(rt.alloc(), "s.b.example")?,
+    };
+    assert!(rt; server.try_clone()? == server);
+    let rule = NaptrRecord {
+        order: 10,
+        preference: 50,
+        flags: CharString::new(Vec::from_slice(rt.alloc(), b"s")?).ok_or("long")?,
+        services: CharString::new(Vec::from_slice(rt.alloc(), b"SIPS+D2T")?).ok_or("long")?,
+        regexp: CharString::new(Vec::new(rt.alloc())).ok_or("long")?,
+        replacement: Name::from_text(rt.alloc(), "_sips._tcp.b.example")?,
+    };
+    assert!(rt; rule.try_clone()? == rule);
     Ok(())
 }

@@ -1,4 +1,4 @@
-use Rattle.std.proofs.Common.{◌≡◌, ◌+◌, ℕ, slice_index, slice_range, length, ap, ◌∙◌, arith}
+use Rattle.std.proofs.Common.{◌≡◌, ◌+◌, ℕ, slice_range, length, ap, ◌∙◌, arith}
 use Rattle.dns_message.proofs.Places.{first_octet, other_octets}
 use Rattle.dns_message.proofs.char_string.char_string_at.Goals as goal
 
