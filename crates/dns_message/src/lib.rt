@@ -2,14 +2,14 @@
 //!
 //! A message is read where octets begin with one, and nothing else is taken for one: octets begin with at most one
 //! message, and `read_message` gives that one, with each name spelled out, or says in which part of the octets there
-//! is none. It gives up for want of memory alone, and takes memory only for what it has read. Here A records of
-//! class IN have their address; all other data is kept as it stands.
+//! is none. It gives up for want of memory alone, and takes memory only for what it has read. Records of types A,
+//! AAAA, CNAME, SOA, SRV and NAPTR in class IN have their data as values; all other data is kept as it stands.
 //!
 //! ```text
 //! let message = read_message(alloc, octets)?;
 //! for record in message.answers.as_slice() {
-//!     if let Rdata::Addr4([a, b, c, d]) = &record.rdata {
-//!         println!(rt; "{a}.{b}.{c}.{d} for {} seconds", record.ttl)?;
+//!     if let Rdata::Srv(server) = &record.rdata {
+//!         println!(rt; "{} at {} for {} seconds", server.target.text()?, server.port, record.ttl)?;
 //!     }
 //! }
 //! ```

@@ -5,7 +5,7 @@ use Rattle.std.proofs.lemmas.Option.{same_Some}
 use Rattle.sip_uri.specs.declared.numeric.Address.{Address}
 use Rattle.sip_uri.specs.declared.numeric.Address.TheVariants.{V4, V6}
 use Rattle.sip_uri.specs.Addresses.{V4Text, numbers, AreGroups, V6Text, whole, shortened, AddressText}
-use Rattle.sip_uri.specs.Readers.{ipv4, ipv6}
+use Rattle.sip_uri.specs.Readers.Texts.{ipv4, ipv6}
 use Rattle.sip_uri.proofs.Lists.{all_of-append}
 use Rattle.sip_uri.proofs.V4Texts.{ipv4_read, ipv4_again, is_dotted_octet, ipv4_octets}
 use Rattle.sip_uri.proofs.V6Texts.{ipv6_again}

@@ -5,7 +5,7 @@ use Rattle.std.specs.Char.{is_ascii_digit, is_ascii_hexdigit}
 use Rattle.std.proofs.lemmas.Bool.Decides.{nat_tests}
 use Rattle.std.proofs.lemmas.List.{drop_more}
 use Rattle.sip_uri.specs.Numbers.{decimal_from, decimal, hexadecimal_from, hexadecimal}
-use Rattle.sip_uri.specs.Readers.{decimal_within}
+use Rattle.sip_uri.specs.Readers.Texts.{decimal_within}
 
 decimal_grows : (number : ℕ) (digits : List ℕ) → number ≤ decimal_from number digits
 decimal_grows number [] = omega arith

@@ -8,10 +8,10 @@ use Rattle.std.proofs.lemmas.List.Splits.{join_with_byte-slice_split}
 use Rattle.std.proofs.lemmas.List.{length-append, take_at, take_all, take_more, length_push, get_or_push, get_or-append-add, length-map}
 use Rattle.dns_name.specs.Labels.{small_letters, wire_of}
 use Rattle.dns_name.specs.Texts.{is_text_octet, IsTextLabel, IsDotted, TextOf, dotted, without_closing_dot}
-use Rattle.sip_uri.specs.Parts.{parted}
+use Rattle.sip_uri.specs.Readers.Parts.{parted}
 use Rattle.sip_uri.specs.Hosts.{is_label_octet, HostLabel, AreHostLabels, DomainText}
-use Rattle.sip_uri.specs.Readers.{is_label, are_labels, is_hostname}
-use Rattle.sip_uri.specs.HostReaders.{name_of}
+use Rattle.sip_uri.specs.Readers.Texts.{is_label, are_labels, is_hostname}
+use Rattle.sip_uri.specs.Readers.Hosts.{name_of}
 use Rattle.sip_uri.proofs.Cutting.{lacks, parts-joined}
 use Rattle.sip_uri.proofs.Lists.{all_weaker}
 

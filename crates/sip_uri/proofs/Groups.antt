@@ -3,8 +3,8 @@ use Rattle.std.proofs.Common.{◌≡◌, ℕ, ◌+◌, ◌<◌, ◌≤◌, Bool,
 use Rattle.std.specs.Option.{option_map, option_and_then}
 use Rattle.std.proofs.lemmas.Bool.Decides.{nat_tests}
 use Rattle.std.proofs.lemmas.List.{length-append, drop-replicate, length-replicate}
-use Rattle.sip_uri.specs.Parts.{before, behind, parted}
-use Rattle.sip_uri.specs.Readers.{group, last_group, groups, filled}
+use Rattle.sip_uri.specs.Readers.Parts.{before, behind, parted}
+use Rattle.sip_uri.specs.Readers.Texts.{group, last_group, groups, filled}
 use Rattle.sip_uri.proofs.Cutting.{joined, others, parts_are}
 
 pub length_behind : (octet : ℕ) (text rest : List ℕ) → behind octet text ≡ Some rest → length rest < length text

@@ -1,8 +1,8 @@
 -- A reader of labels that has come to a place.
 use Rattle.std.proofs.Common.{◌≡◌, ℕ, true, false, ◌&&◌, List, [], ◌∷◌, Option, Some, None, slice_index, refl, sym, ap, ◌∙◌}
 use Rattle.std.specs.Char.{is_ascii_alphabetic}
-use Rattle.sip_uri.specs.Parts.{before, behind, parted}
-use Rattle.sip_uri.specs.Readers.{is_label, are_labels}
+use Rattle.sip_uri.specs.Readers.Parts.{before, behind, parted}
+use Rattle.sip_uri.specs.Readers.Texts.{is_label, are_labels}
 use Rattle.sip_uri.proofs.Cutting.{others, parts_are}
 
 module _ (text rest : List ℕ) (so_far : are_labels (parted 46 rest) ≡ are_labels (parted 46 text)) where

@@ -8,13 +8,13 @@ use Rattle.std.proofs.lemmas.Bool.{cases_Bool}
 use Rattle.std.proofs.lemmas.Slice.Eq.{bytes_eq-Decides}
 use Rattle.std.proofs.lemmas.List.{append-nil}
 use Rattle.std.proofs.lemmas.List.Splits.{join_with_byte-slice_split, length-slice_split}
-use Rattle.sip_uri.specs.Parts.{behind, parted}
+use Rattle.sip_uri.specs.Readers.Parts.{behind, parted}
 use Rattle.sip_uri.specs.Classes.{is_param_octet}
 use Rattle.sip_uri.specs.Transports.{spoken_of}
 use Rattle.sip_uri.specs.Uris.{IsSomeRun, Param, valued_text, param_text, key_of, transport_key, maddr_key, IsParam, value_at, HostValue, params_text}
-use Rattle.sip_uri.specs.HostReaders.{host}
-use Rattle.sip_uri.specs.ParamReaders.{name_of, is_same, params_fault, value_of, transport_name, maddr_name}
-use Rattle.sip_uri.specs.UriReaders.{said, said_unless, said_by}
+use Rattle.sip_uri.specs.Readers.Hosts.{host}
+use Rattle.sip_uri.specs.Readers.Params.{name_of, is_same, params_fault, value_of, transport_name, maddr_name}
+use Rattle.sip_uri.specs.Readers.Uris.{said, said_unless, said_by}
 use Rattle.sip_uri.specs.declared.host.Host.{Host}
 use Rattle.sip_uri.specs.declared.transport.Spoken.{Spoken}
 use Rattle.sip_uri.specs.declared.refusal.UriRefusal.{UriRefusal}

@@ -2,8 +2,8 @@
 use Rattle.std.proofs.Common.{◌≡◌, ℕ, suc, ◌+◌, ◌-◌, ◌<◌, ◌≤◌, Bool, true, false, List, [], ◌∷◌, ◌++◌, length, take, get_or, Option, Some, None, refl, sym, ap, ◌∙◌, arith, append_assoc}
 use Rattle.std.specs.List.{list_all}
 use Rattle.std.proofs.lemmas.List.{length-append, length-take-le, take_more, get_or_at, take_all}
-use Rattle.sip_uri.specs.Parts.{before, behind, parted}
-use Rattle.sip_uri.specs.ParamReaders.{is_param, is_same, name_of, stands_in, fault_behind, params_fault, value_of}
+use Rattle.sip_uri.specs.Readers.Parts.{before, behind, parted}
+use Rattle.sip_uri.specs.Readers.Params.{is_param, is_same, name_of, stands_in, fault_behind, params_fault, value_of}
 use Rattle.sip_uri.specs.declared.refusal.UriRefusal.TheVariants.{BadParam, RepeatedParam}
 use Rattle.sip_uri.proofs.Cutting.{parts_more, parts_last}
 

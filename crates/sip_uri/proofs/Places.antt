@@ -7,11 +7,11 @@ use Rattle.std.proofs.lemmas.Bool.Decides.{nat_tests}
 use Rattle.std.proofs.lemmas.Option.{same_Some}
 use Rattle.std.proofs.lemmas.List.{append-nil, length-append}
 use Rattle.dns_name.specs.Texts.{IsDotted}
-use Rattle.sip_uri.specs.Parts.{before, behind}
+use Rattle.sip_uri.specs.Readers.Parts.{before, behind}
 use Rattle.sip_uri.specs.Addresses.{V4Text}
 use Rattle.sip_uri.specs.Hosts.{HostLabel, AreHostLabels, DomainText, HostText, is_label_octet}
-use Rattle.sip_uri.specs.Readers.{ipv4, ipv6, is_hostname}
-use Rattle.sip_uri.specs.HostReaders.{name_of, plain_host, port_part, host_in_brackets, host_in_front, without_port, host}
+use Rattle.sip_uri.specs.Readers.Texts.{ipv4, ipv6, is_hostname}
+use Rattle.sip_uri.specs.Readers.Hosts.{name_of, plain_host, port_part, host_in_brackets, host_in_front, without_port, host}
 use Rattle.sip_uri.specs.declared.host.Host.{Host}
 use Rattle.sip_uri.specs.declared.host.Host.TheVariants.{V4, V6, Domain}
 use Rattle.sip_uri.proofs.Cutting.{lacks, back, joined, cut_back, at_first}

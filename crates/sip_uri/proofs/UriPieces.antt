@@ -8,16 +8,16 @@ use Rattle.std.proofs.lemmas.Option.{same_Some}
 use Rattle.std.proofs.lemmas.List.{append-nil}
 use Rattle.dns_name.specs.Labels.{small_letters}
 use Rattle.sip_uri.specs.Numbers.{decimal}
-use Rattle.sip_uri.specs.Parts.{before, behind}
+use Rattle.sip_uri.specs.Readers.Parts.{before, behind}
 use Rattle.sip_uri.specs.Classes.{is_user_octet, is_password_octet}
 use Rattle.sip_uri.specs.Hosts.{HostText}
-use Rattle.sip_uri.specs.Runs.{is_some_run}
-use Rattle.sip_uri.specs.Readers.{decimal_within}
+use Rattle.sip_uri.specs.Readers.Runs.{is_some_run}
+use Rattle.sip_uri.specs.Readers.Texts.{decimal_within}
 use Rattle.sip_uri.specs.Uris.{IsSomeRun, SchemeText, UserText, nobody, alone, with_password, PortNumber, PortText}
-use Rattle.sip_uri.specs.HostReaders.{host_in_front}
-use Rattle.sip_uri.specs.ParamReaders.{is_same}
-use Rattle.sip_uri.specs.UriReaders.{is_password, is_userinfo, is_header_value, is_header, is_secure, both, behind_scheme, without_user, behind_user, from_one, port_number, port_of, place_of, check_headers}
-use Rattle.sip_uri.specs.UriReaders as reader
+use Rattle.sip_uri.specs.Readers.Hosts.{host_in_front}
+use Rattle.sip_uri.specs.Readers.Params.{is_same}
+use Rattle.sip_uri.specs.Readers.Uris.{is_password, is_userinfo, is_header_value, is_header, is_secure, both, behind_scheme, without_user, behind_user, from_one, port_number, port_of, place_of, check_headers}
+use Rattle.sip_uri.specs.Readers.Uris as reader
 use Rattle.sip_uri.specs.declared.host.Host.{Host}
 use Rattle.sip_uri.specs.declared.refusal.UriRefusal.{UriRefusal}
 use Rattle.sip_uri.specs.declared.refusal.UriRefusal.TheVariants.{BadScheme, BadUser, BadHost, BadPort}

@@ -9,9 +9,9 @@ use Rattle.std.proofs.lemmas.Option.{same_Some}
 use Rattle.std.proofs.lemmas.List.{append-nil}
 use Rattle.std.proofs.lemmas.List.Splits.{join_with_byte-slice_split}
 use Rattle.sip_uri.specs.Numbers.{hexadecimal}
-use Rattle.sip_uri.specs.Parts.{parted}
+use Rattle.sip_uri.specs.Readers.Parts.{parted}
 use Rattle.sip_uri.specs.Addresses.{V4Text, GroupText, AreGroups, GroupsText, SideText, V6Text, whole, shortened}
-use Rattle.sip_uri.specs.Readers.{hexadecimal_group, ipv4, group, last_group, groups, side, filled, sixteen, behind_colons, with_front, around_colons, ipv6, ipv6_around}
+use Rattle.sip_uri.specs.Readers.Texts.{hexadecimal_group, ipv4, group, last_group, groups, side, filled, sixteen, behind_colons, with_front, around_colons, ipv6, ipv6_around}
 use Rattle.sip_uri.proofs.Cutting.{lacks, alone, parts-joined}
 use Rattle.sip_uri.proofs.Lists.{steps_of, mapped_from, either_of, all_weaker}
 use Rattle.sip_uri.proofs.V4Texts.{ipv4_read, ipv4_again, is_dotted_octet, ipv4_octets, some_in_ipv4}

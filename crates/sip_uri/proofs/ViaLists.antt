@@ -8,7 +8,7 @@ use Rattle.std.proofs.lemmas.List.{append-nil, length-append, map-append, get_or
 use Rattle.std.proofs.lemmas.List.Quantifiers.{all_pairs_push}
 use Rattle.dns_name.specs.Labels.{small_letters}
 use Rattle.sip_uri.specs.ViaClasses.{is_blank, row, behind_row}
-use Rattle.sip_uri.specs.ViaReaders.{behind_mark, next_param, names, stands_in}
+use Rattle.sip_uri.specs.Readers.Vias.{behind_mark, next_param, names, stands_in}
 use Rattle.sip_uri.specs.Vias.{IsBlanks, ParamsText, nothing, param, ViaParams}
 use Rattle.sip_uri.proofs.ParamTexts.{names_same, names_other}
 use Rattle.sip_uri.proofs.ParamLists.{Differ}

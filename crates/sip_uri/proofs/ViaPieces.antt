@@ -8,7 +8,7 @@ use Rattle.std.proofs.lemmas.Bool.Decides.{nat_tests}
 use Rattle.std.proofs.lemmas.Option.{same_Some}
 use Rattle.dns_name.specs.Labels.{small_letters}
 use Rattle.sip_uri.specs.ViaClasses.{is_blank, is_token_octet, row, behind_row}
-use Rattle.sip_uri.specs.ViaFronts.{behind_token, with_blanks, transport_in, behind_protocol}
+use Rattle.sip_uri.specs.Readers.ViaFronts.{behind_token, with_blanks, transport_in, behind_protocol}
 use Rattle.sip_uri.specs.Vias.{IsBlanks, IsToken, ProtocolText}
 use Rattle.sip_uri.proofs.Lists.{steps_of}
 use Rattle.sip_uri.proofs.ParamTexts.{same_names, names_same}

@@ -6,15 +6,15 @@ use Rattle.std.specs.Char.{is_ascii_digit}
 use Rattle.std.proofs.lemmas.Bool.{cases_Bool}
 use Rattle.std.proofs.lemmas.Bool.Decides.{nat_tests}
 use Rattle.std.proofs.lemmas.Option.{same_Some}
-use Rattle.sip_uri.specs.Parts.{before, behind}
+use Rattle.sip_uri.specs.Readers.Parts.{before, behind}
 use Rattle.sip_uri.specs.Addresses.{V6Text}
 use Rattle.sip_uri.specs.Hosts.{HostText}
-use Rattle.sip_uri.specs.Readers.{ipv6}
-use Rattle.sip_uri.specs.HostReaders.{plain_host}
-use Rattle.sip_uri.specs.UriReaders.{port_number}
+use Rattle.sip_uri.specs.Readers.Texts.{ipv6}
+use Rattle.sip_uri.specs.Readers.Hosts.{plain_host}
+use Rattle.sip_uri.specs.Readers.Uris.{port_number}
 use Rattle.sip_uri.specs.ViaClasses.{is_blank, is_in_host, is_in_port, row, behind_row}
-use Rattle.sip_uri.specs.ViaReaders.{behind_mark}
-use Rattle.sip_uri.specs.ViaFronts.{closed_host, host_in_brackets, via_host, port_in, via_port}
+use Rattle.sip_uri.specs.Readers.Vias.{behind_mark}
+use Rattle.sip_uri.specs.Readers.ViaFronts.{closed_host, host_in_brackets, via_host, port_in, via_port}
 use Rattle.sip_uri.specs.Vias.{ViaPort}
 use Rattle.sip_uri.specs.declared.host.Host.{Host}
 use Rattle.sip_uri.specs.declared.host.Host.TheVariants.{V4, V6, Domain}

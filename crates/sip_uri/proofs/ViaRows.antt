@@ -6,7 +6,7 @@ use Rattle.std.proofs.lemmas.Bool.Decides.{nat_tests}
 use Rattle.std.proofs.lemmas.Option.{same_Some}
 use Rattle.std.proofs.lemmas.List.{append-nil}
 use Rattle.sip_uri.specs.ViaClasses.{is_blank, row, behind_row}
-use Rattle.sip_uri.specs.ViaReaders.{behind_first, behind_mark}
+use Rattle.sip_uri.specs.Readers.Vias.{behind_first, behind_mark}
 use Rattle.sip_uri.specs.Vias.{IsBlanks}
 
 -- a text that a row of the class does not go on into

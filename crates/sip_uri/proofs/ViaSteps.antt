@@ -8,7 +8,7 @@ use Rattle.std.proofs.lemmas.Option.{same_Some}
 use Rattle.std.proofs.lemmas.List.{append-nil, length-append}
 use Rattle.dns_name.specs.Labels.{small_letters}
 use Rattle.sip_uri.specs.ViaClasses.{is_blank, is_token_octet, is_value_octet, row, behind_row}
-use Rattle.sip_uri.specs.ViaReaders.{behind_mark, quoted_from, behind_quoted, some_value, behind_value, valued, behind_valued, named, next_param, names, stands_in}
+use Rattle.sip_uri.specs.Readers.Vias.{behind_mark, quoted_from, behind_quoted, some_value, behind_value, valued, behind_valued, named, next_param, names, stands_in}
 use Rattle.sip_uri.specs.Vias.{IsBlanks, IsToken, IsQuoted, done, character, pair, IsValue, word, quoted, ValueText, without, ParamsText, nothing, param}
 use Rattle.sip_uri.specs.Vias as via
 use Rattle.sip_uri.proofs.Lists.{steps_of, mapped_from}

@@ -3,12 +3,12 @@ use Rattle.std.proofs.Common.{◌≡◌, ℕ, ◌≤◌, List, ◌++◌, length,
 use Rattle.std.specs.Option.{option_map, ok_or}
 use Rattle.std.proofs.lemmas.Bool.Decides.{nat_tests}
 use Rattle.sip_uri.specs.Hosts.{HostText}
-use Rattle.sip_uri.specs.HostReaders.{host_of}
+use Rattle.sip_uri.specs.Readers.Hosts.{host_of}
 use Rattle.sip_uri.specs.Transports.{spoken_of}
-use Rattle.sip_uri.specs.UriReaders.{port_number}
+use Rattle.sip_uri.specs.Readers.Uris.{port_number}
 use Rattle.sip_uri.specs.ViaClasses.{is_blank, is_in_port, row, behind_row}
-use Rattle.sip_uri.specs.ViaReaders.{behind_mark}
-use Rattle.sip_uri.specs.ViaFronts.{behind_protocol, via_host, port_in, via_port, via_of, via_parts}
+use Rattle.sip_uri.specs.Readers.Vias.{behind_mark}
+use Rattle.sip_uri.specs.Readers.ViaFronts.{behind_protocol, via_host, port_in, via_port, via_of, via_parts}
 use Rattle.sip_uri.specs.Vias.{ViaParams, ViaText}
 use Rattle.sip_uri.specs.declared.host.Host.{Host}
 use Rattle.sip_uri.specs.declared.via.Via.{Via}

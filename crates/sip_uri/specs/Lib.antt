@@ -1,17 +1,10 @@
 pub mod Addresses
 pub mod Classes
-pub mod HostReaders
 pub mod Hosts
 pub mod Numbers
-pub mod ParamReaders
-pub mod Parts
 pub mod Readers
-pub mod Runs
 pub mod Shown
 pub mod Transports
-pub mod UriReaders
 pub mod Uris
 pub mod ViaClasses
-pub mod ViaReaders
-pub mod ViaFronts
 pub mod Vias

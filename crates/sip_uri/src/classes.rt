@@ -1,7 +1,7 @@
 //! Classes of octets, and runs of them (RFC 3261 25.1).
 ghost use Rattle.std.specs.Prelude.{◌≡◌};
 ghost use Rattle.sip_uri.specs.Classes.{is_unreserved};
-ghost use Rattle.sip_uri.specs.Runs as spec;
+ghost use Rattle.sip_uri.specs.Readers.Runs as spec;
 
 /// A class of octets that may stand unescaped.
 #[derive(Clone, Copy)]

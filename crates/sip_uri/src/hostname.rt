@@ -2,8 +2,8 @@
 ghost use Rattle.std.specs.Prelude.{◌≡◌};
 ghost use Rattle.std.specs.List.{list_all};
 ghost use Rattle.sip_uri.specs.Hosts as host;
-ghost use Rattle.sip_uri.specs.Parts.{parted};
-ghost use Rattle.sip_uri.specs.Readers as spec;
+ghost use Rattle.sip_uri.specs.Readers.Parts.{parted};
+ghost use Rattle.sip_uri.specs.Readers.Texts as spec;
 ghost use Rattle.dns_name.specs.Texts.{without_closing_dot};
 
 use crate::parts::next_part;

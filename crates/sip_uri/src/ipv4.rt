@@ -1,6 +1,6 @@
 //! IPv4 addresses as texts (RFC 3261 25.1).
 ghost use Rattle.std.specs.Prelude.{◌≡◌};
-ghost use Rattle.sip_uri.specs.Readers as spec;
+ghost use Rattle.sip_uri.specs.Readers.Texts as spec;
 
 use crate::numbers::decimal;
 use crate::parts::next_part;
@@ -16,7 +16,7 @@ fn ipv4_number(text: &[u8]) -> Option<u8>
 }
 
 /// The address of four numbers with dots between them.
-#[tactic(auto, unfolding(crate::specs::Readers::ipv4))]
+#[tactic(auto, unfolding(crate::specs::Readers::Texts::ipv4))]
 pub(crate) fn ipv4(text: &[u8]) -> Option<[u8; 4]>
     ensures { result ≡ spec.ipv4 text.now }
 {

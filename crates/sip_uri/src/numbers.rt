@@ -1,6 +1,6 @@
 //! Numbers in texts.
 ghost use Rattle.std.specs.Prelude.{◌≡◌, ◌≤◌};
-ghost use Rattle.sip_uri.specs.Readers as spec;
+ghost use Rattle.sip_uri.specs.Readers.Texts as spec;
 
 /// The number that decimal digits spell, where it is at most `limit`.
 pub(crate) fn decimal(text: &[u8], limit: u32) -> Option<u32>

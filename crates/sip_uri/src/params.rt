@@ -3,8 +3,8 @@ ghost use Rattle.std.specs.Prelude.{◌≡◌, ◌≤◌, take, length};
 ghost use Rattle.std.specs.List.{list_any};
 ghost use Rattle.std.specs.Option.{option_map};
 ghost use Rattle.std.specs.Result.{result_err};
-ghost use Rattle.sip_uri.specs.Parts.{parted};
-ghost use Rattle.sip_uri.specs.ParamReaders as spec;
+ghost use Rattle.sip_uri.specs.Readers.Parts.{parted};
+ghost use Rattle.sip_uri.specs.Readers.Params as spec;
 
 use crate::classes::{Class, is_some_run};
 use crate::host_part::host_part;
@@ -26,7 +26,7 @@ pub(crate) fn is_same(name: &[u8], other: &[u8]) -> bool
 }
 
 /// Whether a value may stand behind a name.
-#[tactic(auto, unfolding(crate::specs::ParamReaders::is_value_of))]
+#[tactic(auto, unfolding(crate::specs::Readers::Params::is_value_of))]
 fn is_value_of(name: &[u8], value: &[u8]) -> bool
     ensures { result ≡ spec.is_value_of name.now value.now }
 {

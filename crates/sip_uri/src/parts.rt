@@ -1,7 +1,7 @@
 //! A text, cut at an octet.
 ghost use Rattle.std.specs.Prelude.{◌≡◌};
 ghost use Rattle.std.specs.Option.{option_map};
-ghost use Rattle.sip_uri.specs.Parts.{before, behind};
+ghost use Rattle.sip_uri.specs.Readers.Parts.{before, behind};
 
 /// What stands before the first octet of a kind, and what stands behind it, if there is one.
 pub(crate) fn next_part(text: &[u8], octet: u8) -> (&[u8], Option<&[u8]>)

@@ -2,7 +2,7 @@
 ghost use Rattle.std.specs.Prelude.{◌≡◌};
 ghost use Rattle.std.specs.Option.{option_map};
 ghost use Rattle.sip_uri.specs.ViaClasses as octets;
-ghost use Rattle.sip_uri.specs.ViaReaders as spec;
+ghost use Rattle.sip_uri.specs.Readers.Vias as spec;
 
 /// A class of octets of a Via.
 #[derive(Clone, Copy)]
@@ -62,7 +62,7 @@ pub(crate) fn behind_blanks(text: &[u8]) -> &[u8]
 }
 
 /// What follows an octet with blanks and tabs around it.
-#[tactic(auto, unfolding(crate::specs::ViaReaders::behind_mark))]
+#[tactic(auto, unfolding(crate::specs::Readers::Vias::behind_mark))]
 pub(crate) fn behind_mark(text: &[u8], mark: u8) -> Option<&[u8]>
     ensures { option_map (λ rest. rest.now) result ≡ spec.behind_mark mark text.now }
 {

@@ -1,8 +1,8 @@
 //! The parts of a URI, before memory is taken for the names in it (RFC 3261 19.1.1, 25.1).
 ghost use Rattle.std.specs.Prelude.{◌≡◌, IfOk, IfSome, List, ℕ};
 ghost use Rattle.std.specs.Option.{option_map};
-ghost use Rattle.sip_uri.specs.HostReaders as host;
-ghost use Rattle.sip_uri.specs.UriReaders as spec;
+ghost use Rattle.sip_uri.specs.Readers.Hosts as host;
+ghost use Rattle.sip_uri.specs.Readers.Uris as spec;
 
 use crate::headers::are_headers;
 use crate::host_part::{HostPart, host_in_front, host_part};
@@ -42,7 +42,7 @@ fn is_secure(scheme: &[u8]) -> Option<bool>
 }
 
 /// Whether the scheme is that of SIPS, and what follows its colon.
-#[tactic(auto, unfolding(crate::specs::UriReaders::behind_scheme))]
+#[tactic(auto, unfolding(crate::specs::Readers::Uris::behind_scheme))]
 fn behind_scheme(text: &[u8]) -> Result<(bool, &[u8]), UriRefusal>
     ensures { spec.seen (λ found. (found.0, found.1.now)) result ≡ spec.behind_scheme text.now }
 {
@@ -54,7 +54,7 @@ fn behind_scheme(text: &[u8]) -> Result<(bool, &[u8]), UriRefusal>
 }
 
 /// What follows the user and its `@`, if there is one.
-#[tactic(auto, unfolding(crate::specs::UriReaders::behind_user))]
+#[tactic(auto, unfolding(crate::specs::Readers::Uris::behind_user))]
 fn behind_user(text: &[u8]) -> Result<&[u8], UriRefusal>
     ensures { spec.seen (λ rest. rest.now) result ≡ spec.behind_user text.now }
 {
@@ -71,7 +71,7 @@ fn behind_user(text: &[u8]) -> Result<&[u8], UriRefusal>
 }
 
 /// A port from 1 to 65535.
-#[tactic(auto, unfolding(crate::specs::UriReaders::port_number))]
+#[tactic(auto, unfolding(crate::specs::Readers::Uris::port_number))]
 pub(crate) fn port_number(text: &[u8]) -> Option<u16>
     ensures { result ≡ spec.port_number text.now }
 {
@@ -82,7 +82,7 @@ pub(crate) fn port_number(text: &[u8]) -> Option<u16>
 }
 
 /// The port of its digits, where a colon stands before them.
-#[tactic(auto, unfolding(crate::specs::UriReaders::port_of))]
+#[tactic(auto, unfolding(crate::specs::Readers::Uris::port_of))]
 pub(crate) fn port_of(text: Option<&[u8]>) -> Result<Option<u16>, UriRefusal>
     ensures { result ≡ spec.port_of (option_map (λ digits. digits.now) text.entry) }
 {
@@ -96,7 +96,7 @@ pub(crate) fn port_of(text: Option<&[u8]>) -> Result<Option<u16>, UriRefusal>
 }
 
 /// The host and the port.
-#[tactic(auto, unfolding(crate::specs::UriReaders::place_of))]
+#[tactic(auto, unfolding(crate::specs::Readers::Uris::place_of))]
 fn place_of(text: &[u8]) -> Result<(HostPart<'_>, Option<u16>), UriRefusal>
     ensures value { spec.seen (λ found. (host.host_of found.0, found.1)) result ≡ spec.place_of text.now }
     ensures hostname { IfOk result (λ found. host.IsHostPart found.0) }
@@ -106,7 +106,7 @@ fn place_of(text: &[u8]) -> Result<(HostPart<'_>, Option<u16>), UriRefusal>
 }
 
 /// What the parameters say of the transport and of the host.
-#[tactic(auto, unfolding(crate::specs::UriReaders::said_by))]
+#[tactic(auto, unfolding(crate::specs::Readers::Uris::said_by))]
 fn said_by(params: Option<&[u8]>) -> Result<(Option<Spoken>, Option<HostPart<'_>>), UriRefusal>
     ensures value { spec.seen (λ said. (said.0, option_map host.host_of said.1)) result ≡ spec.said_by (option_map (λ text. text.now) params.entry) }
     ensures hostname { IfOk result (λ said. IfSome said.1 host.IsHostPart) }
@@ -121,7 +121,7 @@ fn said_by(params: Option<&[u8]>) -> Result<(Option<Spoken>, Option<HostPart<'_>
 }
 
 /// Refuses what are no headers.
-#[tactic(auto, unfolding(crate::specs::UriReaders::check_headers))]
+#[tactic(auto, unfolding(crate::specs::Readers::Uris::check_headers))]
 fn check_headers(headers: Option<&[u8]>) -> Result<(), UriRefusal>
     ensures { result ≡ spec.check_headers (option_map (λ text. text.now) headers.entry) }
 {
@@ -138,7 +138,7 @@ fn check_headers(headers: Option<&[u8]>) -> Result<(), UriRefusal>
 }
 
 /// The parts of a URI, or its first fault from the left.
-#[tactic(auto, unfolding(crate::specs::UriReaders::uri_parts))]
+#[tactic(auto, unfolding(crate::specs::Readers::Uris::uri_parts))]
 pub(crate) fn uri_parts(text: &[u8]) -> Result<UriParts<'_>, UriRefusal>
     ensures value { spec.seen spec.uri_of result ≡ spec.uri_parts text.now }
     ensures host { IfOk result (λ parts. host.IsHostPart parts.host) }

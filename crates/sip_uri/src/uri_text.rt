@@ -1,7 +1,7 @@
 //! The reader of URIs (RFC 3261 19.1.1, 25.1).
 ghost use Rattle.std.specs.Prelude.{◌≡◌, ◌↔◌, ◌<◌, ◌≤◌, length, IfOk, IfSome, MatchResult, Err};
-ghost use Rattle.sip_uri.specs.HostReaders.{IsHostPart};
-ghost use Rattle.sip_uri.specs.UriReaders.{uri_of};
+ghost use Rattle.sip_uri.specs.Readers.Hosts.{IsHostPart};
+ghost use Rattle.sip_uri.specs.Readers.Uris.{uri_of};
 ghost use Rattle.sip_uri.specs.Uris.{UriText};
 ghost use Rattle.sip_uri.specs.declared.uri.SipUri.{SipUri};
 

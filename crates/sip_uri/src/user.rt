@@ -1,6 +1,6 @@
 //! What stands before the `@` of a URI (RFC 3261 25.1).
 ghost use Rattle.std.specs.Prelude.{◌≡◌};
-ghost use Rattle.sip_uri.specs.UriReaders as spec;
+ghost use Rattle.sip_uri.specs.Readers.Uris as spec;
 
 use crate::classes::{Class, is_run, is_some_run};
 use crate::parts::next_part;

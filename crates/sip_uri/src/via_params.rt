@@ -1,7 +1,7 @@
 //! Parameters of a Via (RFC 3261 7.3.1, 20.42, 25.1).
 ghost use Rattle.std.specs.Prelude.{◌≡◌, OnOk, OnErr, IfErr};
 ghost use Rattle.std.specs.Option.{option_map};
-ghost use Rattle.sip_uri.specs.ViaReaders as spec;
+ghost use Rattle.sip_uri.specs.Readers.Vias as spec;
 ghost use Rattle.sip_uri.specs.Vias.{ViaParams};
 
 use crate::params::is_same;
@@ -32,7 +32,7 @@ fn behind_quoted(text: &[u8]) -> Option<&[u8]>
 }
 
 /// What follows the value of a parameter.
-#[tactic(auto, unfolding(crate::specs::ViaReaders::behind_value))]
+#[tactic(auto, unfolding(crate::specs::Readers::Vias::behind_value))]
 fn behind_value(text: &[u8]) -> Option<&[u8]>
     ensures { option_map (λ rest. rest.now) result ≡ spec.behind_value text.now }
 {
@@ -44,7 +44,7 @@ fn behind_value(text: &[u8]) -> Option<&[u8]>
 }
 
 /// What follows the value, where `=` stands in front.
-#[tactic(auto, unfolding(crate::specs::ViaReaders::behind_valued))]
+#[tactic(auto, unfolding(crate::specs::Readers::Vias::behind_valued))]
 fn behind_valued(text: &[u8]) -> Option<&[u8]>
     ensures { option_map (λ rest. rest.now) result ≡ spec.behind_valued text.now }
 {
@@ -55,7 +55,7 @@ fn behind_valued(text: &[u8]) -> Option<&[u8]>
 }
 
 /// The name of the parameter in front, and what follows it.
-#[tactic(auto, unfolding(crate::specs::ViaReaders::next_param))]
+#[tactic(auto, unfolding(crate::specs::Readers::Vias::next_param))]
 pub(crate) fn next_param(text: &[u8]) -> Option<(&[u8], &[u8])>
     ensures { option_map (λ found. (found.0.now, found.1.now)) result ≡ spec.next_param text.now }
 {

@@ -1,9 +1,9 @@
 //! The parts of a Via, before memory is taken for the name in it (RFC 3261 20.42, 25.1).
 ghost use Rattle.std.specs.Prelude.{◌≡◌, IfOk, IfSome};
 ghost use Rattle.std.specs.Option.{option_map};
-ghost use Rattle.sip_uri.specs.HostReaders as host;
-ghost use Rattle.sip_uri.specs.UriReaders.{seen};
-ghost use Rattle.sip_uri.specs.ViaFronts as spec;
+ghost use Rattle.sip_uri.specs.Readers.Hosts as host;
+ghost use Rattle.sip_uri.specs.Readers.Uris.{seen};
+ghost use Rattle.sip_uri.specs.Readers.ViaFronts as spec;
 
 use crate::host_part::{HostPart, plain_host};
 use crate::ipv6::ipv6;
@@ -25,7 +25,7 @@ pub(crate) struct ViaParts<'a> {
 }
 
 /// What follows a token and a slash, if the token is the one that is wanted, in letters of any case.
-#[tactic(auto, unfolding(crate::specs::ViaFronts::behind_token))]
+#[tactic(auto, unfolding(crate::specs::Readers::ViaFronts::behind_token))]
 fn behind_token<'a>(text: &'a [u8], token: &[u8]) -> Option<&'a [u8]>
     ensures { option_map (λ rest. rest.now) result ≡ spec.behind_token text.now token.now }
 {
@@ -37,7 +37,7 @@ fn behind_token<'a>(text: &'a [u8], token: &[u8]) -> Option<&'a [u8]>
 }
 
 /// The transport, and what follows it and the blanks behind it.
-#[tactic(auto, unfolding(crate::specs::ViaFronts::behind_protocol))]
+#[tactic(auto, unfolding(crate::specs::Readers::ViaFronts::behind_protocol))]
 fn behind_protocol(text: &[u8]) -> Option<(&[u8], &[u8])>
     ensures { option_map (λ found. (found.0.now, found.1.now)) result ≡ spec.behind_protocol text.now }
 {
@@ -52,7 +52,7 @@ fn behind_protocol(text: &[u8]) -> Option<(&[u8], &[u8])>
 }
 
 /// The host up to a closing bracket, and what follows it.
-#[tactic(auto, unfolding(crate::specs::ViaFronts::host_in_brackets))]
+#[tactic(auto, unfolding(crate::specs::Readers::ViaFronts::host_in_brackets))]
 fn via_host_in_brackets(text: &[u8]) -> Option<(HostPart<'_>, &[u8])>
     ensures host { option_map (λ found. (host.host_of found.0, found.1.now)) result ≡ spec.host_in_brackets text.now }
     ensures hostname { IfSome result (λ found. host.IsHostPart found.0) }
@@ -66,7 +66,7 @@ fn via_host_in_brackets(text: &[u8]) -> Option<(HostPart<'_>, &[u8])>
 }
 
 /// The host in front, and what follows it.
-#[tactic(auto, unfolding(crate::specs::ViaFronts::via_host))]
+#[tactic(auto, unfolding(crate::specs::Readers::ViaFronts::via_host))]
 fn via_host(text: &[u8]) -> Option<(HostPart<'_>, &[u8])>
     ensures host { option_map (λ found. (host.host_of found.0, found.1.now)) result ≡ spec.via_host text.now }
     ensures hostname { IfSome result (λ found. host.IsHostPart found.0) }
@@ -79,7 +79,7 @@ fn via_host(text: &[u8]) -> Option<(HostPart<'_>, &[u8])>
 }
 
 /// The port, where a colon stands before it, and what follows it.
-#[tactic(auto, unfolding(crate::specs::ViaFronts::via_port))]
+#[tactic(auto, unfolding(crate::specs::Readers::ViaFronts::via_port))]
 fn via_port(text: &[u8]) -> Result<(Option<u16>, &[u8]), UriRefusal>
     ensures { seen (λ found. (found.0, found.1.now)) result ≡ spec.via_port text.now }
 {
@@ -96,7 +96,7 @@ fn via_port(text: &[u8]) -> Result<(Option<u16>, &[u8]), UriRefusal>
 }
 
 /// The parts of a Via and what follows its port, or the first fault from the left.
-#[tactic(auto, unfolding(crate::specs::ViaFronts::via_parts))]
+#[tactic(auto, unfolding(crate::specs::Readers::ViaFronts::via_parts))]
 pub(crate) fn via_parts(text: &[u8]) -> Result<(ViaParts<'_>, &[u8]), UriRefusal>
     ensures value { seen (λ found. (spec.via_of found.0, found.1.now)) result ≡ spec.via_parts text.now }
     ensures host { IfOk result (λ found. host.IsHostPart found.0.host) }

@@ -1,5 +1,5 @@
 use Rattle.std.proofs.Common.{◌≡◌, drop}
-use Rattle.sip_uri.specs.Runs.{octets_of, run_from, is_run}
+use Rattle.sip_uri.specs.Readers.Runs.{octets_of, run_from, is_run}
 use Rattle.sip_uri.proofs.classes.is_run.Given as goal
 
 abbrev pub invariant-loop-octet : goal.invariant-loop-octet

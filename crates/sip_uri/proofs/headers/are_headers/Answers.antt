@@ -1,6 +1,6 @@
 use Rattle.std.proofs.Common.{◌≡◌, true, false, Some, None, sym, ◌∙◌}
-use Rattle.sip_uri.specs.Parts.{before, behind}
-use Rattle.sip_uri.specs.UriReaders.{is_header}
+use Rattle.sip_uri.specs.Readers.Parts.{before, behind}
+use Rattle.sip_uri.specs.Readers.Uris.{is_header}
 use Rattle.sip_uri.proofs.Groups.{length_behind}
 use Rattle.sip_uri.proofs.ParamSteps.{all_more, all_good, all_bad}
 use Rattle.sip_uri.proofs.headers.are_headers.Goals as goal

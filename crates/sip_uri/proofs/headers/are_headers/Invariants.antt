@@ -1,5 +1,5 @@
 use Rattle.std.proofs.Common.{length}
-use Rattle.sip_uri.specs.UriReaders.{is_header}
+use Rattle.sip_uri.specs.Readers.Uris.{is_header}
 use Rattle.sip_uri.proofs.ParamSteps.{Same}
 use Rattle.sip_uri.proofs.headers.are_headers.Given as goal
 

@@ -1,6 +1,6 @@
 use Rattle.std.proofs.Common.{◌≡◌, true, refl}
-use Rattle.sip_uri.specs.Readers.{is_hostname}
-use Rattle.sip_uri.specs.HostReaders.{name_of}
+use Rattle.sip_uri.specs.Readers.Texts.{is_hostname}
+use Rattle.sip_uri.specs.Readers.Hosts.{name_of}
 use Rattle.sip_uri.proofs.DomainTexts.{hostname_read, TextOf-hostname}
 use Rattle.sip_uri.proofs.host_part.with_name.Goals as goal
 

@@ -1,6 +1,6 @@
 use Rattle.std.proofs.Common.{◌≡◌, true, false, Some, None, sym, ◌∙◌, slice_index}
-use Rattle.sip_uri.specs.Parts.{before, behind}
-use Rattle.sip_uri.specs.Readers.{is_label}
+use Rattle.sip_uri.specs.Readers.Parts.{before, behind}
+use Rattle.sip_uri.specs.Readers.Texts.{is_label}
 use Rattle.std.specs.Char.{is_ascii_alphabetic}
 use Rattle.sip_uri.proofs.Groups.{length_behind}
 use Rattle.sip_uri.proofs.Hostnames.{last_label, goes_on, bad_label}

@@ -1,6 +1,6 @@
 use Rattle.std.proofs.Common.{◌≡◌, take, drop}
 use Rattle.std.specs.Option.{option_map}
-use Rattle.sip_uri.specs.Readers.{around_colons, with_front}
+use Rattle.sip_uri.specs.Readers.Texts.{around_colons, with_front}
 use Rattle.sip_uri.proofs.ipv6.around_colons.Given as goal
 
 abbrev pub invariant-loop-at : goal.invariant-loop-at

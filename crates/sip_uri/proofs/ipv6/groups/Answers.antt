@@ -1,6 +1,6 @@
 use Rattle.std.proofs.Common.{◌≡◌, Some, None, sym, ◌∙◌}
-use Rattle.sip_uri.specs.Parts.{behind, before}
-use Rattle.sip_uri.specs.Readers.{group}
+use Rattle.sip_uri.specs.Readers.Parts.{behind, before}
+use Rattle.sip_uri.specs.Readers.Texts.{group}
 use Rattle.sip_uri.proofs.Groups.{length_behind, no_group, no_room, goes_on, ends, no_room_at_end}
 use Rattle.sip_uri.proofs.ipv6.groups.Goals as goal
 use Rattle.sip_uri.proofs.ipv6.groups.Goals.{In-Some, In-None}

@@ -1,6 +1,6 @@
 use Rattle.std.proofs.Common.{◌≡◌, ◌<◌, length, take, true, false, Some, None, sym, ◌∙◌}
-use Rattle.sip_uri.specs.Parts.{before, behind, parted}
-use Rattle.sip_uri.specs.ParamReaders.{is_param, stands_in}
+use Rattle.sip_uri.specs.Readers.Parts.{before, behind, parted}
+use Rattle.sip_uri.specs.Readers.Params.{is_param, stands_in}
 use Rattle.sip_uri.proofs.Groups.{length_behind}
 use Rattle.sip_uri.proofs.ParamSteps.{bad_here, repeated_here, none_bad, checked_more}
 use Rattle.sip_uri.proofs.params.check_params.Goals as goal

@@ -1,6 +1,6 @@
 use Rattle.std.proofs.Common.{◌≡◌, Ok, Err, sym, ap, ◌∙◌, arith}
 use Rattle.std.proofs.lemmas.Result.{err_from_is_err_and}
-use Rattle.sip_uri.specs.UriReaders.{uri_of, uri_parts}
+use Rattle.sip_uri.specs.Readers.Uris.{uri_of, uri_parts}
 use Rattle.sip_uri.specs.declared.refusal.UriRefusal.{UriRefusal}
 use Rattle.sip_uri.specs.declared.refusal.UriRefusal.TheVariants.{TooLong}
 use Rattle.sip_uri.specs.declared.uri.SipUri.{SipUri}

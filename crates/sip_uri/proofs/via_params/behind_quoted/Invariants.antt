@@ -1,5 +1,5 @@
 use Rattle.std.proofs.Common.{◌≡◌, drop}
-use Rattle.sip_uri.specs.ViaReaders.{quoted_from, behind_quoted}
+use Rattle.sip_uri.specs.Readers.Vias.{quoted_from, behind_quoted}
 use Rattle.sip_uri.proofs.via_params.behind_quoted.Given as goal
 
 abbrev pub invariant-loop-at : goal.invariant-loop-at

@@ -2,7 +2,7 @@ use Rattle.std.proofs.Common.{◌≡◌, ◌<◌, length, true, false, Some, Non
 use Rattle.std.proofs.lemmas.Bool.Decides.{nat_tests}
 use Rattle.std.proofs.lemmas.List.{nil_from_length}
 use Rattle.sip_uri.specs.ViaClasses.{is_blank, behind_row}
-use Rattle.sip_uri.specs.ViaReaders.{next_param, stands_in, names}
+use Rattle.sip_uri.specs.Readers.Vias.{next_param, stands_in, names}
 use Rattle.sip_uri.proofs.ViaSteps.{shorter_read}
 use Rattle.sip_uri.proofs.ViaLists.{all_read, bad_here, again_here, walked_more}
 use Rattle.sip_uri.proofs.via_params.check_via_params.Goals as goal

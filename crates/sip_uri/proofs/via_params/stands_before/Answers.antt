@@ -1,6 +1,6 @@
 use Rattle.std.proofs.Common.{◌≡◌, false, Some, sym, ◌∙◌}
 use Rattle.std.specs.Str.{str_eq_ignore_ascii_case}
-use Rattle.sip_uri.specs.ViaReaders.{next_param}
+use Rattle.sip_uri.specs.Readers.Vias.{next_param}
 use Rattle.sip_uri.proofs.ViaSteps.{named_further}
 use Rattle.sip_uri.proofs.via_params.stands_before.Goals as goal
 

@@ -1,5 +1,5 @@
 use Rattle.std.proofs.Common.{◌≡◌, ◌-◌}
-use Rattle.sip_uri.specs.ViaReaders.{stands_in, names}
+use Rattle.sip_uri.specs.Readers.Vias.{stands_in, names}
 use Rattle.sip_uri.proofs.via_params.stands_before.Given as goal
 
 abbrev pub invariant-loop : goal.invariant-loop

@@ -2,13 +2,13 @@
 use Rattle.std.specs.Prelude.{ℕ, ◌==◌, List, [], ◌∷◌, slice_index, drop, Option, Some, None, Result, Ok, if◌then◌else◌}
 use Rattle.std.specs.Option.{option_map, option_and_then, ok_or}
 use Rattle.std.specs.Str.{str_eq_ignore_ascii_case}
-use Rattle.sip_uri.specs.Parts.{before, behind}
-use Rattle.sip_uri.specs.Readers.{ipv6}
-use Rattle.sip_uri.specs.HostReaders.{host_of, plain_host}
+use Rattle.sip_uri.specs.Readers.Parts.{before, behind}
+use Rattle.sip_uri.specs.Readers.Texts.{ipv6}
+use Rattle.sip_uri.specs.Readers.Hosts.{host_of, plain_host}
 use Rattle.sip_uri.specs.Transports.{spoken_of}
-use Rattle.sip_uri.specs.UriReaders.{port_number, ◌>>=◌}
+use Rattle.sip_uri.specs.Readers.Uris.{port_number, ◌>>=◌}
 use Rattle.sip_uri.specs.ViaClasses.{is_blank, is_token_octet, is_in_host, is_in_port, row, behind_row}
-use Rattle.sip_uri.specs.ViaReaders.{behind_mark}
+use Rattle.sip_uri.specs.Readers.Vias.{behind_mark}
 use Rattle.sip_uri.specs.declared.host.Host.{Host}
 use Rattle.sip_uri.specs.declared.host.Host.TheVariants.{V6}
 use Rattle.sip_uri.specs.declared.via.Via.{Via}

@@ -2,10 +2,10 @@
 use Rattle.std.specs.Prelude.{ℕ, Bool, not, ◌&&◌, ◌||◌, List, [], ◌∷◌, ◌++◌, Option, Some, None, is_some, if◌then◌else◌}
 use Rattle.std.specs.List.{list_any}
 use Rattle.std.specs.Str.{str_eq_ignore_ascii_case}
-use Rattle.sip_uri.specs.Parts.{before, behind}
+use Rattle.sip_uri.specs.Readers.Parts.{before, behind}
 use Rattle.sip_uri.specs.Classes.{is_param_octet}
-use Rattle.sip_uri.specs.Runs.{is_some_run}
-use Rattle.sip_uri.specs.HostReaders.{host}
+use Rattle.sip_uri.specs.Readers.Runs.{is_some_run}
+use Rattle.sip_uri.specs.Readers.Hosts.{host}
 use Rattle.sip_uri.specs.declared.refusal.UriRefusal.{UriRefusal}
 use Rattle.sip_uri.specs.declared.refusal.UriRefusal.TheVariants.{BadParam, RepeatedParam}
 

@@ -3,7 +3,7 @@ use Rattle.std.specs.Prelude.{ℕ, zero, suc, ◌==◌, nat_lt, Bool, true, fals
 use Rattle.std.specs.List.{list_any}
 use Rattle.std.specs.Option.{option_map}
 use Rattle.std.specs.Str.{str_eq_ignore_ascii_case}
-use Rattle.sip_uri.specs.Readers.{◌>>=◌}
+use Rattle.sip_uri.specs.Readers.Texts.{◌>>=◌}
 use Rattle.sip_uri.specs.ViaClasses.{is_blank, is_token_octet, is_in_host, is_in_port, is_value_octet, row, behind_row}
 use Rattle.sip_uri.specs.declared.rows.Row.{Row}
 use Rattle.sip_uri.specs.declared.rows.Row.TheVariants as class
