@@ -1,0 +1,4 @@
+pub mod Members
+pub mod Lowest
+pub mod Picks
+pub mod Orders

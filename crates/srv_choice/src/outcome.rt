@@ -1,0 +1,17 @@
+//! What SRV records say of a service (RFC 2782, "Usage rules").
+
+/// What SRV records say of a service.
+#[derive(Debug, Drop)]
+pub enum SrvOutcome {
+    /// Nothing: there are none.
+    Absent,
+    /// That it is not offered: the target of the one record is the root.
+    Denied,
+    /// Where it is to be tried.
+    Listed {
+        /// The places of the records, from 0, in the order in which they are to be tried.
+        places: Vec<usize>,
+        /// The place of the first random word that is still unused.
+        next: usize,
+    },
+}

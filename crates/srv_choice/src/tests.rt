@@ -1,0 +1,233 @@
+//! Orders by the rules of RFC 2782, worked out by hand, as tables.
+use crate::*;
+use dns_message::SrvRecord;
+use dns_name::Name;
+use std::alloc::Global;
+use std::process::Abort;
+use std::test::Fail;
+
+/// Priority and weight of a record.
+type Server = (u16, u16);
+
+/// Records of these priorities and weights, at this target, where there is memory for them.
+pub fn servers_at(alloc: Global, target: &str, servers: &[Server]) -> Option<Vec<SrvRecord>> {
+    let mut records = Vec::new(alloc);
+    for server in servers {
+        let (priority, weight) = *server;
+        let target = Name::from_text(alloc, target).ok()?;
+        records
+            .push(SrvRecord {
+                priority,
+                weight,
+                port: 5060,
+                target,
+            })
+            .ok()?;
+    }
+    Some(records)
+}
+
+/// These words from a place on, and 0 elsewhere.
+fn words_at(place: usize, words: &[u64]) -> Words {
+    let mut all = [0; WORD_COUNT];
+    for (index, word) in words.iter().enumerate() {
+        if let Some(slot) = all.get_mut(place.saturating_add(index)) {
+            *slot = *word;
+        }
+    }
+    Words(all)
+}
+
+/// Records, words from a place on, and the places in the order that RFC 2782 gives.
+struct OrderRow {
+    servers: &'static [Server],
+    words: &'static [u64],
+    from: usize,
+    places: &'static [usize],
+}
+
+const ORDERS: &[OrderRow] = &[
+    // 75 is above 60 and at most 80
+    OrderRow {
+        servers: &[(10, 60), (10, 20), (10, 20), (20, 0)],
+        words: &[75, 0, 0, 0],
+        from: 0,
+        places: &[1, 0, 2, 3],
+    },
+    // 11 mod 11 is 0, and weight 0 stands first
+    OrderRow {
+        servers: &[(1, 10), (1, 0)],
+        words: &[11, 0],
+        from: 0,
+        places: &[1, 0],
+    },
+    OrderRow {
+        servers: &[(1, 10), (1, 0)],
+        words: &[10, 0],
+        from: 0,
+        places: &[0, 1],
+    },
+    // a running sum that is the number is reached
+    OrderRow {
+        servers: &[(1, 60), (1, 40)],
+        words: &[60, 0],
+        from: 0,
+        places: &[0, 1],
+    },
+    OrderRow {
+        servers: &[(1, 60), (1, 40)],
+        words: &[61, 0],
+        from: 0,
+        places: &[1, 0],
+    },
+    // the number goes up to the sum, and the sum and one is 0 again
+    OrderRow {
+        servers: &[(1, 60), (1, 40)],
+        words: &[100, 0],
+        from: 0,
+        places: &[1, 0],
+    },
+    OrderRow {
+        servers: &[(1, 60), (1, 40)],
+        words: &[101, 0],
+        from: 0,
+        places: &[0, 1],
+    },
+    // priorities in falling order
+    OrderRow {
+        servers: &[(30, 1), (20, 1), (10, 1)],
+        words: &[0, 0, 0],
+        from: 0,
+        places: &[2, 1, 0],
+    },
+    OrderRow {
+        servers: &[(20, 5), (10, 1), (20, 5), (10, 3)],
+        words: &[2, 0, 6, 0],
+        from: 0,
+        places: &[3, 1, 2, 0],
+    },
+    // several of weight 0
+    OrderRow {
+        servers: &[(1, 7), (1, 0), (1, 3), (1, 0)],
+        words: &[0, 0, 0, 0],
+        from: 0,
+        places: &[1, 3, 0, 2],
+    },
+    OrderRow {
+        servers: &[(1, 7), (1, 0), (1, 3), (1, 0)],
+        words: &[8, 4, 0, 0],
+        from: 0,
+        places: &[2, 0, 1, 3],
+    },
+    OrderRow {
+        servers: &[(1, 0), (1, 0), (1, 0)],
+        words: &[9, 9, 9],
+        from: 0,
+        places: &[0, 1, 2],
+    },
+    // words from another place on
+    OrderRow {
+        servers: &[(10, 60), (10, 20), (10, 20), (20, 0)],
+        words: &[75, 0, 0, 0],
+        from: 5,
+        places: &[1, 0, 2, 3],
+    },
+    OrderRow {
+        servers: &[(1, 1), (1, 1), (1, 1)],
+        words: &[3, 1, 0],
+        from: 253,
+        places: &[2, 0, 1],
+    },
+    // the second word decides
+    OrderRow {
+        servers: &[(1, 1), (1, 1), (1, 1)],
+        words: &[3, 2, 0],
+        from: 0,
+        places: &[2, 1, 0],
+    },
+    // one record, and the least and the greatest priority
+    OrderRow {
+        servers: &[(1, 1)],
+        words: &[u64::MAX],
+        from: 255,
+        places: &[0],
+    },
+    OrderRow {
+        servers: &[(65_535, 1), (0, 65_535), (65_535, 0)],
+        words: &[65_535, 0, 0],
+        from: 0,
+        places: &[1, 2, 0],
+    },
+    // 32 records: 2^64 - 1 is 65,535 above a multiple of the first sum and one
+    OrderRow {
+        servers: &[(7, 65_535); 32],
+        words: &[u64::MAX; 32],
+        from: 224,
+        places: &[
+            0, 16, 18, 15, 7, 27, 30, 11, 24, 13, 23, 1, 22, 9, 17, 14, 2, 20, 26, 21, 31, 3, 25,
+            10, 4, 8, 19, 6, 5, 28, 12, 29,
+        ],
+    },
+];
+
+/// The outcome for these records, by words from a place on.
+fn outcome_of(
+    rt: &(impl Abort + AllocGlobal),
+    records: &[SrvRecord],
+    words: &Words,
+    from: usize,
+) -> Result<SrvOutcome, Fail> {
+    assert!(rt; records.len() <= RECORD_LIMIT);
+    assert!(rt; from <= WORD_COUNT - records.len());
+    Ok(order(rt.alloc(), records, words, from)?)
+}
+
+/// The records of a row come in its order, and take a word each.
+fn check_order(rt: &(impl Abort + AllocGlobal), row: &OrderRow) -> Result<(), Fail> {
+    let records = servers_at(rt.alloc(), "b.example", row.servers).ok_or("memory")?;
+    let words = words_at(row.from, row.words);
+    match outcome_of(rt, &records, &words, row.from)? {
+        SrvOutcome::Listed { places, next } => {
+            assert_eq!(rt; places.as_slice(), row.places);
+            assert_eq!(rt; next, row.from.saturating_add(row.places.len()));
+        }
+        outcome => return Err(Fail::new(format_args!("{outcome:?}"))),
+    }
+    Ok(())
+}
+
+#[test]
+fn orders(rt: HostRuntime) -> Result<(), Fail> {
+    for row in ORDERS {
+        check_order(&rt, row)?;
+    }
+    Ok(())
+}
+
+#[test]
+fn no_records(rt: HostRuntime) -> Result<(), Fail> {
+    let outcome = outcome_of(&rt, &[], &words_at(0, &[7]), 3)?;
+    assert!(rt; matches!(&outcome, SrvOutcome::Absent));
+    Ok(())
+}
+
+#[test]
+fn root_alone(rt: HostRuntime) -> Result<(), Fail> {
+    let records = servers_at(rt.alloc(), ".", &[(0, 0)]).ok_or("memory")?;
+    let outcome = outcome_of(&rt, &records, &words_at(0, &[]), 0)?;
+    assert!(rt; matches!(&outcome, SrvOutcome::Denied));
+    Ok(())
+}
+
+#[test]
+fn two_roots(rt: HostRuntime) -> Result<(), Fail> {
+    let records = servers_at(rt.alloc(), ".", &[(1, 0), (0, 0)]).ok_or("memory")?;
+    match outcome_of(&rt, &records, &words_at(0, &[]), 9)? {
+        SrvOutcome::Listed { places, next } => {
+            assert_eq!(rt; places.as_slice(), [1, 0].as_slice());
+            assert_eq!(rt; next, 11);
+        }
+        outcome => return Err(Fail::new(format_args!("{outcome:?}"))),
+    }
+    Ok(())
+}
