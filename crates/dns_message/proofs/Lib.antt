@@ -5,3 +5,7 @@ pub mod Names
 pub mod Places
 pub mod Questions
 pub mod Records
+pub mod WrittenOctets
+pub mod WrittenMessages
+pub mod WrittenPlaces
+pub mod WrittenLayouts

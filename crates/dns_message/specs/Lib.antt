@@ -6,4 +6,6 @@ pub mod Headers
 pub mod Questions
 pub mod Records
 pub mod Messages
+pub mod Written
+pub mod Fits
 pub mod Refusals

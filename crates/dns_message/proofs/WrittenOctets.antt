@@ -1,0 +1,92 @@
+-- The octets of parts as they are written: how many there are.
+use Rattle.std.proofs.Common.{◌≡◌, ℕ, zero, suc, ◌+◌, ◌<◌, ◌≤◌, List, [], ◌∷◌, length, take, get_or, refl, ap, arith, length-append}
+use Rattle.std.specs.List.{flat_map}
+use Rattle.dns_name.specs.Labels.{wire_of}
+use Rattle.dns_message.specs.Written.{two_octets, four_octets, string_octets, srv_octets, naptr_octets, soa_octets, rdata_octets, question_octets, record_octets, header_octets, count_octets, plain}
+use Rattle.dns_message.specs.declared.header.Header.{Header}
+use Rattle.dns_message.specs.declared.message.Message.{Message}
+use Rattle.dns_message.specs.declared.naptr.NaptrRecord.{NaptrRecord}
+use Rattle.dns_message.specs.declared.question.Asked.{Asked}
+use Rattle.dns_message.specs.declared.resource.Record.{Record}
+use Rattle.dns_message.specs.declared.soa.SoaRecord.{SoaRecord}
+use Rattle.dns_message.specs.declared.srv.SrvRecord.{SrvRecord}
+
+pub length-two_octets : (n : ℕ) → length (two_octets n) ≡ 2
+unfolding two_octets
+length-two_octets n = refl
+
+pub length-four_octets : (n : ℕ) → length (four_octets n) ≡ 4
+unfolding four_octets
+length-four_octets n = refl
+
+pub length-string_octets : (string : List ℕ) → length (string_octets string) ≡ 1 + length string
+unfolding string_octets
+length-string_octets string = omega arith
+
+pub length-srv_octets : (server : SrvRecord) → length (srv_octets server) ≡ 6 + length (wire_of server.target)
+unfolding srv_octets
+length-srv_octets server = simp (length-append, length-two_octets) (omega arith)
+
+pub length-naptr_octets : (rule : NaptrRecord) → length (naptr_octets rule) ≡ 7 + length rule.flags + length rule.services + length rule.regexp + length (wire_of rule.replacement)
+unfolding naptr_octets
+length-naptr_octets rule = simp (length-append, length-two_octets, length-string_octets) (omega arith)
+
+pub length-soa_octets : (authority : SoaRecord) → length (soa_octets authority) ≡ length (wire_of authority.mname) + length (wire_of authority.rname) + 20
+unfolding soa_octets
+length-soa_octets authority = simp (length-append, length-four_octets) (omega arith)
+
+pub length-question_octets : (asked : Asked) → length (question_octets asked) ≡ length (wire_of asked.name) + 4
+unfolding question_octets
+length-question_octets asked = simp (length-append, length-two_octets) (omega arith)
+
+pub length-record_octets : (entry : Record) → length (record_octets entry) ≡ length (wire_of entry.owner) + 10 + length (rdata_octets entry.rdata)
+unfolding record_octets
+length-record_octets entry = simp (length-append, length-two_octets, length-four_octets) (omega arith)
+
+pub length-header_octets : (header : Header) → length (header_octets header) ≡ 4
+unfolding header_octets
+length-header_octets header = simp (length-append, length-two_octets)
+
+pub length-count_octets : (questions answers authority additional : ℕ) → length (count_octets questions answers authority additional) ≡ 8
+unfolding count_octets
+length-count_octets questions answers authority additional = simp (length-append, length-two_octets)
+
+-- there are no fewer octets than parts
+pub length-flat_map-least : {X : Type 0} (octets_of : X → List ℕ) → ((x : X) → 0 < length (octets_of x)) → (xs : List X) → length xs ≤ length (flat_map octets_of xs)
+length-flat_map-least octets_of some [] = omega arith
+length-flat_map-least octets_of some (x ∷ xs) = omega (arith, some x, length-append (octets_of x) (flat_map octets_of xs), length-flat_map-least octets_of some xs)
+
+-- those of the parts before one and of that one are among those of all parts
+pub length-flat_map-item : {X : Type 0} (octets_of : X → List ℕ) (xs : List X) (i : ℕ) (x : X) → i < length xs → x ≡ get_or xs i x
+    → length (flat_map octets_of (take i xs)) + length (octets_of x) ≤ length (flat_map octets_of xs)
+length-flat_map-item octets_of [] i x lt is = absurd (omega (arith, lt))
+length-flat_map-item octets_of (y ∷ ys) zero x lt is = omega (arith, ap (λ z. length (octets_of z)) is, length-append (octets_of y) (flat_map octets_of ys))
+length-flat_map-item octets_of (y ∷ ys) (suc i) x lt is =
+    omega (arith, length-append (octets_of y) (flat_map octets_of ys), length-append (octets_of y) (flat_map octets_of (take i ys)), length-flat_map-item octets_of ys i x (omega (arith, lt)) is)
+
+pub length-plain : (message : Message) → length (plain message) ≡ 12 + length (flat_map question_octets message.questions) + length (flat_map record_octets message.answers)
+    + length (flat_map record_octets message.authority) + length (flat_map record_octets message.additional)
+unfolding plain
+length-plain message = simp (length-append, length-header_octets, length-count_octets) (omega arith)
+
+-- ---- the counts of a message fit where its octets do
+
+pub record CountsFit (message : Message) (limit : ℕ) : Type 0 where
+  pub questions : length message.questions ≤ limit
+  pub answers : length message.answers ≤ limit
+  pub authority : length message.authority ≤ limit
+  pub additional : length message.additional ≤ limit
+
+pub counts_fit : (message : Message) (limit : ℕ) → length (plain message) ≤ limit → CountsFit message limit
+counts_fit message limit short =
+    let size = length-plain message in
+    let some : (asked : Asked) → 0 < length (question_octets asked) = λ asked. omega (arith, length-question_octets asked) in
+    let some' : (entry : Record) → 0 < length (record_octets entry) = λ entry. omega (arith, length-record_octets entry) in
+    record {
+      questions = omega (arith, size, length-flat_map-least question_octets some message.questions);
+      answers = omega (arith, size, length-flat_map-least record_octets some' message.answers);
+      authority = omega (arith, size, length-flat_map-least record_octets some' message.authority);
+      additional = omega (arith, size, length-flat_map-least record_octets some' message.additional);
+    }
+
+pub ruleset lengths = (length-srv_octets, length-naptr_octets, length-soa_octets, length-question_octets, length-record_octets, length-plain)
