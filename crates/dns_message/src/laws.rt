@@ -1,9 +1,11 @@
 //! Laws of messages. A call of one does nothing: its contract tells its caller the law.
-ghost use Rattle.std.specs.Prelude.{◌≡◌, ℕ, List, take};
+ghost use Rattle.std.specs.Prelude.{◌≡◌, ◌≤◌, ◌++◌, ℕ, List, length, take};
+ghost use Rattle.dns_message.specs.Fits.{MessageFits};
 ghost use Rattle.dns_message.specs.Messages.{Spells};
+ghost use Rattle.dns_message.specs.Written.{plain};
 ghost use Rattle.dns_message.specs.declared.message.Message.{Message};
 
-use dns_name::{name_rests_before_its_end, one_name_at_a_place};
+use dns_name::{name_rests_before_its_end, one_name_at_a_place, written_name_is_read};
 
 /// In front of octets stands at most one message.
 pub fn one_message_in_front()
@@ -12,4 +14,12 @@ pub fn one_message_in_front()
 {
     one_name_at_a_place();
     name_rests_before_its_end();
+}
+
+/// A message that is written without pointers is read again, whatever follows it, where all is at most 65,535 octets.
+pub fn written_message_is_read()
+    ensures { (message : Message) (back : List ℕ) → MessageFits message → length (plain message ++ back) ≤ 65535
+        → Spells (take (length (plain message)) (plain message ++ back)) message }
+{
+    written_name_is_read();
 }

@@ -30,11 +30,15 @@ mod resource;
 mod section;
 mod soa;
 mod srv;
+mod written;
+mod written_data;
+mod written_field;
+mod written_parts;
 
 pub use char_string::CharString;
 pub use header::Header;
 pub use kind::Kind;
-pub use laws::one_message_in_front;
+pub use laws::{one_message_in_front, written_message_is_read};
 pub use message::{Message, read_message};
 pub use naptr::NaptrRecord;
 pub use other_data::OtherData;
@@ -45,6 +49,7 @@ pub use resource::Record;
 pub use section::Section;
 pub use soa::SoaRecord;
 pub use srv::SrvRecord;
+pub use written::{write_query, write_reply};
 
 #[cfg(test)]
 mod refusals;

@@ -15,7 +15,7 @@ use std::alloc::Global;
 const MESSAGE_LIMIT: usize = 65_535;
 
 /// The place after the header.
-const HEADER_END: usize = 12;
+pub(crate) const HEADER_END: usize = 12;
 
 /// A message.
 #[derive(Debug, Drop)]
