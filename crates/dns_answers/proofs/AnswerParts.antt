@@ -1,0 +1,84 @@
+-- The records of an answer, and its life.
+use Rattle.std.proofs.Common.{◌≡◌, ◌≢◌, ℕ, zero, suc, ◌+◌, ◌<◌, ◌≤◌, List, [], ◌∷◌, ◌++◌, length, take, Bool, true, false, cond, Option, Some, None, refl, sym, ap, ◌∙◌, arith}
+use Rattle.std.specs.Prelude.{is_some}
+use Rattle.std.specs.List.{filter}
+use Rattle.std.proofs.lemmas.List.{length-take}
+use Rattle.dns_message.specs.declared.kind.Kind.{Kind}
+use Rattle.dns_message.specs.declared.kind.Kind.TheVariants.{A, Aaaa, Srv, Naptr}
+use Rattle.dns_message.specs.declared.message.Message.{Message}
+use Rattle.dns_message.specs.declared.question.Question.{Question}
+use Rattle.dns_message.specs.declared.rdata.Rdata.{Rdata}
+use Rattle.dns_message.specs.declared.resource.Record.{Record}
+use Rattle.dns_answers.specs.Answers.{answer}
+use Rattle.dns_answers.specs.Chains.{chain}
+use Rattle.dns_answers.specs.Kept.{data_for, has_data, kept_with, data_of, kept, records_of}
+use Rattle.dns_answers.specs.Lives.{least_from, ttls, life_of, absent_life}
+use Rattle.dns_answers.specs.Names.{same_name}
+use Rattle.dns_answers.specs.Records.{count_of, kind_of, CanBeKept}
+use Rattle.dns_answers.specs.Values.{AnswerValue}
+use Rattle.dns_answers.proofs.LeastLives.{least-append, least-le}
+
+module _ {X : Type 0} (data_in : Rdata → Option X) (name : List (List ℕ)) where
+  -- a record with data for a name has data
+  counted_entry : (entry : Record) (others : List Record) (same : Bool) → same_name entry.owner name ≡ same → (has : Option X) → data_in entry.rdata ≡ has → has_data data_in name entry ≡ true
+      → length (data_of data_in (entry ∷ others)) ≡ suc (length (data_of data_in others))
+  counted_entry entry others true e (Some x) is has = rw is refl
+  counted_entry entry others true e None is has =
+      let no : false ≡ true = rw (e, is) at has in
+      absurd cc
+  counted_entry entry others false e o is has =
+      let no : false ≡ true = rw e at has in
+      absurd cc
+
+  abbrev SameLength : List Record → Type 0
+  SameLength entries = length (data_of data_in entries) ≡ length entries
+
+  taken : (limit : ℕ) (entry : Record) (rest : List Record) → SameLength (take limit rest) → SameLength (take (suc limit) rest) → (has : Bool) → has_data data_in name entry ≡ has → SameLength (take (suc limit) (cond has (entry ∷ rest) rest))
+  taken limit entry rest less more true has = counted_entry entry (take limit rest) (same_name entry.owner name) refl (data_in entry.rdata) refl has ∙ ap suc less
+  taken limit entry rest less more false has = more
+
+  length_data : (section : List Record) (limit : ℕ) → SameLength (take limit (filter (has_data data_in name) section))
+  length_data section zero = refl
+  length_data [] (suc limit) = refl
+  length_data (entry ∷ others) (suc limit) = taken limit entry (filter (has_data data_in name) others) (length_data others limit) (length_data others (suc limit)) (has_data data_in name entry) refl
+
+few_with : {X : Type 0} (data_in : Rdata → Option X) (name : List (List ℕ)) (section : List Record) → length (kept_with data_in name section) ≤ 32
+few_with data_in name section = omega (arith, length-take 32 (filter (has_data data_in name) section))
+
+pub count_is : (kind : Kind) (name : List (List ℕ)) (section : List Record) → count_of (records_of kind (kept kind name section)) ≡ length (kept kind name section)
+count_is A name section = length_data _ name section 32
+count_is Aaaa name section = length_data _ name section 32
+count_is Srv name section = length_data _ name section 32
+count_is Naptr name section = length_data _ name section 32
+
+few : (kind : Kind) (name : List (List ℕ)) (section : List Record) → length (kept kind name section) ≤ 32
+few A name section = few_with _ name section
+few Aaaa name section = few_with _ name section
+few Srv name section = few_with _ name section
+few Naptr name section = few_with _ name section
+
+pub kind_is : (kind : Kind) (entries : List Record) → kind_of (records_of kind entries) ≡ kind
+kind_is A entries = refl
+kind_is Aaaa entries = refl
+kind_is Srv entries = refl
+kind_is Naptr entries = refl
+
+life_absent : (message : Message) (links entries : List Record) → length entries ≡ 0 → life_of message links entries ≡ absent_life message
+life_absent message links [] none = refl
+life_absent message links (first ∷ others) none = absurd (omega arith)
+
+module _ (question : Question) (message : Message) (links : List Record) (last : List (List ℕ)) (is : chain message.answers question.name ≡ Some (record { links = links; last = last })) where
+  abbrev entries : List Record
+  entries = kept question.kind last message.answers
+
+  pub absent : (life : ℕ) → count_of (records_of question.kind entries) ≡ 0 → life ≡ absent_life message → answer question message ≡ record { records = records_of question.kind entries; life = life }
+  absent life none e =
+      let short = life_absent message links entries (sym (count_is question.kind last message.answers) ∙ none) in
+      rw (is, short, e) refl
+
+pub bounds : (kind : Kind) (name : List (List ℕ)) (section links : List Record) (limit life : ℕ) → limit ≡ least_from 2147483647 (ttls links) → life ≡ least_from limit (ttls (kept kind name section))
+    → CanBeKept (records_of kind (kept kind name section)) life
+bounds kind name section links limit life limit_is life_is = record {
+  few = omega (arith, count_is kind name section, few kind name section);
+  short = omega (arith, least-le 2147483647 (ttls links), least-le limit (ttls (kept kind name section)));
+}

@@ -1,0 +1,6 @@
+mod AnswerParts
+mod ChainLaws
+mod Chains
+mod FirstAliases
+mod KeptRecords
+mod LeastLives

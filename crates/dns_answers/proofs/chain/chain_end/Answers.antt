@@ -1,0 +1,28 @@
+use Rattle.std.proofs.Common.{ℕ, List, [], ◌∷◌, ◌++◌, sym, ap, ◌∙◌, arith}
+use Rattle.std.specs.Prelude.{min}
+use Rattle.std.proofs.lemmas.List.{length_push}
+use Rattle.dns_answers.specs.Lives.{lasting}
+use Rattle.dns_answers.specs.Views.{alias_value}
+use Rattle.dns_answers.proofs.Chains.{Leads-push, chain_ends, chain_endless}
+use Rattle.dns_answers.proofs.LeastLives.{least_push}
+use Rattle.dns_answers.proofs.chain.chain_end.Goals as goal
+
+pub returns-in-None : goal.returns-in-None
+returns-in-None c =
+    let so_far = c.loop.invariant in
+    (so_far.0, chain_ends c.args.section.now 8 c.args.start.now so_far.0 c.loop.name.now so_far.2 (sym c.in-None.ensures) (omega arith), so_far.3)
+
+pub loop-preserved : goal.loop-preserved
+loop-preserved c =
+    let so_far = c.loop.invariant in
+    let alias = alias_value c.in-Some.alias in (
+      so_far.0 ++ alias.entry ∷ [],
+      omega (arith, length_push so_far.0 alias.entry),
+      Leads-push c.args.section.now c.args.start.now so_far.0 c.loop.name.now alias so_far.2 (sym c.in-Some.ensures),
+      rw (c.min-life.ensures, c.lasting.ensures, so_far.3) (sym (least_push 2147483647 so_far.0 alias.entry)),
+    )
+
+pub returns : goal.returns
+returns c =
+    let so_far = c.loop.invariant in
+    chain_endless c.args.section.now 8 c.args.start.now so_far.0 c.loop.name.now so_far.2 (omega arith)

@@ -1,0 +1,8 @@
+use Rattle.dns_answers.proofs.ChainLaws.{chain_is, is_chain, too_long_is, is_too_long}
+use Rattle.dns_answers.proofs.laws.chain_follows_aliases.Goals as goal
+
+pub returns-clause-chain : goal.returns-clause-chain
+returns-clause-chain c = λ section name found. (chain_is section name found, is_chain section name found)
+
+pub returns-clause-none : goal.returns-clause-none
+returns-clause-none c = λ section name. (too_long_is section name, is_too_long section name)

@@ -1,0 +1,85 @@
+-- Aliases, followed inside a section (RFC 1034 3.6.2).
+use Rattle.std.specs.Prelude.{◌≡◌, ◌≤◌, ℕ, zero, suc, List, [], ◌∷◌, ◌++◌, length, Option, Some, None, slice_get, if◌then◌else◌}
+use Rattle.std.specs.List.{All, filter_map}
+use Rattle.std.specs.Option.{option_map, option_map_or}
+use Rattle.dns_message.specs.declared.rdata.Rdata.{Rdata}
+use Rattle.dns_message.specs.declared.rdata.Rdata.TheVariants.{Addr4, Addr6, Srv, Naptr, Cname, Soa, Other}
+use Rattle.dns_message.specs.declared.resource.Record.{Record}
+use Rattle.dns_answers.specs.Names.{same_name}
+
+-- a CNAME record, and the canonical name that it gives its owner
+pub record Alias : Type 0 where
+  pub entry : Record
+  pub target : List (List ℕ)
+
+-- CNAME records, each about the target of the one before, and the name where they end
+pub record Chain : Type 0 where
+  pub links : List Record
+  pub last : List (List ℕ)
+
+-- ---- which record leads on
+
+abbrev pub canonical_in : Rdata → Option (List (List ℕ))
+canonical_in (Cname target) = Some target
+canonical_in _ = None
+
+-- the alias of this name that a record is
+abbrev pub alias_of : List (List ℕ) → Record → Option Alias
+alias_of name entry =
+    if same_name entry.owner name then option_map (λ (target : List (List ℕ)). record { entry = entry; target = target }) (canonical_in entry.rdata) else None
+
+-- the first one in a section
+abbrev pub first_alias : List (List ℕ) → List Record → Option Alias
+first_alias name section = slice_get (filter_map (alias_of name) section) 0
+
+-- ---- where the records lead
+
+abbrev pub ends_at : List (List ℕ) → Chain
+ends_at name = record { links = []; last = name }
+
+abbrev pub behind : Record → Chain → Chain
+behind link chain = record { links = link ∷ chain.links; last = chain.last }
+
+-- the chain from a name, where it has at most so many links
+unfoldable pub chain_within : ℕ → List Record → List (List ℕ) → Option Chain
+chain_within zero section name = option_map_or (λ (alias : Alias). None) (first_alias name section) (Some (ends_at name))
+chain_within (suc more) section name =
+    option_map_or (λ (alias : Alias). option_map (behind alias.entry) (chain_within more section alias.target)) (first_alias name section) (Some (ends_at name))
+
+-- where it has at most eight
+abbrev pub chain : List Record → List (List ℕ) → Option Chain
+chain section name = chain_within 8 section name
+
+-- ---- the same as relations
+
+-- a record is no CNAME of this name
+abbrev pub IsNoAlias : List (List ℕ) → Record → Type 0
+IsNoAlias name entry = (target : List (List ℕ)) → entry.owner ≡ name → entry.rdata ≡ Cname target → ⊥
+
+-- the first CNAME of this name in the section
+pub record IsFirstAlias (section : List Record) (name : List (List ℕ)) (entry : Record) (target : List (List ℕ)) : Type 0 where
+  pub front : List Record
+  pub back : List Record
+  pub stands : section ≡ front ++ entry ∷ back
+  pub owner : entry.owner ≡ name
+  pub alias : entry.rdata ≡ Cname target
+  pub first : All (IsNoAlias name) front
+
+-- from the first name these CNAME records lead to the other one, each the first of its owner
+pub data Follows (section : List Record) : List (List ℕ) → List Record → List (List ℕ) → Type 0 where
+  stays : {name last : List (List ℕ)} → last ≡ name → Follows section name [] last
+  leads : {name last : List (List ℕ)} {entry : Record} {others : List Record} (target : List (List ℕ)) → IsFirstAlias section name entry target
+      → Follows section target others last → Follows section name (entry ∷ others) last
+
+-- these at most eight lead from the name to one that has no CNAME
+pub record IsChain (section : List Record) (name : List (List ℕ)) (chain : Chain) : Type 0 where
+  pub follows : Follows section name chain.links chain.last
+  pub ends : All (IsNoAlias chain.last) section
+  pub short : length chain.links ≤ 8
+
+-- nine can be followed
+pub record IsTooLong (section : List Record) (name : List (List ℕ)) : Type 0 where
+  pub links : List Record
+  pub last : List (List ℕ)
+  pub follows : Follows section name links last
+  pub nine : length links ≡ 9

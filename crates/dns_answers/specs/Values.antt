@@ -1,0 +1,7 @@
+-- What an answer has.
+use Rattle.std.specs.Prelude.{ℕ}
+use Rattle.dns_answers.specs.declared.records.Records.{Records}
+
+pub record AnswerValue : Type 0 where
+  pub records : Records
+  pub life : ℕ

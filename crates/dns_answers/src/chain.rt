@@ -1,0 +1,81 @@
+//! Aliases, followed inside a section (RFC 1034 3.6.2).
+ghost use Rattle.std.specs.Prelude.{◌≡◌, List, Some, None, MatchOption};
+ghost use Rattle.std.specs.Option.{option_map};
+ghost use Rattle.dns_message.specs.declared.resource.Record as resource;
+ghost use Rattle.dns_answers.specs.Chains as spec;
+ghost use Rattle.dns_answers.specs.Lives as lives;
+ghost use Rattle.dns_answers.specs.Lives.{least_from, ttls};
+ghost use Rattle.dns_answers.specs.Views.{alias_value};
+
+use crate::answer::LIFE_LIMIT;
+use dns_message::{Rdata, Record};
+use dns_name::Name;
+
+/// The most links that are followed.
+const LINK_LIMIT: u8 = 8;
+
+/// A CNAME record, and the canonical name that it gives its owner.
+#[derive(Clone, Copy)]
+struct Alias<'a> {
+    entry: &'a Record,
+    target: &'a Name,
+}
+
+/// Where a chain of aliases ends, and the life of its records together.
+#[derive(Clone, Copy)]
+pub(crate) struct ChainEnd<'a> {
+    pub(crate) name: &'a Name,
+    pub(crate) life: u32,
+}
+
+/// For how long a record of this TTL may be kept: not at all where its highest bit is set (RFC 2181 8).
+pub(crate) fn lasting(ttl: u32) -> u32
+    ensures { result ≡ lives.lasting ttl }
+{
+    if ttl <= LIFE_LIMIT { ttl } else { 0 }
+}
+
+/// The alias of this name that a record is, if it is one.
+fn alias_of<'a>(name: &Name, entry: &'a Record) -> Option<Alias<'a>>
+    ensures { option_map alias_value result ≡ spec.alias_of name.now entry.now }
+{
+    if entry.owner != *name {
+        return None;
+    }
+    match &entry.rdata {
+        Rdata::Cname(target) => Some(Alias { entry, target }),
+        _ => None,
+    }
+}
+
+/// The first alias of this name in a section.
+fn first_alias<'a>(name: &Name, section: &'a [Record]) -> Option<Alias<'a>>
+    ensures { option_map alias_value result ≡ spec.first_alias name.now section.now }
+{
+    for entry in section {
+        if let Some(alias) = alias_of(name, entry) {
+            return Some(alias);
+        }
+    }
+    None
+}
+
+/// The end of the chain from a name, unless it has more than eight links.
+pub(crate) fn chain_end<'a>(section: &'a [Record], start: &'a Name) -> Option<ChainEnd<'a>>
+    ensures { MatchOption result (spec.chain section.now start.now ≡ None)
+        (λ end. (links : List resource.Record) × (spec.chain section.now start.now ≡ Some (record { links = links; last = end.name.now }))
+        × (end.life ≡ least_from 2147483647 (ttls links))) }
+{
+    let mut name = start;
+    let mut life = LIFE_LIMIT;
+    for _ in 0..=LINK_LIMIT {
+        match first_alias(name, section) {
+            None => return Some(ChainEnd { name, life }),
+            Some(alias) => {
+                name = alias.target;
+                life = life.min(lasting(alias.entry.ttl));
+            }
+        }
+    }
+    None
+}
