@@ -7,6 +7,7 @@ ghost use Rattle.std.specs.Io.KnownBytes.{Appends};
 mod answer;
 mod arguments;
 mod choice;
+mod draw;
 mod input;
 mod one;
 mod output;
