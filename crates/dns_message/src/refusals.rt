@@ -1,7 +1,8 @@
 //! Where memory is refused: each call then says so, or has its answer all the same.
-use crate::tests::REPLY;
 use crate::tests::records::SRV_REPLY;
 use crate::tests::servers::{KNOT_NO_NAME, NSD_NAPTR_REPLY};
+use crate::tests::written::SRV_PLAIN;
+use crate::tests::{QUERY, REPLY};
 use crate::*;
 use dns_name::Name;
 
@@ -41,6 +42,31 @@ fn services_refused(rt: HostRuntime) {
         match read_message(rt.alloc(), octets) {
             Ok(message) => assert!(rt; message.answers.as_slice().iter().all(copied)),
             Err(refusal) => assert_eq!(rt; refusal, MessageRefusal::Memory),
+        }
+    }
+}
+
+#[test]
+fn query_written_refused(rt: HostRuntime) {
+    if let Ok(name) = Name::from_text(rt.alloc(), "a.example") {
+        let question = Question {
+            name,
+            kind: Kind::A,
+        };
+        if let Ok(octets) = write_query(rt.alloc(), 0x1234, &question) {
+            assert_eq!(rt; octets.as_slice(), QUERY);
+        }
+    }
+}
+
+#[test]
+fn reply_written_refused(rt: HostRuntime) {
+    if let Ok(message) = read_message(rt.alloc(), SRV_REPLY) {
+        let Header { opcode, rcode, .. } = message.header;
+        if opcode < 16 && rcode < 16 && message.questions.len() <= 1 {
+            if let Ok(octets) = write_reply(rt.alloc(), &message) {
+                assert_eq!(rt; octets.as_slice(), SRV_PLAIN);
+            }
         }
     }
 }

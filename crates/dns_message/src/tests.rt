@@ -6,9 +6,10 @@ use std::test::Fail;
 pub(crate) mod records;
 pub(crate) mod servers;
 mod values;
+pub(crate) mod written;
 
 /// A query for A of a.example.
-const QUERY: &[u8] =
+pub(crate) const QUERY: &[u8] =
     b"\x12\x34\x01\x00\x00\x01\x00\x00\x00\x00\x00\x00\x01a\x07example\x00\x00\x01\x00\x01";
 
 /// Its reply of 192.0.2.7: the owner of the record is a pointer to the name of the question.
