@@ -1,6 +1,5 @@
 -- The records of an answer, and its life.
-use Rattle.std.proofs.Common.{◌≡◌, ◌≢◌, ℕ, zero, suc, ◌+◌, ◌<◌, ◌≤◌, List, [], ◌∷◌, ◌++◌, length, take, Bool, true, false, cond, Option, Some, None, refl, sym, ap, ◌∙◌, arith}
-use Rattle.std.specs.Prelude.{is_some}
+use Rattle.std.proofs.Common.{◌≡◌, ℕ, zero, suc, ◌≤◌, List, [], ◌∷◌, length, take, Bool, true, false, cond, Option, Some, None, refl, sym, ap, ◌∙◌, arith}
 use Rattle.std.specs.List.{filter}
 use Rattle.std.proofs.lemmas.List.{length-take}
 use Rattle.dns_message.specs.declared.kind.Kind.{Kind}
@@ -11,12 +10,11 @@ use Rattle.dns_message.specs.declared.rdata.Rdata.{Rdata}
 use Rattle.dns_message.specs.declared.resource.Record.{Record}
 use Rattle.dns_answers.specs.Answers.{answer}
 use Rattle.dns_answers.specs.Chains.{chain}
-use Rattle.dns_answers.specs.Kept.{data_for, has_data, kept_with, data_of, kept, records_of}
+use Rattle.dns_answers.specs.Kept.{has_data, kept_with, data_of, kept, records_of}
 use Rattle.dns_answers.specs.Lives.{least_from, ttls, life_of, absent_life}
 use Rattle.dns_answers.specs.Names.{same_name}
 use Rattle.dns_answers.specs.Records.{count_of, kind_of, CanBeKept}
-use Rattle.dns_answers.specs.Values.{AnswerValue}
-use Rattle.dns_answers.proofs.LeastLives.{least-append, least-le}
+use Rattle.dns_answers.proofs.LeastLives.{least-le}
 
 module _ {X : Type 0} (data_in : Rdata → Option X) (name : List (List ℕ)) where
   -- a record with data for a name has data

@@ -1,5 +1,5 @@
 -- The chain of a name is the one that leads from it.
-use Rattle.std.proofs.Common.{◌≡◌, ℕ, zero, suc, ◌+◌, ◌<◌, ◌≤◌, List, [], ◌∷◌, length, Option, Some, None, refl, sym, ap, ◌∙◌, arith}
+use Rattle.std.proofs.Common.{◌≡◌, ℕ, zero, suc, ◌≤◌, List, [], ◌∷◌, length, Option, Some, None, refl, ap, arith}
 use Rattle.std.specs.Option.{option_map, option_map_or}
 use Rattle.dns_message.specs.declared.resource.Record.{Record}
 use Rattle.dns_answers.specs.Chains.{Alias, Chain, first_alias, ends_at, behind, chain_within, chain, Follows, stays, leads, IsChain, IsTooLong}

@@ -1,10 +1,7 @@
 -- Aliases that are followed, one after the other.
-use Rattle.std.proofs.Common.{◌≡◌, ℕ, zero, suc, ◌+◌, ◌<◌, ◌≤◌, List, [], ◌∷◌, ◌++◌, length, Option, Some, None, refl, sym, ap, ◌∙◌, arith}
-use Rattle.std.specs.Option.{option_map, option_map_or}
-use Rattle.std.proofs.lemmas.List.{length_push}
+use Rattle.std.proofs.Common.{◌≡◌, ℕ, zero, suc, ◌≤◌, List, [], ◌∷◌, ◌++◌, length, Some, None, refl, arith}
 use Rattle.dns_message.specs.declared.resource.Record.{Record}
-use Rattle.dns_answers.specs.Chains.{Alias, Chain, alias_of, first_alias, ends_at, behind, chain_within, chain}
-use Rattle.dns_answers.specs.Lives.{lasting, least_from, ttls}
+use Rattle.dns_answers.specs.Chains.{Alias, first_alias, chain_within}
 
 module _ (section : List Record) where
   -- the first aliases lead from the first name to the other one

@@ -3,7 +3,7 @@ use Rattle.std.specs.Prelude.{◌≡◌, ◌≤◌, ℕ, zero, suc, List, [], �
 use Rattle.std.specs.List.{All, filter_map}
 use Rattle.std.specs.Option.{option_map, option_map_or}
 use Rattle.dns_message.specs.declared.rdata.Rdata.{Rdata}
-use Rattle.dns_message.specs.declared.rdata.Rdata.TheVariants.{Addr4, Addr6, Srv, Naptr, Cname, Soa, Other}
+use Rattle.dns_message.specs.declared.rdata.Rdata.TheVariants.{Cname}
 use Rattle.dns_message.specs.declared.resource.Record.{Record}
 use Rattle.dns_answers.specs.Names.{same_name}
 

@@ -1,5 +1,5 @@
 -- Records that answer a question.
-use Rattle.std.specs.Prelude.{ℕ, ◌<◌, ◌≤◌, ◌^◌, List, length}
+use Rattle.std.specs.Prelude.{ℕ, ◌<◌, ◌≤◌, ◌^◌, length}
 use Rattle.dns_message.specs.declared.kind.Kind.{Kind}
 use Rattle.dns_message.specs.declared.kind.Kind.TheVariants as kind
 use Rattle.dns_answers.specs.declared.records.Records.{Records}

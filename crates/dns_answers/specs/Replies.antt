@@ -1,5 +1,5 @@
 -- Which messages are replies to a question (RFC 1035 4.1).
-use Rattle.std.specs.Prelude.{ℕ, ◌==◌, Bool, false, ◌&&◌, ◌||◌, not, List, [], ◌∷◌, Option, Some, None, if◌then◌else◌}
+use Rattle.std.specs.Prelude.{◌==◌, Bool, false, ◌&&◌, ◌||◌, not, List, [], ◌∷◌, Option, Some, None, if◌then◌else◌}
 use Rattle.dns_message.specs.Kinds.{kind_code}
 use Rattle.dns_message.specs.declared.message.Message.{Message}
 use Rattle.dns_message.specs.declared.question.Asked.{Asked}

@@ -111,6 +111,14 @@ pub(crate) fn reply_of(
     })
 }
 
+/// The answer of a reply with these records.
+fn answer_from(alloc: Global, name: &str, kind: Kind, entries: &[Entry]) -> Result<Answer, Fail> {
+    let question = question_of(alloc, name, kind).ok_or(NO_MEMORY)?;
+    let answers = section_of(alloc, entries).ok_or(NO_MEMORY)?;
+    let message = reply_of(alloc, &question, answers).ok_or(NO_MEMORY)?;
+    Ok(answer_of(alloc, &question, &message)?)
+}
+
 /// Whether these are addresses of IPv4, and these ones.
 fn are_v4(records: &Records, addresses: &[[u8; 4]]) -> bool {
     match records {
@@ -290,11 +298,8 @@ const ROWS: [Row; 18] = [
 
 #[test]
 fn rows(rt: HostRuntime) -> Result<(), Fail> {
-    let question = question_of(rt.alloc(), "w.example", Kind::A).ok_or(NO_MEMORY)?;
     for (place, row) in ROWS.iter().enumerate() {
-        let answers = section_of(rt.alloc(), row.entries).ok_or(NO_MEMORY)?;
-        let message = reply_of(rt.alloc(), &question, answers).ok_or(NO_MEMORY)?;
-        let answer = answer_of(rt.alloc(), &question, &message)?;
+        let answer = answer_from(rt.alloc(), "w.example", Kind::A, row.entries)?;
         assert!(rt; are_v4(answer.records(), row.addresses), "{place}");
         assert_eq!(rt; answer.life(), row.life, "{place}");
     }
@@ -424,32 +429,42 @@ pub(crate) const EACH: [Entry; 5] = [
     ("a.example", 304, Says::Naptr("n.example")),
 ];
 
+/// The kinds, and the TTLs of their records.
+const KINDS: [(Kind, u32); 4] = [
+    (Kind::A, 301),
+    (Kind::Aaaa, 302),
+    (Kind::Srv, 303),
+    (Kind::Naptr, 304),
+];
+
 #[test]
 fn each_kind(rt: HostRuntime) -> Result<(), Fail> {
-    let kinds = [
-        (Kind::A, 301),
-        (Kind::Aaaa, 302),
-        (Kind::Srv, 303),
-        (Kind::Naptr, 304),
-    ];
-    for (kind, ttl) in kinds {
-        let question = question_of(rt.alloc(), "w.example", kind).ok_or(NO_MEMORY)?;
-        let answers = section_of(rt.alloc(), &EACH).ok_or(NO_MEMORY)?;
-        let message = reply_of(rt.alloc(), &question, answers).ok_or(NO_MEMORY)?;
-        let answer = answer_of(rt.alloc(), &question, &message)?;
-        assert!(rt; is_one(answer.records(), kind));
-        assert_eq!(rt; (answer.records().kind(), answer.life()), (kind, 60));
-        let direct = question_of(rt.alloc(), "a.example", kind).ok_or(NO_MEMORY)?;
-        let answers = section_of(rt.alloc(), &EACH).ok_or(NO_MEMORY)?;
-        let message = reply_of(rt.alloc(), &direct, answers).ok_or(NO_MEMORY)?;
-        let answer = answer_of(rt.alloc(), &direct, &message)?;
-        assert!(rt; is_one(answer.records(), kind));
-        assert_eq!(rt; answer.life(), ttl);
-        let answers = section_of(rt.alloc(), &[]).ok_or(NO_MEMORY)?;
-        let message = reply_of(rt.alloc(), &direct, answers).ok_or(NO_MEMORY)?;
-        let answer = answer_of(rt.alloc(), &direct, &message)?;
+    for (kind, ttl) in &KINDS {
+        let answer = answer_from(rt.alloc(), "a.example", *kind, &EACH)?;
+        assert!(rt; is_one(answer.records(), *kind));
+        assert_eq!(rt; answer.records().kind(), *kind);
+        assert_eq!(rt; answer.life(), *ttl);
+    }
+    Ok(())
+}
+
+#[test]
+fn each_kind_of_an_alias(rt: HostRuntime) -> Result<(), Fail> {
+    for (kind, _) in &KINDS {
+        let answer = answer_from(rt.alloc(), "w.example", *kind, &EACH)?;
+        assert!(rt; is_one(answer.records(), *kind));
+        assert_eq!(rt; answer.life(), 60);
+    }
+    Ok(())
+}
+
+#[test]
+fn none_of_each_kind(rt: HostRuntime) -> Result<(), Fail> {
+    for (kind, _) in &KINDS {
+        let answer = answer_from(rt.alloc(), "b.example", *kind, &EACH)?;
         assert!(rt; answer.records().is_empty());
-        assert_eq!(rt; (answer.records().kind(), answer.life()), (kind, 30));
+        assert_eq!(rt; answer.records().kind(), *kind);
+        assert_eq!(rt; answer.life(), 30);
     }
     Ok(())
 }

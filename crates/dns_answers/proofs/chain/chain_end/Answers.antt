@@ -1,7 +1,5 @@
-use Rattle.std.proofs.Common.{ℕ, List, [], ◌∷◌, ◌++◌, sym, ap, ◌∙◌, arith}
-use Rattle.std.specs.Prelude.{min}
+use Rattle.std.proofs.Common.{[], ◌∷◌, ◌++◌, sym, arith}
 use Rattle.std.proofs.lemmas.List.{length_push}
-use Rattle.dns_answers.specs.Lives.{lasting}
 use Rattle.dns_answers.specs.Views.{alias_value}
 use Rattle.dns_answers.proofs.Chains.{Leads-push, chain_ends, chain_endless}
 use Rattle.dns_answers.proofs.LeastLives.{least_push}

@@ -1,4 +1,3 @@
-use Rattle.std.proofs.Common.{[], ◌∷◌}
 use Rattle.dns_answers.proofs.LeastLives.{life_is_least}
 use Rattle.dns_answers.proofs.laws.life_is_the_least.Goals as goal
 

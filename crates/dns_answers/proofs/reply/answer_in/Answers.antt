@@ -1,7 +1,7 @@
-use Rattle.std.proofs.Common.{◌≡◌, ℕ, Some, sym, ap, ◌∙◌, refl, arith}
+use Rattle.std.proofs.Common.{◌≡◌, Some, sym, ap, ◌∙◌}
 use Rattle.dns_answers.specs.Chains.{chain}
 use Rattle.dns_answers.specs.Kept.{kept, records_of}
-use Rattle.dns_answers.specs.Records.{CanBeKept, count_of}
+use Rattle.dns_answers.specs.Records.{count_of}
 use Rattle.dns_answers.specs.declared.records.Records.{Records}
 use Rattle.dns_answers.proofs.AnswerParts.{absent, bounds}
 use Rattle.dns_answers.proofs.reply.answer_in.Goals as goal
