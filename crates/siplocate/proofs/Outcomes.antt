@@ -4,7 +4,8 @@ use Rattle.std.specs.List.{AllZip}
 use Rattle.dns_message.specs.declared.message.Message.{Message}
 use Rattle.siplocate.specs.declared.request.Request.{Request}
 use Rattle.siplocate.specs.declared.arguments.Families.{Families}
-use Rattle.siplocate.specs.Choice.{Known, Outcome, unready, locate, talk}
+use Rattle.siplocate.specs.declared.choice.Answered.{Answered}
+use Rattle.siplocate.specs.Choice.{Outcome, unready, locate, talk}
 use Rattle.siplocate.specs.Replies.{ReplyLine}
 use Rattle.siplocate.specs.Views.{outcome_of}
 use Rattle.siplocate.specs.declared.choice.Located.{Located}
@@ -13,7 +14,7 @@ use Rattle.siplocate.specs.Requests.{LocatesTo, RequestText, talked, waits, firs
 
 module _ (families : Families) (text : List ℕ) (request : Request) (one : (other : Request) → RequestText (first_line text) other → request ≡ other) where
   -- where nothing is asked
-  unready_talk : (messages : List Message) (known : List Known) → locate families request [] ≡ unready → talk families request messages ≡ Some known → known ≡ []
+  unready_talk : (messages : List Message) (known : List Answered) → locate families request [] ≡ unready → talk families request messages ≡ Some known → known ≡ []
   unready_talk [] known e t = cc
   unready_talk (message ∷ messages) known e t =
       let none : talk families request (message ∷ messages) ≡ None = rw e refl in
@@ -28,7 +29,7 @@ module _ (families : Families) (text : List ℕ) (request : Request) (one : (oth
   is_unready e outcome (waits other spelled e' is) = sym is
 
   pub is_talked : (located : Outcome) → located ≡ locate families request [] → (located ≡ unready → ⊥) → (outcome : Outcome) → LocatesTo families text outcome
-      → (messages : List Message) × (known : List Known) × AllZip ReplyLine (other_lines text) messages × (talk families request messages ≡ Some known) × (outcome ≡ locate families request known)
+      → (messages : List Message) × (known : List Answered) × AllZip ReplyLine (other_lines text) messages × (talk families request messages ≡ Some known) × (outcome ≡ locate families request known)
   is_talked located e not outcome (talked other messages known spelled replies t is) =
       let same = one other spelled in
       (messages, known, replies, rw same t, rw same is)

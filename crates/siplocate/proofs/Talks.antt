@@ -6,15 +6,16 @@ use Rattle.std.proofs.lemmas.List.{drop_more, take_more, drop_all, take_all}
 use Rattle.dns_message.specs.declared.message.Message.{Message}
 use Rattle.siplocate.specs.declared.request.Request.{Request}
 use Rattle.siplocate.specs.declared.arguments.Families.{Families}
-use Rattle.siplocate.specs.Choice.{Known, Outcome, told, locate, talk, talk_from}
+use Rattle.siplocate.specs.declared.choice.Answered.{Answered}
+use Rattle.siplocate.specs.Choice.{Outcome, told, locate, talk, talk_from}
 use Rattle.siplocate.specs.Replies.{ReplyLine}
 
-carried : (f g : Known → Option (List Known)) (x y : List Known) (o : Option Known) → ((k : Known) → f k ≡ Some x → g k ≡ Some y) → option_and_then f o ≡ Some x → option_and_then g o ≡ Some y
+carried : (f g : Answered → Option (List Answered)) (x y : List Answered) (o : Option Answered) → ((k : Answered) → f k ≡ Some x → g k ≡ Some y) → option_and_then f o ≡ Some x → option_and_then g o ≡ Some y
 carried f g x y None h e = absurd cc
 carried f g x y (Some k) h e = h k e
 
 -- an option that leads to something is something
-led : (f : Known → Option (List Known)) (x : List Known) (o : Option Known) → option_and_then f o ≡ Some x → (k : Known) × (o ≡ Some k)
+led : (f : Answered → Option (List Answered)) (x : List Answered) (o : Option Answered) → option_and_then f o ≡ Some x → (k : Answered) × (o ≡ Some k)
 led f x None e = absurd cc
 led f x (Some k) e = (k, refl)
 
@@ -35,7 +36,7 @@ no_reply [] all = refl
 no_reply (message ∷ others) none = absurd none
 
 module _ (families : Families) (request : Request) where
-  talk-push : (known : List Known) (messages : List Message) (known' : List Known) (message : Message) (more : Known) → talk_from families request known messages ≡ Some known'
+  talk-push : (known : List Answered) (messages : List Message) (known' : List Answered) (message : Message) (more : Answered) → talk_from families request known messages ≡ Some known'
       → told (locate families request known') message ≡ Some more
       → talk_from families request known (messages ++ message ∷ []) ≡ Some (known' ++ more ∷ [])
   talk-push known [] known' message more e t =
@@ -44,13 +45,13 @@ module _ (families : Families) (request : Request) where
       rw (here, same) refl
   talk-push known (m ∷ messages) known' message more e t =
       carried
-      (λ (k : Known). talk_from families request (known ++ k ∷ []) messages)
-      (λ (k : Known). talk_from families request (known ++ k ∷ []) (messages ++ message ∷ []))
+      (λ (k : Answered). talk_from families request (known ++ k ∷ []) messages)
+      (λ (k : Answered). talk_from families request (known ++ k ∷ []) (messages ++ message ∷ []))
       known' (known' ++ more ∷ []) (told (locate families request known) m)
       (λ k e'. talk-push (known ++ k ∷ []) messages known' message more e' t) e
 
   -- after so many lines this is known, and this is the outcome
-  pub record Talking (lines : List (List ℕ)) (count : ℕ) (known : List Known) (outcome : Outcome) : Type 0 where
+  pub record Talking (lines : List (List ℕ)) (count : ℕ) (known : List Answered) (outcome : Outcome) : Type 0 where
     pub is : outcome ≡ locate families request known
     pub messages : List Message
     pub replies : AllZip ReplyLine (take count lines) messages
@@ -61,7 +62,7 @@ module _ (families : Families) (request : Request) where
   pub begun : (lines : List (List ℕ)) (outcome : Outcome) → outcome ≡ locate families request [] → Talking lines 0 [] outcome
   begun lines outcome e = record { is = e; messages = []; replies = tt; talked = refl; goes_on = λ all replies. (all, replies, refl) }
 
-  module _ (lines : List (List ℕ)) (count : ℕ) (known : List Known) (outcome : Outcome) (so_far : Talking lines count known outcome) where
+  module _ (lines : List (List ℕ)) (count : ℕ) (known : List Answered) (outcome : Outcome) (so_far : Talking lines count known outcome) where
     module _ (line : List ℕ) (within : count < length lines) (is : line ≡ get_or lines count line) where
       rest-is : drop count lines ≡ line ∷ drop (count + 1) lines
       rest-is = drop_more lines count line within ∙ ap (λ (l : List ℕ). l ∷ drop (count + 1) lines) (sym is)
@@ -69,7 +70,7 @@ module _ (families : Families) (request : Request) where
       front-is : take (count + 1) lines ≡ take count lines ++ line ∷ []
       front-is = take_more lines count line within ∙ ap (λ (l : List ℕ). take count lines ++ l ∷ []) (sym is)
 
-      pub next : (message : Message) (more : Known) (outcome' : Outcome) → ReplyLine line message → told outcome message ≡ Some more
+      pub next : (message : Message) (more : Answered) (outcome' : Outcome) → ReplyLine line message → told outcome message ≡ Some more
           → ((found : Message) → ReplyLine line found → told outcome found ≡ Some more)
           → outcome' ≡ locate families request (known ++ more ∷ [])
           → Talking lines (count + 1) (known ++ more ∷ []) outcome'
@@ -87,18 +88,18 @@ module _ (families : Families) (request : Request) where
       }
 
       -- where all lines are replies, this one is
-      pub has_reply : (all : List Message) (known' : List Known) → AllZip ReplyLine lines all → talk families request all ≡ Some known' → (message : Message) × (more : Known) × ReplyLine line message × (told outcome message ≡ Some more)
+      pub has_reply : (all : List Message) (known' : List Answered) → AllZip ReplyLine lines all → talk families request all ≡ Some known' → (message : Message) × (more : Answered) × ReplyLine line message × (told outcome message ≡ Some more)
       has_reply all known' replies e =
           let k = so_far.goes_on all replies in
           let f = first_reply line (drop (count + 1) lines) k.0 (rw rest-is at k.1) in
           let whole : talk_from families request known (f.0 ∷ f.1) ≡ Some known' = ap (talk_from families request known) (sym f.2) ∙ k.2 ∙ e in
-          let more = led (λ (k : Known). talk_from families request (known ++ k ∷ []) f.1) known' (told (locate families request known) f.0) whole in
+          let more = led (λ (k : Answered). talk_from families request (known ++ k ∷ []) f.1) known' (told (locate families request known) f.0) whole in
           (f.0, more.0, f.3, ap (λ (o : Outcome). told o f.0) so_far.is ∙ more.1)
 
     pub ends : count ≡ length lines → AllZip ReplyLine lines so_far.messages
     ends all = rw (take_all count lines (omega arith)) at so_far.replies
 
-    pub all_known : count ≡ length lines → (all : List Message) (known' : List Known) → AllZip ReplyLine lines all → talk families request all ≡ Some known' → known ≡ known'
+    pub all_known : count ≡ length lines → (all : List Message) (known' : List Answered) → AllZip ReplyLine lines all → talk families request all ≡ Some known' → known ≡ known'
     all_known done all known' replies e =
         let k = so_far.goes_on all replies in
         let none = no_reply k.0 (rw (drop_all count lines (omega arith)) at k.1) in

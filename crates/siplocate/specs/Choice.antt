@@ -13,19 +13,20 @@ use Rattle.sip_uri.specs.declared.transport.Spoken.TheVariants as spoken
 use Rattle.sip_uri.specs.declared.transport.Transport.{Transport}
 use Rattle.sip_uri.specs.declared.transport.Transport.TheVariants.{Udp, Tcp, Sctp, Tls}
 use Rattle.sip_uri.specs.declared.uri.SipUri.{SipUri}
+use Rattle.dns_answers.specs.Answers.{answer}
+use Rattle.dns_answers.specs.Names.{same_name}
+use Rattle.dns_answers.specs.Replies.{reply_refusal}
+use Rattle.dns_answers.specs.Values.{AnswerValue}
+use Rattle.dns_answers.specs.declared.records.Records.{Records}
+use Rattle.dns_answers.specs.declared.records.Records.TheVariants as records
 use Rattle.siplocate.specs.declared.request.Request.{Request}
 use Rattle.siplocate.specs.declared.request.Request.TheVariants.{Uri, Via}
 use Rattle.siplocate.specs.declared.arguments.Families.{Families}
 use Rattle.siplocate.specs.declared.arguments.Families.TheVariants as family
+use Rattle.siplocate.specs.declared.choice.Answered.{Answered}
 use Rattle.siplocate.specs.declared.choice.Reason.{Reason}
 use Rattle.siplocate.specs.declared.choice.Reason.TheVariants.{TransportUnsupported, TransportNotSecure, NoAddress}
 use Rattle.siplocate.specs.declared.choice.Target.{Target}
-use Rattle.siplocate.specs.Answers.{same_name, reply_fault, addresses_in}
-
--- questions with their answers, the addresses of a name
-pub record Known : Type 0 where
-  pub question : Question
-  pub addresses : List (List ℕ)
 
 pub data Outcome : Type 0 where
   targets : List Target → Outcome
@@ -76,9 +77,9 @@ abbrev pub same_question : Question → Question → Bool
 same_question a b = same_name a.name b.name && kind_code a.kind == kind_code b.kind
 
 -- the answer to a question
-abbrev pub find : Question → List Known → Option (List (List ℕ))
+abbrev pub find : Question → List Answered → Option AnswerValue
 find question [] = None
-find question (known ∷ others) = if same_question known.question question then Some known.addresses else find question others
+find question (answered ∷ others) = if same_question answered.question question then Some answered.answer else find question others
 
 abbrev pub target_at : Transport → ℕ → List ℕ → Target
 target_at transport port octets = record { transport = transport; address = address.V4 octets; port = port }
@@ -86,9 +87,16 @@ target_at transport port octets = record { transport = transport; address = addr
 abbrev pub targets_of : Transport → ℕ → List (List ℕ) → Outcome
 targets_of transport port addresses = if length addresses == 0 then refused NoAddress else targets (map (target_at transport port) addresses)
 
-abbrev pub addresses_of : Transport → ℕ → Question → Option (List (List ℕ)) → Outcome
+-- the addresses of IPv4 that an answer has
+abbrev pub addresses_in : Records → List (List ℕ)
+addresses_in (records.V4 addresses) = addresses
+addresses_in (records.V6 addresses) = []
+addresses_in (records.Srv servers) = []
+addresses_in (records.Naptr rules) = []
+
+abbrev pub addresses_of : Transport → ℕ → Question → Option AnswerValue → Outcome
 addresses_of transport port question None = need question
-addresses_of transport port question (Some addresses) = targets_of transport port addresses
+addresses_of transport port question (Some answer) = targets_of transport port (addresses_in answer.records)
 
 -- TARGET: of a URI the parameter maddr where there is one, else the host
 abbrev pub target_of : Request → Host
@@ -102,38 +110,38 @@ port_of (Via via) = via.port
 abbrev pub locate_address : Transport → Option ℕ → Address → Outcome
 locate_address transport port address = targets (record { transport = transport; address = address; port = unwrap_or port (default_port transport) } ∷ [])
 
-abbrev pub locate_host : Transport → Option ℕ → Host → List Known → Outcome
+abbrev pub locate_host : Transport → Option ℕ → Host → List Answered → Outcome
 locate_host transport port (host.V4 octets) known = locate_address transport port (address.V4 octets)
 locate_host transport port (host.V6 octets) known = locate_address transport port (address.V6 octets)
 locate_host transport (Some port) (host.Domain name) known = addresses_of transport port (question_of name) (find (question_of name) known)
 locate_host transport None (host.Domain name) known = unready
 
 -- addresses of IPv4 alone are asked for yet
-abbrev pub locate_over : Result Transport Reason → Families → Request → List Known → Outcome
+abbrev pub locate_over : Result Transport Reason → Families → Request → List Answered → Outcome
 locate_over (Err reason) families request known = refused reason
 locate_over (Ok transport) family.V4 request known = locate_host transport (port_of request) (target_of request) known
 locate_over (Ok transport) family.V6 request known = unready
 locate_over (Ok transport) family.V4ThenV6 request known = unready
 locate_over (Ok transport) family.V6ThenV4 request known = unready
 
-abbrev pub locate : Families → Request → List Known → Outcome
+abbrev pub locate : Families → Request → List Answered → Outcome
 locate families request known = locate_over (transport_of request) families request known
 
 -- ---- what messages build up
 
--- the question that is needed and the answer of a message, unless nothing is needed or the message is no answer
-abbrev pub told : Outcome → Message → Option Known
+-- the question that is needed and the answer that a message has for it, unless nothing is needed or the message is no reply to it
+abbrev pub told : Outcome → Message → Option Answered
 told (need question) message =
-    if is_none (reply_fault question message) then Some (record { question = question; addresses = addresses_in question message }) else None
+    if is_none (reply_refusal question message) then Some (record { question = question; answer = answer question message }) else None
 told (targets list) message = None
 told (refused reason) message = None
 told unready message = None
 
 -- what is known after messages, each of which answers the question that is needed then
-abbrev pub talk_from : Families → Request → List Known → List Message → Option (List Known)
+abbrev pub talk_from : Families → Request → List Answered → List Message → Option (List Answered)
 talk_from families request known [] = Some known
 talk_from families request known (message ∷ messages) =
-    option_and_then (λ (more : Known). talk_from families request (known ++ more ∷ []) messages) (told (locate families request known) message)
+    option_and_then (λ (more : Answered). talk_from families request (known ++ more ∷ []) messages) (told (locate families request known) message)
 
-abbrev pub talk : Families → Request → List Message → Option (List Known)
+abbrev pub talk : Families → Request → List Message → Option (List Answered)
 talk families request messages = talk_from families request [] messages

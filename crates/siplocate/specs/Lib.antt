@@ -1,4 +1,3 @@
-pub mod Answers
 pub mod Choice
 pub mod Commands
 pub mod Refusals

@@ -9,7 +9,8 @@ use Rattle.sip_uri.specs.Vias.{ViaText}
 use Rattle.siplocate.specs.declared.arguments.Families.{Families}
 use Rattle.siplocate.specs.declared.request.Request.{Request}
 use Rattle.siplocate.specs.declared.request.Request.TheVariants.{Uri, Via}
-use Rattle.siplocate.specs.Choice.{Known, Outcome, unready, locate, talk}
+use Rattle.siplocate.specs.declared.choice.Answered.{Answered}
+use Rattle.siplocate.specs.Choice.{Outcome, unready, locate, talk}
 use Rattle.siplocate.specs.Replies.{ReplyLine}
 
 -- the first line, which is empty where there is none, and the others
@@ -33,7 +34,7 @@ RequestText line (Via via) = (rest : List ℕ) × BeginsVia line rest × ViaText
 -- What becomes of the request in the first line, with the replies in the others.
 pub data LocatesTo (families : Families) (text : List ℕ) : Outcome → Type 0 where
   -- each of the other lines is a reply to the question that is needed then
-  talked : {outcome : Outcome} (request : Request) (messages : List Message) (known : List Known) → RequestText (first_line text) request
+  talked : {outcome : Outcome} (request : Request) (messages : List Message) (known : List Answered) → RequestText (first_line text) request
       → AllZip ReplyLine (other_lines text) messages
       → talk families request messages ≡ Some known
       → outcome ≡ locate families request known

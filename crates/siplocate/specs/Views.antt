@@ -1,11 +1,7 @@
 -- What is kept, without where it lies in memory.
-use Rattle.siplocate.specs.declared.choice.Answered.{Answered}
 use Rattle.siplocate.specs.declared.choice.Located.{Located}
 use Rattle.siplocate.specs.declared.choice.Located.TheVariants.{Targets, Refused, Ask, Unready}
-use Rattle.siplocate.specs.Choice.{Known, Outcome, targets, refused, need, unready}
-
-abbrev pub known_of : Answered → Known
-known_of answered = record { question = answered.question; addresses = answered.addresses.items }
+use Rattle.siplocate.specs.Choice.{Outcome, targets, refused, need, unready}
 
 abbrev pub outcome_of : Located → Outcome
 outcome_of (Targets list) = targets list.items

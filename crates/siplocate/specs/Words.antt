@@ -11,8 +11,8 @@ use Rattle.sip_uri.specs.declared.transport.Transport.{Transport}
 use Rattle.sip_uri.specs.declared.transport.Transport.TheVariants.{Udp, Tcp, Sctp, Tls}
 use Rattle.sip_uri.specs.declared.refusal.UriRefusal.{UriRefusal}
 use Rattle.sip_uri.specs.declared.refusal.UriRefusal.TheVariants as uri
-use Rattle.siplocate.specs.declared.answer.ReplyFault.{ReplyFault}
-use Rattle.siplocate.specs.declared.answer.ReplyFault.TheVariants.{NotReply, OtherQuestion, Truncated, ServerFault}
+use Rattle.dns_answers.specs.declared.refusal.ReplyRefusal.{ReplyRefusal}
+use Rattle.dns_answers.specs.declared.refusal.ReplyRefusal.TheVariants as refusal
 use Rattle.siplocate.specs.declared.reply.BadReply.{BadReply}
 use Rattle.siplocate.specs.declared.reply.BadReply.TheVariants as bad
 use Rattle.siplocate.specs.declared.choice.Reason.{Reason}
@@ -50,18 +50,19 @@ request_word uri.BadHeader = codes "BadHeader"
 request_word uri.BadVia = codes "BadVia"
 request_word uri.Memory = codes "Memory"
 
-abbrev pub fault_word : ReplyFault → List ℕ
-fault_word NotReply = codes "NotReply"
-fault_word OtherQuestion = codes "OtherQuestion"
-fault_word Truncated = codes "Truncated"
-fault_word ServerFault = codes "ServerFault"
+abbrev pub refusal_word : ReplyRefusal → List ℕ
+refusal_word refusal.NotReply = codes "NotReply"
+refusal_word refusal.OtherQuestion = codes "OtherQuestion"
+refusal_word refusal.Truncated = codes "Truncated"
+refusal_word (refusal.ServerFault rcode) = codes "ServerFault"
+refusal_word refusal.Memory = codes "Memory"
 
 abbrev pub reply_word : BadReply → List ℕ
 reply_word bad.NotHex = codes "NotHex"
 reply_word bad.NothingAsked = codes "NothingAsked"
 reply_word bad.TooLong = codes "TooLong"
 reply_word bad.Malformed = codes "Malformed"
-reply_word (bad.Fault fault) = fault_word fault
+reply_word (bad.NoAnswer refusal) = refusal_word refusal
 reply_word bad.Memory = codes "Memory"
 
 -- the line for a first line that is no request, and for a further line that is no reply

@@ -2,10 +2,11 @@
 ghost use Rattle.std.specs.Prelude.{◌≡◌, map, IfOk};
 ghost use Rattle.std.specs.Option.{option_copied};
 ghost use Rattle.siplocate.specs.Choice as spec;
-ghost use Rattle.siplocate.specs.Views.{known_of, outcome_of};
+ghost use Rattle.siplocate.specs.Views.{outcome_of};
 
 use crate::arguments::Families;
 use crate::request::Request;
+use dns_answers::{Answer, Records};
 use dns_message::{Kind, Question};
 use dns_name::Name;
 use sip_uri::{Address, Host, Transport};
@@ -35,13 +36,13 @@ pub enum Reason {
     NoAddress,
 }
 
-/// A question with its answer: the addresses of a name.
+/// A question with its answer.
 #[derive(Debug, Drop)]
 pub struct Answered {
     /// What was asked.
     pub question: Question,
     /// What was answered.
-    pub addresses: Vec<[u8; 4]>,
+    pub answer: Answer,
 }
 
 /// Where a request goes, as far as is known.
@@ -75,15 +76,25 @@ fn same_question(a: &Question, b: &Question) -> bool
 }
 
 /// The answer to a question.
-fn find<'a>(question: &Question, known: &'a [Answered]) -> Option<&'a [[u8; 4]]>
-    ensures { option_copied result ≡ spec.find question.now (map known_of known.now) }
+fn find<'a>(question: &Question, known: &'a [Answered]) -> Option<&'a Answer>
+    ensures { option_copied result ≡ spec.find question.now known.now }
 {
     for answered in known {
         if same_question(&answered.question, question) {
-            return Some(answered.addresses.as_slice());
+            return Some(&answered.answer);
         }
     }
     None
+}
+
+/// The addresses of IPv4 that an answer has.
+fn addresses_in(answer: &Answer) -> &[[u8; 4]]
+    ensures { result.now ≡ spec.addresses_in answer.now.records }
+{
+    match answer.records() {
+        Records::V4(addresses) => addresses.as_slice(),
+        Records::V6(_) | Records::Srv(_) | Records::Naptr(_) => &[],
+    }
 }
 
 /// These addresses at a port.
@@ -128,7 +139,7 @@ fn locate_name(
     name: &Name,
     known: &[Answered],
 ) -> Result<Located, AllocError>
-    ensures { IfOk result (λ located. outcome_of located ≡ spec.addresses_of transport port (spec.question_of name.now) (spec.find (spec.question_of name.now) (map known_of known.now))) }
+    ensures { IfOk result (λ located. outcome_of located ≡ spec.addresses_of transport port (spec.question_of name.now) (spec.find (spec.question_of name.now) known.now)) }
 {
     let question = Question {
         name: name.try_clone()?,
@@ -136,7 +147,7 @@ fn locate_name(
     };
     match find(&question, known) {
         None => Ok(Located::Ask(question)),
-        Some(addresses) => targets_of(alloc, transport, port, addresses),
+        Some(answer) => targets_of(alloc, transport, port, addresses_in(answer)),
     }
 }
 
@@ -166,7 +177,7 @@ fn locate_host(
     host: &Host,
     known: &[Answered],
 ) -> Result<Located, AllocError>
-    ensures { IfOk result (λ located. outcome_of located ≡ spec.locate_host transport port host.now (map known_of known.now)) }
+    ensures { IfOk result (λ located. outcome_of located ≡ spec.locate_host transport port host.now known.now) }
 {
     match host {
         Host::V4(octets) => locate_address(alloc, transport, port, Address::V4(*octets)),
@@ -185,7 +196,7 @@ pub fn locate(
     request: &Request,
     known: &[Answered],
 ) -> Result<Located, AllocError>
-    ensures { IfOk result (λ located. outcome_of located ≡ spec.locate families request.now (map known_of known.now)) }
+    ensures { IfOk result (λ located. outcome_of located ≡ spec.locate families request.now known.now) }
 {
     let transport = match request.transport() {
         Ok(transport) => transport,

@@ -4,7 +4,6 @@
 ghost use Rattle.std.specs.Prelude.{◌≤◌, IfOk, OnOk};
 ghost use Rattle.std.specs.Io.KnownBytes.{Appends};
 
-mod answer;
 mod arguments;
 mod choice;
 mod draw;

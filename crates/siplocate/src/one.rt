@@ -1,5 +1,5 @@
 //! One request, from its text to what is printed.
-ghost use Rattle.std.specs.Prelude.{◌≡◌, ◌≤◌, ◌⊎◌, ℕ, List, map, Some, IfOk, MatchResult};
+ghost use Rattle.std.specs.Prelude.{◌≡◌, ◌≤◌, ◌⊎◌, ℕ, List, [], Some, IfOk, MatchResult};
 ghost use Rattle.std.specs.List.{AllZip};
 ghost use Rattle.std.specs.String.{string_bytes};
 ghost use Rattle.dns_message.specs.declared.message.Message as message;
@@ -8,7 +8,8 @@ ghost use Rattle.siplocate.specs.Replies.{ReplyLine};
 ghost use Rattle.siplocate.specs.Requests.{LocatesTo, first_line as first_line_of, other_lines};
 ghost use Rattle.siplocate.specs.Refusals.{of_request, of_reply};
 ghost use Rattle.siplocate.specs.declared.one.OneRefusal.TheVariants as refusals;
-ghost use Rattle.siplocate.specs.Views.{known_of, outcome_of};
+ghost use Rattle.siplocate.specs.Views.{outcome_of};
+ghost use Rattle.siplocate.specs.declared.choice.Answered as choice;
 ghost use Rattle.siplocate.specs.Words as words;
 
 use crate::arguments::Families;
@@ -70,20 +71,22 @@ fn first_line(text: &str) -> &str
     text.lines().next().unwrap_or("")
 }
 
-/// Where a request goes, with the replies in the lines after the first one.
+/// Where a request goes, with the replies in the lines after the first one. Without them it goes to `first`.
 fn talk(
     alloc: Global,
     families: Families,
     request: &Request,
+    first: Located,
     text: &str,
 ) -> Result<Located, BadReply>
-    ensures found { IfOk result (λ located. (messages : List message.Message) × (known : List spec.Known) × AllZip ReplyLine (other_lines text.now) messages
+    requires { outcome_of first ≡ spec.locate families request.now [] }
+    ensures found { IfOk result (λ located. (messages : List message.Message) × (known : List choice.Answered) × AllZip ReplyLine (other_lines text.now) messages
         × (spec.talk families request.now messages ≡ Some known) × (outcome_of located ≡ spec.locate families request.now known)) }
-    ensures read { (messages : List message.Message) (known : List spec.Known) → AllZip ReplyLine (other_lines text.now) messages → spec.talk families request.now messages ≡ Some known
+    ensures read { (messages : List message.Message) (known : List choice.Answered) → AllZip ReplyLine (other_lines text.now) messages → spec.talk families request.now messages ≡ Some known
         → MatchResult result (λ located. outcome_of located ≡ spec.locate families request.now known) (λ reply. reply ≡ BadReply.Memory) }
 {
     let mut known = Vec::new(alloc);
-    let mut located = locate(alloc, families, request, known.as_slice())?;
+    let mut located = first;
     for line in text.lines().skip(1) {
         let next = answered(alloc, &located, line)?;
         known.push(next)?;
@@ -103,7 +106,7 @@ fn located(alloc: Global, families: Families, text: &str) -> Result<Located, One
     if let Located::Unready = located {
         return Ok(located);
     }
-    Ok(talk(alloc, families, &request, text)?)
+    Ok(talk(alloc, families, &request, located, text)?)
 }
 
 /// What the program prints for a request with replies, and its status.

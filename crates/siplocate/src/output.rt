@@ -5,9 +5,9 @@ ghost use Rattle.std.specs.String.{string_bytes};
 ghost use Rattle.siplocate.specs.Views.{outcome_of};
 ghost use Rattle.siplocate.specs.Words as spec;
 
-use crate::answer::ReplyFault;
 use crate::choice::{Located, Reason, Target};
 use crate::reply::BadReply;
+use dns_answers::ReplyRefusal;
 use dns_message::{Kind, Question};
 use sip_uri::{Transport, UriRefusal, address_text};
 use std::alloc::{AllocError, Global};
@@ -131,10 +131,11 @@ fn reply_word(reply: BadReply) -> &'static str
         BadReply::NothingAsked => "NothingAsked",
         BadReply::TooLong => "TooLong",
         BadReply::Malformed => "Malformed",
-        BadReply::Fault(ReplyFault::NotReply) => "NotReply",
-        BadReply::Fault(ReplyFault::OtherQuestion) => "OtherQuestion",
-        BadReply::Fault(ReplyFault::Truncated) => "Truncated",
-        BadReply::Fault(ReplyFault::ServerFault) => "ServerFault",
+        BadReply::NoAnswer(ReplyRefusal::NotReply) => "NotReply",
+        BadReply::NoAnswer(ReplyRefusal::OtherQuestion) => "OtherQuestion",
+        BadReply::NoAnswer(ReplyRefusal::Truncated) => "Truncated",
+        BadReply::NoAnswer(ReplyRefusal::ServerFault(_)) => "ServerFault",
+        BadReply::NoAnswer(ReplyRefusal::Memory) => "Memory",
         BadReply::Memory => "Memory",
     }
 }

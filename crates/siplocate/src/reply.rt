@@ -3,13 +3,14 @@ ghost use Rattle.std.specs.Prelude.{◌≡◌, ◌≢◌, ◌≤◌, ℕ, List, 
 ghost use Rattle.hex.specs.Hex.{decode_of};
 ghost use Rattle.dns_message.specs.Messages.{Spells};
 ghost use Rattle.dns_message.specs.declared.message.Message as message;
-ghost use Rattle.siplocate.specs.Choice.{Known, need, told};
+ghost use Rattle.siplocate.specs.Choice.{need, told};
 ghost use Rattle.siplocate.specs.Replies.{digits, ReplyLine};
-ghost use Rattle.siplocate.specs.Views.{known_of, outcome_of};
+ghost use Rattle.siplocate.specs.Views.{outcome_of};
+ghost use Rattle.siplocate.specs.declared.choice.Answered as choice;
 ghost use Rattle.siplocate.specs.declared.reply.BadReply.TheVariants as bad;
 
-use crate::answer::{ReplyFault, addresses_in, reply_fault};
 use crate::choice::{Answered, Located};
+use dns_answers::{ReplyRefusal, answer_of};
 use dns_message::{Message, MessageRefusal, Question, read_message};
 use hex::FromHexError;
 use std::alloc::{AllocError, AllocFailed, Global};
@@ -25,8 +26,8 @@ pub enum BadReply {
     TooLong,
     /// No message stands in front of the octets.
     Malformed,
-    /// The message is no answer to the question.
-    Fault(ReplyFault),
+    /// The message gives no answer to the question.
+    NoAnswer(ReplyRefusal),
     /// Memory was refused.
     Memory,
 }
@@ -97,29 +98,30 @@ fn question_in(located: &Located) -> Result<&Question, BadReply>
 }
 
 /// The question with the answer of a message.
-fn answer_of(alloc: Global, question: &Question, message: &Message) -> Result<Answered, BadReply>
-    ensures found { IfOk result (λ answered. told (need question.now) message.now ≡ Some (known_of answered)) }
-    ensures read { (known : Known) → told (need question.now) message.now ≡ Some known
-        → MatchResult result (λ answered. known_of answered ≡ known) (λ reply. reply ≡ BadReply.Memory) }
+fn answered_by(alloc: Global, question: &Question, message: &Message) -> Result<Answered, BadReply>
+    ensures found { IfOk result (λ answered. told (need question.now) message.now ≡ Some answered) }
+    ensures read { (known : choice.Answered) → told (need question.now) message.now ≡ Some known
+        → MatchResult result (λ answered. answered ≡ known) (λ reply. reply ≡ BadReply.Memory) }
 {
-    if let Some(fault) = reply_fault(question, message) {
-        return Err(BadReply::Fault(fault));
+    match answer_of(alloc, question, message) {
+        Ok(answer) => Ok(Answered {
+            question: question.try_clone()?,
+            answer,
+        }),
+        Err(ReplyRefusal::Memory) => Err(BadReply::Memory),
+        Err(refusal) => Err(BadReply::NoAnswer(refusal)),
     }
-    Ok(Answered {
-        question: question.try_clone()?,
-        addresses: addresses_in(alloc, question, message)?,
-    })
 }
 
 /// The question that comes first, with the answer of a line.
 pub fn answered(alloc: Global, located: &Located, line: &str) -> Result<Answered, BadReply>
-    ensures found { IfOk result (λ answered. (found : message.Message) × ReplyLine line.now found × (told (outcome_of located.now) found ≡ Some (known_of answered))) }
-    ensures each { IfOk result (λ answered. (found : message.Message) → ReplyLine line.now found → told (outcome_of located.now) found ≡ Some (known_of answered)) }
-    ensures read { (found : message.Message) (known : Known) → ReplyLine line.now found → told (outcome_of located.now) found ≡ Some known
-        → MatchResult result (λ answered. known_of answered ≡ known) (λ reply. reply ≡ BadReply.Memory) }
+    ensures found { IfOk result (λ answered. (found : message.Message) × ReplyLine line.now found × (told (outcome_of located.now) found ≡ Some answered)) }
+    ensures each { IfOk result (λ answered. (found : message.Message) → ReplyLine line.now found → told (outcome_of located.now) found ≡ Some answered) }
+    ensures read { (found : message.Message) (known : choice.Answered) → ReplyLine line.now found → told (outcome_of located.now) found ≡ Some known
+        → MatchResult result (λ answered. answered ≡ known) (λ reply. reply ≡ BadReply.Memory) }
 {
     let octets = octets_of(alloc, line)?;
     let question = question_in(located)?;
     let message = message_of(alloc, &octets)?;
-    answer_of(alloc, question, &message)
+    answered_by(alloc, question, &message)
 }

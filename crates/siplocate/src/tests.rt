@@ -9,6 +9,11 @@ use std::test::Fail;
 const REPLY: &str =
     "1234 8180 0001 0001 0000 0000 0161076578616d706c6500 0001 0001 c00c 0001 0001 0000012c 0004 c0000207";
 
+/// A reply to A of w.example.: an alias of a.example., TTL 60, whose address is 192.0.2.7, TTL 300. The owner of the
+/// address is a pointer into the data of the alias.
+const ALIAS_REPLY: &str =
+    "0004 8180 0001 0002 0000 0000 0177076578616d706c6500 0001 0001 c00c 0005 0001 0000003c 0004 0161c00e c027 0001 0001 0000012c 0004 c0000207";
+
 /// The query for A of a.example.
 const QUERY: &str = "1234 0100 0001 0000 0000 0000 0161076578616d706c6500 0001 0001";
 
@@ -19,7 +24,7 @@ struct Row {
     status: u8,
 }
 
-const ROWS: [Row; 50] = [
+const ROWS: [Row; 56] = [
     Row {
         lines: &["sip:192.0.2.7:5080"],
         printed: "udp 192.0.2.7 5080\n",
@@ -126,6 +131,50 @@ const ROWS: [Row; 50] = [
         ],
         printed: "bad reply NotReply\n",
         status: 3,
+    },
+    // Aliases: with the address of the target; of another question; without an address; of itself.
+    Row {
+        lines: &["sip:w.example:5070", ALIAS_REPLY],
+        printed: "udp 192.0.2.7 5070\n",
+        status: 0,
+    },
+    Row {
+        lines: &["sip:a.example:5070", ALIAS_REPLY],
+        printed: "bad reply OtherQuestion\n",
+        status: 3,
+    },
+    Row {
+        lines: &[
+            "sip:w.example:5070",
+            "0004 8180 0001 0001 0000 0000 0177076578616d706c6500 0001 0001 c00c 0005 0001 0000003c 0004 0161c00e",
+        ],
+        printed: "refused NoAddress\n",
+        status: 2,
+    },
+    Row {
+        lines: &[
+            "sip:w.example:5070",
+            "0004 8180 0001 0002 0000 0000 0177076578616d706c6500 0001 0001 c00c 0005 0001 0000003c 0002 c00c c00c 0001 0001 0000012c 0004 c0000207",
+        ],
+        printed: "refused NoAddress\n",
+        status: 2,
+    },
+    // An address among the additional records, and one of IPv6.
+    Row {
+        lines: &[
+            "sip:a.example:5070",
+            "1234 8180 0001 0000 0000 0001 0161076578616d706c6500 0001 0001 c00c 0001 0001 0000012c 0004 c0000207",
+        ],
+        printed: "refused NoAddress\n",
+        status: 2,
+    },
+    Row {
+        lines: &[
+            "sip:a.example:5070",
+            "1234 8180 0001 0001 0000 0000 0161076578616d706c6500 0001 0001 c00c 001c 0001 0000012c 0010 20010db8000000000000000000000007",
+        ],
+        printed: "refused NoAddress\n",
+        status: 2,
     },
     Row {
         lines: &["sip:192.0.2.7:65535"],

@@ -1,8 +1,7 @@
-use Rattle.std.proofs.Common.{◌≡◌, map, drop}
+use Rattle.std.proofs.Common.{◌≡◌, drop}
 use Rattle.siplocate.specs.Choice.{find}
-use Rattle.siplocate.specs.Views.{known_of}
 use Rattle.siplocate.proofs.choice.find.Given as goal
 
 -- the answer is not among those that were passed
 abbrev pub invariant-loop-answered : goal.invariant-loop-answered
-invariant-loop-answered l = find l.question (map known_of (drop l.answered-index l.known)) ≡ find l.question (map known_of l.known)
+invariant-loop-answered l = find l.question (drop l.answered-index l.known) ≡ find l.question l.known

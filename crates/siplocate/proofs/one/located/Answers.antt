@@ -2,8 +2,9 @@ use Rattle.std.proofs.Common.{◌≡◌, List, Some, refl, sym, ap, ◌∙◌}
 use Rattle.std.proofs.lemmas.Result.{err_from_is_err_and}
 use Rattle.std.specs.List.{AllZip}
 use Rattle.dns_message.specs.declared.message.Message.{Message}
+use Rattle.siplocate.specs.declared.choice.Answered.{Answered}
 use Rattle.siplocate.specs.Replies.{ReplyLine}
-use Rattle.siplocate.specs.Choice.{Known, Outcome, unready, locate, talk}
+use Rattle.siplocate.specs.Choice.{Outcome, unready, locate, talk}
 use Rattle.siplocate.specs.Requests.{LocatesTo, talked, waits, other_lines}
 use Rattle.siplocate.specs.Views.{outcome_of}
 use Rattle.siplocate.proofs.Outcomes.{is_unready, is_talked, unready_is, request_of}
@@ -30,7 +31,7 @@ returns-in-Unready-clause-read c = λ outcome to.
 
 -- what a text that locates to an outcome was told
 told_to : (c : In_default) (outcome : Outcome) → LocatesTo c.args.families c.args.text.now outcome
-    → (messages : List Message) × (known : List Known) × AllZip ReplyLine (other_lines c.args.text.now) messages × (talk c.args.families c.in_ok-request.request messages ≡ Some known) × (outcome ≡ locate c.args.families c.in_ok-request.request known)
+    → (messages : List Message) × (known : List Answered) × AllZip ReplyLine (other_lines c.args.text.now) messages × (talk c.args.families c.in_ok-request.request messages ≡ Some known) × (outcome ≡ locate c.args.families c.in_ok-request.request known)
 told_to c = is_talked c.args.families c.args.text.now c.in_ok-request.request (λ other spelled. c.in_ok-request.ensures.read other (rw (← c.first_line.ensures) at spelled)) (outcome_of c.in_ok-located.located) c.in_ok-located.ensures (λ e. c.in_default.not-Unready (unready_is c.in_ok-located.located e))
 
 pub returns-in_err-talk : goal.returns-in_err-talk

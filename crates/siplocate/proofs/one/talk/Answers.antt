@@ -1,13 +1,13 @@
-use Rattle.std.proofs.Common.{◌≡◌, List, ◌∷◌, ◌++◌, [], ◌<◌, length, map, get_or, rules, ap, ◌∙◌}
+use Rattle.std.proofs.Common.{◌≡◌, List, ◌∷◌, ◌++◌, [], ◌<◌, length, get_or, rules, ap, ◌∙◌}
 use Rattle.std.proofs.lemmas.Iterator.Adapters.{YieldsList-from_skip}
 use Rattle.std.proofs.lemmas.Iterator.Splits.{YieldsList-from_lines}
 use Rattle.std.proofs.lemmas.Iterator.Consumers.{YieldsList-turn, YieldsList-end}
-use Rattle.std.proofs.lemmas.List.{length_push, map_push}
+use Rattle.std.proofs.lemmas.List.{length_push}
 use Rattle.std.proofs.lemmas.Result.{err_from_is_err_and}
-use Rattle.siplocate.specs.Choice.{Known, locate}
+use Rattle.siplocate.specs.Choice.{locate}
 use Rattle.siplocate.specs.Requests.{other_lines}
 use Rattle.siplocate.specs.declared.choice.Answered.{Answered}
-use Rattle.siplocate.specs.Views.{known_of, outcome_of}
+use Rattle.siplocate.specs.Views.{outcome_of}
 use Rattle.siplocate.proofs.Talks.{begun, next, has_reply, ends, all_known}
 use Rattle.siplocate.proofs.one.talk.Goals as goal
 use Rattle.siplocate.proofs.one.talk.Goals.{In-Some, In-None}
@@ -30,31 +30,30 @@ loop-line-init c = record {
   can_next = search rules;
   is_finite = search rules;
   talking =
-      let is : outcome_of c.in_ok-located.located ≡ locate c.args.families c.args.request.now [] = rw (c.as_slice.ensures.value, c.new-known.ensures.items) at c.in_ok-located.ensures in
-      rw c.new-known.ensures.items (begun c.args.families c.args.request.now (other_lines c.args.text.now) (outcome_of c.in_ok-located.located) is);
+      rw c.new-known.ensures.items (begun c.args.families c.args.request.now (other_lines c.args.text.now) (outcome_of c.args.first) c.requires);
 }
 
 pub returns-in_err-next-clause-read : goal.returns-in_err-next-clause-read
 returns-in_err-next-clause-read c = λ all known' replies e.
     let l = c.loop-line in
     let this = turn (goal.at.returns-in_err-next-clause-read c).In-Some in
-    let k = has_reply c.args.families c.args.request.now (other_lines c.args.text.now) (length l.yielded) (map known_of l.known.items) (outcome_of l.located) l.invariant.talking c.in-Some.line.now this.0 this.1 all known' replies e in
+    let k = has_reply c.args.families c.args.request.now (other_lines c.args.text.now) (length l.yielded) l.known.items (outcome_of l.located) l.invariant.talking c.in-Some.line.now this.0 this.1 all known' replies e in
     let memory = c.in_err-next.ensures.read k.0 k.1 k.2 k.3 in
-    let r = err_from_is_err_and c.from_residual-in_err-next.result c.from_residual-in_err-next.ensures.1 in
+    let r = err_from_is_err_and c.from_residual.result c.from_residual.ensures.1 in
     rw (r.1, r.2) memory
 
 pub loop-line-preserved : goal.loop-line-preserved
 loop-line-preserved c =
     let l = c.loop-line in
-    let known : List Known = map known_of l.known.items in
-    let more : Known = known_of c.in_ok-next.next in
+    let known : List Answered = l.known.items in
+    let more : Answered = c.in_ok-next.next in
     let this = turn (goal.at.loop-line-preserved c).In-Some in
     let reply = c.in_ok-next.ensures.found in
     let count = length_push l.yielded c.in-Some.line in
-    let grown : map known_of c.push.new.self.items ≡ known ++ more ∷ [] = ap (map known_of) c.in_ok-push.ensures.items ∙ map_push known_of l.known.items c.in_ok-next.next in
-    let is : outcome_of c.in_ok-located-2.located ≡ locate c.args.families c.args.request.now (known ++ more ∷ []) =
-    c.in_ok-located-2.ensures ∙ ap (λ (items : List Answered). locate c.args.families c.args.request.now (map known_of items)) c.as_slice-in-loop-line.ensures.value ∙ ap (locate c.args.families c.args.request.now) grown in
-    let after = next c.args.families c.args.request.now (other_lines c.args.text.now) (length l.yielded) known (outcome_of l.located) l.invariant.talking c.in-Some.line.now this.0 this.1 reply.0 more (outcome_of c.in_ok-located-2.located) reply.1 reply.2 c.in_ok-next.ensures.each is in
+    let grown : c.push.new.self.items ≡ known ++ more ∷ [] = c.in_ok-push.ensures.items in
+    let is : outcome_of c.in_ok-located.located ≡ locate c.args.families c.args.request.now (known ++ more ∷ []) =
+    c.in_ok-located.ensures ∙ ap (locate c.args.families c.args.request.now) (c.as_slice.ensures.value ∙ grown) in
+    let after = next c.args.families c.args.request.now (other_lines c.args.text.now) (length l.yielded) known (outcome_of l.located) l.invariant.talking c.in-Some.line.now this.0 this.1 reply.0 more (outcome_of c.in_ok-located.located) reply.1 reply.2 c.in_ok-next.ensures.each is in
     record {
       can_next = search rules;
       is_finite = search rules;
@@ -66,12 +65,12 @@ returns-clause-found c =
     let l = c.loop-line in
     let talking = l.invariant.talking in
     let all = all_turns (goal.at.returns-clause-found c).In-None in
-    (talking.messages, map known_of l.known.items, ends c.args.families c.args.request.now (other_lines c.args.text.now) (length l.yielded) (map known_of l.known.items) (outcome_of l.located) talking all, talking.talked, talking.is)
+    (talking.messages, l.known.items, ends c.args.families c.args.request.now (other_lines c.args.text.now) (length l.yielded) l.known.items (outcome_of l.located) talking all, talking.talked, talking.is)
 
 pub returns-clause-read : goal.returns-clause-read
 returns-clause-read c = λ all known' replies e.
     let l = c.loop-line in
     let talking = l.invariant.talking in
     let done = all_turns (goal.at.returns-clause-read c).In-None in
-    let same = all_known c.args.families c.args.request.now (other_lines c.args.text.now) (length l.yielded) (map known_of l.known.items) (outcome_of l.located) talking done all known' replies e in
+    let same = all_known c.args.families c.args.request.now (other_lines c.args.text.now) (length l.yielded) l.known.items (outcome_of l.located) talking done all known' replies e in
     rw (← same) talking.is

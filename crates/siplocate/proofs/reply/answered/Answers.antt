@@ -20,13 +20,13 @@ returns-clause-read c = λ found known line told_is.
     let same = same_octets c.args.line.now line.octets c.deref.result.now line.decoded (rw (← c.deref.ensures.value) at c.in_ok-octets.ensures.found) in
     let is = c.in_ok-message.ensures.read line.end found (rw same at line.spelled) (rw same at line.short) in
     let asked = c.in_ok-question.ensures.asked in
-    c.answer_of.ensures.read known (ap (told (need c.in_ok-question.question.now)) is ∙ ap (λ (outcome : Outcome). told outcome found) (sym asked) ∙ told_is)
+    c.answered_by.ensures.read known (ap (told (need c.in_ok-question.question.now)) is ∙ ap (λ (outcome : Outcome). told outcome found) (sym asked) ∙ told_is)
 
 pub returns-clause-each : goal.returns-clause-each
 returns-clause-each c =
     let q = c.in_ok-question.question.now in
     let asked = c.in_ok-question.ensures.asked in
-    IfOk-weaker c.answer_of.result _ _ (λ a told_is found line.
+    IfOk-weaker c.answered_by.result _ _ (λ a told_is found line.
     let same = same_octets c.args.line.now line.octets c.deref.result.now line.decoded (rw (← c.deref.ensures.value) at c.in_ok-octets.ensures.found) in
     let is = c.in_ok-message.ensures.read line.end found (rw same at line.spelled) (rw same at line.short) in
-    ap (λ (outcome : Outcome). told outcome found) asked ∙ ap (told (need q)) (sym is) ∙ told_is) c.answer_of.ensures.found
+    ap (λ (outcome : Outcome). told outcome found) asked ∙ ap (told (need q)) (sym is) ∙ told_is) c.answered_by.ensures.found
