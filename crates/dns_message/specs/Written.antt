@@ -16,7 +16,7 @@ use Rattle.dns_message.specs.declared.resource.Record.{Record}
 use Rattle.dns_message.specs.declared.soa.SoaRecord.{SoaRecord}
 use Rattle.dns_message.specs.declared.srv.SrvRecord.{SrvRecord}
 
--- ---- numbers, the highest octet first (RFC 1035 2.3.2)
+-- ---- numbers, the highest octet first (RFC 1035 2.3.2); of one that is too large, its low octets
 
 unfoldable pub two_octets : ℕ → List ℕ
 two_octets number = to_be_bytes w16 number
@@ -120,7 +120,8 @@ count_octets questions answers authority additional =
 unfoldable pub plain : Message → List ℕ
 plain message =
     header_octets message.header
-    ++ count_octets (length message.questions) (length message.answers) (length message.authority) (length message.additional)
+    ++ count_octets (length message.questions) (length message.answers)
+    (length message.authority) (length message.additional)
     ++ flat_map question_octets message.questions
     ++ flat_map record_octets message.answers
     ++ flat_map record_octets message.authority

@@ -5,7 +5,11 @@
 //! is none. It gives up for want of memory alone, and takes memory only for what it has read. Records of types A,
 //! AAAA, CNAME, SOA, SRV and NAPTR in class IN have their data as values; all other data is kept as it stands.
 //!
+//! Queries and replies are written without pointers, and what is written is read again as the same message. A reply that
+//! does not fit into a datagram of 512 octets is cut to its question.
+//!
 //! ```text
+//! let query = write_query(alloc, 0x1234, &question)?;
 //! let message = read_message(alloc, octets)?;
 //! for record in message.answers.as_slice() {
 //!     if let Rdata::Srv(server) = &record.rdata {
