@@ -1,25 +1,13 @@
 -- The first CNAME of a name in a section.
 use Rattle.std.proofs.Common.{◌≡◌, ℕ, List, [], ◌∷◌, ◌++◌, Bool, true, false, Option, Some, None, refl, sym, ap, ◌∙◌}
-use Rattle.std.specs.Prelude.{slice_get}
-use Rattle.std.specs.List.{All, cons_option, filter_map}
-use Rattle.std.specs.Option.{option_map}
-use Rattle.std.proofs.lemmas.Bool.Decides.{Decides-eqb}
+use Rattle.std.specs.List.{All}
 use Rattle.std.proofs.lemmas.List.Elements.{All-cons, All-head, All-nil, All-tail}
-use Rattle.std.proofs.lemmas.Slice.Eq.{slice_eq-Decides}
 use Rattle.dns_message.specs.declared.rdata.Rdata.{Rdata}
 use Rattle.dns_message.specs.declared.rdata.Rdata.TheVariants.{Addr4, Addr6, Srv, Naptr, Cname, Soa, Other}
 use Rattle.dns_message.specs.declared.resource.Record.{Record}
 use Rattle.dns_answers.specs.Chains.{Alias, alias_of, canonical_in, first_alias, IsFirstAlias, IsNoAlias}
 use Rattle.dns_answers.specs.Names.{same_name}
-
-same_label : (a b : List ℕ) → (Rattle.std.specs.Cmp.Lexicographic.pointwise Rattle.std.specs.Prelude.nat_eq a b ≡ true → a ≡ b) × (a ≡ b → Rattle.std.specs.Cmp.Lexicographic.pointwise Rattle.std.specs.Prelude.nat_eq a b ≡ true)
-same_label a b = slice_eq-Decides Decides-eqb a b _ refl
-
-same_is : (a b : List (List ℕ)) → same_name a b ≡ true → a ≡ b
-same_is a b e = (slice_eq-Decides same_label a b (same_name a b) refl).0 e
-
-is_same : (a b : List (List ℕ)) → a ≡ b → same_name a b ≡ true
-is_same a b e = (slice_eq-Decides same_label a b (same_name a b) refl).1 e
+use Rattle.dns_answers.proofs.SameNames.{same_is, is_same}
 
 canonical_is : (rdata : Rdata) (target : List (List ℕ)) → canonical_in rdata ≡ Some target → rdata ≡ Cname target
 canonical_is (Addr4 octets) target e = absurd cc

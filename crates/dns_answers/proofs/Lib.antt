@@ -4,3 +4,5 @@ mod Chains
 mod FirstAliases
 mod KeptRecords
 mod LeastLives
+mod Repeated
+mod SameNames

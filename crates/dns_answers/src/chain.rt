@@ -1,5 +1,5 @@
 //! Aliases, followed inside a section (RFC 1034 3.6.2).
-ghost use Rattle.std.specs.Prelude.{◌≡◌, List, Some, None, MatchOption};
+ghost use Rattle.std.specs.Prelude.{◌≡◌, List, Some, None, MatchOption, min};
 ghost use Rattle.std.specs.Option.{option_map};
 ghost use Rattle.dns_message.specs.declared.resource.Record as resource;
 ghost use Rattle.dns_answers.specs.Chains as spec;
@@ -29,10 +29,17 @@ pub(crate) struct ChainEnd<'a> {
 }
 
 /// For how long a record of this TTL may be kept: not at all where its highest bit is set (RFC 2181 8).
-pub(crate) fn lasting(ttl: u32) -> u32
+fn lasting(ttl: u32) -> u32
     ensures { result ≡ lives.lasting ttl }
 {
     if ttl <= LIFE_LIMIT { ttl } else { 0 }
+}
+
+/// The life of records of this life together with one of this TTL (RFC 2181 5.2).
+pub(crate) fn life_with(life: u32, ttl: u32) -> u32
+    ensures { result ≡ min life (lives.lasting ttl) }
+{
+    life.min(lasting(ttl))
 }
 
 /// The alias of this name that a record is, if it is one.
@@ -73,7 +80,7 @@ pub(crate) fn chain_end<'a>(section: &'a [Record], start: &'a Name) -> Option<Ch
             None => return Some(ChainEnd { name, life }),
             Some(alias) => {
                 name = alias.target;
-                life = life.min(lasting(alias.entry.ttl));
+                life = life_with(life, alias.entry.ttl);
             }
         }
     }

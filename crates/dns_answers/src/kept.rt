@@ -6,7 +6,7 @@ ghost use Rattle.dns_answers.specs.Kept as spec;
 ghost use Rattle.dns_answers.specs.Lives.{least_from, ttls};
 
 use crate::answer::RECORD_LIMIT;
-use crate::chain::lasting;
+use crate::chain::life_with;
 use crate::records::Records;
 use dns_message::{Kind, NaptrRecord, Rdata, Record, Section, SrvRecord};
 use dns_name::Name;
@@ -115,7 +115,7 @@ fn kept<T: Wanted>(
         }
         if let Some(data) = data_for::<T>(name, entry) {
             items.push(data.copied()?)?;
-            life = life.min(lasting(entry.ttl));
+            life = life_with(life, entry.ttl);
         }
     }
     Ok((items, life))

@@ -1,8 +1,8 @@
 //! The answer that a DNS reply has for a question (RFC 1034 3.6.2, RFC 2181 5.2).
 //!
-//! A reply to the question is turned into its records and for how long they may be kept; of any other message it is said why
-//! it is no reply. Aliases are followed inside the reply, at most eight. No records means that there are none: an
-//! answer too, and kept for a while.
+//! A reply to the question is turned into its records and for how long they may be kept; of any other message it is
+//! said why it is no reply. Aliases are followed inside the reply, at most eight. No records means that there are
+//! none: an answer too, and kept for a while.
 //!
 //! ```text
 //! let answer = answer_of(alloc, &question, &message)?;
@@ -25,7 +25,7 @@ mod reply;
 
 pub use answer::Answer;
 pub use dns_message::Section;
-pub use laws::{chain_follows_aliases, life_is_the_least};
+pub use laws::{chain_follows_aliases, life_is_the_least, question_is_repeated};
 pub use moment::Moment;
 pub use records::Records;
 pub use refusal::ReplyRefusal;

@@ -17,7 +17,7 @@ loop-preserved c =
       so_far.0 ++ alias.entry ∷ [],
       omega (arith, length_push so_far.0 alias.entry),
       Leads-push c.args.section.now c.args.start.now so_far.0 c.loop.name.now alias so_far.2 (sym c.in-Some.ensures),
-      rw (c.min-life.ensures, c.lasting.ensures, so_far.3) (sym (least_push 2147483647 so_far.0 alias.entry)),
+      rw (c.life_with-life.ensures, so_far.3) (sym (least_push 2147483647 so_far.0 alias.entry)),
     )
 
 pub returns : goal.returns

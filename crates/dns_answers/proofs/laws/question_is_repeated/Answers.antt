@@ -1,0 +1,5 @@
+use Rattle.dns_answers.proofs.Repeated.{repeated, repeats}
+use Rattle.dns_answers.proofs.laws.question_is_repeated.Goals as goal
+
+pub returns : goal.returns
+returns c = λ question questions. (repeated question questions, repeats question questions)
