@@ -1,6 +1,6 @@
 //! Messages that are no replies, and sections that do not count.
 use super::*;
-use dns_message::read_message;
+use dns_message::{read_message, write_reply};
 
 /// A change of a reply, and why it is refused then.
 struct Change {
@@ -206,5 +206,24 @@ fn a_cut_reply(rt: HostRuntime) -> Result<(), Fail> {
     let other = question_of(rt.alloc(), "n.example", Kind::A).ok_or(NO_MEMORY)?;
     let refusal = answer_of(rt.alloc(), &other, &message).err();
     assert_eq!(rt; refusal, Some(ReplyRefusal::OtherQuestion));
+    Ok(())
+}
+
+#[test]
+fn a_reply_cut_by_its_writer(rt: HostRuntime) -> Result<(), Fail> {
+    let question = question_of(rt.alloc(), "m.example", Kind::A).ok_or(NO_MEMORY)?;
+    let answers = many(rt.alloc(), 20)?;
+    let whole = reply_of(rt.alloc(), &question, answers).ok_or(NO_MEMORY)?;
+    let Header { opcode, rcode, .. } = whole.header;
+    if opcode >= 16 || rcode >= 16 || whole.questions.len() > 1 {
+        return Err("not to be written".into());
+    }
+    let octets = write_reply(rt.alloc(), &whole)?;
+    let message = read_message(rt.alloc(), octets.as_slice())?;
+    let refusal = answer_of(rt.alloc(), &question, &message).err();
+    assert_eq!(rt;
+        (octets.len(), refusal),
+        (27, Some(ReplyRefusal::Truncated))
+    );
     Ok(())
 }
