@@ -27,12 +27,17 @@ const QUERIES: [(Kind, &[u8]); 4] = [
     ),
 ];
 
+/// The query for records of a.example.
+fn query_of(alloc: Global, kind: Kind) -> Result<Vec<u8>, Fail> {
+    let name = Name::from_text(alloc, "a.example")?;
+    Ok(write_query(alloc, 0x1234, &Question { name, kind })?)
+}
+
 #[test]
 fn queries(rt: HostRuntime) -> Result<(), Fail> {
-    for (kind, octets) in QUERIES {
-        let name = Name::from_text(rt.alloc(), "a.example")?;
-        let query = write_query(rt.alloc(), 0x1234, &Question { name, kind })?;
-        assert_eq!(rt; query.as_slice(), octets);
+    for (kind, octets) in &QUERIES {
+        let query = query_of(rt.alloc(), *kind)?;
+        assert_eq!(rt; query.as_slice(), *octets);
     }
     Ok(())
 }
@@ -210,24 +215,34 @@ const SIZES: [(usize, usize, bool); 6] = [
     (490, 12, false),
 ];
 
+/// So many octets of data, in the one record of a reply.
+fn reply_of_size(alloc: Global, size: usize) -> Result<Message, Fail> {
+    let text = vec![in alloc; 7u8; size]?;
+    let other = OtherData::new(16, 1, text).ok_or("not kept as it stands")?;
+    let entry = Record {
+        owner: Name::from_text(alloc, ".")?,
+        ttl: 0,
+        rdata: Rdata::Other(other),
+    };
+    reply_with(alloc, vec![in alloc; entry]?)
+}
+
+/// The octets of a reply with so many octets of data, with its question or without one.
+fn written_of_size(alloc: Global, size: usize, asks: bool) -> Result<Vec<u8>, Fail> {
+    let mut reply = reply_of_size(alloc, size)?;
+    if !asks {
+        reply.questions = Section::from_vec(Vec::new(alloc));
+    }
+    written(alloc, &reply)
+}
+
 #[test]
 fn sizes(rt: HostRuntime) -> Result<(), Fail> {
-    for (size, length, asks) in SIZES {
-        let text = vec![in rt.alloc(); 7u8; size]?;
-        let other = OtherData::new(16, 1, text).ok_or("not kept as it stands")?;
-        let entry = Record {
-            owner: Name::from_text(rt.alloc(), ".")?,
-            ttl: 0,
-            rdata: Rdata::Other(other),
-        };
-        let mut reply = reply_with(rt.alloc(), vec![in rt.alloc(); entry]?)?;
-        if !asks {
-            reply.questions = Section::from_vec(Vec::new(rt.alloc()));
-        }
-        let octets = written(rt.alloc(), &reply)?;
-        assert_eq!(rt; octets.len(), length, "{size}");
+    for (size, length, asks) in &SIZES {
+        let octets = written_of_size(rt.alloc(), *size, *asks)?;
+        assert_eq!(rt; octets.len(), *length, "{size}");
         let cut = octets.get(2) == Some(&0x87);
-        assert_eq!(rt; cut, length < 38, "{size}");
+        assert_eq!(rt; cut, *length < 38, "{size}");
     }
     Ok(())
 }
@@ -249,15 +264,32 @@ const REWRITTEN: [(&[u8], &[u8]); 3] = [
     ),
 ];
 
+/// The octets that are written of the message that these begin with.
+fn rewritten(alloc: Global, octets: &[u8]) -> Result<Vec<u8>, Fail> {
+    written(alloc, &read_message(alloc, octets)?)
+}
+
+/// These octets with the three bits of Z set.
+fn with_z(alloc: Global, octets: &[u8]) -> Result<Vec<u8>, Fail> {
+    let low = *octets.get(3).ok_or("no header")?;
+    changed(alloc, octets, 3, &[low | 0x70])
+}
+
 #[test]
 fn read_and_written(rt: HostRuntime) -> Result<(), Fail> {
-    for (octets, plain) in REWRITTEN {
-        let message = read_message(rt.alloc(), octets)?;
-        assert_eq!(rt; written(rt.alloc(), &message)?.as_slice(), plain);
-        // The three bits of Z are written as 0.
-        let z = changed(rt.alloc(), octets, 3, &[octets[3] | 0x70])?;
-        let message = read_message(rt.alloc(), z.as_slice())?;
-        assert_eq!(rt; written(rt.alloc(), &message)?.as_slice(), plain);
+    for (octets, plain) in &REWRITTEN {
+        let again = rewritten(rt.alloc(), octets)?;
+        assert_eq!(rt; again.as_slice(), *plain);
+    }
+    Ok(())
+}
+
+#[test]
+fn bits_of_z_are_written_as_0(rt: HostRuntime) -> Result<(), Fail> {
+    for (octets, plain) in &REWRITTEN {
+        let octets = with_z(rt.alloc(), octets)?;
+        let again = rewritten(rt.alloc(), octets.as_slice())?;
+        assert_eq!(rt; again.as_slice(), *plain);
     }
     Ok(())
 }
