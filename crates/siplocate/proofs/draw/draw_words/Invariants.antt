@@ -1,5 +1,5 @@
 use Rattle.std.proofs.Common.{◌≡◌, ℕ, ◌<◌, slice_index}
-use Rattle.rand_chacha.specs.ChaCha.{ChaCha, key_of, word_at}
+use Rattle.rand_chacha.specs.ChaCha.{key_of, word_at}
 use Rattle.siplocate.proofs.draw.draw_words.Given as goal
 
 abbrev pub invariant-loop-word : goal.invariant-loop-word
