@@ -5,7 +5,8 @@ use Rattle.dns_message.specs.Kinds.{kind_code}
 use Rattle.dns_message.specs.declared.question.Asked.{Asked}
 use Rattle.dns_message.specs.declared.question.Question.{Question}
 use Rattle.dns_answers.specs.Names.{same_name}
-use Rattle.dns_answers.specs.Replies.{is_asked, asks_this_alone, asked_of}
+use Rattle.dns_message.specs.Written.{asked_of}
+use Rattle.dns_answers.specs.Replies.{is_asked, asks_this_alone}
 use Rattle.dns_answers.proofs.SameNames.{same_is, is_same}
 
 abbrev made : List (List ℕ) → ℕ → ℕ → Asked

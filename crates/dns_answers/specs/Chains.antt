@@ -26,7 +26,9 @@ canonical_in _ = None
 -- the alias of this name that a record is
 abbrev pub alias_of : List (List ℕ) → Record → Option Alias
 alias_of name entry =
-    if same_name entry.owner name then option_map (λ (target : List (List ℕ)). record { entry = entry; target = target }) (canonical_in entry.rdata) else None
+    if same_name entry.owner name
+    then option_map (λ (target : List (List ℕ)). record { entry = entry; target = target }) (canonical_in entry.rdata)
+    else None
 
 -- the first one in a section
 abbrev pub first_alias : List (List ℕ) → List Record → Option Alias
@@ -42,9 +44,11 @@ behind link chain = record { links = link ∷ chain.links; last = chain.last }
 
 -- the chain from a name, where it has at most so many links
 unfoldable pub chain_within : ℕ → List Record → List (List ℕ) → Option Chain
-chain_within zero section name = option_map_or (λ (alias : Alias). None) (first_alias name section) (Some (ends_at name))
+chain_within zero section name =
+    option_map_or (λ (alias : Alias). None) (first_alias name section) (Some (ends_at name))
 chain_within (suc more) section name =
-    option_map_or (λ (alias : Alias). option_map (behind alias.entry) (chain_within more section alias.target)) (first_alias name section) (Some (ends_at name))
+    option_map_or (λ (alias : Alias). option_map (behind alias.entry) (chain_within more section alias.target))
+    (first_alias name section) (Some (ends_at name))
 
 -- where it has at most eight
 abbrev pub chain : List Record → List (List ℕ) → Option Chain
@@ -68,8 +72,8 @@ pub record IsFirstAlias (section : List Record) (name : List (List ℕ)) (entry 
 -- from the first name these CNAME records lead to the other one, each the first of its owner
 pub data Follows (section : List Record) : List (List ℕ) → List Record → List (List ℕ) → Type 0 where
   stays : {name last : List (List ℕ)} → last ≡ name → Follows section name [] last
-  leads : {name last : List (List ℕ)} {entry : Record} {others : List Record} (target : List (List ℕ)) → IsFirstAlias section name entry target
-      → Follows section target others last → Follows section name (entry ∷ others) last
+  leads : {name last : List (List ℕ)} {entry : Record} {others : List Record} (target : List (List ℕ))
+      → IsFirstAlias section name entry target → Follows section target others last → Follows section name (entry ∷ others) last
 
 -- these at most eight lead from the name to one that has no CNAME
 pub record IsChain (section : List Record) (name : List (List ℕ)) (chain : Chain) : Type 0 where

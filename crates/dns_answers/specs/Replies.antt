@@ -17,10 +17,6 @@ asks_this_alone question [] = false
 asks_this_alone question (asked ∷ []) = is_asked question asked
 asks_this_alone question (asked ∷ other ∷ more) = false
 
--- the question as a message has it, in class IN
-abbrev pub asked_of : Question → Asked
-asked_of question = record { name = question.name; code = kind_code question.kind; class_code = 1 }
-
 -- why a message gives no answer to a question: the first of these
 abbrev pub reply_refusal : Question → Message → Option ReplyRefusal
 reply_refusal question message =

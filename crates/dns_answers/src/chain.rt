@@ -70,7 +70,8 @@ fn first_alias<'a>(name: &Name, section: &'a [Record]) -> Option<Alias<'a>>
 /// The end of the chain from a name, unless it has more than eight links.
 pub(crate) fn chain_end<'a>(section: &'a [Record], start: &'a Name) -> Option<ChainEnd<'a>>
     ensures { MatchOption result (spec.chain section.now start.now ≡ None)
-        (λ end. (links : List resource.Record) × (spec.chain section.now start.now ≡ Some (record { links = links; last = end.name.now }))
+        (λ end. (links : List resource.Record)
+        × (spec.chain section.now start.now ≡ Some (record { links = links; last = end.name.now }))
         × (end.life ≡ least_from 2147483647 (ttls links))) }
 {
     let mut name = start;

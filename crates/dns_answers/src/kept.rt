@@ -104,7 +104,8 @@ fn kept<T: Wanted>(
     name: &Name,
     limit: u32,
 ) -> Result<(Vec<T>, u32), AllocError>
-    ensures { IfOk result (λ found. (found.0.items ≡ spec.data_of T.data_in (spec.kept_with T.data_in name.now section.now))
+    ensures { IfOk result (λ found.
+        (found.0.items ≡ spec.data_of T.data_in (spec.kept_with T.data_in name.now section.now))
         × (found.1 ≡ least_from limit (ttls (spec.kept_with T.data_in name.now section.now)))) }
 {
     let mut items = Vec::new(alloc);

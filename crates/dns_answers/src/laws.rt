@@ -1,12 +1,13 @@
 //! Laws of answers. A call of one does nothing: its contract tells its caller the law.
 ghost use Rattle.std.specs.Prelude.{◌≡◌, ◌≢◌, ◌↔◌, ◌++◌, ◌∷◌, ℕ, List, [], true, Some, None, map};
+ghost use Rattle.dns_message.specs.Written.{asked_of};
 ghost use Rattle.dns_message.specs.declared.message.Message as message;
 ghost use Rattle.dns_message.specs.declared.question.Asked as asked;
 ghost use Rattle.dns_message.specs.declared.question.Question as question;
 ghost use Rattle.dns_message.specs.declared.resource.Record as resource;
 ghost use Rattle.dns_answers.specs.Chains as chains;
 ghost use Rattle.dns_answers.specs.Lives.{IsLeast, lasting, life_of, ttls};
-ghost use Rattle.dns_answers.specs.Replies.{asked_of, asks_this_alone};
+ghost use Rattle.dns_answers.specs.Replies.{asks_this_alone};
 
 /// A chain has the first CNAME record of each name on its way, at most eight of them, and ends at a name without one;
 /// there is none exactly where nine can be followed.

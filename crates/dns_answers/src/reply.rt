@@ -50,9 +50,11 @@ pub fn answer_of(
     message: &Message,
 ) -> Result<Answer, ReplyRefusal>
     // Each other refusal comes exactly where the message gives it; memory is wanted only where none of them comes.
-    ensures refused { (refusal : refusals.ReplyRefusal) → refusal_of question.now message.now ≡ Some refusal → result ≡ Err refusal }
+    ensures refused { (refusal : refusals.ReplyRefusal) → refusal_of question.now message.now ≡ Some refusal
+        → result ≡ Err refusal }
     ensures answered { refusal_of question.now message.now ≡ None
-        → MatchResult result (λ answer. answer ≡ spec.answer question.now message.now) (λ refusal. refusal ≡ ReplyRefusal.Memory) }
+        → MatchResult result (λ answer. answer ≡ spec.answer question.now message.now)
+        (λ refusal. refusal ≡ ReplyRefusal.Memory) }
     ensures kind { IfOk result (λ answer. kind_of answer.records ≡ question.now.kind) }
 {
     if let Some(refusal) = reply_refusal(question, message) {

@@ -79,13 +79,15 @@ same_question a b = same_name a.name b.name && kind_code a.kind == kind_code b.k
 -- the answer to a question
 abbrev pub find : Question → List Answered → Option AnswerValue
 find question [] = None
-find question (answered ∷ others) = if same_question answered.question question then Some answered.answer else find question others
+find question (answered ∷ others) =
+    if same_question answered.question question then Some answered.answer else find question others
 
 abbrev pub target_at : Transport → ℕ → List ℕ → Target
 target_at transport port octets = record { transport = transport; address = address.V4 octets; port = port }
 
 abbrev pub targets_of : Transport → ℕ → List (List ℕ) → Outcome
-targets_of transport port addresses = if length addresses == 0 then refused NoAddress else targets (map (target_at transport port) addresses)
+targets_of transport port addresses =
+    if length addresses == 0 then refused NoAddress else targets (map (target_at transport port) addresses)
 
 -- the addresses of IPv4 that an answer has
 abbrev pub addresses_in : Records → List (List ℕ)
@@ -108,12 +110,14 @@ port_of (Uri uri) = uri.port
 port_of (Via via) = via.port
 
 abbrev pub locate_address : Transport → Option ℕ → Address → Outcome
-locate_address transport port address = targets (record { transport = transport; address = address; port = unwrap_or port (default_port transport) } ∷ [])
+locate_address transport port address =
+    targets (record { transport = transport; address = address; port = unwrap_or port (default_port transport) } ∷ [])
 
 abbrev pub locate_host : Transport → Option ℕ → Host → List Answered → Outcome
 locate_host transport port (host.V4 octets) known = locate_address transport port (address.V4 octets)
 locate_host transport port (host.V6 octets) known = locate_address transport port (address.V6 octets)
-locate_host transport (Some port) (host.Domain name) known = addresses_of transport port (question_of name) (find (question_of name) known)
+locate_host transport (Some port) (host.Domain name) known =
+    addresses_of transport port (question_of name) (find (question_of name) known)
 locate_host transport None (host.Domain name) known = unready
 
 -- addresses of IPv4 alone are asked for yet
@@ -129,7 +133,8 @@ locate families request known = locate_over (transport_of request) families requ
 
 -- ---- what messages build up
 
--- the question that is needed and the answer that a message has for it, unless nothing is needed or the message is no reply to it
+-- the question that is needed and the answer that a message has for it, unless nothing is needed or the message is no
+-- reply to it
 abbrev pub told : Outcome → Message → Option Answered
 told (need question) message =
     if is_none (reply_refusal question message) then Some (record { question = question; answer = answer question message }) else None
@@ -141,7 +146,8 @@ told unready message = None
 abbrev pub talk_from : Families → Request → List Answered → List Message → Option (List Answered)
 talk_from families request known [] = Some known
 talk_from families request known (message ∷ messages) =
-    option_and_then (λ (more : Answered). talk_from families request (known ++ more ∷ []) messages) (told (locate families request known) message)
+    option_and_then (λ (more : Answered). talk_from families request (known ++ more ∷ []) messages)
+    (told (locate families request known) message)
 
 abbrev pub talk : Families → Request → List Message → Option (List Answered)
 talk families request messages = talk_from families request [] messages

@@ -34,7 +34,8 @@ RequestText line (Via via) = (rest : List ℕ) × BeginsVia line rest × ViaText
 -- What becomes of the request in the first line, with the replies in the others.
 pub data LocatesTo (families : Families) (text : List ℕ) : Outcome → Type 0 where
   -- each of the other lines is a reply to the question that is needed then
-  talked : {outcome : Outcome} (request : Request) (messages : List Message) (known : List Answered) → RequestText (first_line text) request
+  talked : {outcome : Outcome} (request : Request) (messages : List Message) (known : List Answered)
+      → RequestText (first_line text) request
       → AllZip ReplyLine (other_lines text) messages
       → talk families request messages ≡ Some known
       → outcome ≡ locate families request known

@@ -73,11 +73,13 @@ abbrev pub bad_reply_line : BadReply → List ℕ
 bad_reply_line reply = codes "bad reply " ++ reply_word reply ++ 10 ∷ []
 
 abbrev pub IsBadLine : List ℕ → Type 0
-IsBadLine line = ((refusal : UriRefusal) × (line ≡ bad_request_line refusal)) ⊎ ((reply : BadReply) × (line ≡ bad_reply_line reply))
+IsBadLine line =
+    ((refusal : UriRefusal) × (line ≡ bad_request_line refusal)) ⊎ ((reply : BadReply) × (line ≡ bad_reply_line reply))
 
 -- a target's line
 abbrev pub target_line : Target → List ℕ
-target_line target = transport_word target.transport ++ (32 ∷ address_text target.address) ++ (32 ∷ decimal target.port) ++ 10 ∷ []
+target_line target =
+    transport_word target.transport ++ (32 ∷ address_text target.address) ++ (32 ∷ decimal target.port) ++ 10 ∷ []
 
 -- a question's line
 abbrev pub question_line : Question → List ℕ

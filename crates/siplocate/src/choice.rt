@@ -139,7 +139,8 @@ fn locate_name(
     name: &Name,
     known: &[Answered],
 ) -> Result<Located, AllocError>
-    ensures { IfOk result (λ located. outcome_of located ≡ spec.addresses_of transport port (spec.question_of name.now) (spec.find (spec.question_of name.now) known.now)) }
+    ensures { IfOk result (λ located. outcome_of located
+        ≡ spec.addresses_of transport port (spec.question_of name.now) (spec.find (spec.question_of name.now) known.now)) }
 {
     let question = Question {
         name: name.try_clone()?,

@@ -80,10 +80,15 @@ fn talk(
     text: &str,
 ) -> Result<Located, BadReply>
     requires { outcome_of first ≡ spec.locate families request.now [] }
-    ensures found { IfOk result (λ located. (messages : List message.Message) × (known : List choice.Answered) × AllZip ReplyLine (other_lines text.now) messages
-        × (spec.talk families request.now messages ≡ Some known) × (outcome_of located ≡ spec.locate families request.now known)) }
-    ensures read { (messages : List message.Message) (known : List choice.Answered) → AllZip ReplyLine (other_lines text.now) messages → spec.talk families request.now messages ≡ Some known
-        → MatchResult result (λ located. outcome_of located ≡ spec.locate families request.now known) (λ reply. reply ≡ BadReply.Memory) }
+    ensures found { IfOk result (λ located. (messages : List message.Message) × (known : List choice.Answered)
+        × AllZip ReplyLine (other_lines text.now) messages
+        × (spec.talk families request.now messages ≡ Some known)
+        × (outcome_of located ≡ spec.locate families request.now known)) }
+    ensures read { (messages : List message.Message) (known : List choice.Answered)
+        → AllZip ReplyLine (other_lines text.now) messages
+        → spec.talk families request.now messages ≡ Some known
+        → MatchResult result (λ located. outcome_of located ≡ spec.locate families request.now known)
+        (λ reply. reply ≡ BadReply.Memory) }
 {
     let mut known = Vec::new(alloc);
     let mut located = first;
@@ -116,7 +121,8 @@ pub fn one_text(alloc: Global, families: Families, text: &str) -> Result<(String
     ensures located { (outcome : spec.Outcome) → LocatesTo families text.now outcome
         → IfOk result (λ told. (string_bytes told.0 ≡ words.shown outcome) × (told.1 ≡ words.status_of outcome)) }
     // Nothing else is printed but what is wrong, under status 3.
-    ensures only { IfOk result (λ told. ((told.1 ≡ 3) × words.IsBadLine (string_bytes told.0)) ⊎ ((outcome : spec.Outcome) × LocatesTo families text.now outcome
+    ensures only { IfOk result (λ told. ((told.1 ≡ 3) × words.IsBadLine (string_bytes told.0))
+        ⊎ ((outcome : spec.Outcome) × LocatesTo families text.now outcome
         × (string_bytes told.0 ≡ words.shown outcome) × (told.1 ≡ words.status_of outcome))) }
 {
     match located(alloc, families, text) {

@@ -62,7 +62,8 @@ fn digits_of(alloc: Global, line: &str) -> Result<Vec<u8>, AllocError>
 /// The octets of a line of digits.
 fn octets_of(alloc: Global, line: &str) -> Result<Vec<u8>, BadReply>
     ensures found { IfOk result (λ octets. decode_of (digits line.now) ≡ Ok octets.items) }
-    ensures bad { IfErr result (λ reply. reply ≢ BadReply.Memory → (octets : List ℕ) → decode_of (digits line.now) ≢ Ok octets) }
+    ensures bad { IfErr result (λ reply. reply ≢ BadReply.Memory
+        → (octets : List ℕ) → decode_of (digits line.now) ≢ Ok octets) }
 {
     let digits = digits_of(alloc, line)?;
     match hex::decode(alloc, digits) {
@@ -115,9 +116,12 @@ fn answered_by(alloc: Global, question: &Question, message: &Message) -> Result<
 
 /// The question that comes first, with the answer of a line.
 pub fn answered(alloc: Global, located: &Located, line: &str) -> Result<Answered, BadReply>
-    ensures found { IfOk result (λ answered. (found : message.Message) × ReplyLine line.now found × (told (outcome_of located.now) found ≡ Some answered)) }
-    ensures each { IfOk result (λ answered. (found : message.Message) → ReplyLine line.now found → told (outcome_of located.now) found ≡ Some answered) }
-    ensures read { (found : message.Message) (known : choice.Answered) → ReplyLine line.now found → told (outcome_of located.now) found ≡ Some known
+    ensures found { IfOk result (λ answered. (found : message.Message) × ReplyLine line.now found
+        × (told (outcome_of located.now) found ≡ Some answered)) }
+    ensures each { IfOk result (λ answered. (found : message.Message) → ReplyLine line.now found
+        → told (outcome_of located.now) found ≡ Some answered) }
+    ensures read { (found : message.Message) (known : choice.Answered) → ReplyLine line.now found
+        → told (outcome_of located.now) found ≡ Some known
         → MatchResult result (λ answered. answered ≡ known) (λ reply. reply ≡ BadReply.Memory) }
 {
     let octets = octets_of(alloc, line)?;
