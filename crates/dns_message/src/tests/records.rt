@@ -127,11 +127,21 @@ fn first_answer(alloc: Global, octets: &[u8]) -> Result<Option<String>, Fail> {
     }
 }
 
+/// What data of a type and class says, as that of the first answer of a reply.
+fn said_of(
+    alloc: Global,
+    code: u16,
+    class_code: u16,
+    octets: &[u8],
+) -> Result<Option<String>, Fail> {
+    let octets = reply_of(alloc, code, class_code, octets)?;
+    first_answer(alloc, octets.as_slice())
+}
+
 #[test]
 fn data_by_type(rt: HostRuntime) -> Result<(), Fail> {
     for (code, octets, says) in &ROWS {
-        let octets = reply_of(rt.alloc(), *code, 1, octets)?;
-        let said = first_answer(rt.alloc(), octets.as_slice())?;
+        let said = said_of(rt.alloc(), *code, 1, octets)?;
         assert_eq!(rt; said.as_deref(), *says, "{code}");
     }
     Ok(())
@@ -140,8 +150,7 @@ fn data_by_type(rt: HostRuntime) -> Result<(), Fail> {
 #[test]
 fn data_of_another_class(rt: HostRuntime) -> Result<(), Fail> {
     for code in [1, 5, 6, 28, 33, 35] {
-        let octets = reply_of(rt.alloc(), code, 3, b"\xc0")?;
-        let said = first_answer(rt.alloc(), octets.as_slice())?;
+        let said = said_of(rt.alloc(), code, 3, b"\xc0")?;
         let says = format!(in rt.alloc(); "type {code} class 3 of 1")?;
         assert_eq!(rt; said.as_deref(), Some(says.as_str()));
     }

@@ -2,6 +2,7 @@
 //! Knot DNS 3.2.6, asked without EDNS.
 use crate::*;
 use std::alloc::Global;
+use std::process::Abort;
 use std::test::Fail;
 
 /// NSD: the NAPTR records of b.example. Replacements stand whole, the zone's server as a pointer.
@@ -94,23 +95,8 @@ pub(crate) fn data_text(alloc: Global, rdata: &Rdata) -> Result<String, Fail> {
             let number = u128::from_be_bytes(*octets);
             format!(in alloc; "AAAA {number:032x}")?
         }
-        Rdata::Srv(server) => {
-            let target = server.target.text()?;
-            format!(in alloc;
-                "SRV {} {} {} {target}",
-                server.priority, server.weight, server.port
-            )?
-        }
-        Rdata::Naptr(rule) => {
-            let flags = text_of(&rule.flags);
-            let services = text_of(&rule.services);
-            let regexp = text_of(&rule.regexp);
-            let replacement = rule.replacement.text()?;
-            format!(in alloc;
-                "NAPTR {} {} {flags} {services} {regexp} {replacement}",
-                rule.order, rule.preference
-            )?
-        }
+        Rdata::Srv(server) => srv_text(alloc, server)?,
+        Rdata::Naptr(rule) => naptr_text(alloc, rule)?,
         Rdata::Cname(name) => {
             let name = name.text()?;
             format!(in alloc; "CNAME {name}")?
@@ -125,6 +111,32 @@ pub(crate) fn data_text(alloc: Global, rdata: &Rdata) -> Result<String, Fail> {
             )?
         }
     })
+}
+
+/// What a server says.
+fn srv_text(alloc: Global, server: &SrvRecord) -> Result<String, Fail> {
+    let target = server.target.text()?;
+    let SrvRecord {
+        priority,
+        weight,
+        port,
+        ..
+    } = server;
+    Ok(format!(in alloc; "SRV {priority} {weight} {port} {target}")?)
+}
+
+/// What a rule says.
+fn naptr_text(alloc: Global, rule: &NaptrRecord) -> Result<String, Fail> {
+    let flags = text_of(&rule.flags);
+    let services = text_of(&rule.services);
+    let regexp = text_of(&rule.regexp);
+    let replacement = rule.replacement.text()?;
+    let NaptrRecord {
+        order,
+        preference,
+        ..
+    } = rule;
+    Ok(format!(in alloc; "NAPTR {order} {preference} {flags} {services} {regexp} {replacement}")?)
 }
 
 /// What the start of a zone says.
@@ -154,20 +166,41 @@ pub(crate) fn section_text(alloc: Global, section: &Section<Record>) -> Result<S
     Ok(text)
 }
 
+/// Whether a message is a whole reply of an authority to one question, with this code.
+fn is_authoritative(message: &Message, rcode: u8) -> bool {
+    let header = message.header;
+    header.reply
+        && header.authoritative
+        && !header.truncated
+        && header.rcode == rcode
+        && message.questions.len() == 1
+}
+
+/// The records of a section are these, a line each.
+pub(crate) fn check_section(
+    rt: &impl Abort,
+    alloc: Global,
+    section: &Section<Record>,
+    lines: &str,
+) -> Result<(), Fail> {
+    let text = section_text(alloc, section)?;
+    assert_eq!(rt; text.as_str(), lines);
+    Ok(())
+}
+
+/// A message says what a row has.
+fn check_row(rt: &impl Abort, alloc: Global, row: &Row) -> Result<(), Fail> {
+    let message = read_message(alloc, row.octets)?;
+    assert!(rt; is_authoritative(&message, row.rcode));
+    check_section(rt, alloc, &message.answers, row.answers)?;
+    check_section(rt, alloc, &message.authority, row.authority)?;
+    check_section(rt, alloc, &message.additional, row.additional)
+}
+
 #[test]
 fn replies_of_servers(rt: HostRuntime) -> Result<(), Fail> {
     for row in &ROWS {
-        let message = read_message(rt.alloc(), row.octets)?;
-        assert!(rt; message.header.reply && message.header.authoritative);
-        assert!(rt; !message.header.truncated);
-        assert_eq!(rt; message.header.rcode, row.rcode);
-        assert_eq!(rt; message.questions.len(), 1);
-        let answers = section_text(rt.alloc(), &message.answers)?;
-        assert_eq!(rt; answers.as_str(), row.answers);
-        let authority = section_text(rt.alloc(), &message.authority)?;
-        assert_eq!(rt; authority.as_str(), row.authority);
-        let additional = section_text(rt.alloc(), &message.additional)?;
-        assert_eq!(rt; additional.as_str(), row.additional);
+        check_row(&rt, rt.alloc(), row)?;
     }
     Ok(())
 }

@@ -1,6 +1,7 @@
 //! The values of messages.
 use crate::*;
 use dns_name::Name;
+use std::alloc::Global;
 use std::test::Fail;
 
 #[test]
@@ -67,43 +68,58 @@ fn kinds(rt: HostRuntime) -> Result<(), Fail> {
     Ok(())
 }
 
+/// How many octets the string of so many has, and whether its copy is equal to it, unless there is none.
+fn string_of_size(alloc: Global, size: usize) -> Result<Option<(usize, bool)>, Fail> {
+    match CharString::new(vec![in alloc; 7u8; size]?) {
+        None => Ok(None),
+        Some(string) => {
+            let copy = string.try_clone()?;
+            Ok(Some((string.octets().len(), copy == string)))
+        }
+    }
+}
+
 #[test]
 fn char_strings(rt: HostRuntime) -> Result<(), Fail> {
     for (size, made) in [(0usize, true), (1, true), (255, true), (256, false)] {
-        let octets = vec![in rt.alloc(); 7u8; size]?;
-        match CharString::new(octets) {
-            None => assert!(rt; !made, "{size}"),
-            Some(string) => {
-                assert!(rt; made, "{size}");
-                assert_eq!(rt; string.octets().len(), size);
-                let copy = string.try_clone()?;
-                assert!(rt; copy == string, "{size}");
-            }
-        }
+        let string = string_of_size(rt.alloc(), size)?;
+        assert_eq!(rt; string, made.then_some((size, true)));
     }
-    let one = CharString::new(Vec::from_slice(rt.alloc(), b"s")?).ok_or("long")?;
-    let other = CharString::new(Vec::from_slice(rt.alloc(), b"u")?).ok_or("long")?;
-    assert!(rt; one != other);
+    assert!(rt; string(rt.alloc(), b"s")? != string(rt.alloc(), b"u")?);
     Ok(())
+}
+
+pub(crate) fn string(alloc: Global, octets: &[u8]) -> Result<CharString, Fail> {
+    Ok(CharString::new(Vec::from_slice(alloc, octets)?).ok_or("too long")?)
+}
+
+/// s1.b.example. at port 5060.
+pub(crate) fn server(alloc: Global) -> Result<SrvRecord, Fail> {
+    Ok(SrvRecord {
+        priority: 10,
+        weight: 60,
+        port: 5060,
+        target: Name::from_text(alloc, "s1.b.example")?,
+    })
+}
+
+/// A rule that leads to _sips._tcp.b.example.
+pub(crate) fn rule(alloc: Global) -> Result<NaptrRecord, Fail> {
+    Ok(NaptrRecord {
+        order: 10,
+        preference: 50,
+        flags: string(alloc, b"s")?,
+        services: string(alloc, b"SIPS+D2T")?,
+        regexp: string(alloc, b"")?,
+        replacement: Name::from_text(alloc, "_sips._tcp.b.example")?,
+    })
 }
 
 #[test]
 fn copies(rt: HostRuntime) -> Result<(), Fail> {
-    let server = SrvRecord {
-        priority: 10,
-        weight: 60,
-        port: 5060,
-        target: Name::from_text(rt.alloc(), "s.b.example")?,
-    };
+    let server = server(rt.alloc())?;
     assert!(rt; server.try_clone()? == server);
-    let rule = NaptrRecord {
-        order: 10,
-        preference: 50,
-        flags: CharString::new(Vec::from_slice(rt.alloc(), b"s")?).ok_or("long")?,
-        services: CharString::new(Vec::from_slice(rt.alloc(), b"SIPS+D2T")?).ok_or("long")?,
-        regexp: CharString::new(Vec::new(rt.alloc())).ok_or("long")?,
-        replacement: Name::from_text(rt.alloc(), "_sips._tcp.b.example")?,
-    };
+    let rule = rule(rt.alloc())?;
     assert!(rt; rule.try_clone()? == rule);
     Ok(())
 }

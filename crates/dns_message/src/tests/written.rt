@@ -1,10 +1,12 @@
 //! Messages that are written, by hand, as tables.
 use super::records::SRV_REPLY;
-use super::servers::{KNOT_NO_NAME, section_text};
+use super::servers::{KNOT_NO_NAME, check_section, section_text};
+use super::values::{rule, server};
 use super::{REPLY, changed};
 use crate::*;
 use dns_name::Name;
 use std::alloc::Global;
+use std::process::Abort;
 use std::test::Fail;
 
 /// What is asked of a.example., and the octets of the query.
@@ -78,21 +80,21 @@ fn reply_with(alloc: Global, answers: Vec<Record>) -> Result<Message, Fail> {
     })
 }
 
-/// The record of this data for the root, to be kept for a minute, as it is written.
-fn record_octets(alloc: Global, rdata: Rdata) -> Result<Vec<u8>, Fail> {
+/// A reply whose one answer is the record of this data for the root, to be kept for a minute.
+fn reply_of_data(alloc: Global, rdata: Rdata) -> Result<Message, Fail> {
     let owner = Name::from_text(alloc, ".")?;
     let entry = Record {
         owner,
         ttl: 60,
         rdata,
     };
-    let octets = written(alloc, &reply_with(alloc, vec![in alloc; entry]?)?)?;
-    let behind = octets.get(27..).ok_or("cut")?;
-    Ok(Vec::from_slice(alloc, behind)?)
+    reply_with(alloc, vec![in alloc; entry]?)
 }
 
-fn string(alloc: Global, octets: &[u8]) -> Result<CharString, Fail> {
-    Ok(CharString::new(Vec::from_slice(alloc, octets)?).ok_or("too long")?)
+/// This record as it is written, behind the 27 octets of the header and the question.
+fn record_octets(alloc: Global, rdata: Rdata) -> Result<Vec<u8>, Fail> {
+    let octets = written(alloc, &reply_of_data(alloc, rdata)?)?;
+    Ok(octets.into_iter().skip(27).collect(alloc)?)
 }
 
 #[test]
@@ -113,26 +115,12 @@ fn addresses(rt: HostRuntime) -> Result<(), Fail> {
 
 #[test]
 fn services(rt: HostRuntime) -> Result<(), Fail> {
-    let server = SrvRecord {
-        priority: 10,
-        weight: 60,
-        port: 5060,
-        target: Name::from_text(rt.alloc(), "s1.b.example")?,
-    };
-    let octets = record_octets(rt.alloc(), Rdata::Srv(server))?;
+    let octets = record_octets(rt.alloc(), Rdata::Srv(server(rt.alloc())?))?;
     assert_eq!(rt;
         octets.as_slice(),
         b"\x00\x00\x21\x00\x01\x00\x00\x00\x3c\x00\x14\x00\x0a\x00\x3c\x13\xc4\x02s1\x01b\x07example\x00".as_slice()
     );
-    let rule = NaptrRecord {
-        order: 10,
-        preference: 50,
-        flags: string(rt.alloc(), b"s")?,
-        services: string(rt.alloc(), b"SIPS+D2T")?,
-        regexp: string(rt.alloc(), b"")?,
-        replacement: Name::from_text(rt.alloc(), "_sips._tcp.b.example")?,
-    };
-    let octets = record_octets(rt.alloc(), Rdata::Naptr(rule))?;
+    let octets = record_octets(rt.alloc(), Rdata::Naptr(rule(rt.alloc())?))?;
     assert_eq!(rt;
         octets.as_slice(),
         b"\x00\x00\x23\x00\x01\x00\x00\x00\x3c\x00\x26\x00\x0a\x00\x32\x01s\x08SIPS+D2T\x00\x05_sips\x04_tcp\x01b\x07example\x00".as_slice()
@@ -189,19 +177,30 @@ fn addresses_of_m(alloc: Global, count: u8) -> Result<Vec<Record>, Fail> {
 const CUT: &[u8] =
     b"\x00\x07\x87\x00\x00\x01\x00\x00\x00\x00\x00\x00\x01m\x07example\x00\x00\x01\x00\x01";
 
+/// A reply with so many addresses of m.example.
+fn reply_of_addresses(alloc: Global, count: u8) -> Result<Message, Fail> {
+    reply_with(alloc, addresses_of_m(alloc, count)?)
+}
+
+/// Its octets.
+fn many_addresses(alloc: Global, count: u8) -> Result<Vec<u8>, Fail> {
+    written(alloc, &reply_of_addresses(alloc, count)?)
+}
+
 #[test]
-fn many_addresses(rt: HostRuntime) -> Result<(), Fail> {
-    let whole = reply_with(rt.alloc(), addresses_of_m(rt.alloc(), 19)?)?;
-    let octets = written(rt.alloc(), &whole)?;
+fn as_many_addresses_as_fit(rt: HostRuntime) -> Result<(), Fail> {
+    let octets = many_addresses(rt.alloc(), 19)?;
     assert_eq!(rt; octets.len(), 502);
-    assert_eq!(rt;
-        octets.get(2..8),
-        Some(b"\x85\x00\x00\x01\x00\x13".as_slice())
-    );
+    assert!(rt; octets.starts_with(b"\x00\x07\x85\x00\x00\x01\x00\x13"));
     let last = b"\x01m\x07example\x00\x00\x01\x00\x01\x00\x00\x01\x2c\x00\x04\xc0\x00\x02\x12";
-    assert_eq!(rt; octets.get(477..), Some(last.as_slice()));
-    let cut = reply_with(rt.alloc(), addresses_of_m(rt.alloc(), 20)?)?;
-    assert_eq!(rt; written(rt.alloc(), &cut)?.as_slice(), CUT);
+    assert!(rt; octets.ends_with(last));
+    Ok(())
+}
+
+#[test]
+fn one_address_more(rt: HostRuntime) -> Result<(), Fail> {
+    let octets = many_addresses(rt.alloc(), 20)?;
+    assert_eq!(rt; octets.as_slice(), CUT);
     Ok(())
 }
 
@@ -306,19 +305,31 @@ fn sections_in_their_order(rt: HostRuntime) -> Result<(), Fail> {
     Ok(())
 }
 
+/// What is read of the octets of a reply, with three more behind them.
+fn again(alloc: Global, reply: &Message) -> Result<Message, Fail> {
+    let mut octets = written(alloc, reply)?;
+    octets.extend_from_slice(b"\xff\xff\xff")?;
+    Ok(read_message(alloc, octets.as_slice())?)
+}
+
+/// A message without further records has the header, question and answers of a reply.
+fn check_same(
+    rt: &impl Abort,
+    alloc: Global,
+    message: &Message,
+    reply: &Message,
+) -> Result<(), Fail> {
+    assert_eq!(rt; message.header, reply.header);
+    assert!(rt; message.questions.as_slice() == reply.questions.as_slice());
+    let answers = section_text(alloc, &reply.answers)?;
+    check_section(rt, alloc, &message.answers, answers.as_str())?;
+    assert!(rt; message.authority.is_empty() && message.additional.is_empty());
+    Ok(())
+}
+
 #[test]
 fn read_again(rt: HostRuntime) -> Result<(), Fail> {
-    let reply = reply_with(rt.alloc(), addresses_of_m(rt.alloc(), 19)?)?;
-    let mut octets = written(rt.alloc(), &reply)?;
-    octets.extend_from_slice(b"\xff\xff\xff")?;
-    let again = read_message(rt.alloc(), octets.as_slice())?;
-    assert_eq!(rt; again.header, reply.header);
-    assert!(rt; again.questions.as_slice() == reply.questions.as_slice());
-    let answers = section_text(rt.alloc(), &reply.answers)?;
-    assert_eq!(rt;
-        section_text(rt.alloc(), &again.answers)?.as_str(),
-        answers.as_str()
-    );
-    assert!(rt; again.authority.is_empty() && again.additional.is_empty());
-    Ok(())
+    let reply = reply_of_addresses(rt.alloc(), 19)?;
+    let again = again(rt.alloc(), &reply)?;
+    check_same(&rt, rt.alloc(), &again, &reply)
 }
