@@ -6,7 +6,7 @@
 //!
 //! ```text
 //! match order(alloc, records, &words, from)? {
-//!     SrvOutcome::Listed { places, next } => { /* records[places[0]] is tried first; the next words stand from `next` on */ }
+//!     SrvOutcome::Listed(places, next) => { /* records[places[0]] is tried first; the next words stand from `next` on */ }
 //!     SrvOutcome::Absent => { /* no records: RFC 2782 goes on with the addresses of the name */ }
 //!     SrvOutcome::Denied => { /* the service is not offered */ }
 //! }

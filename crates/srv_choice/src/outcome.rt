@@ -7,11 +7,7 @@ pub enum SrvOutcome {
     Absent,
     /// That it is not offered: the target of the one record is the root.
     Denied,
-    /// Where it is to be tried.
-    Listed {
-        /// The places of the records, from 0, in the order in which they are to be tried.
-        places: Vec<usize>,
-        /// The place of the first random word that is still unused.
-        next: usize,
-    },
+    /// Where it is to be tried: the places of the records, from 0, in the order in which they are to be tried, and the
+    /// place of the first random word that is still unused.
+    Listed(Vec<usize>, usize),
 }

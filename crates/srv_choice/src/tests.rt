@@ -187,7 +187,7 @@ fn check_order(rt: &(impl Abort + AllocGlobal), row: &OrderRow) -> Result<(), Fa
     let records = servers_at(rt.alloc(), "b.example", row.servers).ok_or("memory")?;
     let words = words_at(row.from, row.words);
     match outcome_of(rt, &records, &words, row.from)? {
-        SrvOutcome::Listed { places, next } => {
+        SrvOutcome::Listed(places, next) => {
             assert_eq!(rt; places.as_slice(), row.places);
             assert_eq!(rt; next, row.from.saturating_add(row.places.len()));
         }
@@ -223,7 +223,7 @@ fn root_alone(rt: HostRuntime) -> Result<(), Fail> {
 fn two_roots(rt: HostRuntime) -> Result<(), Fail> {
     let records = servers_at(rt.alloc(), ".", &[(1, 0), (0, 0)]).ok_or("memory")?;
     match outcome_of(&rt, &records, &words_at(0, &[]), 9)? {
-        SrvOutcome::Listed { places, next } => {
+        SrvOutcome::Listed(places, next) => {
             assert_eq!(rt; places.as_slice(), [1, 0].as_slice());
             assert_eq!(rt; next, 11);
         }
