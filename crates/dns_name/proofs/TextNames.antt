@@ -1,6 +1,6 @@
 -- A text has no fault exactly where it is the text of a name, and of one name alone.
-use Rattle.std.proofs.Common.{◌≡◌, ℕ, suc, ◌+◌, ◌-◌, ◌<◌, ◌≤◌, ◌==◌, true, false, List, [], ◌∷◌, ◌++◌, length, map, take, get_or, Option, Some, None, refl, sym, ap, ◌∙◌, inl, inr, ◌⊎◌, arith, eqb}
-use Rattle.std.specs.List.{All, AllByRecursion, list_all, join_with_byte}
+use Rattle.std.proofs.Common.{◌≡◌, ℕ, suc, ◌+◌, ◌-◌, ◌<◌, ◌≤◌, ◌==◌, true, false, List, [], ◌∷◌, ◌++◌, length, map, take, get_or, Option, Some, None, refl, sym, ap, ◌∙◌, inl, inr, ◌⊎◌, arith, eqb, append_assoc}
+use Rattle.std.specs.List.{All, AllByRecursion, flat_map, list_all, join_with_byte}
 use Rattle.std.specs.Option.{option_or}
 use Rattle.std.specs.Str.{bytes_eq}
 use Rattle.std.proofs.lemmas.Bool.Decides.{nat_tests}
@@ -8,9 +8,9 @@ use Rattle.std.proofs.lemmas.Bool.{cases_Bool}
 use Rattle.std.proofs.lemmas.Slice.Eq.{bytes_eq-Decides}
 use Rattle.std.proofs.lemmas.List.Splits.{slice_split_none, slice_split_at, join_with_byte-slice_split, length-slice_split}
 use Rattle.std.proofs.lemmas.List.Elements.{All-nil, All-cons}
-use Rattle.std.proofs.lemmas.List.{length-append, take_at, take_all, take_more, length_push, get_or_push, get_or-append-add}
+use Rattle.std.proofs.lemmas.List.{append-nil, length-append, take_at, take_all, take_more, length_push, get_or_push, get_or-append-add}
 use Rattle.dns_name.specs.Labels.{IsLabel, IsName, small_letters, wire_of}
-use Rattle.dns_name.specs.Texts.{is_text_octet, IsTextLabel, IsDotted, TextOf, root, dotted, label_fault, labels_fault, length_fault, dotted_fault, parted, without_closing_dot}
+use Rattle.dns_name.specs.Texts.{is_text_octet, IsPlain, shown, label_text, text_of, IsTextLabel, IsDotted, TextOf, root, dotted, label_fault, labels_fault, length_fault, dotted_fault, parted, without_closing_dot}
 use Rattle.dns_name.specs.declared.refusal.NameRefusal.{NameRefusal}
 use Rattle.dns_name.proofs.TextLabels.{IsTextLabel-from_none, no_fault, IsLabel-small, length-small}
 
@@ -158,3 +158,41 @@ named name text (dotted written some each is name-is short) =
       faultless = rw (parts, no_labels_fault written each) (no_length_fault written len);
       is = rw parts name-is;
     })
+
+-- ---- the text that is written
+
+shown_plain : (label : List ℕ) → list_all is_text_octet label ≡ true → flat_map shown label ≡ label
+shown_plain [] e = refl
+shown_plain (octet ∷ label) e =
+    let here : is_text_octet octet ≡ true = grind (arith, nat_tests) in
+    let behind : list_all is_text_octet label ≡ true = grind (arith, nat_tests) in
+    rw here (ap (λ (octets : List ℕ). octet ∷ octets) (shown_plain label behind))
+
+written_labels : (labels : List (List ℕ)) → 0 < length labels → IsPlain labels → flat_map label_text labels ≡ joined labels ++ 46 ∷ []
+written_labels [] some plain = absurd (omega arith)
+written_labels (label ∷ []) some plain = rw (shown_plain label plain.0) (append-nil (label ++ 46 ∷ []))
+written_labels (label ∷ second ∷ labels) some plain =
+    let here : label_text label ≡ label ++ 46 ∷ [] = rw (shown_plain label plain.0) refl in
+    let behind = written_labels (second ∷ labels) (omega arith) plain.1 in
+    let after : List ℕ = joined (second ∷ labels) in
+    let text : List ℕ = flat_map label_text (second ∷ labels) in
+    ap (λ (front : List ℕ). front ++ text) here ∙ append_assoc label (46 ∷ []) text
+    ∙ ap (λ (back : List ℕ). label ++ 46 ∷ back) behind ∙ sym (append_assoc label (46 ∷ after) (46 ∷ []))
+
+plain_label : (label : List ℕ) → IsLabel label → list_all is_text_octet label ≡ true → IsTextLabel label
+plain_label label is octets = record { some = is.some; octets = octets; short = is.short }
+
+plain_labels : (labels : List (List ℕ)) → AllByRecursion IsLabel labels → IsPlain labels → AllByRecursion IsTextLabel labels
+plain_labels [] each plain = tt
+plain_labels (label ∷ labels) each plain = (plain_label label each.0 plain.0, plain_labels labels each.1 plain.1)
+
+all_small : (labels : List (List ℕ)) → AllByRecursion IsLabel labels → labels ≡ map small_letters labels
+all_small [] each = refl
+all_small (label ∷ labels) each =
+    ap (λ (first : List ℕ). first ∷ labels) (sym each.0.small) ∙ ap (λ (others : List (List ℕ)). small_letters label ∷ others) (all_small labels each.1)
+
+pub TextOf-written : (name : List (List ℕ)) → IsName name → IsPlain name → TextOf name (text_of name)
+TextOf-written [] is plain = root refl
+TextOf-written (label ∷ labels) is plain =
+    let name : List (List ℕ) = label ∷ labels in
+    dotted name (omega arith) (plain_labels name is.each plain) (inr (written_labels name (omega arith) plain)) (all_small name is.each) is.short

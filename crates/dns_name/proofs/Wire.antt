@@ -1,11 +1,12 @@
 -- Labels and their octets without pointers determine one another.
-use Rattle.std.proofs.Common.{◌≡◌, ℕ, zero, suc, ◌<◌, ◌≤◌, Bool, List, [], ◌∷◌, ◌++◌, length, take, drop, nat_eq, refl, sym, ap, ◌∙◌, arith}
+use Rattle.std.proofs.Common.{◌≡◌, ℕ, zero, suc, ◌<◌, ◌≤◌, Bool, List, [], ◌∷◌, ◌++◌, length, take, drop, nat_eq, Some, refl, sym, ap, ◌∙◌, arith}
+use Rattle.std.specs.Bool.{Decides}
 use Rattle.std.specs.Cmp.Lexicographic.{pointwise}
 use Rattle.std.proofs.lemmas.Slice.Eq.{slice_eq-Decides, bytes_eq-Decides}
 use Rattle.std.proofs.lemmas.Bool.Decides.{Decides-eqb, same_from_decides}
 use Rattle.std.specs.List.{AllByRecursion}
 use Rattle.std.proofs.lemmas.List.{take_at, drop_at, length-append}
-use Rattle.dns_name.specs.Labels.{IsLabel, IsName, IsWire, wire_of, first_labels, labels_of}
+use Rattle.dns_name.specs.Labels.{IsLabel, IsName, IsWire, wire_of, first_labels, labels_of, same_name, parent_of}
 
 pub wire_of-some : (labels : List (List ℕ)) → 0 < length (wire_of labels)
 wire_of-some [] = omega arith
@@ -53,8 +54,28 @@ root_has_one octets (label ∷ labels) wire e =
     let long = sym wire.whole ∙ ap wire_of e in
     (λ one. absurd (omega (arith, ap length long, length-append label (wire_of labels), wire_of-some labels)), λ none. absurd cc)
 
-pub same_test : (a b : List (List ℕ)) (r : Bool) → r ≡ pointwise nat_eq (wire_of a) (wire_of b) → r ≡ pointwise (pointwise nat_eq) a b
+pub same_name-decides : (a b : List (List ℕ)) → Decides (same_name a b) (a ≡ b)
+same_name-decides a b = slice_eq-Decides bytes_eq-Decides a b (same_name a b) refl
+
+pub same_test : (a b : List (List ℕ)) (r : Bool) → r ≡ pointwise nat_eq (wire_of a) (wire_of b) → r ≡ same_name a b
 same_test a b r h =
     let octets = slice_eq-Decides Decides-eqb (wire_of a) (wire_of b) r h in
-    let labels = slice_eq-Decides bytes_eq-Decides a b (pointwise (pointwise nat_eq) a b) refl in
-    same_from_decides r (pointwise (pointwise nat_eq) a b) (λ t. same_labels a b (octets.0 t), λ same. octets.1 (ap wire_of same)) labels
+    same_from_decides r (same_name a b) (λ t. same_labels a b (octets.0 t), λ same. octets.1 (ap wire_of same)) (same_name-decides a b)
+
+-- what stands behind the first label of a name spells its parent
+pub record Parent (name : List (List ℕ)) (others : List ℕ) : Type 0 where
+  pub labels : List (List ℕ)
+  pub is : parent_of name ≡ Some labels
+  pub name' : IsName labels
+  pub octets : others ≡ wire_of labels
+
+pub behind_first : (name : List (List ℕ)) (octets others : List ℕ) → IsName name → octets ≡ wire_of name → (octets ≡ wire_of [] → ⊥)
+    → ((label : List ℕ) (labels : List (List ℕ)) → IsLabel label → octets ≡ wire_of (label ∷ labels) → others ≡ wire_of labels)
+    → Parent name others
+behind_first [] octets others name is not_root some = absurd (not_root is)
+behind_first (label ∷ labels) octets others name is not_root some = record {
+  labels = labels;
+  is = refl;
+  name' = record { each = name.each.1; short = omega (arith, name.short, length-append label (wire_of labels)) };
+  octets = some label labels name.each.0 is;
+}

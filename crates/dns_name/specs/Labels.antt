@@ -1,5 +1,6 @@
 -- What a domain name is (RFC 1035 2.3, 3.1): a list of labels, and its octets without pointers.
-use Rattle.std.specs.Prelude.{◌≡◌, ℕ, zero, suc, ◌<◌, ◌≤◌, List, [], ◌∷◌, ◌++◌, length, take, drop, map}
+use Rattle.std.specs.Prelude.{◌≡◌, ℕ, zero, suc, ◌<◌, ◌≤◌, Bool, nat_eq, List, [], ◌∷◌, ◌++◌, length, take, drop, map, Option, Some, None}
+use Rattle.std.specs.Cmp.Lexicographic.{pointwise}
 use Rattle.std.specs.List.{AllByRecursion}
 use Rattle.std.specs.Char.{to_ascii_lowercase}
 
@@ -22,6 +23,15 @@ wire_of (label ∷ labels) = length label ∷ label ++ wire_of labels
 pub record IsName (labels : List (List ℕ)) : Type 0 where
   pub each : AllByRecursion IsLabel labels
   pub short : length (wire_of labels) ≤ 255
+
+-- two names are the same, label by label
+abbrev pub same_name : List (List ℕ) → List (List ℕ) → Bool
+same_name name other = pointwise (pointwise nat_eq) name other
+
+-- the name without its first label (RFC 1034 3.1); the root has none
+abbrev pub parent_of : List (List ℕ) → Option (List (List ℕ))
+parent_of [] = None
+parent_of (label ∷ labels) = Some labels
 
 -- the first labels, at most so many, that octets without pointers spell
 abbrev pub first_labels : ℕ → List ℕ → List (List ℕ)

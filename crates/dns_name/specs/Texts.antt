@@ -33,6 +33,10 @@ pub data TextOf : List (List ℕ) → List ℕ → Type 0 where
       → length (wire_of name) ≤ 255
       → TextOf name text
 
+-- a name of letters, digits, `_` and `-` alone
+abbrev pub IsPlain : List (List ℕ) → Type 0
+IsPlain name = AllByRecursion (λ label. IsTrue (list_all is_text_octet label)) name
+
 -- ---- what is wrong with a text of no name
 
 -- with a label

@@ -2,6 +2,7 @@
 ghost use Rattle.std.specs.Prelude.{◌≡◌, ◌+◌, ◌<◌, ◌≤◌, ◌++◌, ℕ, List, length, take};
 ghost use Rattle.dns_name.specs.Labels.{IsName, wire_of};
 ghost use Rattle.dns_name.specs.Places.{NameAt};
+ghost use Rattle.dns_name.specs.Texts.{IsPlain, TextOf, text_of};
 
 /// At one place of a message stands at most one name, with one place after it.
 pub fn one_name_at_a_place()
@@ -27,4 +28,9 @@ pub fn written_name_is_read()
 /// Names of the same octets have the same labels.
 pub fn octets_determine_name()
     ensures { (name other : List (List ℕ)) → wire_of name ≡ wire_of other → name ≡ other }
+{}
+
+/// The text that is written for a name of letters, digits, `_` and `-` is a text of that name: so it is read again.
+pub fn written_text_is_read()
+    ensures { (name : List (List ℕ)) → IsName name → IsPlain name → TextOf name (text_of name) }
 {}

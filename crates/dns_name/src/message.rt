@@ -1,5 +1,5 @@
 //! Names in messages (RFC 1035 3.1, 4.1.4).
-ghost use Rattle.std.specs.Prelude.{◌≡◌, ◌++◌, List, ℕ, IfOk, OnOk, OnErr, MatchResult, MatchOption};
+ghost use Rattle.std.specs.Prelude.{◌≡◌, ◌++◌, List, ℕ, IfOk, OnOk, OnErr, IsOk, ◌+◌, ◌≤◌, length, vec_len, vec_capacity, Err, MatchResult, MatchOption};
 ghost use Rattle.dns_name.specs.Labels.{wire_of};
 ghost use Rattle.dns_name.specs.Pieces.{PieceAt, NothingAt};
 ghost use Rattle.dns_name.specs.Places.{NameAt};
@@ -46,6 +46,9 @@ pub fn read_name(alloc: Global, bytes: &[u8], at: usize) -> Result<(Name, usize)
     // A name that stands there is read, unless memory is refused: so `Malformed` comes only where none does.
     ensures read { (name : List (List ℕ)) (end : ℕ) → NameAt bytes.now at at name end
         → MatchResult result (λ found. (found.0 ≡ name) × (found.1 ≡ end)) (λ refusal. refusal ≡ NameReadRefusal.Memory) }
+    // Memory is asked for where a name stands, and nowhere else.
+    ensures memory { result ≡ Err NameReadRefusal.Memory
+        → (name : List (List ℕ)) × (end : ℕ) × NameAt bytes.now at at name end }
 {
     let mut draft = Draft::new();
     let mut start = at;
@@ -79,10 +82,12 @@ pub fn read_name(alloc: Global, bytes: &[u8], at: usize) -> Result<(Name, usize)
     }
 }
 
-/// Appends the octets of a name without pointers. After an error `out` is as before.
+/// Appends the octets of a name without pointers. After an error `out` is as before; where it has room for them, there is
+/// none.
 pub fn write_name(name: &Name, out: &mut Vec<u8>) -> Result<(), AllocError>
     ensures ok { OnOk result (out.new.items ≡ out.old.items ++ wire_of name.now) }
     ensures err { OnErr result (out.new.items ≡ out.old.items) }
+    ensures room { vec_len out.old + length (wire_of name.now) ≤ vec_capacity out.old → IsOk result }
 {
     out.extend_from_slice(name.wire())
 }

@@ -1,8 +1,9 @@
 //! A domain name, and its octets.
-ghost use Rattle.std.specs.Prelude.{◌≡◌, ◌↔◌, List, [], ℕ, IsTrue, IfOk};
-ghost use Rattle.dns_name.specs.Labels.{wire_of, IsName};
+ghost use Rattle.std.specs.Prelude.{◌≡◌, ◌↔◌, ◌<◌, List, [], ◌∷◌, ℕ, length, IsTrue, IfOk, IfSome, IsSomeAnd, Ok, None};
+ghost use Rattle.dns_name.specs.Labels.{wire_of, same_name, parent_of, IsLabel, IsName};
 
 use std::alloc::{AllocError, Global};
+use std::hash::{Hash, Hasher};
 use std::marker::Model;
 
 /// A domain name (RFC 1035 2.3): labels of 1 to 63 octets, with capitals of ASCII as small letters, and at most
@@ -25,6 +26,20 @@ impl Model for Name {
     ghost view = { λ name. labels_of name.octets.items };
 
     ghost invariant = { λ name. IsWire name.octets.items };
+}
+
+/// The first label of the octets of a name and the octets after it, or None at the root.
+pub(crate) fn first_label(octets: &[u8]) -> Option<(&[u8], &[u8])>
+    ensures shorter { IfSome result (λ parts. length parts.1.now < length octets.now) }
+    ensures none { octets.now ≡ wire_of [] → result ≡ None }
+    ensures some { (label : List ℕ) (labels : List (List ℕ)) → IsLabel label → octets.now ≡ wire_of (label ∷ labels)
+        → IsSomeAnd result (λ parts. (parts.0.now ≡ label) × (parts.1.now ≡ wire_of labels)) }
+{
+    let (length, behind) = octets.split_first()?;
+    if *length == 0 {
+        return None;
+    }
+    behind.split_at_checked(usize::from(*length))
 }
 
 impl Name {
@@ -63,19 +78,34 @@ impl Name {
         let octets = Vec::from_slice(self.allocator(), self.octets.as_slice())?;
         Ok(Name { octets })
     }
+
+    /// The name without its first label, as the domain of a host (RFC 1034 3.1). The root has none, and no memory is asked
+    /// for there.
+    pub fn parent(&self) -> Result<Option<Name>, AllocError>
+        ensures value { IfOk result (λ parent. parent ≡ parent_of self.now) }
+        ensures root { self.now ≡ [] → result ≡ Ok None }
+    {
+        let Some((_, others)) = first_label(self.wire()) else {
+            return Ok(None);
+        };
+        let octets = Vec::from_slice(self.allocator(), others)?;
+        Ok(Some(Name::from_wire(octets)))
+    }
 }
 
 impl PartialEq for Name {
-    ghost use Rattle.std.specs.Prelude.{nat_eq};
-    ghost use Rattle.std.specs.Cmp.Lexicographic.{pointwise};
     ghost use Rattle.std.specs.Cmp.Rules.{comparing};
     ghost use Rattle.std.proofs.Common.{rules};
 
-    ghost eq = { λ a b. pointwise (pointwise nat_eq) a b };
+    ghost eq = { same_name };
 
     ghost laws = { Prim.search (comparing, rules) };
 
-    fn eq(&self, other: &Name) -> bool {
+    /// Names are equal exactly where their labels are (RFC 1035 2.3.3: in any case of letters).
+    fn eq(&self, other: &Name) -> bool
+        ensures value { result ≡ same_name self.now other.now }
+        ensures same { IsTrue result ↔ (self.now ≡ other.now) }
+    {
         self.wire() == other.wire()
     }
 }
@@ -85,4 +115,19 @@ impl Eq for Name {
     ghost use Rattle.std.proofs.Common.{rules};
 
     ghost laws = { Prim.search (comparing, rules) };
+}
+
+/// By its octets, so that equal names have one hash.
+impl Hash for Name {
+    ghost use Rattle.std.specs.Hash as fed;
+    ghost use Rattle.std.specs.Cmp.Lexicographic.{pointwise_decides, bytes_decides};
+
+    ghost hash_input = { λ name. fed.slice fed.u8 (wire_of name) };
+
+    ghost respects_eq = { (fed.same_Alike (λ name. fed.slice fed.u8 (wire_of name))
+        (pointwise_decides bytes_decides)).fed };
+
+    fn hash<H: Hasher>(&self, state: &mut H) {
+        self.wire().hash(state)
+    }
 }

@@ -7,7 +7,7 @@ ghost use Rattle.dns_name.specs.Labels.{small_letters, wire_of, IsLabel};
 ghost use Rattle.dns_name.specs.Texts as spec;
 
 use crate::draft::{Draft, NAME_LIMIT};
-use crate::name::Name;
+use crate::name::{Name, first_label};
 use crate::refusal::NameRefusal;
 use std::alloc::{AllocError, Global};
 
@@ -97,20 +97,6 @@ fn push_label(text: &mut String, label: &[u8]) -> Result<(), AllocError>
         push_octet(text, *octet)?;
     }
     text.push('.')
-}
-
-/// The first label of the octets of a name and the octets after it, or None at the root.
-fn first_label(octets: &[u8]) -> Option<(&[u8], &[u8])>
-    ensures shorter { IfSome result (λ parts. length parts.1.now < length octets.now) }
-    ensures none { octets.now ≡ wire_of [] → result ≡ None }
-    ensures some { (label : List ℕ) (labels : List (List ℕ)) → IsLabel label → octets.now ≡ wire_of (label ∷ labels)
-        → IsSomeAnd result (λ parts. (parts.0.now ≡ label) × (parts.1.now ≡ wire_of labels)) }
-{
-    let (length, behind) = octets.split_first()?;
-    if *length == 0 {
-        return None;
-    }
-    behind.split_at_checked(usize::from(*length))
 }
 
 impl Name {

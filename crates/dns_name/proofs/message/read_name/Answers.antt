@@ -86,3 +86,13 @@ loop-draft-preserved c =
       begins = omega arith;
       finding = rw (front.leads, c.unwrap_or-in-Some-Pointer.ensures) next;
     }
+
+-- what was to be kept stands there
+pub returns-in_err-name-in-Some-Root-clause-memory : goal.returns-in_err-name-in-Some-Root-clause-memory
+returns-in_err-name-in-Some-Root-clause-memory c = λ _.
+    let bytes = c.args.bytes.now in
+    let l = c.loop-draft in
+    let piece = rw c.in-Some-Root.field-0-is at c.in-Some-Root.ensures in
+    let here = OctetAt-front bytes l.limit l.place l.invariant.within 0 piece in
+    let k = found bytes c.args.at l.place l.start l.limit l.draft.octets.items l.after l.invariant.finding here.0 (omega arith) (omega arith) in
+    (k.0, _, k.1)
