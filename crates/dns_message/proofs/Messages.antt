@@ -1,5 +1,5 @@
 -- Messages in front of octets.
-use Rattle.std.proofs.Common.{◌≡◌, ℕ, ◌<◌, ◌≤◌, List, length, take, slice_index, get_or, refl, sym, ap, ◌∙◌, arith}
+use Rattle.std.proofs.Common.{◌≡◌, ℕ, ◌<◌, ◌≤◌, List, length, take, slice_index, get_or, refl, sym, ap, ◌∙◌, inl, inr, arith}
 use Rattle.std.specs.Int.{w16}
 use Rattle.std.proofs.lemmas.List.{length-take, length-take-le, take-take, get_or-take}
 use Rattle.dns_message.specs.declared.header.Header.{Header}
@@ -10,7 +10,12 @@ use Rattle.dns_message.specs.declared.message.Message.{Message}
 use Rattle.dns_message.specs.Headers.{HeaderAt, CountsAt}
 use Rattle.dns_message.specs.Questions.{QuestionAt}
 use Rattle.dns_message.specs.Records.{RecordAt}
-use Rattle.dns_message.specs.Messages.{MessageAt, Spells}
+use Rattle.dns_message.specs.Messages.{MessageAt, Spells, RecordsStand, FailsIn, RefusedWhere}
+use Rattle.dns_message.specs.Places.{NumberAt, NamedAt, AllAt}
+use Rattle.dns_message.specs.Refusals.{IsOfPart}
+use Rattle.dns_message.specs.declared.refusal.Part.{Part}
+use Rattle.dns_message.specs.declared.refusal.MessageRefusal.{MessageRefusal}
+use Rattle.dns_message.specs.declared.refusal.MessageRefusal.TheVariants.{Malformed, Memory}
 use Rattle.dns_message.proofs.Names.{OneName, WithinEnd, IsLocal}
 use Rattle.dns_message.proofs.Flags.{one_header}
 use Rattle.dns_message.proofs.Places.{one_number, within_too, NumberAt-other, AllAt-goes_on, AllAt-within, AllAt-one, AllAt-other}
@@ -113,3 +118,19 @@ MessageAt-whole within local octets a end x =
     let n : ℕ = length (take end octets) in
     let same : take n (take end octets) ≡ take n octets = take-take n end octets (omega (arith, length-take end octets)) in
     MessageAt-other within local (take end octets) octets n a n same (omega arith) x
+
+-- ---- where reading stops
+
+-- what is so of the octets, by the refusal of the part that was read last
+pub refused_where : (octets : List ℕ) (part : Part) (refusal : MessageRefusal) → IsOfPart refusal part → (refusal ≡ Memory → NamedAt octets 12)
+    → (refusal ≡ Malformed part → FailsIn part octets) → RefusedWhere refusal octets
+refused_where octets part refusal (inl is) memory malformed = rw is (memory is)
+refused_where octets part refusal (inr is) memory malformed = rw is (malformed is)
+
+-- records that are called malformed do not stand there, if their reader wants memory alone where they do
+pub no_records : (octets : List ℕ) (count_place count start end : ℕ) (part : Part) (refusal : MessageRefusal) → NumberAt w16 octets count_place count
+    → ((records : List Record) (end : ℕ) → AllAt (RecordAt octets) start records end → length records ≡ count → refusal ≡ Memory)
+    → refusal ≡ Malformed part → RecordsStand octets count_place start end → ⊥
+no_records octets count_place count start end part refusal at read is there =
+    let memory = read there.records end there.stand (one_number w16 octets count_place (length there.records) count there.count at) in
+    absurd cc

@@ -1,5 +1,5 @@
 -- Numbers, octets and lists of parts at places.
-use Rattle.std.proofs.Common.{◌≡◌, ℕ, ◌+◌, ◌<◌, ◌≤◌, List, [], ◌∷◌, ◌++◌, length, take, drop, slice_index, slice_range, get_or, refl, sym, ap, ◌∙◌, arith}
+use Rattle.std.proofs.Common.{◌≡◌, ℕ, ◌+◌, ◌<◌, ◌≤◌, List, [], ◌∷◌, ◌++◌, length, take, drop, slice_index, slice_range, get_or, refl, sym, ap, ◌∙◌, subst, arith}
 use Rattle.std.specs.Int.{Width, byte_len}
 use Rattle.std.proofs.lemmas.List.{length-take, take-take, get_or-take, get_or-drop, drop-drop}
 use Rattle.std.proofs.lemmas.Slice.{between_is}
@@ -64,6 +64,11 @@ module _ {X : Type 0} (At : ℕ → X → ℕ → Type 0) where
   pub AllAt-push : {p end : ℕ} {xs : List X} (after : ℕ) (x : X) → AllAt At p xs end → At end x after → AllAt At p (xs ++ x ∷ []) after
   AllAt-push after x (none e) at = next after (rw (← e) at) (none refl)
   AllAt-push after x (next between first others) at = next between first (AllAt-push after x others at)
+
+  -- what is so where each begins, and where they end, is so where they all begin
+  pub AllAt-first : (P : ℕ → Type 0) → ((p end : ℕ) (x : X) → At p x end → P p) → {p end : ℕ} {xs : List X} → AllAt At p xs end → P end → P p
+  AllAt-first P begins (none e) there = subst P e there
+  AllAt-first P begins (next after first others) there = begins _ after _ first
 
   pub AllAt-goes_on : GoesOn → {p end : ℕ} {xs : List X} → AllAt At p xs end → p ≤ end
   AllAt-goes_on goes_on (none e) = omega (arith, e)

@@ -2,9 +2,10 @@
 use Rattle.std.proofs.Common.{◌≡◌, ℕ, ◌+◌, ◌≤◌, List, length, take, refl, arith}
 use Rattle.std.specs.Int.{w16}
 use Rattle.dns_message.specs.declared.question.Asked.{Asked}
+use Rattle.dns_message.specs.Places.{NamedAt, AllAt}
 use Rattle.dns_message.specs.Questions.{QuestionAt}
 use Rattle.dns_message.proofs.Names.{OneName, WithinEnd, IsLocal}
-use Rattle.dns_message.proofs.Places.{one_number, take_less, NumberAt-other}
+use Rattle.dns_message.proofs.Places.{one_number, take_less, NumberAt-other, AllAt-first}
 
 abbrev made : List (List ℕ) → ℕ → ℕ → Asked
 made name code class_code = record { name = name; code = code; class_code = class_code }
@@ -33,3 +34,7 @@ QuestionAt-other local message other limit same p end a x le = record {
   class_code = NumberAt-other w16 message other limit (x.after + 2) a.class_code same (omega (arith, x.ends, le)) x.class_code;
   ends = x.ends;
 }
+
+-- a name stands where questions begin, if one stands where they end
+pub questions_named : (message : List ℕ) {p end : ℕ} {questions : List Asked} → AllAt (QuestionAt message) p questions end → NamedAt message end → NamedAt message p
+questions_named message = AllAt-first (QuestionAt message) (NamedAt message) (λ p end a x. (a.name, x.after, x.name))

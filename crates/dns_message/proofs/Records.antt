@@ -4,10 +4,11 @@ use Rattle.std.specs.Int.{w16, w32}
 use Rattle.dns_message.specs.declared.rdata.Rdata.{Rdata}
 use Rattle.dns_message.specs.declared.resource.Record.{Record}
 use Rattle.dns_message.specs.Data.{data_format}
+use Rattle.dns_message.specs.Places.{NamedAt, AllAt}
 use Rattle.dns_message.specs.Records.{RecordAt}
 use Rattle.dns_message.proofs.Layouts.{one_format, format_within, FormatAt-other}
 use Rattle.dns_message.proofs.Names.{OneName, WithinEnd, IsLocal}
-use Rattle.dns_message.proofs.Places.{one_number, take_less, NumberAt-other}
+use Rattle.dns_message.proofs.Places.{one_number, take_less, NumberAt-other, AllAt-first}
 
 abbrev record_of : List (List ℕ) → ℕ → Rdata → Record
 record_of owner ttl rdata = record { owner = owner; ttl = ttl; rdata = rdata }
@@ -51,3 +52,7 @@ RecordAt-other within local message other limit same p end a x le = record {
   ends = x.ends;
   rdata = FormatAt-other within local message other limit same (data_format x.code x.class_code) (x.after + 10) x.code x.class_code end a.rdata x.rdata le;
 }
+
+-- a name stands where records begin, if one stands where they end
+pub records_named : (message : List ℕ) {p end : ℕ} {records : List Record} → AllAt (RecordAt message) p records end → NamedAt message end → NamedAt message p
+records_named message = AllAt-first (RecordAt message) (NamedAt message) (λ p end a x. (a.owner, x.after, x.owner))

@@ -1,6 +1,7 @@
 -- What stands at places of a message (RFC 1035 2.3.2, 4.1).
 use Rattle.std.specs.Prelude.{◌≡◌, ℕ, ◌+◌, ◌≤◌, List, [], ◌∷◌, length, slice_range}
 use Rattle.std.specs.Int.{Width, byte_len, from_be_bytes}
+use Rattle.dns_name.specs.Places.{NameAt}
 
 -- a number stands at a place, the highest octet first
 pub record NumberAt (w : Width) (message : List ℕ) (place number : ℕ) : Type 0 where
@@ -12,6 +13,10 @@ pub record OctetsAt (message : List ℕ) (place : ℕ) (octets : List ℕ) (end 
   pub size : place + length octets ≡ end
   pub within : end ≤ length message
   pub are : slice_range message place end ≡ octets
+
+-- a name stands at a place, and begins a run of labels there
+abbrev pub NamedAt : List ℕ → ℕ → Type 0
+NamedAt message place = (name : List (List ℕ)) × (end : ℕ) × NameAt message place place name end
 
 -- what stands one after the other from a place to another
 pub data AllAt {X : Type 0} (At : ℕ → X → ℕ → Type 0) : ℕ → List X → ℕ → Type 0 where

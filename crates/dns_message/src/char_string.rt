@@ -1,5 +1,5 @@
 //! Character strings (RFC 1035 3.3).
-ghost use Rattle.std.specs.Prelude.{◌≡◌, ◌↔◌, ◌≤◌, ◌<◌, ℕ, List, length, IsSome, IfSome, IfOk, MatchResult};
+ghost use Rattle.std.specs.Prelude.{◌≡◌, ◌↔◌, ◌≤◌, ◌<◌, ℕ, List, length, IsSome, IfSome, IfOk, IfErr, MatchResult};
 ghost use Rattle.dns_message.specs.Layouts.{CharStringAt};
 
 use crate::refusal::EntryRefusal;
@@ -88,6 +88,8 @@ pub(crate) fn char_string_at(
     ensures read { (string : List ℕ) (end : ℕ) → CharStringAt bytes.now place string end
         → MatchResult result (λ found. (found.0 ≡ string) × (found.1 ≡ end))
         (λ refusal. refusal ≡ EntryRefusal.Memory) }
+    ensures memory { IfErr result (λ refusal. refusal ≡ EntryRefusal.Memory
+        → (string : List ℕ) × (end : ℕ) × CharStringAt bytes.now place string end) }
 {
     let size = usize::from(*bytes.get(place).ok_or(EntryRefusal::Malformed)?);
     let start = place + 1;

@@ -47,7 +47,7 @@ pub use message::{Message, read_message};
 pub use naptr::NaptrRecord;
 pub use other_data::OtherData;
 pub use question::{Asked, Question};
-pub use rdata::Rdata;
+pub use rdata::{CLASS_IN, Rdata};
 pub use refusal::{MessageRefusal, Part};
 pub use resource::Record;
 pub use section::Section;

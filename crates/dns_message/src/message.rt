@@ -1,6 +1,7 @@
 //! Messages (RFC 1035 4.1).
-ghost use Rattle.std.specs.Prelude.{◌≡◌, ◌↔◌, ◌≤◌, ◌<◌, ℕ, List, length, take, IfOk, MatchResult};
-ghost use Rattle.dns_message.specs.Messages.{Spells};
+ghost use Rattle.std.specs.Prelude.{◌≡◌, ◌↔◌, ◌≤◌, ◌<◌, ℕ, length, take, IfOk, IfErr, MatchResult};
+ghost use Rattle.dns_message.specs.Messages.{Spells, RefusedWhere};
+ghost use Rattle.dns_message.specs.declared.refusal.Part as part;
 ghost use Rattle.dns_message.specs.declared.message.Message as message;
 
 use crate::header::{Header, header_at};
@@ -45,7 +46,12 @@ pub fn read_message(alloc: Global, bytes: &[u8]) -> Result<Message, MessageRefus
     ensures read { (end : ℕ) (found : message.Message) → Spells (take end bytes.now) found
         → length bytes.now ≤ 65535
         → MatchResult result (λ found'. found' ≡ found) (λ refusal. refusal ≡ MessageRefusal.Memory) }
+    ensures malformed { (part : part.Part) → result ≡ Err (MessageRefusal.Malformed part)
+        → (end : ℕ) (message : message.Message) → Spells (take end bytes.now) message → ⊥ }
+    // Each refusal tells what is so of the octets, and these two come exactly there.
+    ensures refused { IfErr result (λ refusal. RefusedWhere refusal bytes.now) }
     ensures too_long { (result ≡ Err MessageRefusal.TooLong) ↔ (65535 < length bytes.now) }
+    ensures header { (result ≡ Err (MessageRefusal.Malformed Part.Header)) ↔ (length bytes.now < 12) }
 {
     one_name_at_a_place();
     name_rests_before_its_end();

@@ -1,6 +1,6 @@
 //! NAPTR records (RFC 3403 4.1).
-ghost use Rattle.std.specs.Prelude.{◌≡◌, ◌≤◌, ℕ, length, IfOk, MatchResult};
-ghost use Rattle.dns_message.specs.Layouts.{NaptrAt};
+ghost use Rattle.std.specs.Prelude.{◌≡◌, ◌≤◌, ℕ, length, ◌+◌, List, IfOk, IfErr, MatchResult};
+ghost use Rattle.dns_message.specs.Layouts.{CharStringAt, NaptrAt};
 ghost use Rattle.dns_message.specs.declared.naptr.NaptrRecord as naptr;
 
 use crate::char_string::{CharString, char_string_at};
@@ -53,6 +53,8 @@ pub(crate) fn naptr_at(
     ensures read { (rule : naptr.NaptrRecord) (end : ℕ) → NaptrAt bytes.now place rule end
         → MatchResult result (λ found. (found.0 ≡ rule) × (found.1 ≡ end))
         (λ refusal. refusal ≡ EntryRefusal.Memory) }
+    ensures memory { IfErr result (λ refusal. refusal ≡ EntryRefusal.Memory
+        → (flags : List ℕ) × (end : ℕ) × CharStringAt bytes.now (place + 4) flags end) }
 {
     one_name_at_a_place();
     let order = u16_at(bytes, place).ok_or(EntryRefusal::Malformed)?;

@@ -1,8 +1,9 @@
 //! Data that is kept as it stands (RFC 3597 3).
-ghost use Rattle.std.specs.Prelude.{◌≡◌, ◌↔◌, IsSome, IfSome};
+ghost use Rattle.std.specs.Prelude.{◌≡◌, ◌↔◌, IsSome, IfSome, IfOk};
 ghost use Rattle.dns_message.specs.Data.{CanBeOther};
 
 use crate::rdata::{DataFormat, data_format};
+use std::alloc::AllocError;
 use std::marker::Model;
 
 /// The most octets of data that a record can have.
@@ -42,6 +43,18 @@ impl OtherData {
             }),
             _ => None,
         }
+    }
+
+    /// A copy.
+    pub fn try_clone(&self) -> Result<OtherData, AllocError>
+        ensures { IfOk result (λ copy. copy ≡ self.now) }
+    {
+        let octets = Vec::from_slice(*self.octets.allocator(), self.octets.as_slice())?;
+        Ok(OtherData {
+            code: self.code,
+            class_code: self.class_code,
+            octets,
+        })
     }
 
     /// The number of its type.

@@ -1,7 +1,7 @@
 //! Questions (RFC 1035 4.1.2).
-ghost use Rattle.std.specs.Prelude.{◌≡◌, ℕ, List, length, IfOk, IfErr, MatchResult};
-ghost use Rattle.dns_message.specs.Questions.{QuestionAt};
-ghost use Rattle.dns_message.specs.Places.{AllAt};
+ghost use Rattle.std.specs.Prelude.{◌≡◌, ◌↔◌, ℕ, List, length, IsTrue, IfOk, IfErr, MatchResult};
+ghost use Rattle.dns_message.specs.Questions.{QuestionAt, same_question};
+ghost use Rattle.dns_message.specs.Places.{NamedAt, AllAt};
 ghost use Rattle.dns_message.specs.Refusals.{IsOfPart};
 ghost use Rattle.dns_message.specs.declared.question.Asked as asked;
 
@@ -13,7 +13,7 @@ use dns_name::{Name, name_rests_before_its_end, one_name_at_a_place, read_name};
 use std::alloc::{AllocError, Global};
 
 /// A question to ask, in class IN.
-#[derive(Debug, PartialEq, Eq, Drop)]
+#[derive(Debug, Drop)]
 pub struct Question {
     /// The name of which it is asked.
     pub name: Name,
@@ -33,6 +33,38 @@ impl Question {
     }
 }
 
+impl PartialEq for Question {
+    ghost use Rattle.std.specs.Cmp.{and_equiv, on_equiv, nat_eq_equiv, partial_equiv_from_equiv};
+    ghost use Rattle.std.specs.Cmp.Lexicographic.{lists_equiv};
+    ghost use Rattle.dns_message.specs.Kinds.{kind_code};
+    ghost use Rattle.dns_message.specs.declared.question.Question.{Question};
+
+    ghost eq = { same_question };
+
+    ghost laws = { partial_equiv_from_equiv (and_equiv
+        (on_equiv (λ (question : Question). question.name) (lists_equiv (lists_equiv nat_eq_equiv)))
+        (on_equiv (λ (question : Question). kind_code question.kind) nat_eq_equiv)) };
+
+    /// Whether they ask the same of one name.
+    fn eq(&self, other: &Question) -> bool
+        ensures value { result ≡ same_question self.now other.now }
+        ensures same { IsTrue result ↔ (self.now ≡ other.now) }
+    {
+        self.name == other.name && self.kind == other.kind
+    }
+}
+
+impl Eq for Question {
+    ghost use Rattle.std.specs.Cmp.{and_equiv, on_equiv, nat_eq_equiv};
+    ghost use Rattle.std.specs.Cmp.Lexicographic.{lists_equiv};
+    ghost use Rattle.dns_message.specs.Kinds.{kind_code};
+    ghost use Rattle.dns_message.specs.declared.question.Question.{Question};
+
+    ghost laws = { and_equiv
+        (on_equiv (λ (question : Question). question.name) (lists_equiv (lists_equiv nat_eq_equiv)))
+        (on_equiv (λ (question : Question). kind_code question.kind) nat_eq_equiv) };
+}
+
 /// A question as a message has it.
 #[derive(Debug, PartialEq, Eq, Drop)]
 pub struct Asked {
@@ -44,12 +76,27 @@ pub struct Asked {
     pub class_code: u16,
 }
 
+impl Asked {
+    /// A copy.
+    pub fn try_clone(&self) -> Result<Asked, AllocError>
+        ensures { IfOk result (λ copy. copy ≡ self.now) }
+    {
+        Ok(Asked {
+            name: self.name.try_clone()?,
+            code: self.code,
+            class_code: self.class_code,
+        })
+    }
+}
+
 /// Reads the question at a place, and gives the place after it.
 fn question_at(alloc: Global, bytes: &[u8], place: usize) -> Result<(Asked, usize), EntryRefusal>
     ensures found { IfOk result (λ found. QuestionAt bytes.now place found.0 found.1) }
     ensures read { (question : asked.Asked) (end : ℕ) → QuestionAt bytes.now place question end
         → MatchResult result (λ found. (found.0 ≡ question) × (found.1 ≡ end))
         (λ refusal. refusal ≡ EntryRefusal.Memory) }
+    ensures memory { IfErr result (λ refusal. refusal ≡ EntryRefusal.Memory
+        → NamedAt bytes.now place) }
 {
     name_rests_before_its_end();
     one_name_at_a_place();
@@ -79,6 +126,8 @@ fn questions_at(
         → length questions ≡ count
         → MatchResult result (λ found. (found.0.items ≡ questions) × (found.1 ≡ end))
         (λ refusal. refusal ≡ EntryRefusal.Memory) }
+    ensures memory { IfErr result (λ refusal. refusal ≡ EntryRefusal.Memory
+        → NamedAt bytes.now place) }
 {
     one_name_at_a_place();
     let mut questions = Vec::new(alloc);
@@ -105,6 +154,7 @@ pub(crate) fn question_section_at(
         → MatchResult result (λ found. (found.0 ≡ questions) × (found.1 ≡ end))
         (λ refusal. refusal ≡ MessageRefusal.Memory) }
     ensures refused { IfErr result (λ refusal. IsOfPart refusal Part.Questions) }
+    ensures memory { IfErr result (λ refusal. refusal ≡ MessageRefusal.Memory → NamedAt bytes.now place) }
 {
     match questions_at(alloc, bytes, place, count) {
         Ok((questions, after)) => Ok((Section::from_vec(questions), after)),

@@ -2,6 +2,7 @@
 ghost use Rattle.std.specs.Prelude.{◌≡◌, ◌≢◌, length, IfOk, MatchResult};
 ghost use Rattle.dns_message.specs.Data as spec;
 ghost use Rattle.dns_message.specs.Layouts.{RdataAt};
+ghost use Rattle.dns_message.specs.Written.{rdata_code, rdata_class};
 ghost use Rattle.dns_message.specs.declared.rdata.Rdata as rdata;
 
 use crate::naptr::{NaptrRecord, naptr_at};
@@ -10,28 +11,28 @@ use crate::refusal::EntryRefusal;
 use crate::soa::{SoaRecord, soa_at};
 use crate::srv::{SrvRecord, srv_at};
 use dns_name::{Name, name_rests_before_its_end, one_name_at_a_place, read_name};
-use std::alloc::Global;
+use std::alloc::{AllocError, Global};
 
 /// The class of the internet (RFC 1035 3.2.4).
-pub(crate) const CLASS_IN: u16 = 1;
+pub const CLASS_IN: u16 = 1;
 
 /// Addresses of IPv4 (RFC 1035 3.2.2).
-pub(crate) const TYPE_A: u16 = 1;
+const TYPE_A: u16 = 1;
 
 /// Canonical names of aliases (RFC 1035 3.2.2).
-pub(crate) const TYPE_CNAME: u16 = 5;
+const TYPE_CNAME: u16 = 5;
 
 /// Starts of zones of authority (RFC 1035 3.2.2).
-pub(crate) const TYPE_SOA: u16 = 6;
+const TYPE_SOA: u16 = 6;
 
 /// Addresses of IPv6 (RFC 3596 2.1).
-pub(crate) const TYPE_AAAA: u16 = 28;
+const TYPE_AAAA: u16 = 28;
 
 /// Servers of a service (RFC 2782).
-pub(crate) const TYPE_SRV: u16 = 33;
+const TYPE_SRV: u16 = 33;
 
 /// Rules that lead to a service (RFC 3403 4.1).
-pub(crate) const TYPE_NAPTR: u16 = 35;
+const TYPE_NAPTR: u16 = 35;
 
 /// The data of a record.
 #[derive(Debug, Drop)]
@@ -50,6 +51,48 @@ pub enum Rdata {
     Soa(SoaRecord),
     /// The data of any other type or class, as it stands.
     Other(OtherData),
+}
+
+impl Rdata {
+    /// The number of its type (RFC 1035 3.2.2).
+    pub fn code(&self) -> u16
+        ensures { result ≡ rdata_code self.now }
+    {
+        match self {
+            Rdata::Addr4(_) => TYPE_A,
+            Rdata::Addr6(_) => TYPE_AAAA,
+            Rdata::Srv(_) => TYPE_SRV,
+            Rdata::Naptr(_) => TYPE_NAPTR,
+            Rdata::Cname(_) => TYPE_CNAME,
+            Rdata::Soa(_) => TYPE_SOA,
+            Rdata::Other(other) => other.code(),
+        }
+    }
+
+    /// The number of its class (RFC 1035 3.2.4).
+    pub fn class_code(&self) -> u16
+        ensures { result ≡ rdata_class self.now }
+    {
+        match self {
+            Rdata::Other(other) => other.class_code(),
+            _ => CLASS_IN,
+        }
+    }
+
+    /// A copy.
+    pub fn try_clone(&self) -> Result<Rdata, AllocError>
+        ensures { IfOk result (λ copy. copy ≡ self.now) }
+    {
+        Ok(match self {
+            Rdata::Addr4(octets) => Rdata::Addr4(*octets),
+            Rdata::Addr6(octets) => Rdata::Addr6(*octets),
+            Rdata::Srv(server) => Rdata::Srv(server.try_clone()?),
+            Rdata::Naptr(rule) => Rdata::Naptr(rule.try_clone()?),
+            Rdata::Cname(name) => Rdata::Cname(name.try_clone()?),
+            Rdata::Soa(authority) => Rdata::Soa(authority.try_clone()?),
+            Rdata::Other(other) => Rdata::Other(other.try_clone()?),
+        })
+    }
 }
 
 /// How data is laid out.

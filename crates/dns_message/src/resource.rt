@@ -1,6 +1,6 @@
 //! Resource records (RFC 1035 4.1.3).
 ghost use Rattle.std.specs.Prelude.{◌≡◌, ◌+◌, ◌<◌, ◌≤◌, ℕ, List, length, IfOk, IfErr, MatchOption, MatchResult};
-ghost use Rattle.dns_message.specs.Places.{AllAt};
+ghost use Rattle.dns_message.specs.Places.{NamedAt, AllAt};
 ghost use Rattle.dns_message.specs.Refusals.{IsOfPart};
 ghost use Rattle.dns_message.specs.Records.{FixedAt, RecordAt};
 ghost use Rattle.dns_message.specs.declared.resource.Record as resource;
@@ -10,7 +10,7 @@ use crate::rdata::{Rdata, rdata_at};
 use crate::refusal::{EntryRefusal, MessageRefusal, Part};
 use crate::section::Section;
 use dns_name::{Name, name_rests_before_its_end, one_name_at_a_place, read_name};
-use std::alloc::Global;
+use std::alloc::{AllocError, Global};
 
 /// A resource record.
 #[derive(Debug, Drop)]
@@ -21,6 +21,19 @@ pub struct Record {
     pub ttl: u32,
     /// TYPE, CLASS and RDATA: what it says.
     pub rdata: Rdata,
+}
+
+impl Record {
+    /// A copy.
+    pub fn try_clone(&self) -> Result<Record, AllocError>
+        ensures { IfOk result (λ copy. copy ≡ self.now) }
+    {
+        Ok(Record {
+            owner: self.owner.try_clone()?,
+            ttl: self.ttl,
+            rdata: self.rdata.try_clone()?,
+        })
+    }
 }
 
 /// The numbers between the owner and the data of a record.
@@ -52,6 +65,8 @@ fn record_at(alloc: Global, bytes: &[u8], place: usize) -> Result<(Record, usize
     ensures read { (entry : resource.Record) (end : ℕ) → RecordAt bytes.now place entry end
         → MatchResult result (λ found. (found.0 ≡ entry) × (found.1 ≡ end))
         (λ refusal. refusal ≡ EntryRefusal.Memory) }
+    ensures memory { IfErr result (λ refusal. refusal ≡ EntryRefusal.Memory
+        → NamedAt bytes.now place) }
 {
     name_rests_before_its_end();
     one_name_at_a_place();
@@ -83,6 +98,8 @@ fn records_at(
         → length entries ≡ count
         → MatchResult result (λ found. (found.0.items ≡ entries) × (found.1 ≡ end))
         (λ refusal. refusal ≡ EntryRefusal.Memory) }
+    ensures memory { IfErr result (λ refusal. refusal ≡ EntryRefusal.Memory
+        → NamedAt bytes.now place) }
 {
     one_name_at_a_place();
     let mut records = Vec::new(alloc);
@@ -110,6 +127,7 @@ pub(crate) fn record_section_at(
         → MatchResult result (λ found. (found.0 ≡ entries) × (found.1 ≡ end))
         (λ refusal. refusal ≡ MessageRefusal.Memory) }
     ensures refused { IfErr result (λ refusal. IsOfPart refusal part) }
+    ensures memory { IfErr result (λ refusal. refusal ≡ MessageRefusal.Memory → NamedAt bytes.now place) }
 {
     match records_at(alloc, bytes, place, count) {
         Ok((records, after)) => Ok((Section::from_vec(records), after)),

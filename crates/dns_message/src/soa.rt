@@ -1,12 +1,13 @@
 //! SOA records (RFC 1035 3.3.13).
-ghost use Rattle.std.specs.Prelude.{◌≡◌, ◌≤◌, ℕ, length, IfOk, MatchResult};
+ghost use Rattle.std.specs.Prelude.{◌≡◌, ◌≤◌, ℕ, length, IfOk, IfErr, MatchResult};
 ghost use Rattle.dns_message.specs.Layouts.{SoaAt};
+ghost use Rattle.dns_message.specs.Places.{NamedAt};
 ghost use Rattle.dns_message.specs.declared.soa.SoaRecord as soa;
 
 use crate::number::u32_at;
 use crate::refusal::EntryRefusal;
 use dns_name::{Name, name_rests_before_its_end, one_name_at_a_place, read_name};
-use std::alloc::Global;
+use std::alloc::{AllocError, Global};
 
 /// The start of a zone of authority (RFC 1035 3.3.13).
 #[derive(Debug, PartialEq, Eq, Drop)]
@@ -27,6 +28,23 @@ pub struct SoaRecord {
     pub minimum: u32,
 }
 
+impl SoaRecord {
+    /// A copy.
+    pub fn try_clone(&self) -> Result<SoaRecord, AllocError>
+        ensures { IfOk result (λ copy. copy ≡ self.now) }
+    {
+        Ok(SoaRecord {
+            mname: self.mname.try_clone()?,
+            rname: self.rname.try_clone()?,
+            serial: self.serial,
+            refresh: self.refresh,
+            retry: self.retry,
+            expire: self.expire,
+            minimum: self.minimum,
+        })
+    }
+}
+
 /// Reads the record at a place, and gives the place after it.
 pub(crate) fn soa_at(
     alloc: Global,
@@ -37,6 +55,8 @@ pub(crate) fn soa_at(
     ensures read { (authority : soa.SoaRecord) (end : ℕ) → SoaAt bytes.now place authority end
         → MatchResult result (λ found. (found.0 ≡ authority) × (found.1 ≡ end))
         (λ refusal. refusal ≡ EntryRefusal.Memory) }
+    ensures memory { IfErr result (λ refusal. refusal ≡ EntryRefusal.Memory
+        → NamedAt bytes.now place) }
 {
     one_name_at_a_place();
     name_rests_before_its_end();

@@ -1,6 +1,7 @@
 //! SRV records (RFC 2782).
-ghost use Rattle.std.specs.Prelude.{◌≡◌, ◌≤◌, ℕ, length, IfOk, MatchResult};
+ghost use Rattle.std.specs.Prelude.{◌≡◌, ◌≤◌, ℕ, length, ◌+◌, IfOk, IfErr, MatchResult};
 ghost use Rattle.dns_message.specs.Layouts.{SrvAt};
+ghost use Rattle.dns_message.specs.Places.{NamedAt};
 ghost use Rattle.dns_message.specs.declared.srv.SrvRecord as srv;
 
 use crate::number::u16_at;
@@ -46,6 +47,8 @@ pub(crate) fn srv_at(
     ensures read { (server : srv.SrvRecord) (end : ℕ) → SrvAt bytes.now place server end
         → MatchResult result (λ found. (found.0 ≡ server) × (found.1 ≡ end))
         (λ refusal. refusal ≡ EntryRefusal.Memory) }
+    ensures memory { IfErr result (λ refusal. refusal ≡ EntryRefusal.Memory
+        → NamedAt bytes.now (place + 6)) }
 {
     one_name_at_a_place();
     let priority = u16_at(bytes, place).ok_or(EntryRefusal::Malformed)?;

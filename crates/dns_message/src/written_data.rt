@@ -1,43 +1,16 @@
 //! The data of records as it is written, without pointers (RFC 1035 3.3, 3.4).
 ghost use Rattle.std.specs.Prelude.{◌≡◌, ◌++◌, length, OnOk};
 ghost use Rattle.dns_message.specs.Fits.{SrvFits, NaptrFits, SoaFits, RdataFits};
-ghost use Rattle.dns_message.specs.Written.{srv_octets, naptr_octets, soa_octets, rdata_octets, rdata_code, rdata_class};
+ghost use Rattle.dns_message.specs.Written.{srv_octets, naptr_octets, soa_octets, rdata_octets};
 
 use crate::naptr::NaptrRecord;
-use crate::rdata::{
-    CLASS_IN, Rdata, TYPE_A, TYPE_AAAA, TYPE_CNAME, TYPE_NAPTR, TYPE_SOA, TYPE_SRV,
-};
+use crate::rdata::Rdata;
 use crate::soa::SoaRecord;
 use crate::srv::SrvRecord;
 use crate::written_field::{
     name_length, push_name, push_string, push_u16, push_u32, string_length,
 };
 use std::alloc::AllocError;
-
-/// The type of data.
-pub(crate) fn data_code(rdata: &Rdata) -> u16
-    ensures { result ≡ rdata_code rdata.now }
-{
-    match rdata {
-        Rdata::Addr4(_) => TYPE_A,
-        Rdata::Addr6(_) => TYPE_AAAA,
-        Rdata::Srv(_) => TYPE_SRV,
-        Rdata::Naptr(_) => TYPE_NAPTR,
-        Rdata::Cname(_) => TYPE_CNAME,
-        Rdata::Soa(_) => TYPE_SOA,
-        Rdata::Other(other) => other.code(),
-    }
-}
-
-/// The class of data.
-pub(crate) fn data_class_code(rdata: &Rdata) -> u16
-    ensures { result ≡ rdata_class rdata.now }
-{
-    match rdata {
-        Rdata::Other(other) => other.class_code(),
-        _ => CLASS_IN,
-    }
-}
 
 /// How many octets the data of a server has.
 #[tactic(auto, using(crate::proofs::WrittenOctets::lengths))]

@@ -9,7 +9,7 @@ ghost use Rattle.dns_message.specs.Written.{question_octets, record_octets, head
 use crate::header::{Counts, Header};
 use crate::question::Asked;
 use crate::resource::Record;
-use crate::written_data::{data_class_code, data_code, data_length, push_data};
+use crate::written_data::{data_length, push_data};
 use crate::written_field::{name_length, push_name, push_u16, push_u32};
 use dns_name::Name;
 use std::alloc::AllocError;
@@ -158,8 +158,8 @@ fn push_record(entry: &Record, out: &mut Vec<u8>) -> Result<(), AllocError>
     ensures fits { OnOk result (RecordFits entry.now) }
 {
     push_name(&entry.owner, out)?;
-    push_u16(data_code(&entry.rdata), out)?;
-    push_u16(data_class_code(&entry.rdata), out)?;
+    push_u16(entry.rdata.code(), out)?;
+    push_u16(entry.rdata.class_code(), out)?;
     push_u32(entry.ttl, out)?;
     push_u16(data_length(&entry.rdata), out)?;
     push_data(&entry.rdata, out)

@@ -1,9 +1,12 @@
-use Rattle.std.proofs.Common.{ℕ, length, take, ◌∙◌}
+use Rattle.std.proofs.Common.{ℕ, length, take, ◌∙◌, arith}
 use Rattle.std.proofs.lemmas.Result.{err_from_is_err_and}
 use Rattle.dns_message.specs.Headers.{HeaderAt, CountsAt}
 use Rattle.dns_message.specs.Messages.{MessageAt, Spells}
 use Rattle.dns_message.specs.declared.message.Message.{Message}
-use Rattle.dns_message.proofs.Messages.{IsCounted, counted, one_message, MessageAt-whole, MessageAt-within, Spells-front}
+use Rattle.dns_message.proofs.Messages.{IsCounted, counted, one_message, MessageAt-whole, MessageAt-within, Spells-front, refused_where, no_records}
+use Rattle.dns_message.proofs.Questions.{questions_named}
+use Rattle.dns_message.proofs.Records.{records_named}
+use Rattle.dns_message.specs.declared.refusal.Part.TheVariants.{Answers, Authority, Additional}
 use Rattle.dns_message.proofs.message.read_message.Goals as goal
 use Rattle.dns_message.proofs.message.read_message.Goals.{In_ok-header, In_ok-additional}
 
@@ -92,3 +95,79 @@ returns-in_err-additional-clause-read c = λ end found spelled short.
     let e2 = c.in_ok-authority.ensures.read found.authority w.0.additional_start (rw e1.1 w.0.authority) w.1.authority in
     let p = err_from_is_err_and c.from_residual-in_err-additional.result c.from_residual-in_err-additional.ensures.1 in
     rw p.1 (p.2 ∙ c.in_err-additional.ensures.read found.additional (length (take end c.args.bytes.now)) (rw e2.1 w.0.additional) w.1.additional)
+
+-- ---- which part it was
+
+pub returns-in_err-questions-clause-malformed : goal.returns-in_err-questions-clause-malformed
+returns-in_err-questions-clause-malformed c = λ part is end found spelled.
+    let memory = rw is at (returns-in_err-questions-clause-read c end found spelled (omega arith)) in
+    absurd cc
+
+pub returns-in_err-answers-clause-malformed : goal.returns-in_err-answers-clause-malformed
+returns-in_err-answers-clause-malformed c = λ part is end found spelled.
+    let memory = rw is at (returns-in_err-answers-clause-read c end found spelled (omega arith)) in
+    absurd cc
+
+pub returns-in_err-authority-clause-malformed : goal.returns-in_err-authority-clause-malformed
+returns-in_err-authority-clause-malformed c = λ part is end found spelled.
+    let memory = rw is at (returns-in_err-authority-clause-read c end found spelled (omega arith)) in
+    absurd cc
+
+pub returns-in_err-additional-clause-malformed : goal.returns-in_err-additional-clause-malformed
+returns-in_err-additional-clause-malformed c = λ part is end found spelled.
+    let memory = rw is at (returns-in_err-additional-clause-read c end found spelled (omega arith)) in
+    absurd cc
+
+pub returns-in_err-answers-clause-refused : goal.returns-in_err-answers-clause-refused
+returns-in_err-answers-clause-refused c =
+    let bytes = c.args.bytes.now in
+    let counts = (header (goal.at.returns-in_err-answers-clause-refused c).In_ok-header).1 in
+    let questions = c.in_ok-questions.ensures.found in
+    let refusal = c.in_err-answers.field-0.0 in
+    let p = err_from_is_err_and c.from_residual-in_err-answers.result c.from_residual-in_err-answers.ensures.1 in
+    rw (p.1, p.2) (refused_where bytes Answers refusal c.in_err-answers.ensures.refused
+    (λ is. questions_named bytes questions.0 (c.in_err-answers.ensures.memory is))
+    (λ is. (
+      c.in_ok-questions.place,
+      record { questions = c.in_ok-questions.questions; count = rw questions.1 counts.questions; stand = questions.0 },
+      λ end there. no_records bytes 6 c.in_ok-header.counts.answers c.in_ok-questions.place end Answers refusal counts.answers c.in_err-answers.ensures.read is there,
+    )))
+
+pub returns-in_err-authority-clause-refused : goal.returns-in_err-authority-clause-refused
+returns-in_err-authority-clause-refused c =
+    let bytes = c.args.bytes.now in
+    let counts = (header (goal.at.returns-in_err-authority-clause-refused c).In_ok-header).1 in
+    let questions = c.in_ok-questions.ensures.found in
+    let answers = c.in_ok-answers.ensures.found in
+    let refusal = c.in_err-authority.field-0.0 in
+    let p = err_from_is_err_and c.from_residual-in_err-authority.result c.from_residual-in_err-authority.ensures.1 in
+    rw (p.1, p.2) (refused_where bytes Authority refusal c.in_err-authority.ensures.refused
+    (λ is. questions_named bytes questions.0 (records_named bytes answers.0 (c.in_err-authority.ensures.memory is)))
+    (λ is. (
+      c.in_ok-questions.place,
+      c.in_ok-answers.place,
+      record { questions = c.in_ok-questions.questions; count = rw questions.1 counts.questions; stand = questions.0 },
+      record { records = c.in_ok-answers.answers; count = rw answers.1 counts.answers; stand = answers.0 },
+      λ end there. no_records bytes 8 c.in_ok-header.counts.authority c.in_ok-answers.place end Authority refusal counts.authority c.in_err-authority.ensures.read is there,
+    )))
+
+pub returns-in_err-additional-clause-refused : goal.returns-in_err-additional-clause-refused
+returns-in_err-additional-clause-refused c =
+    let bytes = c.args.bytes.now in
+    let counts = (header (goal.at.returns-in_err-additional-clause-refused c).In_ok-header).1 in
+    let questions = c.in_ok-questions.ensures.found in
+    let answers = c.in_ok-answers.ensures.found in
+    let authority = c.in_ok-authority.ensures.found in
+    let refusal = c.in_err-additional.field-0.0 in
+    let p = err_from_is_err_and c.from_residual-in_err-additional.result c.from_residual-in_err-additional.ensures.1 in
+    rw (p.1, p.2) (refused_where bytes Additional refusal c.in_err-additional.ensures.refused
+    (λ is. questions_named bytes questions.0 (records_named bytes answers.0 (records_named bytes authority.0 (c.in_err-additional.ensures.memory is))))
+    (λ is. (
+      c.in_ok-questions.place,
+      c.in_ok-answers.place,
+      c.in_ok-authority.place,
+      record { questions = c.in_ok-questions.questions; count = rw questions.1 counts.questions; stand = questions.0 },
+      record { records = c.in_ok-answers.answers; count = rw answers.1 counts.answers; stand = answers.0 },
+      record { records = c.in_ok-authority.authority; count = rw authority.1 counts.authority; stand = authority.0 },
+      λ end there. no_records bytes 10 c.in_ok-header.counts.additional c.in_ok-authority.place end Additional refusal counts.additional c.in_err-additional.ensures.read is there,
+    )))

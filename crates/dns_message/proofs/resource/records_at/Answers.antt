@@ -1,10 +1,10 @@
-use Rattle.std.proofs.Common.{refl, arith, ◌∙◌}
+use Rattle.std.proofs.Common.{refl, sym, arith, ◌∙◌}
 use Rattle.std.proofs.lemmas.List.{length_push}
 use Rattle.std.proofs.lemmas.Result.{err_from_is_err_and}
 use Rattle.dns_message.specs.Places.{none}
 use Rattle.dns_message.specs.Records.{RecordAt}
 use Rattle.dns_message.proofs.Places.{AllAt-push, AllAt-one, AllAt-next}
-use Rattle.dns_message.proofs.Records.{one_record}
+use Rattle.dns_message.proofs.Records.{one_record, records_named}
 use Rattle.dns_message.proofs.resource.records_at.Goals as goal
 
 pub loop-init : goal.loop-init
@@ -31,3 +31,14 @@ returns-clause-read c = λ entries end there count.
     let l = c.loop in
     let one = one_record c.one_name_at_a_place.ensures c.args.bytes.now in
     AllAt-one (RecordAt c.args.bytes.now) one c.args.place l.place end l.records.items entries l.invariant.so_far there (omega (arith, count))
+
+pub returns-in_err-entry-clause-memory : goal.returns-in_err-entry-clause-memory
+returns-in_err-entry-clause-memory c =
+    let p = err_from_is_err_and c.from_residual.result c.from_residual.ensures.1 in
+    rw p.1 (λ is. records_named c.args.bytes.now c.loop.invariant.so_far (c.in_err-entry.ensures.memory (sym p.2 ∙ is)))
+
+pub returns-in_err-push-clause-memory : goal.returns-in_err-push-clause-memory
+returns-in_err-push-clause-memory c =
+    let found = c.in_ok-entry.ensures.found in
+    let p = err_from_is_err_and c.from_residual-in_err-push.result c.from_residual-in_err-push.ensures.1 in
+    rw p.1 (λ is. records_named c.args.bytes.now c.loop.invariant.so_far (c.in_ok-entry.entry.owner, found.after, found.owner))
