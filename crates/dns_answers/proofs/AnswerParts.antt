@@ -1,5 +1,5 @@
 -- The records of an answer, and its life.
-use Rattle.std.proofs.Common.{◌≡◌, ℕ, zero, suc, ◌≤◌, List, [], ◌∷◌, length, take, Bool, true, false, cond, Option, Some, None, refl, sym, ap, ◌∙◌, arith}
+use Rattle.std.proofs.Common.{◌≡◌, ℕ, zero, suc, ◌<◌, ◌≤◌, ◌^◌, List, [], ◌∷◌, ◌++◌, length, take, Bool, true, false, cond, Option, Some, None, refl, sym, ap, ◌∙◌, arith}
 use Rattle.std.specs.List.{filter}
 use Rattle.std.proofs.lemmas.List.{length-take}
 use Rattle.dns_message.specs.declared.kind.Kind.{Kind}
@@ -8,11 +8,11 @@ use Rattle.dns_message.specs.declared.message.Message.{Message}
 use Rattle.dns_message.specs.declared.question.Question.{Question}
 use Rattle.dns_message.specs.declared.rdata.Rdata.{Rdata}
 use Rattle.dns_message.specs.declared.resource.Record.{Record}
-use Rattle.dns_answers.specs.Answers.{answer}
-use Rattle.dns_answers.specs.Chains.{chain}
+use Rattle.dns_answers.specs.Answers.{kept_along, answer}
+use Rattle.dns_answers.specs.Chains.{Chain, chain}
 use Rattle.dns_answers.specs.Kept.{has_data, kept_with, data_of, kept, records_of}
-use Rattle.dns_answers.specs.Lives.{least_from, ttls, life_of, absent_life}
-use Rattle.dns_answers.specs.Names.{same_name}
+use Rattle.dns_answers.specs.Lives.{least_from, ttls, links_of, life_of, absent_life}
+use Rattle.dns_name.specs.Labels.{same_name}
 use Rattle.dns_answers.specs.Records.{count_of, kind_of, CanBeKept}
 use Rattle.dns_answers.proofs.LeastLives.{least-le}
 
@@ -61,17 +61,17 @@ kind_is Aaaa entries = refl
 kind_is Srv entries = refl
 kind_is Naptr entries = refl
 
-life_absent : (message : Message) (links entries : List Record) → length entries ≡ 0 → life_of message links entries ≡ absent_life message
-life_absent message links [] none = refl
-life_absent message links (first ∷ others) none = absurd (omega arith)
+life_absent : (message : Message) (found : Option Chain) (entries : List Record) → length entries ≡ 0 → life_of message found entries ≡ absent_life message found
+life_absent message found [] none = refl
+life_absent message found (first ∷ others) none = absurd (omega arith)
 
 module _ (question : Question) (message : Message) (links : List Record) (last : List (List ℕ)) (is : chain message.answers question.name ≡ Some (record { links = links; last = last })) where
   abbrev entries : List Record
   entries = kept question.kind last message.answers
 
-  pub absent : (life : ℕ) → count_of (records_of question.kind entries) ≡ 0 → life ≡ absent_life message → answer question message ≡ record { records = records_of question.kind entries; life = life }
+  pub absent : (life : ℕ) → count_of (records_of question.kind entries) ≡ 0 → life ≡ absent_life message (chain message.answers question.name) → answer question message ≡ record { records = records_of question.kind entries; life = life }
   absent life none e =
-      let short = life_absent message links entries (sym (count_is question.kind last message.answers) ∙ none) in
+      let short = life_absent message (Some (record { links = links; last = last })) entries (sym (count_is question.kind last message.answers) ∙ none) in
       rw (is, short, e) refl
 
 pub bounds : (kind : Kind) (name : List (List ℕ)) (section links : List Record) (limit life : ℕ) → limit ≡ least_from 2147483647 (ttls links) → life ≡ least_from limit (ttls (kept kind name section))
@@ -80,3 +80,27 @@ bounds kind name section links limit life limit_is life_is = record {
   few = omega (arith, count_is kind name section, few kind name section);
   short = omega (arith, least-le 2147483647 (ttls links), least-le limit (ttls (kept kind name section)));
 }
+
+-- ---- what an answer keeps to
+
+few_none : (kind : Kind) → count_of (records_of kind []) ≤ 32
+few_none A = omega arith
+few_none Aaaa = omega arith
+few_none Srv = omega arith
+few_none Naptr = omega arith
+
+few_along : (question : Question) (message : Message) (found : Option Chain) → count_of (records_of question.kind (kept_along question message found)) ≤ 32
+few_along question message None = few_none question.kind
+few_along question message (Some found) = omega (arith, count_is question.kind found.last message.answers, few question.kind found.last message.answers)
+
+pub answer-few : (question : Question) (message : Message) → count_of (answer question message).records ≤ 32
+answer-few question message = few_along question message (chain message.answers question.name)
+
+life_short : (message : Message) (found : Option Chain) (entries : List Record) → life_of message found entries < 2 ^ 31
+life_short message found [] = omega arith
+life_short message found (first ∷ others) = omega (arith, least-le 2147483647 (ttls (links_of found ++ first ∷ others)))
+
+pub answer-short : (question : Question) (message : Message) → (answer question message).life < 2 ^ 31
+answer-short question message =
+    let found : Option Chain = chain message.answers question.name in
+    life_short message found (kept_along question message found)

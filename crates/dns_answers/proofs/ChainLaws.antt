@@ -4,16 +4,17 @@ use Rattle.std.specs.Option.{option_map, option_map_or}
 use Rattle.dns_message.specs.declared.resource.Record.{Record}
 use Rattle.dns_answers.specs.Chains.{Alias, Chain, first_alias, ends_at, behind, chain_within, chain, Follows, stays, leads, IsChain, IsTooLong}
 use Rattle.dns_answers.proofs.Chains.{Leads, chain_ends, chain_endless}
+use Rattle.dns_answers.proofs.Names.{SameNames}
 use Rattle.dns_answers.proofs.FirstAliases.{is_first, first_is, no_first, first_none}
 
-module _ (section : List Record) where
+module _ (same : SameNames) (section : List Record) where
   follows_where_leads : (name : List (List ℕ)) (links : List Record) (last : List (List ℕ)) → Leads section name links last → Follows section name links last
-  follows_where_leads name [] last same = stays same
-  follows_where_leads name (entry ∷ others) last lead = leads lead.0 (is_first name section (record { entry = entry; target = lead.0 }) lead.1) (follows_where_leads lead.0 others last lead.2)
+  follows_where_leads name [] last is = stays is
+  follows_where_leads name (entry ∷ others) last lead = leads lead.0 (is_first same name section (record { entry = entry; target = lead.0 }) lead.1) (follows_where_leads lead.0 others last lead.2)
 
   leads_where_follows : (name : List (List ℕ)) (links : List Record) (last : List (List ℕ)) → Follows section name links last → Leads section name links last
-  leads_where_follows name [] last (stays same) = same
-  leads_where_follows name (entry ∷ others) last (leads target first rest) = (target, first_is name section entry target first, leads_where_follows target others last rest)
+  leads_where_follows name [] last (stays is) = is
+  leads_where_follows name (entry ∷ others) last (leads target first rest) = (target, first_is same name section entry target first, leads_where_follows target others last rest)
 
   -- ---- a chain that is found
 
@@ -23,7 +24,7 @@ module _ (section : List Record) where
     few : length found.links ≤ limit
 
   found_here : (limit : ℕ) (name : List (List ℕ)) (found : Chain) → first_alias name section ≡ None → Some (ends_at name) ≡ Some found → Found limit name found
-  found_here limit name found none same =
+  found_here limit name found none some =
       let is : ends_at name ≡ found = cc in
       rw (← is) (record { lead = refl; none = none; few = omega arith })
 
@@ -36,8 +37,8 @@ module _ (section : List Record) where
   found_behind limit name found alias None some each is = absurd cc
   found_behind limit name found alias (Some c) some each is =
       let there = each c refl in
-      let same : behind alias.entry c ≡ found = cc in
-      rw (← same) (record { lead = (alias.target, some, there.lead); none = there.none; few = omega (arith, there.few) })
+      let this : behind alias.entry c ≡ found = cc in
+      rw (← this) (record { lead = (alias.target, some, there.lead); none = there.none; few = omega (arith, there.few) })
 
   found_more : (limit : ℕ) (name : List (List ℕ)) (found : Chain) (alias : Option Alias) → first_alias name section ≡ alias
       → ((a : Alias) (c : Chain) → chain_within limit section a.target ≡ Some c → Found limit a.target c)
@@ -84,10 +85,10 @@ module _ (section : List Record) where
   pub chain_is : (name : List (List ℕ)) (found : Chain) → chain section name ≡ Some found → IsChain section name found
   chain_is name found is =
       let f = found_is 8 name found is in
-      record { follows = follows_where_leads name found.links found.last f.lead; ends = no_first found.last section f.none; short = f.few }
+      record { follows = follows_where_leads name found.links found.last f.lead; ends = no_first same found.last section f.none; short = f.few }
 
   pub is_chain : (name : List (List ℕ)) (found : Chain) → IsChain section name found → chain section name ≡ Some found
-  is_chain name found is = chain_ends section 8 name found.links found.last (leads_where_follows name found.links found.last is.follows) (first_none found.last section is.ends) is.short
+  is_chain name found is = chain_ends section 8 name found.links found.last (leads_where_follows name found.links found.last is.follows) (first_none same found.last section is.ends) is.short
 
   pub too_long_is : (name : List (List ℕ)) → chain section name ≡ None → IsTooLong section name
   too_long_is name is =

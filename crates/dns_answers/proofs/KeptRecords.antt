@@ -6,7 +6,7 @@ use Rattle.std.proofs.lemmas.List.{length_push, take_all, take-append-le, take-a
 use Rattle.std.proofs.lemmas.List.Elements.{filter_more, filter-append, filter_map-append}
 use Rattle.dns_message.specs.declared.rdata.Rdata.{Rdata}
 use Rattle.dns_message.specs.declared.resource.Record.{Record}
-use Rattle.dns_answers.specs.Names.{same_name}
+use Rattle.dns_name.specs.Labels.{same_name}
 use Rattle.dns_answers.specs.Kept.{data_for, has_data, kept_with, data_of}
 use Rattle.dns_answers.specs.Lives.{lasting, least_from, ttls}
 use Rattle.dns_answers.proofs.LeastLives.{least_push}

@@ -1,5 +1,5 @@
 -- The life of records together.
-use Rattle.std.proofs.Common.{◌≡◌, ℕ, zero, suc, ◌≤◌, List, [], ◌∷◌, ◌++◌, map, inl, inr, refl, arith}
+use Rattle.std.proofs.Common.{◌≡◌, ℕ, zero, suc, ◌≤◌, List, [], ◌∷◌, ◌++◌, map, Option, inl, inr, refl, arith}
 use Rattle.std.specs.Prelude.{min}
 use Rattle.std.specs.List.{fold, Contains}
 use Rattle.std.proofs.lemmas.Bool.{cases_lt}
@@ -9,7 +9,8 @@ use Rattle.std.proofs.lemmas.List.Sums.{fold_push, fold-append}
 use Rattle.std.proofs.lemmas.Bool.Decides.{nat_tests}
 use Rattle.dns_message.specs.declared.message.Message.{Message}
 use Rattle.dns_message.specs.declared.resource.Record.{Record}
-use Rattle.dns_answers.specs.Lives.{lasting, least_from, ttls, life_of, IsLeast}
+use Rattle.dns_answers.specs.Chains.{Chain}
+use Rattle.dns_answers.specs.Lives.{lasting, least_from, ttls, links_of, life_of, IsLeast}
 
 pub least_push : (limit : ℕ) (entries : List Record) (entry : Record) → least_from limit (ttls (entries ++ entry ∷ [])) ≡ min (least_from limit (ttls entries)) (lasting entry.ttl)
 least_push limit entries entry =
@@ -62,7 +63,10 @@ least_is : (entries : List Record) → (entries ≡ [] → ⊥) → IsLeast (lea
 least_is [] some = absurd (some refl)
 least_is (entry ∷ others) some = least_below 2147483647 (lasting entry.ttl) (map lasting (ttls others)) (lasting-le entry.ttl)
 
-pub life_is_least : (message : Message) (links kept : List Record) → (kept ≡ [] → ⊥) → IsLeast (life_of message links kept) (map lasting (ttls (links ++ kept)))
-life_is_least message links [] some = absurd (some refl)
-life_is_least message [] (first ∷ others) some = least_is (first ∷ others) some
-life_is_least message (link ∷ links) (first ∷ others) some = least_is (link ∷ (links ++ first ∷ others)) (λ none. absurd cc)
+some_kept : (links others : List Record) (first : Record) → links ++ first ∷ others ≡ [] → ⊥
+some_kept [] others first none = absurd cc
+some_kept (link ∷ links) others first none = absurd cc
+
+pub life_is_least : (message : Message) (chain : Option Chain) (kept : List Record) → (kept ≡ [] → ⊥) → IsLeast (life_of message chain kept) (map lasting (ttls (links_of chain ++ kept)))
+life_is_least message chain [] some = absurd (some refl)
+life_is_least message chain (first ∷ others) some = least_is (links_of chain ++ first ∷ others) (some_kept (links_of chain) others first)

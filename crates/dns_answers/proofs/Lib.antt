@@ -5,4 +5,4 @@ mod FirstAliases
 mod KeptRecords
 mod LeastLives
 mod Repeated
-mod SameNames
+mod Names

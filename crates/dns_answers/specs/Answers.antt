@@ -8,16 +8,17 @@ use Rattle.dns_answers.specs.Kept.{kept, records_of}
 use Rattle.dns_answers.specs.Lives.{life_of}
 use Rattle.dns_answers.specs.Values.{AnswerValue}
 
--- with these links followed and these records kept
-abbrev pub answer_with : Question → Message → List Record → List Record → AnswerValue
-answer_with question message links entries =
-    record { records = records_of question.kind entries; life = life_of message links entries }
+-- the records that a message has for a question at the end of a chain; where it has no end, none
+abbrev pub kept_along : Question → Message → Option Chain → List Record
+kept_along question message None = []
+kept_along question message (Some chain) = kept question.kind chain.last message.answers
 
--- with this chain: the records of the kind at its end; where it has no end, none
+-- their data, and their life
 abbrev pub answer_along : Question → Message → Option Chain → AnswerValue
-answer_along question message None = answer_with question message [] []
-answer_along question message (Some chain) =
-    answer_with question message chain.links (kept question.kind chain.last message.answers)
+answer_along question message chain = record {
+  records = records_of question.kind (kept_along question message chain);
+  life = life_of message chain (kept_along question message chain);
+}
 
 -- of the answer section, from the name that is asked
 abbrev pub answer : Question → Message → AnswerValue

@@ -5,7 +5,7 @@ use Rattle.std.specs.Option.{option_map, option_map_or}
 use Rattle.dns_message.specs.declared.rdata.Rdata.{Rdata}
 use Rattle.dns_message.specs.declared.rdata.Rdata.TheVariants.{Cname}
 use Rattle.dns_message.specs.declared.resource.Record.{Record}
-use Rattle.dns_answers.specs.Names.{same_name}
+use Rattle.dns_name.specs.Labels.{same_name}
 
 -- a CNAME record, and the canonical name that it gives its owner
 pub record Alias : Type 0 where

@@ -8,7 +8,7 @@ use Rattle.dns_message.specs.declared.srv.SrvRecord.{SrvRecord}
 use Rattle.dns_message.specs.declared.rdata.Rdata.{Rdata}
 use Rattle.dns_message.specs.declared.rdata.Rdata.TheVariants.{Addr4, Addr6, Srv, Naptr}
 use Rattle.dns_message.specs.declared.resource.Record.{Record}
-use Rattle.dns_answers.specs.Names.{same_name}
+use Rattle.dns_name.specs.Labels.{same_name}
 use Rattle.dns_answers.specs.declared.records.Records.{Records}
 use Rattle.dns_answers.specs.declared.records.Records.TheVariants as records
 

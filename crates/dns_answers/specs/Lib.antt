@@ -1,4 +1,3 @@
-pub mod Names
 pub mod Replies
 pub mod Chains
 pub mod Kept

@@ -4,7 +4,7 @@ use Rattle.dns_message.specs.Kinds.{kind_code}
 use Rattle.dns_message.specs.declared.message.Message.{Message}
 use Rattle.dns_message.specs.declared.question.Asked.{Asked}
 use Rattle.dns_message.specs.declared.question.Question.{Question}
-use Rattle.dns_answers.specs.Names.{same_name}
+use Rattle.dns_name.specs.Labels.{same_name}
 use Rattle.dns_answers.specs.declared.refusal.ReplyRefusal.{ReplyRefusal}
 use Rattle.dns_answers.specs.declared.refusal.ReplyRefusal.TheVariants.{NotReply, OtherQuestion, Truncated, ServerFault}
 

@@ -25,7 +25,9 @@ mod reply;
 
 pub use answer::Answer;
 pub use dns_message::Section;
-pub use laws::{chain_follows_aliases, life_is_the_least, question_is_repeated};
+pub use laws::{
+    answers_are_bounded, chain_follows_aliases, life_is_the_least, question_is_repeated,
+};
 pub use moment::Moment;
 pub use records::Records;
 pub use refusal::ReplyRefusal;

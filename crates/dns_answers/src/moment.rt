@@ -1,5 +1,5 @@
 //! Moments.
-ghost use Rattle.std.specs.Prelude.{◌≡◌, ◌<◌, ◌^◌, ◌↔◌, IsSome, IfSome};
+ghost use Rattle.std.specs.Prelude.{◌≡◌, ◌<◌, ◌^◌, ◌↔◌, IsSome, IsTrue, IfSome};
 
 use std::marker::Model;
 
@@ -44,5 +44,12 @@ impl Moment {
         ensures below { self < 2 ^ 48 }
     {
         self.seconds
+    }
+
+    /// Whether it comes before another, which is what `<` tells.
+    pub fn is_before(self, other: Moment) -> bool
+        ensures { IsTrue result ↔ (self < other) }
+    {
+        self < other
     }
 }

@@ -3,12 +3,9 @@ ghost use Rattle.std.specs.Prelude.{◌≡◌};
 ghost use Rattle.dns_answers.specs.Replies as spec;
 ghost use Rattle.dns_answers.specs.declared.refusal.ReplyRefusal.TheVariants as refusals;
 
-use dns_message::{Asked, Message, Question};
+use dns_message::{Asked, CLASS_IN, Message, Question};
 use std::alloc::{AllocError, AllocFailed};
 use thiserror::Error;
-
-/// The class of the internet (RFC 1035 3.2.4).
-const CLASS_IN: u16 = 1;
 
 /// Why a message gives no answer to a question, in the order of the checks.
 #[derive(Clone, Copy, Debug, PartialEq, Eq, Error)]

@@ -1,7 +1,6 @@
 //! The answer that a reply has.
-ghost use Rattle.std.specs.Prelude.{◌≡◌, Some, None, IfOk, MatchResult};
+ghost use Rattle.std.specs.Prelude.{◌≡◌, ◌⊎◌, Some, None, IfOk, IfErr, MatchResult};
 ghost use Rattle.dns_answers.specs.Answers as spec;
-ghost use Rattle.dns_answers.specs.Lives as lives;
 ghost use Rattle.dns_answers.specs.Records.{kind_of};
 ghost use Rattle.dns_answers.specs.Replies.{reply_refusal as refusal_of};
 ghost use Rattle.dns_answers.specs.declared.refusal.ReplyRefusal as refusals;
@@ -16,24 +15,17 @@ use std::alloc::{AllocError, Global};
 /// For how many seconds it may be kept that there are no records.
 const ABSENT_LIFE: u32 = 30;
 
-/// For how many seconds it may be kept that a message has no records.
-fn absent_life(_message: &Message) -> u32
-    ensures { result ≡ lives.absent_life _message.now }
-{
-    ABSENT_LIFE
-}
-
 /// The answer of the answer section of a message.
 fn answer_in(alloc: Global, question: &Question, message: &Message) -> Result<Answer, AllocError>
     ensures { IfOk result (λ answer. answer ≡ spec.answer question.now message.now) }
 {
     let section = message.answers.as_slice();
     let Some(end) = chain_end(section, &question.name) else {
-        return Ok(Answer::of(no_records(alloc, question.kind), absent_life(message)));
+        return Ok(Answer::of(no_records(alloc, question.kind), ABSENT_LIFE));
     };
     let (records, life) = records_for(alloc, question.kind, section, end.name, end.life)?;
     if records.is_empty() {
-        return Ok(Answer::of(records, absent_life(message)));
+        return Ok(Answer::of(records, ABSENT_LIFE));
     }
     Ok(Answer::of(records, life))
 }
@@ -55,6 +47,11 @@ pub fn answer_of(
     ensures answered { refusal_of question.now message.now ≡ None
         → MatchResult result (λ answer. answer ≡ spec.answer question.now message.now)
         (λ refusal. refusal ≡ ReplyRefusal.Memory) }
+    // The same, from what it gives.
+    ensures found { IfOk result (λ found. (refusal_of question.now message.now ≡ None)
+        × (found ≡ spec.answer question.now message.now)) }
+    ensures said { IfErr result (λ refusal. (refusal ≡ ReplyRefusal.Memory)
+        ⊎ (refusal_of question.now message.now ≡ Some refusal)) }
     ensures kind { IfOk result (λ answer. kind_of answer.records ≡ question.now.kind) }
 {
     if let Some(refusal) = reply_refusal(question, message) {

@@ -1,11 +1,15 @@
 //! Laws of messages. A call of one does nothing: its contract tells its caller the law.
-ghost use Rattle.std.specs.Prelude.{◌≡◌, ◌≤◌, ◌++◌, ℕ, List, length, take};
+ghost use Rattle.std.specs.Prelude.{◌≡◌, ◌↔◌, IsTrue, ◌≤◌, ◌++◌, ℕ, List, length, take};
 ghost use Rattle.dns_message.specs.Fits.{MessageFits};
 ghost use Rattle.dns_message.specs.Messages.{Spells};
+ghost use Rattle.dns_message.specs.Questions.{same_question};
 ghost use Rattle.dns_message.specs.Written.{plain};
 ghost use Rattle.dns_message.specs.declared.message.Message.{Message};
+ghost use Rattle.dns_message.specs.declared.question.Question.{Question};
 
-use dns_name::{name_rests_before_its_end, one_name_at_a_place, written_name_is_read};
+use dns_name::{
+    name_rests_before_its_end, one_name_at_a_place, same_names_are_equal, written_name_is_read,
+};
 
 /// In front of octets stands at most one message.
 pub fn one_message_in_front()
@@ -22,4 +26,11 @@ pub fn written_message_is_read()
         → Spells (take (length (plain message)) (plain message ++ back)) message }
 {
     written_name_is_read();
+}
+
+/// The test of `==` holds of a question and itself alone.
+pub fn same_questions_are_equal()
+    ensures { (question other : Question) → IsTrue (same_question question other) ↔ (question ≡ other) }
+{
+    same_names_are_equal();
 }

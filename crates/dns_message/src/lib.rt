@@ -42,7 +42,7 @@ mod written_parts;
 pub use char_string::CharString;
 pub use header::Header;
 pub use kind::Kind;
-pub use laws::{one_message_in_front, written_message_is_read};
+pub use laws::{one_message_in_front, same_questions_are_equal, written_message_is_read};
 pub use message::{Message, read_message};
 pub use naptr::NaptrRecord;
 pub use other_data::OtherData;

@@ -1,6 +1,6 @@
 //! Laws of names. A call of one does nothing: its contract tells its caller the law.
-ghost use Rattle.std.specs.Prelude.{◌≡◌, ◌+◌, ◌<◌, ◌≤◌, ◌++◌, ℕ, List, length, take};
-ghost use Rattle.dns_name.specs.Labels.{IsName, wire_of};
+ghost use Rattle.std.specs.Prelude.{◌≡◌, ◌↔◌, IsTrue, ◌+◌, ◌<◌, ◌≤◌, ◌++◌, ℕ, List, length, take};
+ghost use Rattle.dns_name.specs.Labels.{IsName, same_name, wire_of};
 ghost use Rattle.dns_name.specs.Places.{NameAt};
 ghost use Rattle.dns_name.specs.Texts.{IsPlain, TextOf, text_of};
 
@@ -33,4 +33,9 @@ pub fn octets_determine_name()
 /// The text that is written for a name of letters, digits, `_` and `-` is a text of that name: so it is read again.
 pub fn written_text_is_read()
     ensures { (name : List (List ℕ)) → IsName name → IsPlain name → TextOf name (text_of name) }
+{}
+
+/// The test of `==` holds of a name and itself alone.
+pub fn same_names_are_equal()
+    ensures { (name other : List (List ℕ)) → IsTrue (same_name name other) ↔ (name ≡ other) }
 {}

@@ -19,8 +19,8 @@ mod refusal;
 mod text;
 
 pub use laws::{
-    name_rests_before_its_end, octets_determine_name, one_name_at_a_place, written_name_is_read,
-    written_text_is_read,
+    name_rests_before_its_end, octets_determine_name, one_name_at_a_place, same_names_are_equal,
+    written_name_is_read, written_text_is_read,
 };
 pub use message::{read_name, write_name};
 pub use name::Name;

@@ -1,4 +1,4 @@
-use Rattle.std.proofs.Common.{◌≡◌, Some, sym, ap, ◌∙◌}
+use Rattle.std.proofs.Common.{◌≡◌, Some, refl, sym, ap, ◌∙◌}
 use Rattle.dns_answers.specs.Chains.{chain}
 use Rattle.dns_answers.specs.Kept.{kept, records_of}
 use Rattle.dns_answers.specs.Records.{count_of}
@@ -16,8 +16,8 @@ returns-then-is_empty c =
     let chain_is : chain message.answers question.name ≡ Some (record { links = end.0; last = last }) = rw (← section) end.1 in
     let records_are : c.in_ok-records.records ≡ records_of question.kind (kept question.kind last message.answers) = rw (← section) c.in_ok-records.ensures.0 in
     let none : count_of c.in_ok-records.records ≡ 0 = c.is_empty.ensures.0 c.if-is_empty.true in
-    c.of-then-is_empty.ensures ∙ ap (λ (records : Records). record { records = records; life = c.absent_life-then-is_empty.result }) records_are
-    ∙ sym (absent question message end.0 last chain_is c.absent_life-then-is_empty.result (ap count_of (sym records_are) ∙ none) c.absent_life-then-is_empty.ensures)
+    c.of-then-is_empty.ensures ∙ ap (λ (records : Records). record { records = records; life = 30 }) records_are
+    ∙ sym (absent question message end.0 last chain_is 30 (ap count_of (sym records_are) ∙ none) refl)
 
 pub of-requires-2 : goal.of-requires-2
 of-requires-2 c =
