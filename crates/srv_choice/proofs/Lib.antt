@@ -2,3 +2,5 @@ pub mod Members
 pub mod Lowest
 pub mod Picks
 pub mod Orders
+pub mod Listings
+pub mod Shares

@@ -1,2 +1,3 @@
-pub mod Selection
+pub mod SrvOrder
 pub mod Outcomes
+pub mod Chances

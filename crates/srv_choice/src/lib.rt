@@ -14,13 +14,17 @@
 #![tactic(auto)]
 
 mod choice;
+mod laws;
+mod next_place;
 mod outcome;
-mod selection;
+mod places;
 mod words;
 
 pub use choice::order;
+pub use laws::{limits, order_is_by_priority, weights_are_shares};
+pub use next_place::RECORD_LIMIT;
 pub use outcome::SrvOutcome;
-pub use selection::RECORD_LIMIT;
+pub use places::Places;
 pub use words::{WORD_COUNT, Words};
 
 #[cfg(test)]

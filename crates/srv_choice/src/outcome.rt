@@ -1,4 +1,5 @@
 //! What SRV records say of a service (RFC 2782, "Usage rules").
+use crate::places::Places;
 
 /// What SRV records say of a service.
 #[derive(Debug, Drop)]
@@ -7,7 +8,7 @@ pub enum SrvOutcome {
     Absent,
     /// That it is not offered: the target of the one record is the root.
     Denied,
-    /// Where it is to be tried: the places of the records, from 0, in the order in which they are to be tried, and the
-    /// place of the first random word that is still unused.
-    Listed(Vec<usize>, usize),
+    /// Where it is to be tried: the places of the records, in the order in which they are to be
+    /// tried, and the place of the first random word that is still unused.
+    Listed(Places, usize),
 }
