@@ -1,5 +1,6 @@
 //! Laws of the order. A call of one does nothing: its contract tells its caller the law.
-ghost use Rattle.std.specs.Prelude.{◌≡◌, ◌+◌, ◌<◌, ◌≤◌, ◌∷◌, ℕ, List, All, Contains, IsPermutation, length, nat_eq};
+ghost use Rattle.std.specs.Prelude.{◌≡◌, ◌+◌, ◌<◌, ◌∷◌, ℕ, List, All, Contains, IsPermutation};
+ghost use Rattle.std.specs.Prelude.{length, nat_eq};
 ghost use Rattle.std.specs.List.{IsDistinct, range_with_len};
 ghost use Rattle.std.specs.List.Sorted.{IsNonDecreasingBy};
 ghost use Rattle.dns_message.specs.declared.srv.SrvRecord as srv;
@@ -17,30 +18,35 @@ pub fn limits()
     ensures words { WORD_COUNT ≡ 256 }
 {}
 
-/// What is listed is the place of each record once, none before one of a lower priority.
+/// What is listed is the place of each record once, none before one of a lower priority; and the
+/// next word stands as many places on as there are records.
 pub fn order_is_by_priority()
-    ensures complete { (records : List srv.SrvRecord) (words : List ℕ) (from : ℕ) (places : List ℕ) (next : ℕ)
-        → from + length records ≤ length words → order_from records words from ≡ Listed places next
+    ensures complete { (records : List srv.SrvRecord) (words : List ℕ) (from : ℕ)
+        → (places : List ℕ) (next : ℕ) → order_from records words from ≡ Listed places next
         → IsPermutation (range_with_len 0 (length records)) places }
-    ensures by_priority { (records : List srv.SrvRecord) (words : List ℕ) (from : ℕ) (places : List ℕ) (next : ℕ)
-        → from + length records ≤ length words → order_from records words from ≡ Listed places next
+    ensures by_priority { (records : List srv.SrvRecord) (words : List ℕ) (from : ℕ)
+        → (places : List ℕ) (next : ℕ) → order_from records words from ≡ Listed places next
         → IsNonDecreasingBy (priority_at records) places }
-    ensures within { (records : List srv.SrvRecord) (words : List ℕ) (from : ℕ) (places : List ℕ) (next : ℕ)
-        → from + length records ≤ length words → order_from records words from ≡ Listed places next
+    ensures within { (records : List srv.SrvRecord) (words : List ℕ) (from : ℕ)
+        → (places : List ℕ) (next : ℕ) → order_from records words from ≡ Listed places next
         → All (λ place. place < length records) places }
-    ensures count { (records : List srv.SrvRecord) (words : List ℕ) (from : ℕ) (places : List ℕ) (next : ℕ)
-        → from + length records ≤ length words → order_from records words from ≡ Listed places next
+    ensures count { (records : List srv.SrvRecord) (words : List ℕ) (from : ℕ)
+        → (places : List ℕ) (next : ℕ) → order_from records words from ≡ Listed places next
         → length places ≡ length records }
-    ensures next { (records : List srv.SrvRecord) (words : List ℕ) (from : ℕ) (places : List ℕ) (next : ℕ)
-        → order_from records words from ≡ Listed places next → next ≡ from + length records }
+    ensures next { (records : List srv.SrvRecord) (words : List ℕ) (from : ℕ)
+        → (places : List ℕ) (next : ℕ) → order_from records words from ≡ Listed places next
+        → next ≡ from + length records }
 {}
 
-/// The arrangement of places has each of them once. Of the numbers from 0 to the sum of the
-/// weights, as many pick one of an arrangement as its weight says, and one more its first.
+/// Places are arranged each once. Of the numbers from 0 to the sum of the weights of an arrangement,
+/// as many pick a place as its weight says, and one more the first (RFC 2782, "Weight").
 pub fn weights_are_shares()
-    ensures arranged { (records : List srv.SrvRecord) (places : List ℕ) → IsPermutation places (arrangement records places) }
-    ensures first { (records : List srv.SrvRecord) (first : ℕ) (others : List ℕ) → IsDistinct nat_eq (first ∷ others)
+    ensures arranged { (records : List srv.SrvRecord) (places : List ℕ)
+        → IsPermutation places (arrangement records places) }
+    ensures first { (records : List srv.SrvRecord) (first : ℕ) (others : List ℕ)
+        → IsDistinct nat_eq (first ∷ others)
         → chances records (first ∷ others) first ≡ weight_at records first + 1 }
-    ensures others { (records : List srv.SrvRecord) (first : ℕ) (others : List ℕ) (place : ℕ) → IsDistinct nat_eq (first ∷ others)
-        → Contains others place → chances records (first ∷ others) place ≡ weight_at records place }
+    ensures others { (records : List srv.SrvRecord) (first : ℕ) (others : List ℕ) (place : ℕ)
+        → IsDistinct nat_eq (first ∷ others) → Contains others place
+        → chances records (first ∷ others) place ≡ weight_at records place }
 {}

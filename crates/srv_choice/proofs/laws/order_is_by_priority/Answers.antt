@@ -6,18 +6,18 @@ use Rattle.srv_choice.proofs.Orders.{All-range}
 use Rattle.srv_choice.proofs.laws.order_is_by_priority.Goals as goal
 
 pub returns-clause-complete : goal.returns-clause-complete
-returns-clause-complete c = λ records words from places next enough is. (listed_order records words from places next enough is).complete
+returns-clause-complete c = λ records words from places next is. (listed_order records words from places next is).complete
 
 pub returns-clause-by_priority : goal.returns-clause-by_priority
-returns-clause-by_priority c = λ records words from places next enough is. (listed_order records words from places next enough is).by_priority
+returns-clause-by_priority c = λ records words from places next is. (listed_order records words from places next is).by_priority
 
 pub returns-clause-within : goal.returns-clause-within
-returns-clause-within c = λ records words from places next enough is.
-    All-permutation (λ place. place < length records) _ _ (listed_order records words from places next enough is).complete (All-range (length records))
+returns-clause-within c = λ records words from places next is.
+    All-permutation (λ place. place < length records) _ _ (listed_order records words from places next is).complete (All-range (length records))
 
 pub returns-clause-count : goal.returns-clause-count
-returns-clause-count c = λ records words from places next enough is.
-    let same = length_permutation _ _ (listed_order records words from places next enough is).complete in
+returns-clause-count c = λ records words from places next is.
+    let same = length_permutation _ _ (listed_order records words from places next is).complete in
     omega (arith, same, length-range_with_len 0 (length records))
 
 pub returns-clause-next : goal.returns-clause-next
