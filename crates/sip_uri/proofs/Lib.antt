@@ -18,7 +18,7 @@ mod ParamBlocks
 mod UriPieces
 mod UriHeaders
 mod UriTexts
-mod NotLong
+mod Faults
 mod ViaRows
 mod ViaSteps
 mod ViaLists

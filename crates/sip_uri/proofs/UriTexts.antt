@@ -3,7 +3,7 @@ use Rattle.std.proofs.Common.{◌≡◌, ℕ, ◌≤◌, Bool, true, false, not,
 use Rattle.std.specs.Char.{is_ascii_digit}
 use Rattle.std.specs.Prelude.{MatchResult, IfOk}
 use Rattle.sip_uri.specs.Readers.Parts.{before, behind}
-use Rattle.sip_uri.specs.Uris.{params_text, headers_text, UriText}
+use Rattle.sip_uri.specs.Uris.{params_text, headers_text, UriText, IsNamedUri}
 use Rattle.sip_uri.specs.Readers.Uris.{behind_scheme, behind_user, place_of, said_by, check_headers, uri_parts}
 use Rattle.sip_uri.specs.declared.host.Host.{Host}
 use Rattle.sip_uri.specs.declared.transport.Spoken.{Spoken}
@@ -148,10 +148,18 @@ module _ (text : List ℕ) (uri : SipUri) (is : UriText text uri) where
 -- ---- what the reader answers, with memory for names or without
 
 module _ (text : List ℕ) (parts : SipUri) (read : uri_parts text ≡ Ok parts) where
-  pub found_is : (r : Result SipUri UriRefusal) → MatchResult r (λ uri. uri ≡ parts) (λ refusal. refusal ≡ Memory) → length text ≤ 1024 → IfOk r (λ uri. UriText text uri)
+  -- the answer: the URI, or want of memory for a name in it
+  abbrev Answer : Result SipUri UriRefusal → Type 0
+  Answer r = MatchResult r (λ uri. uri ≡ parts) (λ refusal. (refusal ≡ Memory) × IsNamedUri parts)
+
+  pub found_is : (r : Result SipUri UriRefusal) → Answer r → length text ≤ 1024 → IfOk r (λ uri. UriText text uri)
   found_is (Ok uri) is short = rw is (uri_read text parts short read)
   found_is (Err refusal) is short = tt
 
-  pub read_is : (r : Result SipUri UriRefusal) → MatchResult r (λ uri. uri ≡ parts) (λ refusal. refusal ≡ Memory) → (uri : SipUri) → UriText text uri → MatchResult r (λ found. found ≡ uri) (λ refusal. refusal ≡ Memory)
+  pub read_is : (r : Result SipUri UriRefusal) → Answer r → (uri : SipUri) → UriText text uri → MatchResult r (λ found. found ≡ uri) (λ refusal. refusal ≡ Memory)
   read_is (Ok found) is uri spells = is ∙ same_Ok parts uri (sym read ∙ uri_again text uri spells)
-  read_is (Err refusal) is uri spells = is
+  read_is (Err refusal) is uri spells = is.0
+
+  pub memory_is : (r : Result SipUri UriRefusal) → Answer r → length text ≤ 1024 → r ≡ Err Memory → (uri : SipUri) × UriText text uri × IsNamedUri uri
+  memory_is (Ok found) is short e = absurd cc
+  memory_is (Err refusal) is short e = (parts, uri_read text parts short read, is.1)

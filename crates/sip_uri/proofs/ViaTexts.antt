@@ -2,7 +2,7 @@
 use Rattle.std.proofs.Common.{◌≡◌, ℕ, ◌≤◌, List, ◌++◌, length, Option, Some, None, Result, Ok, Err, refl, sym, ap, ◌∙◌, arith}
 use Rattle.std.specs.Option.{option_map, ok_or}
 use Rattle.std.proofs.lemmas.Bool.Decides.{nat_tests}
-use Rattle.sip_uri.specs.Hosts.{HostText}
+use Rattle.sip_uri.specs.Hosts.{HostText, IsNamed}
 use Rattle.sip_uri.specs.Readers.Hosts.{host_of}
 use Rattle.sip_uri.specs.Transports.{spoken_of}
 use Rattle.sip_uri.specs.Readers.Uris.{port_number}
@@ -14,12 +14,12 @@ use Rattle.sip_uri.specs.declared.host.Host.{Host}
 use Rattle.sip_uri.specs.declared.via.Via.{Via}
 use Rattle.sip_uri.specs.declared.via_parts.ViaParts.{ViaParts}
 use Rattle.sip_uri.specs.declared.refusal.UriRefusal.{UriRefusal}
-use Rattle.sip_uri.specs.declared.refusal.UriRefusal.TheVariants.{TooLong, BadVia, BadHost, BadPort}
+use Rattle.sip_uri.specs.declared.refusal.UriRefusal.TheVariants.{BadVia, BadHost, BadPort}
 use Rattle.sip_uri.proofs.Lists.{same_Ok}
 use Rattle.sip_uri.proofs.HostOctets.{is_host_octet}
 use Rattle.sip_uri.proofs.HostTexts.{host_octets}
 use Rattle.sip_uri.proofs.UriPieces.{bind_of, from_ok_or}
-use Rattle.sip_uri.proofs.NotLong.{NotLong, either_not, or_not}
+use Rattle.sip_uri.proofs.Faults.{IsOfOctets, OfOctets, then_of, or_of}
 use Rattle.sip_uri.proofs.ViaRows.{Ends, begins_apart}
 use Rattle.sip_uri.proofs.ViaSteps.{follows}
 use Rattle.sip_uri.proofs.ViaPieces.{protocol_read, protocol_again}
@@ -84,22 +84,25 @@ via_again text via is =
     let spoken : spoken_of is.transport ≡ via.transport = sym is.is_transport in
     ap via_parts is.joined ∙ rw one (rw two (rw three (rw spoken refl)))
 
--- ---- no fault of length
+-- ---- its faults
 
-port_not : (text : List ℕ) (o : Option (List ℕ)) → NotLong (port_in text o)
-port_not text None e = cc
-port_not text (Some digits) e = or_not (option_map (λ (port : ℕ). (Some port, behind_row is_in_port digits)) (port_number (row is_in_port digits))) BadPort (λ same. cc) e
+port_faults : (text : List ℕ) (o : Option (List ℕ)) → OfOctets (port_in text o)
+port_faults text None = tt
+port_faults text (Some digits) = or_of (option_map (λ (port : ℕ). (Some port, behind_row is_in_port digits)) (port_number (row is_in_port digits))) BadPort tt
 
-via_port_not : (text : List ℕ) → NotLong (via_port text)
+via_port_faults : (text : List ℕ) → OfOctets (via_port text)
 unfolding via_port
-via_port_not text e = port_not text (behind_mark 58 text) e
+via_port_faults text = port_faults text (behind_mark 58 text)
 
-pub via_not_long : (text : List ℕ) → via_parts text ≡ Err TooLong → ⊥
+via_faults : (text : List ℕ) → OfOctets (via_parts text)
 unfolding via_parts
-via_not_long text =
-    either_not (ok_or (behind_protocol text) BadVia) _ (or_not (behind_protocol text) BadVia (λ same. cc)) (λ protocol.
-    either_not (ok_or (via_host protocol.1) BadHost) _ (or_not (via_host protocol.1) BadHost (λ same. cc)) (λ host.
-    either_not (via_port host.1) _ (via_port_not host.1) (λ port e. cc)))
+via_faults text =
+    then_of (ok_or (behind_protocol text) BadVia) _ (or_of (behind_protocol text) BadVia tt) (λ protocol.
+    then_of (ok_or (via_host protocol.1) BadHost) _ (or_of (via_host protocol.1) BadHost tt) (λ host.
+    then_of (via_port host.1) _ (via_port_faults host.1) (λ port. tt)))
+
+pub via_fault : (text : List ℕ) (fault : UriRefusal) → via_parts text ≡ Err fault → IsOfOctets fault
+via_fault text fault e = rw e at (via_faults text)
 
 -- ---- what the reader answers
 
@@ -108,6 +111,10 @@ module _ (text : List ℕ) (parts : ViaParts) (rest : List ℕ) (read : via_part
   spells_no_more via is =
       let same = same_Ok (via_of parts, rest) (via, is.params) (sym read ∙ via_again text via is) in
       (ap (λ (p : Via × List ℕ). p.0) same, params_at is.params rest (ap (λ (p : Via × List ℕ). p.1) same) is.are_params)
+
+  -- memory is wanted for a name in a Via that is spelled
+  pub via_wanted : length text ≤ 1024 → ViaParams rest → IsNamed (host_of parts.host) → (via : Via) × ViaText text via × IsNamed via.host
+  via_wanted short params named = (via_of parts, via_read text (via_of parts) rest short read params, named)
 
   module _ (h : Host) (named : h ≡ host_of parts.host) where
     pub via_found : length text ≤ 1024 → ViaParams rest → ViaText text (record { transport = parts.transport; host = h; port = parts.port })

@@ -1,5 +1,5 @@
 -- Hosts of URIs and Vias as texts (RFC 3261 25.1).
-use Rattle.std.specs.Prelude.{◌≡◌, ℕ, ◌-◌, ◌<◌, ◌≤◌, ◌==◌, Bool, ◌||◌, IsTrue, List, [], ◌∷◌, ◌++◌, length, map, slice_index}
+use Rattle.std.specs.Prelude.{◌≡◌, ℕ, ◌-◌, ◌<◌, ◌≤◌, ◌==◌, Bool, ◌||◌, IsTrue, List, [], ◌∷◌, ◌++◌, length, map, slice_index, ⊤}
 use Rattle.std.specs.List.{list_all}
 use Rattle.std.specs.Char.{is_ascii_alphanumeric, is_ascii_alphabetic}
 use Rattle.dns_name.specs.Labels.{small_letters, wire_of}
@@ -39,3 +39,9 @@ abbrev pub HostText : List ℕ → Host → Type 0
 HostText text (V4 octets) = V4Text text octets
 HostText text (V6 octets) = (inner : List ℕ) × (text ≡ 91 ∷ inner ++ 93 ∷ []) × V6Text inner octets
 HostText text (Domain name) = DomainText text name
+
+-- a host that is a name
+abbrev pub IsNamed : Host → Type 0
+IsNamed (V4 octets) = ⊥
+IsNamed (V6 octets) = ⊥
+IsNamed (Domain name) = ⊤

@@ -1,5 +1,5 @@
 -- SIP and SIPS URIs as texts (RFC 3261 19.1.1, 25.1).
-use Rattle.std.specs.Prelude.{◌≡◌, ℕ, ◌<◌, ◌≤◌, Bool, true, false, IsTrue, List, [], ◌∷◌, ◌++◌, length, map, Option, Some, None, IfSome, IsSome, if◌then◌else◌}
+use Rattle.std.specs.Prelude.{◌≡◌, ℕ, ◌<◌, ◌≤◌, Bool, true, false, IsTrue, List, [], ◌∷◌, ◌++◌, length, map, Option, Some, None, IfSome, IsSome, IsSomeAnd, if◌then◌else◌, ◌⊎◌}
 use Rattle.std.specs.List.{AllByRecursion, AllPairs, list_all, flat_map, join_with_byte}
 use Rattle.std.specs.Option.{option_map}
 use Rattle.std.specs.Char.{is_ascii_digit}
@@ -7,7 +7,7 @@ use Rattle.std.specs.Str.{bytes_eq}
 use Rattle.dns_name.specs.Labels.{small_letters}
 use Rattle.sip_uri.specs.Numbers.{decimal}
 use Rattle.sip_uri.specs.Classes.{IsRun, is_user_octet, is_password_octet, is_param_octet, is_header_octet}
-use Rattle.sip_uri.specs.Hosts.{HostText}
+use Rattle.sip_uri.specs.Hosts.{HostText, IsNamed}
 use Rattle.sip_uri.specs.Transports.{spoken_of}
 use Rattle.sip_uri.specs.declared.host.Host.{Host}
 use Rattle.sip_uri.specs.declared.uri.SipUri.{SipUri}
@@ -99,6 +99,10 @@ pub record HeaderText (text : List ℕ) : Type 0 where
 abbrev pub headers_text : List (List ℕ) → List ℕ
 headers_text [] = []
 headers_text (header ∷ headers) = 63 ∷ join_with_byte 38 (header ∷ headers)
+
+-- the host of the URI is a name, or that of its `maddr` is
+abbrev pub IsNamedUri : SipUri → Type 0
+IsNamedUri uri = IsNamed uri.host ⊎ IsSomeAnd uri.maddr IsNamed
 
 -- The text spells the URI: it is the scheme, `:`, the user, the host, the port, the parameters and the headers, one after
 -- the other, each of its kind, and has at most 1,024 octets.

@@ -1,5 +1,6 @@
 //! Hosts of URIs and Vias (RFC 3261 25.1).
-ghost use Rattle.std.specs.Prelude.{◌≡◌, IfOk};
+ghost use Rattle.std.specs.Prelude.{◌≡◌, IfOk, OnErr};
+ghost use Rattle.sip_uri.specs.Hosts.{IsNamed};
 
 use dns_name::Name;
 use std::alloc::AllocError;
@@ -16,9 +17,10 @@ pub enum Host {
 }
 
 impl Host {
-    /// A copy.
+    /// A copy. Memory is taken for a name alone.
     pub fn try_clone(&self) -> Result<Host, AllocError>
-        ensures { IfOk result (λ copy. copy ≡ self.now) }
+        ensures copy { IfOk result (λ copy. copy ≡ self.now) }
+        ensures memory { OnErr result (IsNamed self.now) }
     {
         match self {
             Host::V4(octets) => Ok(Host::V4(*octets)),

@@ -1,5 +1,6 @@
 //! Hosts in a text, before memory is taken for their names (RFC 3261 25.1).
 ghost use Rattle.std.specs.Prelude.{◌≡◌, IfSome, MatchResult};
+ghost use Rattle.sip_uri.specs.Hosts.{IsNamed};
 ghost use Rattle.std.specs.Option.{option_map};
 ghost use Rattle.sip_uri.specs.Readers.Hosts as spec;
 
@@ -88,7 +89,8 @@ pub(crate) fn host_part(text: &[u8]) -> Option<HostPart<'_>>
 /// The host, with memory for its name.
 pub(crate) fn with_name(alloc: Global, part: HostPart<'_>) -> Result<Host, UriRefusal>
     requires { spec.IsHostPart part }
-    ensures { MatchResult result (λ host. host ≡ spec.host_of part.entry) (λ refusal. refusal ≡ UriRefusal.Memory) }
+    ensures { MatchResult result (λ host. host ≡ spec.host_of part.entry)
+        (λ refusal. (refusal ≡ UriRefusal.Memory) × IsNamed (spec.host_of part.entry)) }
 {
     match part {
         HostPart::V4(octets) => Ok(Host::V4(octets)),

@@ -1,5 +1,6 @@
 //! SIP and SIPS URIs (RFC 3261 19.1).
-ghost use Rattle.std.specs.Prelude.{◌≡◌, IfOk};
+ghost use Rattle.std.specs.Prelude.{◌≡◌, IfOk, OnErr};
+ghost use Rattle.sip_uri.specs.Uris.{IsNamedUri};
 
 use crate::host::Host;
 use crate::transport::Spoken;
@@ -21,9 +22,10 @@ pub struct SipUri {
 }
 
 impl SipUri {
-    /// A copy.
+    /// A copy. Memory is taken for the names of hosts alone.
     pub fn try_clone(&self) -> Result<SipUri, AllocError>
-        ensures { IfOk result (λ copy. copy ≡ self.now) }
+        ensures copy { IfOk result (λ copy. copy ≡ self.now) }
+        ensures memory { OnErr result (IsNamedUri self.now) }
     {
         let host = self.host.try_clone()?;
         let maddr = match &self.maddr {

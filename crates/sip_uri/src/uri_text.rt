@@ -2,7 +2,7 @@
 ghost use Rattle.std.specs.Prelude.{◌≡◌, ◌↔◌, ◌<◌, ◌≤◌, length, IfOk, IfSome, MatchResult, Err};
 ghost use Rattle.sip_uri.specs.Readers.Hosts.{IsHostPart};
 ghost use Rattle.sip_uri.specs.Readers.Uris.{uri_of};
-ghost use Rattle.sip_uri.specs.Uris.{UriText};
+ghost use Rattle.sip_uri.specs.Uris.{UriText, IsNamedUri};
 ghost use Rattle.sip_uri.specs.declared.uri.SipUri.{SipUri};
 
 use crate::host_part::with_name;
@@ -18,7 +18,8 @@ pub(crate) const TEXT_LIMIT: usize = 1024;
 fn with_names(alloc: Global, parts: UriParts<'_>) -> Result<SipUri, UriRefusal>
     requires host { IsHostPart parts.host }
     requires maddr { IfSome parts.maddr IsHostPart }
-    ensures { MatchResult result (λ uri. uri ≡ uri_of parts.entry) (λ refusal. refusal ≡ UriRefusal.Memory) }
+    ensures { MatchResult result (λ uri. uri ≡ uri_of parts.entry)
+        (λ refusal. (refusal ≡ UriRefusal.Memory) × IsNamedUri (uri_of parts.entry)) }
 {
     let host = with_name(alloc, parts.host)?;
     let maddr = match parts.maddr {
@@ -42,6 +43,9 @@ pub fn read_uri(alloc: Global, text: &str) -> Result<SipUri, UriRefusal>
     ensures found { IfOk result (λ uri. UriText text.now uri) }
     // The URI of a text is read, unless memory is refused: so each other refusal comes only where none is spelled.
     ensures read { (uri : SipUri) → UriText text.now uri → MatchResult result (λ found. found ≡ uri) (λ refusal. refusal ≡ UriRefusal.Memory) }
+    // Memory is taken where a URI with a name is spelled, and nowhere else.
+    ensures memory { result ≡ Err UriRefusal.Memory
+        → (uri : SipUri) × UriText text.now uri × IsNamedUri uri }
     // A text is too long exactly above 1,024 octets.
     ensures long { result ≡ Err UriRefusal.TooLong ↔ 1024 < length text.now }
 {

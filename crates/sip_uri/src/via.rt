@@ -1,5 +1,6 @@
 //! What a Via says (RFC 3261 20.42).
-ghost use Rattle.std.specs.Prelude.{◌≡◌, IfOk};
+ghost use Rattle.std.specs.Prelude.{◌≡◌, IfOk, OnErr};
+ghost use Rattle.sip_uri.specs.Hosts.{IsNamed};
 
 use crate::host::Host;
 use crate::transport::Spoken;
@@ -17,9 +18,10 @@ pub struct Via {
 }
 
 impl Via {
-    /// A copy.
+    /// A copy. Memory is taken for the name of the host alone.
     pub fn try_clone(&self) -> Result<Via, AllocError>
-        ensures { IfOk result (λ copy. copy ≡ self.now) }
+        ensures copy { IfOk result (λ copy. copy ≡ self.now) }
+        ensures memory { OnErr result (IsNamed self.now.host) }
     {
         let host = self.host.try_clone()?;
         Ok(Via {

@@ -1,5 +1,5 @@
 //! Parameters of a Via (RFC 3261 7.3.1, 20.42, 25.1).
-ghost use Rattle.std.specs.Prelude.{◌≡◌, OnOk, OnErr, IfErr};
+ghost use Rattle.std.specs.Prelude.{◌≡◌, ◌⊎◌, OnOk, OnErr, IfErr};
 ghost use Rattle.std.specs.Option.{option_map};
 ghost use Rattle.sip_uri.specs.Readers.Vias as spec;
 ghost use Rattle.sip_uri.specs.Vias.{ViaParams};
@@ -89,7 +89,8 @@ fn stands_before(params: &[u8], count: usize, name: &[u8]) -> bool
 pub(crate) fn check_via_params(params: &[u8]) -> Result<(), UriRefusal>
     ensures ok { OnOk result (ViaParams params.now) }
     ensures err { OnErr result (ViaParams params.now → ⊥) }
-    ensures fault { IfErr result (λ refusal. refusal ≡ UriRefusal.TooLong → ⊥) }
+    ensures fault { IfErr result
+        (λ refusal. (refusal ≡ UriRefusal.BadParam) ⊎ (refusal ≡ UriRefusal.RepeatedParam)) }
 {
     let mut rest = params;
     let mut count = 0;

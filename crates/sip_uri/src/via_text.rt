@@ -1,5 +1,6 @@
 //! Vias as texts (RFC 3261 20.42, 25.1).
 ghost use Rattle.std.specs.Prelude.{◌≡◌, ◌↔◌, ◌<◌, length, IfOk, MatchResult, Err};
+ghost use Rattle.sip_uri.specs.Hosts.{IsNamed};
 ghost use Rattle.sip_uri.specs.Vias.{ViaText};
 ghost use Rattle.sip_uri.specs.declared.via.Via.{Via};
 
@@ -19,6 +20,9 @@ pub fn read_via(alloc: Global, text: &str) -> Result<Via, UriRefusal>
     ensures found { IfOk result (λ via. ViaText text.now via) }
     // The Via of a text is read, unless memory is refused: so each other refusal comes only where none is spelled.
     ensures read { (via : Via) → ViaText text.now via → MatchResult result (λ found. found ≡ via) (λ refusal. refusal ≡ UriRefusal.Memory) }
+    // Memory is taken where a Via with a name is spelled, and nowhere else.
+    ensures memory { result ≡ Err UriRefusal.Memory
+        → (via : Via) × ViaText text.now via × IsNamed via.host }
     // A text is too long exactly above 1,024 octets.
     ensures long { result ≡ Err UriRefusal.TooLong ↔ 1024 < length text.now }
 {

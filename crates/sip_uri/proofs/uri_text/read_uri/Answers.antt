@@ -1,11 +1,9 @@
-use Rattle.std.proofs.Common.{◌≡◌, Ok, Err, sym, ap, ◌∙◌, arith}
+use Rattle.std.proofs.Common.{◌≡◌, Ok, Err, sym, ◌∙◌, arith}
 use Rattle.std.proofs.lemmas.Result.{err_from_is_err_and}
 use Rattle.sip_uri.specs.Readers.Uris.{uri_of, uri_parts}
-use Rattle.sip_uri.specs.declared.refusal.UriRefusal.{UriRefusal}
-use Rattle.sip_uri.specs.declared.refusal.UriRefusal.TheVariants.{TooLong}
-use Rattle.sip_uri.specs.declared.uri.SipUri.{SipUri}
-use Rattle.sip_uri.proofs.NotLong.{uri_not_long, same_Err}
-use Rattle.sip_uri.proofs.UriTexts.{uri_again, found_is, read_is}
+use Rattle.sip_uri.specs.declared.refusal.UriRefusal.TheVariants.{TooLong, Memory}
+use Rattle.sip_uri.proofs.Faults.{IsOfOctets, uri_fault, handed_on}
+use Rattle.sip_uri.proofs.UriTexts.{uri_again, found_is, read_is, memory_is}
 use Rattle.sip_uri.proofs.uri_text.read_uri.Goals as goal
 use Rattle.sip_uri.proofs.uri_text.read_uri.Goals.{In_err-parts, In_ok-parts}
 
@@ -17,10 +15,18 @@ returns-in_err-parts-clause-read c = λ uri is.
     let no : ◌≡◌ {A = _} (Err c.in_err-parts.field-0.0) (Ok uri) = sym (refused (goal.at.returns-in_err-parts-clause-read c).In_err-parts) ∙ uri_again c.args.text.now uri is in
     absurd cc
 
+fault_of : (c : In_err-parts) → IsOfOctets c.in_err-parts.field-0.0
+fault_of c = uri_fault c.args.text.now c.in_err-parts.field-0.0 (refused c)
+
+pub returns-in_err-parts-clause-memory : goal.returns-in_err-parts-clause-memory
+returns-in_err-parts-clause-memory c = λ wanted.
+    let e = err_from_is_err_and c.from_residual.result c.from_residual.ensures.1 in
+    absurd (handed_on c.from_residual.result e.0 c.in_err-parts.field-0.0 Memory e.1 e.2 (fault_of (goal.at.returns-in_err-parts-clause-memory c).In_err-parts) (λ no. no) wanted)
+
 pub returns-in_err-parts-clause-long : goal.returns-in_err-parts-clause-long
 returns-in_err-parts-clause-long c =
     let e = err_from_is_err_and c.from_residual.result c.from_residual.ensures.1 in (
-      λ long. absurd (uri_not_long c.args.text.now (refused (goal.at.returns-in_err-parts-clause-long c).In_err-parts ∙ ap (λ (x : UriRefusal). Err x) (sym e.2 ∙ same_Err {A = SipUri} e.0 TooLong (sym e.1 ∙ long)))),
+      λ long. absurd (handed_on c.from_residual.result e.0 c.in_err-parts.field-0.0 TooLong e.1 e.2 (fault_of (goal.at.returns-in_err-parts-clause-long c).In_err-parts) (λ no. no) long),
       λ more. absurd (omega arith),
     )
 
@@ -34,3 +40,7 @@ returns-clause-found c =
 pub returns-clause-read : goal.returns-clause-read
 returns-clause-read c = λ uri is.
     read_is c.args.text.now (uri_of c.in_ok-parts.parts) (parsed (goal.at.returns-clause-read c).In_ok-parts) c.with_names.result c.with_names.ensures uri is
+
+pub returns-clause-memory : goal.returns-clause-memory
+returns-clause-memory c =
+    memory_is c.args.text.now (uri_of c.in_ok-parts.parts) (parsed (goal.at.returns-clause-memory c).In_ok-parts) c.with_names.result c.with_names.ensures (omega arith)
