@@ -5,6 +5,7 @@ mod Lists
 mod V4Texts
 mod V6Texts
 mod AddressTexts
+mod Written
 mod Hostnames
 mod DomainTexts
 mod HostOctets

@@ -1,6 +1,6 @@
 -- IPv4 and IPv6 addresses as texts (RFC 3261 25.1, RFC 4291 2.2).
 use Rattle.std.specs.Prelude.{◌≡◌, ℕ, ◌+◌, ◌-◌, ◌/◌, ◌%◌, ◌<◌, ◌≤◌, Bool, true, false, IsTrue, List, [], ◌∷◌, ◌++◌, length, replicate, ◌⊎◌}
-use Rattle.std.specs.List.{list_all, join_with_byte}
+use Rattle.std.specs.List.{AllByRecursion, list_all, join_with_byte}
 use Rattle.std.specs.Char.{is_ascii_digit, is_ascii_hexdigit}
 use Rattle.sip_uri.specs.Numbers.{decimal, hexadecimal}
 use Rattle.sip_uri.specs.declared.numeric.Address.{Address}
@@ -60,3 +60,8 @@ pub data V6Text (text octets : List ℕ) : Type 0 where
 abbrev pub AddressText : List ℕ → Address → Type 0
 AddressText text (V4 octets) = V4Text text octets
 AddressText text (V6 octets) = V6Text text octets
+
+-- what the type of an address keeps: 4 or 16 octets, each below 256
+abbrev pub AddressFits : Address → Type 0
+AddressFits (V4 octets) = (length octets ≡ 4) × AllByRecursion (λ octet. octet < 256) octets
+AddressFits (V6 octets) = (length octets ≡ 16) × AllByRecursion (λ octet. octet < 256) octets

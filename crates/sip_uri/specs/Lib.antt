@@ -3,6 +3,7 @@ pub mod Classes
 pub mod Hosts
 pub mod Numbers
 pub mod Readers
+pub mod Same
 pub mod Shown
 pub mod Transports
 pub mod Uris

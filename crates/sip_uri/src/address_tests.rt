@@ -1,10 +1,10 @@
 //! Tests of addresses, with values of RFC 4291 2.2 and by hand.
-use crate::{Address, Host, address_from_text, address_text};
+use crate::{Address, Host, address_from_text, address_text, written_address_is_read};
 use std::alloc::Global;
 use std::test::Fail;
 
 /// Texts, and the addresses that they spell as `address_text` writes them.
-const ADDRESSES: [(&str, &str); 17] = [
+const ADDRESSES: [(&str, &str); 19] = [
     ("192.0.2.7", "192.0.2.7"),
     ("192.000.002.007", "192.0.2.7"),
     ("255.10.99.100", "255.10.99.100"),
@@ -23,6 +23,8 @@ const ADDRESSES: [(&str, &str); 17] = [
     ("::2:3:4:5:6:7:8", "0:2:3:4:5:6:7:8"),
     ("1:2:3:4:5:6:7:8", "1:2:3:4:5:6:7:8"),
     ("1::5:6:7:192.0.2.7", "1:0:0:5:6:7:c000:207"),
+    ("fd00::1", "fd00:0:0:0:0:0:0:1"),
+    ("dead::1", "dead:0:0:0:0:0:0:1"),
     (
         "fedc:ba98:7654:3210:f:10:abc:1000",
         "fedc:ba98:7654:3210:f:10:abc:1000",
@@ -82,6 +84,11 @@ fn faults(rt: HostRuntime) {
     for text in &FAULTS {
         assert_eq!(rt; address_from_text(text), None, "{text:?}");
     }
+}
+
+#[test]
+fn laws() {
+    written_address_is_read();
 }
 
 /// The text of a host: an address as `address_text` writes it, or a name with a dot behind each label.

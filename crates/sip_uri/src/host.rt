@@ -1,6 +1,7 @@
 //! Hosts of URIs and Vias (RFC 3261 25.1).
-ghost use Rattle.std.specs.Prelude.{◌≡◌, IfOk, OnErr};
+ghost use Rattle.std.specs.Prelude.{◌≡◌, ◌↔◌, IsTrue, IfOk, OnErr};
 ghost use Rattle.sip_uri.specs.Hosts.{IsNamed};
+ghost use Rattle.sip_uri.specs.Same.{same_host};
 
 use dns_name::Name;
 use std::alloc::AllocError;
@@ -28,4 +29,33 @@ impl Host {
             Host::Domain(name) => Ok(Host::Domain(name.try_clone()?)),
         }
     }
+}
+
+impl PartialEq for Host {
+    ghost use Rattle.std.specs.Cmp.{decided, partial_equiv_from_equiv};
+    ghost use Rattle.sip_uri.specs.Same.Decided.{host_decides};
+
+    ghost eq = { same_host };
+
+    ghost laws = { partial_equiv_from_equiv (decided same_host host_decides) };
+
+    /// Hosts are equal exactly where they are of one kind, with the same octets or the same name.
+    fn eq(&self, other: &Host) -> bool
+        ensures value { result ≡ same_host self.now other.now }
+        ensures same { IsTrue result ↔ (self.now ≡ other.now) }
+    {
+        match (self, other) {
+            (Host::V4(octets), Host::V4(others)) => octets == others,
+            (Host::V6(octets), Host::V6(others)) => octets == others,
+            (Host::Domain(name), Host::Domain(other)) => name == other,
+            _ => false,
+        }
+    }
+}
+
+impl Eq for Host {
+    ghost use Rattle.std.specs.Cmp.{decided};
+    ghost use Rattle.sip_uri.specs.Same.Decided.{host_decides};
+
+    ghost laws = { decided same_host host_decides };
 }

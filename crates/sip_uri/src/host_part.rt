@@ -1,7 +1,7 @@
 //! Hosts in a text, before memory is taken for their names (RFC 3261 25.1).
 ghost use Rattle.std.specs.Prelude.{◌≡◌, IfSome, MatchResult};
-ghost use Rattle.sip_uri.specs.Hosts.{IsNamed};
 ghost use Rattle.std.specs.Option.{option_map};
+ghost use Rattle.sip_uri.specs.Hosts.{IsNamed};
 ghost use Rattle.sip_uri.specs.Readers.Hosts as spec;
 
 use crate::host::Host;

@@ -1,7 +1,12 @@
 //! Laws of texts: a call of one does nothing, and its contract tells its caller the law.
-ghost use Rattle.std.specs.Prelude.{◌≡◌, ℕ, List};
+ghost use Rattle.std.specs.Prelude.{◌≡◌, ◌↔◌, ℕ, List, IsTrue};
+ghost use Rattle.sip_uri.specs.Addresses.{AddressFits, AddressText};
+ghost use Rattle.sip_uri.specs.Same.{same_host, same_uri, same_via};
+ghost use Rattle.sip_uri.specs.Shown.{address_text};
 ghost use Rattle.sip_uri.specs.Uris.{UriText};
 ghost use Rattle.sip_uri.specs.Vias.{ViaText};
+ghost use Rattle.sip_uri.specs.declared.host.Host.{Host};
+ghost use Rattle.sip_uri.specs.declared.numeric.Address.{Address};
 ghost use Rattle.sip_uri.specs.declared.uri.SipUri.{SipUri};
 ghost use Rattle.sip_uri.specs.declared.via.Via.{Via};
 
@@ -13,4 +18,16 @@ pub fn one_uri_of_a_text()
 /// A text spells at most one Via.
 pub fn one_via_of_a_text()
     ensures { (text : List ℕ) (via via' : Via) → ViaText text via → ViaText text via' → via ≡ via' }
+{}
+
+/// Hosts, URIs and Vias are the same, as `==` compares them, exactly where they are equal as values.
+pub fn same_exactly_where_equal()
+    ensures host { (host other : Host) → IsTrue (same_host host other) ↔ (host ≡ other) }
+    ensures uri { (uri other : SipUri) → IsTrue (same_uri uri other) ↔ (uri ≡ other) }
+    ensures via { (via other : Via) → IsTrue (same_via via other) ↔ (via ≡ other) }
+{}
+
+/// The text that is written for an address is a text of it. Each address of the type fits.
+pub fn written_address_is_read()
+    ensures { (address : Address) → AddressFits address → AddressText (address_text address) address }
 {}

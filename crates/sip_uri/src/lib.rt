@@ -41,7 +41,9 @@ mod via_text;
 
 pub use address::{address_from_text, address_text};
 pub use host::Host;
-pub use laws::{one_uri_of_a_text, one_via_of_a_text};
+pub use laws::{
+    one_uri_of_a_text, one_via_of_a_text, same_exactly_where_equal, written_address_is_read,
+};
 pub use numeric::Address;
 pub use refusal::UriRefusal;
 pub use transport::{Spoken, Transport};

@@ -1,6 +1,7 @@
 //! SIP and SIPS URIs (RFC 3261 19.1).
-ghost use Rattle.std.specs.Prelude.{◌≡◌, IfOk, OnErr};
+ghost use Rattle.std.specs.Prelude.{◌≡◌, ◌↔◌, IsTrue, IfOk, OnErr};
 ghost use Rattle.sip_uri.specs.Uris.{IsNamedUri};
+ghost use Rattle.sip_uri.specs.Same.{same_uri};
 
 use crate::host::Host;
 use crate::transport::Spoken;
@@ -40,4 +41,32 @@ impl SipUri {
             maddr,
         })
     }
+}
+
+impl PartialEq for SipUri {
+    ghost use Rattle.std.specs.Cmp.{decided, partial_equiv_from_equiv};
+    ghost use Rattle.sip_uri.specs.Same.Decided.{uri_decides};
+
+    ghost eq = { same_uri };
+
+    ghost laws = { partial_equiv_from_equiv (decided same_uri uri_decides) };
+
+    /// URIs are equal exactly where they are in each part.
+    fn eq(&self, other: &SipUri) -> bool
+        ensures value { result ≡ same_uri self.now other.now }
+        ensures same { IsTrue result ↔ (self.now ≡ other.now) }
+    {
+        self.secure == other.secure
+            && self.host == other.host
+            && self.port == other.port
+            && self.transport == other.transport
+            && self.maddr == other.maddr
+    }
+}
+
+impl Eq for SipUri {
+    ghost use Rattle.std.specs.Cmp.{decided};
+    ghost use Rattle.sip_uri.specs.Same.Decided.{uri_decides};
+
+    ghost laws = { decided same_uri uri_decides };
 }

@@ -1,6 +1,6 @@
 //! Tests of URIs, with values of RFC 3261, RFC 4475 and RFC 5118 and by hand.
 use crate::address_tests::host_text;
-use crate::{SipUri, UriRefusal, one_uri_of_a_text, read_uri};
+use crate::{SipUri, UriRefusal, one_uri_of_a_text, read_uri, same_exactly_where_equal};
 use std::alloc::Global;
 use std::test::Fail;
 
@@ -19,8 +19,8 @@ fn uri_line(alloc: Global, uri: &SipUri) -> Result<String, Fail> {
     )?)
 }
 
-/// Texts of URIs, and what they say.
-const URIS: [(&str, &str); 40] = [
+/// Texts of URIs, and what they and their copies say.
+const URIS: [(&str, &str); 42] = [
     // RFC 3261 19.1.3
     ("sip:alice@atlanta.com", "false atlanta.com. None None -"),
     (
@@ -125,6 +125,14 @@ const URIS: [(&str, &str); 40] = [
         "SiPs:c.example;TRANSPORT=Tls",
         "true c.example. None Some(Known(Tls)) -",
     ),
+    (
+        "sips:c.example:5061;transport=tls;maddr=d.example",
+        "true c.example. Some(5061) Some(Known(Tls)) d.example.",
+    ),
+    (
+        "sip:[2001:db8::1];transport=udp;maddr=192.0.2.9",
+        "false 2001:db8:0:0:0:0:0:1 None Some(Known(Udp)) 192.0.2.9",
+    ),
     ("sip:c.example.", "false c.example. None None -"),
     ("sip:c.example:005060", "false c.example. Some(5060) None -"),
     ("sip:c.example:65535", "false c.example. Some(65535) None -"),
@@ -153,7 +161,11 @@ const URIS: [(&str, &str); 40] = [
 fn uris(rt: HostRuntime) -> Result<(), Fail> {
     for (text, line) in &URIS {
         match read_uri(rt.alloc(), text) {
-            Ok(uri) => assert_eq!(rt; uri_line(rt.alloc(), &uri)?.as_str(), *line, "{text:?}"),
+            Ok(uri) => {
+                let copy = uri.try_clone()?;
+                assert_eq!(rt; uri_line(rt.alloc(), &copy)?.as_str(), *line, "{text:?}");
+                assert_eq!(rt; copy, uri, "{text:?}");
+            }
             Err(refusal) => return Err(Fail::new(format_args!("{text:?} {refusal:?}"))),
         }
     }
@@ -161,7 +173,7 @@ fn uris(rt: HostRuntime) -> Result<(), Fail> {
 }
 
 /// Texts of no URI, and their first fault from the left.
-const FAULTS: [(&str, UriRefusal); 62] = [
+const FAULTS: [(&str, UriRefusal); 64] = [
     ("", UriRefusal::BadScheme),
     ("sip", UriRefusal::BadScheme),
     ("c.example", UriRefusal::BadScheme),
@@ -182,6 +194,8 @@ const FAULTS: [(&str, UriRefusal); 62] = [
     ("sip:u%4g@c.example", UriRefusal::BadUser),
     ("sip:u%@c.example", UriRefusal::BadUser),
     ("sip:u%255%@c.example", UriRefusal::BadUser),
+    // the first of several faults
+    ("sip:@-", UriRefusal::BadUser),
     ("sip:\u{e9}@c.example", UriRefusal::BadUser),
     ("sip:", UriRefusal::BadHost),
     ("sip:u@", UriRefusal::BadHost),
@@ -212,6 +226,7 @@ const FAULTS: [(&str, UriRefusal); 62] = [
     ("sip:c.example:-1", UriRefusal::BadPort),
     ("sip:c.example:4294967297", UriRefusal::BadPort),
     ("sip:[::1]:x", UriRefusal::BadPort),
+    ("sip:c.example:0;=", UriRefusal::BadPort),
     ("sip:c.example;", UriRefusal::BadParam),
     ("sip:c.example;;a", UriRefusal::BadParam),
     ("sip:c.example;a=", UriRefusal::BadParam),
@@ -273,23 +288,28 @@ fn lengths(rt: HostRuntime) -> Result<(), Fail> {
     Ok(())
 }
 
+/// A URI whose host has 126 labels of one letter in front of a last label.
+fn long_host(alloc: Global, last: &str) -> Result<String, Fail> {
+    let mut text = String::from_str(alloc, "sip:")?;
+    for _ in 0..126u8 {
+        text.push_str("a.")?;
+    }
+    text.push_str(last)?;
+    Ok(text)
+}
+
 #[test]
-fn copied(rt: HostRuntime) -> Result<(), Fail> {
-    let uri = read_uri(
-        rt.alloc(),
-        "sips:c.example:5061;transport=tls;maddr=d.example",
-    )?;
-    let copy = uri.try_clone()?;
-    let host = uri.host.try_clone()?;
-    assert_eq!(rt;
-        uri_line(rt.alloc(), &copy)?.as_str(),
-        "true c.example. Some(5061) Some(Known(Tls)) d.example."
-    );
-    assert_eq!(rt; host_text(rt.alloc(), &host)?.as_str(), "c.example.");
+fn host_lengths(rt: HostRuntime) -> Result<(), Fail> {
+    // 253 octets, with and without a closing dot, and 254
+    for (last, fault) in [("a", None), ("a.", None), ("aa", Some(UriRefusal::BadHost))] {
+        let text = long_host(rt.alloc(), last)?;
+        assert_eq!(rt; fault_of(rt.alloc(), text.as_str()), fault, "{last:?}");
+    }
     Ok(())
 }
 
 #[test]
 fn laws() {
     one_uri_of_a_text();
+    same_exactly_where_equal();
 }

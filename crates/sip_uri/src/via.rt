@@ -1,6 +1,7 @@
 //! What a Via says (RFC 3261 20.42).
-ghost use Rattle.std.specs.Prelude.{◌≡◌, IfOk, OnErr};
+ghost use Rattle.std.specs.Prelude.{◌≡◌, ◌↔◌, IsTrue, IfOk, OnErr};
 ghost use Rattle.sip_uri.specs.Hosts.{IsNamed};
+ghost use Rattle.sip_uri.specs.Same.{same_via};
 
 use crate::host::Host;
 use crate::transport::Spoken;
@@ -30,4 +31,28 @@ impl Via {
             port: self.port,
         })
     }
+}
+
+impl PartialEq for Via {
+    ghost use Rattle.std.specs.Cmp.{decided, partial_equiv_from_equiv};
+    ghost use Rattle.sip_uri.specs.Same.Decided.{via_decides};
+
+    ghost eq = { same_via };
+
+    ghost laws = { partial_equiv_from_equiv (decided same_via via_decides) };
+
+    /// Vias are equal exactly where they are in each part.
+    fn eq(&self, other: &Via) -> bool
+        ensures value { result ≡ same_via self.now other.now }
+        ensures same { IsTrue result ↔ (self.now ≡ other.now) }
+    {
+        self.transport == other.transport && self.host == other.host && self.port == other.port
+    }
+}
+
+impl Eq for Via {
+    ghost use Rattle.std.specs.Cmp.{decided};
+    ghost use Rattle.sip_uri.specs.Same.Decided.{via_decides};
+
+    ghost laws = { decided same_via via_decides };
 }

@@ -11,8 +11,8 @@ fn via_line(alloc: Global, via: &Via) -> Result<String, Fail> {
     Ok(format!(in alloc; "{:?} {host} {:?}", via.transport, via.port)?)
 }
 
-/// Texts of Vias, and what they say.
-const VIAS: [(&str, &str); 29] = [
+/// Texts of Vias, and what they and their copies say.
+const VIAS: [(&str, &str); 30] = [
     // RFC 3261 20.42
     (
         "SIP/2.0/UDP erlang.bell-telephone.com:5060;branch=z9hG4bK87asdks7",
@@ -77,6 +77,10 @@ const VIAS: [(&str, &str); 29] = [
     ),
     // by hand
     (" SIP/2.0/TLS d.example", "Known(Tls) d.example. None"),
+    (
+        "SIP/2.0/TLS d.example:5061",
+        "Known(Tls) d.example. Some(5061)",
+    ),
     ("sip/2.0/tls D.Example.", "Known(Tls) d.example. None"),
     (
         "\tSIP\t/\t2.0\t/\tUDP\td.example\t:\t05061\t;\ta\t=\tb\t",
@@ -118,7 +122,11 @@ const VIAS: [(&str, &str); 29] = [
 fn vias(rt: HostRuntime) -> Result<(), Fail> {
     for (text, line) in &VIAS {
         match read_via(rt.alloc(), text) {
-            Ok(via) => assert_eq!(rt; via_line(rt.alloc(), &via)?.as_str(), *line, "{text:?}"),
+            Ok(via) => {
+                let copy = via.try_clone()?;
+                assert_eq!(rt; via_line(rt.alloc(), &copy)?.as_str(), *line, "{text:?}");
+                assert_eq!(rt; copy, via, "{text:?}");
+            }
             Err(refusal) => return Err(Fail::new(format_args!("{text:?} {refusal:?}"))),
         }
     }
@@ -126,7 +134,7 @@ fn vias(rt: HostRuntime) -> Result<(), Fail> {
 }
 
 /// Texts of no Via, and their first fault from the left.
-const FAULTS: [(&str, UriRefusal); 53] = [
+const FAULTS: [(&str, UriRefusal); 55] = [
     ("", UriRefusal::BadVia),
     ("SIP", UriRefusal::BadVia),
     ("SIP/2.0", UriRefusal::BadVia),
@@ -172,6 +180,8 @@ const FAULTS: [(&str, UriRefusal); 53] = [
     ("SIP/2.0/UDP d.example;a=\"\\\u{e9}\"", UriRefusal::BadParam),
     ("SIP/2.0/UDP d.example;a=1;b;A", UriRefusal::RepeatedParam),
     ("SIP/2.0/UDP d.example;a;a=1,2", UriRefusal::RepeatedParam),
+    ("SIP/2.0/UDP d.example;a;a=", UriRefusal::BadParam),
+    ("SIP/2.0/UDP d.example;a;b;", UriRefusal::BadParam),
     // RFC 4475 3.1.1.1: two Vias in one text
     (
         "SIP/2.0/TCP spindle.example.com;branch=z9hG4bK9ikj8  , SIP/2.0/UDP 192.168.255.111;branch=z9hG4bK30239",
@@ -219,17 +229,6 @@ fn lengths(rt: HostRuntime) -> Result<(), Fail> {
     assert_eq!(rt;
         fault_of(rt.alloc(), text.as_str()),
         Some(UriRefusal::TooLong)
-    );
-    Ok(())
-}
-
-#[test]
-fn copied(rt: HostRuntime) -> Result<(), Fail> {
-    let via = read_via(rt.alloc(), "SIP/2.0/TLS d.example:5061")?;
-    let copy = via.try_clone()?;
-    assert_eq!(rt;
-        via_line(rt.alloc(), &copy)?.as_str(),
-        "Known(Tls) d.example. Some(5061)"
     );
     Ok(())
 }
