@@ -1,10 +1,10 @@
 //! SIP URIs and Vias of RFC 3261, and the hosts in them.
 //!
-//! `read_uri` gives the URI that a text spells, and `read_via` the Via, by the whole grammar of RFC 3261 25.1 with IPv6
-//! addresses in brackets: exactly where the text is one, and of one text at most one. Else the first fault from the left
-//! is named. Escapes are checked and never undone; parameters and headers that say nothing of where a request goes are
-//! checked and dropped. Both read texts of at most 1,024 octets and take memory for the names of hosts alone.
-//! `address_from_text` and `address_text` read and write addresses of IPv4 and IPv6.
+//! `read_uri` gives the URI that a text spells, and `read_via` the Via: exactly where the text is
+//! one by the profile of RFC 3261 25.1 below, and of one text at most one. Else the first fault
+//! from the left is named. Escapes are checked and never undone; parameters and headers that say
+//! nothing of where a request goes are checked and dropped. Memory is taken for the names of hosts
+//! alone. `address_from_text` and `address_text` read and write addresses of IPv4 and IPv6.
 //!
 //! ```
 //! let uri = read_uri(rt.alloc(), "sips:alice@c.example:5061;transport=tcp")?;
@@ -12,6 +12,36 @@
 //! assert_eq!(rt; uri.port, Some(5061));
 //! assert_eq!(rt; uri.transport, Some(Spoken::Known(Transport::Tcp)));
 //! ```
+//!
+//! # The profile
+//!
+//! Narrower than RFC 3261 25.1:
+//!
+//! - A text has at most 1,024 octets.
+//! - A port is a number from 1 to 65535, and a number of an IPv4 address at most 255. Both may have
+//!   leading zeros, an IPv4 number up to three digits in all.
+//! - An IPv6 address is one by RFC 4291 2.2: eight groups, or `::` for those that lack. The three
+//!   colons of RFC 5118 4.10 (`[2001:db8:::192.0.2.1]`), which the grammar derives, are refused.
+//! - A label of a hostname has at most 63 octets, and its name at most 255 (RFC 1035 2.3.4).
+//! - No parameter stands twice (19.1.1, 7.3.1), and `transport` and `maddr` of a URI need values.
+//!   That of `maddr` is a host.
+//! - The value of a URI's parameter has the octets of `pvalue` alone: a token with `` ` `` or with
+//!   a `%` that escapes nothing is none.
+//! - A user is one by the rule `user`: other characters of a telephone number have to be escaped.
+//! - A Via is a single one, of `SIP/2.0`, on one line: CR and LF stand nowhere in it.
+//!
+//! Wider:
+//!
+//! - An IPv4 address may follow `::` in one of IPv6, as RFC 4291 2.2 has it
+//!   (`[2001:db8::192.0.2.1]`).
+//! - Of the parameters that RFC 3261 knows, the values of `transport` and `maddr` of a URI alone
+//!   mean anything. Of others, and of all those of a Via, only the octets are checked (`ttl=999`).
+//! - The value of a Via's parameter is a quoted string, or octets from 33 to 126 other than `;`,
+//!   `,` and `"`, so that `received` may have brackets around an IPv6 address (RFC 5118 4.5).
+//! - A quoted string may hold any control character but CR and LF without a `\` in front.
+//!
+//! Names and values are taken as they are written: `%74ransport` is not `transport`, and `%74cp` is
+//! no name of TCP.
 #![tactic(auto)]
 
 mod address;

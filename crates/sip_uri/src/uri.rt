@@ -51,7 +51,8 @@ impl PartialEq for SipUri {
 
     ghost laws = { partial_equiv_from_equiv (decided same_uri uri_decides) };
 
-    /// URIs are equal exactly where they are in each part.
+    /// URIs are equal exactly where they are in each part. RFC 3261 19.1.4 compares users, all
+    /// parameters and headers too.
     fn eq(&self, other: &SipUri) -> bool
         ensures value { result ≡ same_uri self.now other.now }
         ensures same { IsTrue result ↔ (self.now ≡ other.now) }

@@ -20,7 +20,7 @@ fn uri_line(alloc: Global, uri: &SipUri) -> Result<String, Fail> {
 }
 
 /// Texts of URIs, and what they and their copies say.
-const URIS: [(&str, &str); 42] = [
+const URIS: [(&str, &str); 47] = [
     // RFC 3261 19.1.3
     ("sip:alice@atlanta.com", "false atlanta.com. None None -"),
     (
@@ -101,6 +101,10 @@ const URIS: [(&str, &str); 42] = [
         "true 2001:db8:0:0:0:0:0:1 None None -",
     ),
     (
+        "sip:user@[2001:db8::192.0.2.1]",
+        "false 2001:db8:0:0:0:0:c000:201 None None -",
+    ),
+    (
         "sip:[::ffff:192.0.2.7]",
         "false 0:0:0:0:0:ffff:c000:207 None None -",
     ),
@@ -154,6 +158,22 @@ const URIS: [(&str, &str); 42] = [
         "false c.example. None None -",
     ),
     ("sip:c.example;lr?a=1", "false c.example. None None -"),
+    (
+        "sip:c.example;ttl=999;lr=x;user=5",
+        "false c.example. None None -",
+    ),
+    (
+        "sip:c.example;transport=%74cp",
+        "false c.example. None Some(Other) -",
+    ),
+    (
+        "sip:c.example;%74ransport=tcp",
+        "false c.example. None None -",
+    ),
+    (
+        "sip:c.example:0000000005060",
+        "false c.example. Some(5060) None -",
+    ),
     ("sip:%41%7f@c.example", "false c.example. None None -"),
 ];
 
@@ -173,7 +193,7 @@ fn uris(rt: HostRuntime) -> Result<(), Fail> {
 }
 
 /// Texts of no URI, and their first fault from the left.
-const FAULTS: [(&str, UriRefusal); 64] = [
+const FAULTS: [(&str, UriRefusal); 68] = [
     ("", UriRefusal::BadScheme),
     ("sip", UriRefusal::BadScheme),
     ("c.example", UriRefusal::BadScheme),
@@ -190,6 +210,7 @@ const FAULTS: [(&str, UriRefusal); 64] = [
     ("sip:u:p;q@c.example", UriRefusal::BadUser),
     ("sip:u[@c.example", UriRefusal::BadUser),
     ("sip:u u@c.example", UriRefusal::BadUser),
+    ("sip:\"u\"@c.example", UriRefusal::BadUser),
     ("sip:u%4@c.example", UriRefusal::BadUser),
     ("sip:u%4g@c.example", UriRefusal::BadUser),
     ("sip:u%@c.example", UriRefusal::BadUser),
@@ -219,6 +240,8 @@ const FAULTS: [(&str, UriRefusal); 64] = [
     ("sip:[::1]]", UriRefusal::BadHost),
     // RFC 5118 4.2
     ("sip:2001:db8::10", UriRefusal::BadHost),
+    // RFC 5118 4.10
+    ("sip:user@[2001:db8:::192.0.2.1]", UriRefusal::BadHost),
     ("sip:c.example:", UriRefusal::BadPort),
     ("sip:c.example:0", UriRefusal::BadPort),
     ("sip:c.example:65536", UriRefusal::BadPort),
@@ -236,6 +259,8 @@ const FAULTS: [(&str, UriRefusal); 64] = [
     ("sip:c.example;transport", UriRefusal::BadParam),
     ("sip:c.example;maddr", UriRefusal::BadParam),
     ("sip:c.example;maddr=1.2.3.4.5", UriRefusal::BadParam),
+    ("sip:c.example;maddr=%64.example", UriRefusal::BadParam),
+    ("sip:c.example;transport=a`b", UriRefusal::BadParam),
     ("sip:c.example;maddr=c.example:5060", UriRefusal::BadParam),
     ("sip:c.example;x;x=%", UriRefusal::BadParam),
     (

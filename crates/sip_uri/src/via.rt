@@ -41,7 +41,7 @@ impl PartialEq for Via {
 
     ghost laws = { partial_equiv_from_equiv (decided same_via via_decides) };
 
-    /// Vias are equal exactly where they are in each part.
+    /// Vias are equal exactly where they are in each part. RFC 3261 20.42 compares parameters too.
     fn eq(&self, other: &Via) -> bool
         ensures value { result ≡ same_via self.now other.now }
         ensures same { IsTrue result ↔ (self.now ≡ other.now) }

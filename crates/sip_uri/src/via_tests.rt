@@ -12,7 +12,7 @@ fn via_line(alloc: Global, via: &Via) -> Result<String, Fail> {
 }
 
 /// Texts of Vias, and what they and their copies say.
-const VIAS: [(&str, &str); 30] = [
+const VIAS: [(&str, &str); 32] = [
     // RFC 3261 20.42
     (
         "SIP/2.0/UDP erlang.bell-telephone.com:5060;branch=z9hG4bK87asdks7",
@@ -108,6 +108,14 @@ const VIAS: [(&str, &str); 30] = [
     ("SIP/2.0/TLS-SCTP d.example", "Other d.example. None"),
     ("SIP/2.0/2.0 192.0.2.7", "Other 192.0.2.7 None"),
     (
+        "SIP/2.0/UDP d.example;ttl=999;maddr=-;received=x;branch",
+        "Known(Udp) d.example. None",
+    ),
+    (
+        "SIP/2.0/UDP d.example;a=\"\\\u{1}\u{1}\u{7f}\"",
+        "Known(Udp) d.example. None",
+    ),
+    (
         "SIP/2.0/TCP [::ffff:192.0.2.7] : 5060 ;a",
         "Known(Tcp) 0:0:0:0:0:ffff:c000:207 Some(5060)",
     ),
@@ -134,7 +142,7 @@ fn vias(rt: HostRuntime) -> Result<(), Fail> {
 }
 
 /// Texts of no Via, and their first fault from the left.
-const FAULTS: [(&str, UriRefusal); 55] = [
+const FAULTS: [(&str, UriRefusal); 57] = [
     ("", UriRefusal::BadVia),
     ("SIP", UriRefusal::BadVia),
     ("SIP/2.0", UriRefusal::BadVia),
@@ -145,6 +153,8 @@ const FAULTS: [(&str, UriRefusal); 55] = [
     ("SIP/2.0 UDP d.example", UriRefusal::BadVia),
     ("SIP 2.0/UDP d.example", UriRefusal::BadVia),
     ("SIP/3.0/UDP d.example", UriRefusal::BadVia),
+    ("SIP/2.1/UDP d.example", UriRefusal::BadVia),
+    ("XYZ/2.0/UDP d.example", UriRefusal::BadVia),
     ("SIP/2.00/UDP d.example", UriRefusal::BadVia),
     ("SIPS/2.0/UDP d.example", UriRefusal::BadVia),
     ("SIP//UDP d.example", UriRefusal::BadVia),
