@@ -1,3 +1,4 @@
+mod Faults
 mod Talks
 mod Outcomes
 mod Colons

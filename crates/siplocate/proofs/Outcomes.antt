@@ -1,12 +1,17 @@
 -- What becomes of a request, once its URI is known.
-use Rattle.std.proofs.Common.{◌≡◌, ℕ, List, [], ◌∷◌, Some, None, refl, sym, ap, ◌∙◌}
+use Rattle.std.proofs.Common.{◌≡◌, ℕ, List, [], ◌∷◌, Some, None, refl, sym, ap, ◌∙◌, inl, inr, ◌⊎◌}
 use Rattle.std.specs.List.{AllZip}
 use Rattle.dns_message.specs.declared.message.Message.{Message}
 use Rattle.siplocate.specs.declared.request.Request.{Request}
 use Rattle.siplocate.specs.declared.arguments.Families.{Families}
 use Rattle.siplocate.specs.declared.choice.Answered.{Answered}
 use Rattle.siplocate.specs.Choice.{Outcome, unready, locate, talk}
-use Rattle.siplocate.specs.Replies.{ReplyLine}
+use Rattle.sip_uri.specs.declared.refusal.UriRefusal.{UriRefusal}
+use Rattle.sip_uri.specs.declared.refusal.UriRefusal.TheVariants as uri
+use Rattle.siplocate.specs.declared.reply.BadReply.{BadReply}
+use Rattle.siplocate.specs.declared.reply.BadReply.TheVariants as bad
+use Rattle.siplocate.specs.Refusals.{of_request, of_reply, RefusedAs}
+use Rattle.siplocate.specs.Replies.{ReplyLine, FailsAt}
 use Rattle.siplocate.specs.Views.{outcome_of}
 use Rattle.siplocate.specs.declared.choice.Located.{Located}
 use Rattle.siplocate.specs.declared.choice.Located.TheVariants.{Targets, Refused, Ask, Unready}
@@ -46,3 +51,19 @@ unready_is Unready e = refl
 pub request_of : (families : Families) (text : List ℕ) (outcome : Outcome) → LocatesTo families text outcome → (request : Request) × RequestText (first_line text) request
 request_of families text outcome (talked request messages known spelled replies t is) = (request, spelled)
 request_of families text outcome (waits request spelled e is) = (request, spelled)
+
+-- ---- what is refused
+
+module _ (families : Families) (text : List ℕ) where
+  pub bad_request : (refusal : UriRefusal) → ((request : Request) → RequestText (first_line text) request → refusal ≡ uri.Memory) → RefusedAs (of_request refusal) families text
+  bad_request uri.Memory memory = tt
+  bad_request refusal memory = record {
+    none = λ request spelled. let e = memory request spelled in absurd cc;
+    said = λ e. absurd cc;
+  }
+
+  pub bad_reply : (reply : BadReply) (request : Request) → RequestText (first_line text) request → (reply ≡ bad.Memory) ⊎ FailsAt families request (other_lines text) reply
+      → RefusedAs (of_reply reply) families text
+  bad_reply bad.Memory request spelled fails = tt
+  bad_reply reply request spelled (inl e) = absurd cc
+  bad_reply reply request spelled (inr fails) = record { request = request; spelled = spelled; fails = fails; said = λ e. absurd cc }

@@ -2,13 +2,14 @@
 use Rattle.std.proofs.Common.{◌≡◌, ℕ, ◌+◌, ◌<◌, List, [], ◌∷◌, ◌++◌, length, take, drop, get_or, Option, Some, None, refl, sym, ap, ◌∙◌, arith}
 use Rattle.std.specs.List.{AllZip}
 use Rattle.std.specs.Option.{option_and_then}
-use Rattle.std.proofs.lemmas.List.{drop_more, take_more, drop_all, take_all}
+use Rattle.std.proofs.lemmas.List.{drop_more, take_more, drop_all, take_all, take-append-drop}
 use Rattle.dns_message.specs.declared.message.Message.{Message}
 use Rattle.siplocate.specs.declared.request.Request.{Request}
 use Rattle.siplocate.specs.declared.arguments.Families.{Families}
 use Rattle.siplocate.specs.declared.choice.Answered.{Answered}
 use Rattle.siplocate.specs.Choice.{Outcome, told, locate, talk, talk_from}
-use Rattle.siplocate.specs.Replies.{ReplyLine}
+use Rattle.siplocate.specs.declared.reply.BadReply.{BadReply}
+use Rattle.siplocate.specs.Replies.{ReplyLine, IsFault, FailsAt}
 
 carried : (f g : Answered → Option (List Answered)) (x y : List Answered) (o : Option Answered) → ((k : Answered) → f k ≡ Some x → g k ≡ Some y) → option_and_then f o ≡ Some x → option_and_then g o ≡ Some y
 carried f g x y None h e = absurd cc
@@ -85,6 +86,20 @@ module _ (families : Families) (request : Request) where
             let told-is : told (locate families request known) f.0 ≡ Some more = rw so_far.is at each f.0 f.3 in
             let one : talk_from families request (known ++ more ∷ []) f.1 ≡ talk_from families request known (f.0 ∷ f.1) = rw told-is refl in
             (f.1, f.4, one ∙ ap (talk_from families request known) (sym f.2) ∙ k.2);
+      }
+
+      -- where this line has a fault, the lines fail at it
+      pub fails : (reply : BadReply) → IsFault reply outcome line → FailsAt families request lines reply
+      fails reply fault = record {
+        front = take count lines;
+        line = line;
+        back = drop (count + 1) lines;
+        messages = so_far.messages;
+        known = known;
+        lines_are = sym (take-append-drop count lines) ∙ ap (λ (rest : List (List ℕ)). take count lines ++ rest) rest-is;
+        replies = so_far.replies;
+        talked = so_far.talked;
+        fault = rw so_far.is at fault;
       }
 
       -- where all lines are replies, this one is

@@ -1,6 +1,5 @@
 -- Where a request goes (RFC 3263 4.1, 4.2, 5), as far as the questions about it are answered.
-use Rattle.std.specs.Prelude.{ℕ, ◌==◌, Bool, ◌&&◌, List, [], ◌∷◌, ◌++◌, length, map, Option, Some, None, unwrap_or, is_none, option_and_then, Result, Ok, Err, if◌then◌else◌}
-use Rattle.dns_message.specs.Kinds.{kind_code}
+use Rattle.std.specs.Prelude.{ℕ, ◌==◌, List, [], ◌∷◌, ◌++◌, length, map, Option, Some, None, unwrap_or, is_none, option_and_then, Result, Ok, Err, if◌then◌else◌}
 use Rattle.dns_message.specs.declared.kind.Kind.TheVariants as kind
 use Rattle.dns_message.specs.declared.message.Message.{Message}
 use Rattle.dns_message.specs.declared.question.Question.{Question}
@@ -14,7 +13,7 @@ use Rattle.sip_uri.specs.declared.transport.Transport.{Transport}
 use Rattle.sip_uri.specs.declared.transport.Transport.TheVariants.{Udp, Tcp, Sctp, Tls}
 use Rattle.sip_uri.specs.declared.uri.SipUri.{SipUri}
 use Rattle.dns_answers.specs.Answers.{answer}
-use Rattle.dns_answers.specs.Names.{same_name}
+use Rattle.dns_message.specs.Questions.{same_question}
 use Rattle.dns_answers.specs.Replies.{reply_refusal}
 use Rattle.dns_answers.specs.Values.{AnswerValue}
 use Rattle.dns_answers.specs.declared.records.Records.{Records}
@@ -72,9 +71,6 @@ default_port Sctp = 5060
 -- addresses of IPv4 of a name
 abbrev pub question_of : List (List ℕ) → Question
 question_of name = record { name = name; kind = kind.A }
-
-abbrev pub same_question : Question → Question → Bool
-same_question a b = same_name a.name b.name && kind_code a.kind == kind_code b.kind
 
 -- the answer to a question
 abbrev pub find : Question → List Answered → Option AnswerValue

@@ -1,9 +1,17 @@
--- Replies in hexadecimal digits.
-use Rattle.std.specs.Prelude.{◌≡◌, ℕ, ◌≤◌, ◌==◌, not, List, length, take, Ok}
-use Rattle.std.specs.List.{filter}
+-- Replies in hexadecimal digits, and what is wrong with a line that is none.
+use Rattle.std.specs.Prelude.{◌≡◌, ◌≢◌, ⊤, ℕ, ◌<◌, ◌≤◌, ◌==◌, not, List, ◌∷◌, ◌++◌, length, take, Some, Ok}
+use Rattle.std.specs.List.{AllZip, filter}
 use Rattle.hex.specs.Hex.{decode_of}
 use Rattle.dns_message.specs.Messages.{Spells}
 use Rattle.dns_message.specs.declared.message.Message.{Message}
+use Rattle.dns_message.specs.declared.question.Question.{Question}
+use Rattle.dns_answers.specs.Replies.{reply_refusal}
+use Rattle.siplocate.specs.Choice.{Outcome, need, locate, talk}
+use Rattle.siplocate.specs.declared.arguments.Families.{Families}
+use Rattle.siplocate.specs.declared.choice.Answered.{Answered}
+use Rattle.siplocate.specs.declared.reply.BadReply.{BadReply}
+use Rattle.siplocate.specs.declared.reply.BadReply.TheVariants.{NotHex, NothingAsked, TooLong, Malformed, NoAnswer, Memory}
+use Rattle.siplocate.specs.declared.request.Request.{Request}
 
 -- what is no blank
 abbrev pub digits : List ℕ → List ℕ
@@ -16,3 +24,42 @@ pub record ReplyLine (line : List ℕ) (message : Message) : Type 0 where
   pub decoded : decode_of (digits line) ≡ Ok octets
   pub short : length octets ≤ 65535
   pub spelled : Spells (take end octets) message
+
+-- ---- what is wrong with a line
+
+-- the digits of a line spell these octets
+abbrev pub Digits : List ℕ → List ℕ → Type 0
+Digits line octets = decode_of (digits line) ≡ Ok octets
+
+abbrev pub IsAsking : Outcome → Type 0
+IsAsking outcome = (question : Question) × (outcome ≡ need question)
+
+-- The fault of a line while this is what is known of a request. The checks come in this order, and each
+-- fault says that those before it found none: the digits, that something is asked, how many octets
+-- there are, that they begin with a message, that it answers the question.
+abbrev pub IsFault : BadReply → Outcome → List ℕ → Type 0
+IsFault NotHex outcome line = (octets : List ℕ) → Digits line octets → ⊥
+IsFault NothingAsked outcome line =
+    (octets : List ℕ) × Digits line octets × ((question : Question) → outcome ≢ need question)
+IsFault TooLong outcome line =
+    (octets : List ℕ) × Digits line octets × IsAsking outcome × (65535 < length octets)
+IsFault Malformed outcome line =
+    (octets : List ℕ) × Digits line octets × IsAsking outcome × (length octets ≤ 65535)
+    × ((end : ℕ) (message : Message) → Spells (take end octets) message → ⊥)
+IsFault (NoAnswer refusal) outcome line =
+    (question : Question) × (message : Message) × (outcome ≡ need question) × ReplyLine line message
+    × (reply_refusal question message ≡ Some refusal)
+-- memory can be refused at any line
+IsFault Memory outcome line = ⊤
+
+-- the first of these lines are replies, each to the question that is needed then, and the next one has this fault
+pub record FailsAt (families : Families) (request : Request) (lines : List (List ℕ)) (reply : BadReply) : Type 0 where
+  pub front : List (List ℕ)
+  pub line : List ℕ
+  pub back : List (List ℕ)
+  pub messages : List Message
+  pub known : List Answered
+  pub lines_are : lines ≡ front ++ line ∷ back
+  pub replies : AllZip ReplyLine front messages
+  pub talked : talk families request messages ≡ Some known
+  pub fault : IsFault reply (locate families request known) line

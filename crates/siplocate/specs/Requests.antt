@@ -1,17 +1,21 @@
 -- A request with replies, in lines.
-use Rattle.std.specs.Prelude.{◌≡◌, ℕ, List, [], ◌∷◌, ◌++◌, codes, drop, Some, slice_index_or}
+use Rattle.std.specs.Prelude.{◌≡◌, ◌≢◌, ℕ, List, [], ◌∷◌, ◌++◌, codes, drop, Some, slice_index_or}
 use Rattle.std.specs.List.{AllZip}
 use Rattle.std.specs.Str.Lines.{lines}
 use Rattle.dns_name.specs.Labels.{small_letters}
 use Rattle.dns_message.specs.declared.message.Message.{Message}
 use Rattle.sip_uri.specs.Uris.{UriText}
 use Rattle.sip_uri.specs.Vias.{ViaText}
+use Rattle.sip_uri.specs.declared.refusal.UriRefusal.{UriRefusal}
+use Rattle.sip_uri.specs.declared.refusal.UriRefusal.TheVariants as uri
 use Rattle.siplocate.specs.declared.arguments.Families.{Families}
 use Rattle.siplocate.specs.declared.request.Request.{Request}
 use Rattle.siplocate.specs.declared.request.Request.TheVariants.{Uri, Via}
 use Rattle.siplocate.specs.declared.choice.Answered.{Answered}
 use Rattle.siplocate.specs.Choice.{Outcome, unready, locate, talk}
-use Rattle.siplocate.specs.Replies.{ReplyLine}
+use Rattle.siplocate.specs.declared.reply.BadReply.{BadReply}
+use Rattle.siplocate.specs.declared.reply.BadReply.TheVariants as bad
+use Rattle.siplocate.specs.Replies.{ReplyLine, FailsAt}
 
 -- the first line, which is empty where there is none, and the others
 abbrev pub first_line : List ℕ → List ℕ
@@ -45,3 +49,17 @@ pub data LocatesTo (families : Families) (text : List ℕ) : Outcome → Type 0 
       → locate families request [] ≡ unready
       → outcome ≡ unready
       → LocatesTo families text outcome
+
+-- ---- what is no request with replies
+
+-- the first line is no request, and is refused as this
+pub record HasBadRequest (text : List ℕ) (refusal : UriRefusal) : Type 0 where
+  pub none : (request : Request) → RequestText (first_line text) request → ⊥
+  pub said : refusal ≢ uri.Memory
+
+-- the first line is a request, and of the others the first that is no reply to what is needed then has this fault
+pub record HasBadReply (families : Families) (text : List ℕ) (reply : BadReply) : Type 0 where
+  pub request : Request
+  pub spelled : RequestText (first_line text) request
+  pub fails : FailsAt families request (other_lines text) reply
+  pub said : reply ≢ bad.Memory

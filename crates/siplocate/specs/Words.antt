@@ -18,7 +18,9 @@ use Rattle.siplocate.specs.declared.reply.BadReply.TheVariants as bad
 use Rattle.siplocate.specs.declared.choice.Reason.{Reason}
 use Rattle.siplocate.specs.declared.choice.Reason.TheVariants.{TransportUnsupported, TransportNotSecure, NotOffered, NoAddress}
 use Rattle.siplocate.specs.declared.choice.Target.{Target}
+use Rattle.siplocate.specs.declared.arguments.Families.{Families}
 use Rattle.siplocate.specs.Choice.{Outcome, targets, refused, need, unready}
+use Rattle.siplocate.specs.Requests.{HasBadRequest, HasBadReply}
 
 abbrev pub transport_word : Transport → List ℕ
 transport_word Udp = codes "udp"
@@ -72,9 +74,11 @@ bad_request_line refusal = codes "bad request " ++ request_word refusal ++ 10 �
 abbrev pub bad_reply_line : BadReply → List ℕ
 bad_reply_line reply = codes "bad reply " ++ reply_word reply ++ 10 ∷ []
 
-abbrev pub IsBadLine : List ℕ → Type 0
-IsBadLine line =
-    ((refusal : UriRefusal) × (line ≡ bad_request_line refusal)) ⊎ ((reply : BadReply) × (line ≡ bad_reply_line reply))
+-- the line that a text gets which is no request with replies
+abbrev pub IsBadLine : Families → List ℕ → List ℕ → Type 0
+IsBadLine families text line =
+    ((refusal : UriRefusal) × HasBadRequest text refusal × (line ≡ bad_request_line refusal))
+    ⊎ ((reply : BadReply) × HasBadReply families text reply × (line ≡ bad_reply_line reply))
 
 -- a target's line
 abbrev pub target_line : Target → List ℕ

@@ -68,19 +68,12 @@ fn default_port(transport: Transport) -> u16
     }
 }
 
-/// Whether two questions are the same.
-fn same_question(a: &Question, b: &Question) -> bool
-    ensures { result ≡ spec.same_question a.now b.now }
-{
-    a.name == b.name && a.kind.code() == b.kind.code()
-}
-
 /// The answer to a question.
 fn find<'a>(question: &Question, known: &'a [Answered]) -> Option<&'a Answer>
     ensures { option_copied result ≡ spec.find question.now known.now }
 {
     for answered in known {
-        if same_question(&answered.question, question) {
+        if answered.question == *question {
             return Some(&answered.answer);
         }
     }

@@ -1,12 +1,12 @@
 //! One request, from its text to what is printed.
-ghost use Rattle.std.specs.Prelude.{◌≡◌, ◌≤◌, ◌⊎◌, ℕ, List, [], Some, IfOk, MatchResult};
+ghost use Rattle.std.specs.Prelude.{◌≡◌, ◌≤◌, ◌⊎◌, ℕ, List, [], Some, IfOk, IfErr, MatchResult};
 ghost use Rattle.std.specs.List.{AllZip};
 ghost use Rattle.std.specs.String.{string_bytes};
 ghost use Rattle.dns_message.specs.declared.message.Message as message;
 ghost use Rattle.siplocate.specs.Choice as spec;
-ghost use Rattle.siplocate.specs.Replies.{ReplyLine};
+ghost use Rattle.siplocate.specs.Replies.{ReplyLine, FailsAt};
 ghost use Rattle.siplocate.specs.Requests.{LocatesTo, first_line as first_line_of, other_lines};
-ghost use Rattle.siplocate.specs.Refusals.{of_request, of_reply};
+ghost use Rattle.siplocate.specs.Refusals.{of_request, of_reply, RefusedAs};
 ghost use Rattle.siplocate.specs.declared.one.OneRefusal.TheVariants as refusals;
 ghost use Rattle.siplocate.specs.Views.{outcome_of};
 ghost use Rattle.siplocate.specs.declared.choice.Answered as choice;
@@ -89,6 +89,8 @@ fn talk(
         → spec.talk families request.now messages ≡ Some known
         → MatchResult result (λ located. outcome_of located ≡ spec.locate families request.now known)
         (λ reply. reply ≡ BadReply.Memory) }
+    ensures bad { IfErr result (λ reply. (reply ≡ BadReply.Memory)
+        ⊎ FailsAt families request.now (other_lines text.now) reply) }
 {
     let mut known = Vec::new(alloc);
     let mut located = first;
@@ -105,6 +107,7 @@ fn located(alloc: Global, families: Families, text: &str) -> Result<Located, One
     ensures found { IfOk result (λ located. LocatesTo families text.now (outcome_of located)) }
     ensures read { (outcome : spec.Outcome) → LocatesTo families text.now outcome
         → MatchResult result (λ located. outcome_of located ≡ outcome) (λ refusal. refusal ≡ OneRefusal.Memory) }
+    ensures bad { IfErr result (λ refusal. RefusedAs refusal families text.now) }
 {
     let request = read_request(alloc, first_line(text))?;
     let located = locate(alloc, families, &request, &[])?;
@@ -120,8 +123,9 @@ pub fn one_text(alloc: Global, families: Families, text: &str) -> Result<(String
     // What becomes of the request is printed.
     ensures located { (outcome : spec.Outcome) → LocatesTo families text.now outcome
         → IfOk result (λ told. (string_bytes told.0 ≡ words.shown outcome) × (told.1 ≡ words.status_of outcome)) }
-    // Nothing else is printed but what is wrong, under status 3.
-    ensures only { IfOk result (λ told. ((told.1 ≡ 3) × words.IsBadLine (string_bytes told.0))
+    // Nothing else is printed but what is wrong, under status 3: the first line where that is no request, and
+    // else the first fault of the first line that is no reply.
+    ensures only { IfOk result (λ told. ((told.1 ≡ 3) × words.IsBadLine families text.now (string_bytes told.0))
         ⊎ ((outcome : spec.Outcome) × LocatesTo families text.now outcome
         × (string_bytes told.0 ≡ words.shown outcome) × (told.1 ≡ words.status_of outcome))) }
 {

@@ -1,11 +1,14 @@
 //! Replies in hexadecimal digits, and the answers that they have.
-ghost use Rattle.std.specs.Prelude.{◌≡◌, ◌≢◌, ◌≤◌, ℕ, List, length, take, Some, None, Ok, IfOk, IfErr, MatchResult};
+ghost use Rattle.std.specs.Prelude.{◌≡◌, ◌≢◌, ◌≤◌, ◌<◌, ◌⊎◌, ℕ, List, length, take, Some, None, Ok, IfOk, IfErr, MatchResult};
 ghost use Rattle.hex.specs.Hex.{decode_of};
 ghost use Rattle.dns_message.specs.Messages.{Spells};
+ghost use Rattle.dns_answers.specs.Replies.{reply_refusal};
 ghost use Rattle.dns_message.specs.declared.message.Message as message;
+ghost use Rattle.dns_message.specs.declared.question.Question as question;
 ghost use Rattle.siplocate.specs.Choice.{need, told};
-ghost use Rattle.siplocate.specs.Replies.{digits, ReplyLine};
+ghost use Rattle.siplocate.specs.Replies.{digits, Digits, IsFault, ReplyLine};
 ghost use Rattle.siplocate.specs.Views.{outcome_of};
+ghost use Rattle.dns_answers.specs.declared.refusal.ReplyRefusal as refusals;
 ghost use Rattle.siplocate.specs.declared.choice.Answered as choice;
 ghost use Rattle.siplocate.specs.declared.reply.BadReply.TheVariants as bad;
 
@@ -61,9 +64,9 @@ fn digits_of(alloc: Global, line: &str) -> Result<Vec<u8>, AllocError>
 
 /// The octets of a line of digits.
 fn octets_of(alloc: Global, line: &str) -> Result<Vec<u8>, BadReply>
-    ensures found { IfOk result (λ octets. decode_of (digits line.now) ≡ Ok octets.items) }
-    ensures bad { IfErr result (λ reply. reply ≢ BadReply.Memory
-        → (octets : List ℕ) → decode_of (digits line.now) ≢ Ok octets) }
+    ensures found { IfOk result (λ octets. Digits line.now octets.items) }
+    ensures bad { IfErr result (λ reply. (reply ≡ BadReply.Memory)
+        ⊎ ((reply ≡ BadReply.NotHex) × ((octets : List ℕ) → Digits line.now octets → ⊥))) }
 {
     let digits = digits_of(alloc, line)?;
     match hex::decode(alloc, digits) {
@@ -78,6 +81,10 @@ fn message_of(alloc: Global, octets: &[u8]) -> Result<Message, BadReply>
     ensures found { IfOk result (λ found. (length octets.now ≤ 65535) × (end : ℕ) × Spells (take end octets.now) found) }
     ensures read { (end : ℕ) (found : message.Message) → Spells (take end octets.now) found → length octets.now ≤ 65535
         → MatchResult result (λ found'. found' ≡ found) (λ reply. reply ≡ BadReply.Memory) }
+    ensures bad { IfErr result (λ reply. (reply ≡ BadReply.Memory)
+        ⊎ ((reply ≡ BadReply.TooLong) × (65535 < length octets.now))
+        ⊎ ((reply ≡ BadReply.Malformed) × (length octets.now ≤ 65535)
+        × ((end : ℕ) (found : message.Message) → Spells (take end octets.now) found → ⊥))) }
 {
     match read_message(alloc, octets) {
         Ok(message) => Ok(message),
@@ -90,7 +97,8 @@ fn message_of(alloc: Global, octets: &[u8]) -> Result<Message, BadReply>
 /// The question that comes first.
 fn question_in(located: &Located) -> Result<&Question, BadReply>
     ensures asked { IfOk result (λ question. outcome_of located.now ≡ need question.now) }
-    ensures nothing { IfErr result (λ reply. (found : message.Message) → told (outcome_of located.now) found ≡ None) }
+    ensures nothing { IfErr result (λ reply. (reply ≡ BadReply.NothingAsked)
+        × ((question : question.Question) → outcome_of located.now ≢ need question)) }
 {
     match located {
         Located::Ask(question) => Ok(question),
@@ -103,6 +111,9 @@ fn answered_by(alloc: Global, question: &Question, message: &Message) -> Result<
     ensures found { IfOk result (λ answered. told (need question.now) message.now ≡ Some answered) }
     ensures read { (known : choice.Answered) → told (need question.now) message.now ≡ Some known
         → MatchResult result (λ answered. answered ≡ known) (λ reply. reply ≡ BadReply.Memory) }
+    ensures bad { IfErr result (λ reply. (reply ≡ BadReply.Memory)
+        ⊎ ((refusal : refusals.ReplyRefusal) × (reply ≡ BadReply.NoAnswer refusal)
+        × (reply_refusal question.now message.now ≡ Some refusal))) }
 {
     match answer_of(alloc, question, message) {
         Ok(answer) => Ok(Answered {
@@ -123,6 +134,8 @@ pub fn answered(alloc: Global, located: &Located, line: &str) -> Result<Answered
     ensures read { (found : message.Message) (known : choice.Answered) → ReplyLine line.now found
         → told (outcome_of located.now) found ≡ Some known
         → MatchResult result (λ answered. answered ≡ known) (λ reply. reply ≡ BadReply.Memory) }
+    // What is wrong with a line is its first fault.
+    ensures bad { IfErr result (λ reply. IsFault reply (outcome_of located.now) line.now) }
 {
     let octets = octets_of(alloc, line)?;
     let question = question_in(located)?;

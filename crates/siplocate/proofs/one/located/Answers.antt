@@ -7,7 +7,7 @@ use Rattle.siplocate.specs.Replies.{ReplyLine}
 use Rattle.siplocate.specs.Choice.{Outcome, unready, locate, talk}
 use Rattle.siplocate.specs.Requests.{LocatesTo, talked, waits, other_lines}
 use Rattle.siplocate.specs.Views.{outcome_of}
-use Rattle.siplocate.proofs.Outcomes.{is_unready, is_talked, unready_is, request_of}
+use Rattle.siplocate.proofs.Outcomes.{is_unready, is_talked, unready_is, request_of, bad_request, bad_reply}
 use Rattle.siplocate.proofs.one.located.Goals as goal
 use Rattle.siplocate.proofs.one.located.Goals.{In_default}
 
@@ -42,6 +42,7 @@ returns-in_err-talk c =
       read = λ outcome to.
           let k = told_to (goal.at.returns-in_err-talk c).In_default outcome to in
           rw (r.1, r.2, c.in_err-talk.ensures.read k.0 k.1 k.2 k.3) refl;
+      bad = rw (r.1, r.2) (bad_reply c.args.families c.args.text.now c.in_err-talk.field-0.0 c.in_ok-request.request (rw c.first_line.ensures at c.in_ok-request.ensures.found) c.in_err-talk.ensures.bad);
     }
 
 pub returns : goal.returns
@@ -52,4 +53,10 @@ returns c =
       read = λ outcome to.
           let k = told_to (goal.at.returns c).In_default outcome to in
           c.in_ok-talk.ensures.read k.0 k.1 k.2 k.3 ∙ sym k.4;
+      bad = tt;
     }
+
+pub returns-in_err-request-clause-bad : goal.returns-in_err-request-clause-bad
+returns-in_err-request-clause-bad c =
+    let r = err_from_is_err_and c.from_residual.result c.from_residual.ensures.1 in
+    rw (r.1, r.2) (bad_request c.args.families c.args.text.now c.in_err-request.field-0.0 (λ request spelled. c.in_err-request.ensures.read request (rw (← c.first_line.ensures) at spelled)))

@@ -1,4 +1,4 @@
-use Rattle.std.proofs.Common.{◌≡◌, List, ◌∷◌, ◌++◌, [], ◌<◌, length, get_or, rules, ap, ◌∙◌}
+use Rattle.std.proofs.Common.{◌≡◌, List, ◌∷◌, ◌++◌, [], ◌<◌, length, get_or, rules, ap, ◌∙◌, inr}
 use Rattle.std.proofs.lemmas.Iterator.Adapters.{YieldsList-from_skip}
 use Rattle.std.proofs.lemmas.Iterator.Splits.{YieldsList-from_lines}
 use Rattle.std.proofs.lemmas.Iterator.Consumers.{YieldsList-turn, YieldsList-end}
@@ -8,7 +8,7 @@ use Rattle.siplocate.specs.Choice.{locate}
 use Rattle.siplocate.specs.Requests.{other_lines}
 use Rattle.siplocate.specs.declared.choice.Answered.{Answered}
 use Rattle.siplocate.specs.Views.{outcome_of}
-use Rattle.siplocate.proofs.Talks.{begun, next, has_reply, ends, all_known}
+use Rattle.siplocate.proofs.Talks.{begun, next, fails, has_reply, ends, all_known}
 use Rattle.siplocate.proofs.one.talk.Goals as goal
 use Rattle.siplocate.proofs.one.talk.Goals.{In-Some, In-None}
 
@@ -74,3 +74,10 @@ returns-clause-read c = λ all known' replies e.
     let done = all_turns (goal.at.returns-clause-read c).In-None in
     let same = all_known c.args.families c.args.request.now (other_lines c.args.text.now) (length l.yielded) l.known.items (outcome_of l.located) talking done all known' replies e in
     rw (← same) talking.is
+
+pub returns-in_err-next-clause-bad : goal.returns-in_err-next-clause-bad
+returns-in_err-next-clause-bad c =
+    let l = c.loop-line in
+    let this = turn (goal.at.returns-in_err-next-clause-bad c).In-Some in
+    let r = err_from_is_err_and c.from_residual.result c.from_residual.ensures.1 in
+    rw (r.1, r.2) (inr (fails c.args.families c.args.request.now (other_lines c.args.text.now) (length l.yielded) l.known.items (outcome_of l.located) l.invariant.talking c.in-Some.line.now this.0 this.1 c.in_err-next.field-0.0 c.in_err-next.ensures.bad))
