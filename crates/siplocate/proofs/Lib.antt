@@ -1,4 +1,4 @@
 mod Faults
 mod Talks
-mod Outcomes
+mod Resolutions
 mod Colons

@@ -7,7 +7,7 @@ use Rattle.dns_message.specs.declared.message.Message.{Message}
 use Rattle.siplocate.specs.declared.request.Request.{Request}
 use Rattle.siplocate.specs.declared.arguments.Families.{Families}
 use Rattle.siplocate.specs.declared.choice.Answered.{Answered}
-use Rattle.siplocate.specs.Choice.{Outcome, told, locate, talk, talk_from}
+use Rattle.siplocate.specs.Choice.{Resolution, told, locate, talk, talk_from}
 use Rattle.siplocate.specs.declared.reply.BadReply.{BadReply}
 use Rattle.siplocate.specs.Replies.{ReplyLine, IsFault, FailsAt}
 
@@ -51,19 +51,19 @@ module _ (families : Families) (request : Request) where
       known' (known' ++ more ∷ []) (told (locate families request known) m)
       (λ k e'. talk-push (known ++ k ∷ []) messages known' message more e' t) e
 
-  -- after so many lines this is known, and this is the outcome
-  pub record Talking (lines : List (List ℕ)) (count : ℕ) (known : List Answered) (outcome : Outcome) : Type 0 where
-    pub is : outcome ≡ locate families request known
+  -- after so many lines this is known, and this is the resolution
+  pub record Talking (lines : List (List ℕ)) (count : ℕ) (known : List Answered) (resolution : Resolution) : Type 0 where
+    pub is : resolution ≡ locate families request known
     pub messages : List Message
     pub replies : AllZip ReplyLine (take count lines) messages
     pub talked : talk families request messages ≡ Some known
     pub goes_on : (all : List Message) → AllZip ReplyLine lines all
         → (rest : List Message) × AllZip ReplyLine (drop count lines) rest × (talk_from families request known rest ≡ talk families request all)
 
-  pub begun : (lines : List (List ℕ)) (outcome : Outcome) → outcome ≡ locate families request [] → Talking lines 0 [] outcome
-  begun lines outcome e = record { is = e; messages = []; replies = tt; talked = refl; goes_on = λ all replies. (all, replies, refl) }
+  pub begun : (lines : List (List ℕ)) (resolution : Resolution) → resolution ≡ locate families request [] → Talking lines 0 [] resolution
+  begun lines resolution e = record { is = e; messages = []; replies = tt; talked = refl; goes_on = λ all replies. (all, replies, refl) }
 
-  module _ (lines : List (List ℕ)) (count : ℕ) (known : List Answered) (outcome : Outcome) (so_far : Talking lines count known outcome) where
+  module _ (lines : List (List ℕ)) (count : ℕ) (known : List Answered) (resolution : Resolution) (so_far : Talking lines count known resolution) where
     module _ (line : List ℕ) (within : count < length lines) (is : line ≡ get_or lines count line) where
       rest-is : drop count lines ≡ line ∷ drop (count + 1) lines
       rest-is = drop_more lines count line within ∙ ap (λ (l : List ℕ). l ∷ drop (count + 1) lines) (sym is)
@@ -71,11 +71,11 @@ module _ (families : Families) (request : Request) where
       front-is : take (count + 1) lines ≡ take count lines ++ line ∷ []
       front-is = take_more lines count line within ∙ ap (λ (l : List ℕ). take count lines ++ l ∷ []) (sym is)
 
-      pub next : (message : Message) (more : Answered) (outcome' : Outcome) → ReplyLine line message → told outcome message ≡ Some more
-          → ((found : Message) → ReplyLine line found → told outcome found ≡ Some more)
-          → outcome' ≡ locate families request (known ++ more ∷ [])
-          → Talking lines (count + 1) (known ++ more ∷ []) outcome'
-      next message more outcome' reply t each e = record {
+      pub next : (message : Message) (more : Answered) (resolution' : Resolution) → ReplyLine line message → told resolution message ≡ Some more
+          → ((found : Message) → ReplyLine line found → told resolution found ≡ Some more)
+          → resolution' ≡ locate families request (known ++ more ∷ [])
+          → Talking lines (count + 1) (known ++ more ∷ []) resolution'
+      next message more resolution' reply t each e = record {
         is = e;
         messages = so_far.messages ++ message ∷ [];
         replies = rw front-is (replies_push (take count lines) so_far.messages line message so_far.replies reply);
@@ -89,7 +89,7 @@ module _ (families : Families) (request : Request) where
       }
 
       -- where this line has a fault, the lines fail at it
-      pub fails : (reply : BadReply) → IsFault reply outcome line → FailsAt families request lines reply
+      pub fails : (reply : BadReply) → IsFault reply resolution line → FailsAt families request lines reply
       fails reply fault = record {
         front = take count lines;
         line = line;
@@ -103,13 +103,13 @@ module _ (families : Families) (request : Request) where
       }
 
       -- where all lines are replies, this one is
-      pub has_reply : (all : List Message) (known' : List Answered) → AllZip ReplyLine lines all → talk families request all ≡ Some known' → (message : Message) × (more : Answered) × ReplyLine line message × (told outcome message ≡ Some more)
+      pub has_reply : (all : List Message) (known' : List Answered) → AllZip ReplyLine lines all → talk families request all ≡ Some known' → (message : Message) × (more : Answered) × ReplyLine line message × (told resolution message ≡ Some more)
       has_reply all known' replies e =
           let k = so_far.goes_on all replies in
           let f = first_reply line (drop (count + 1) lines) k.0 (rw rest-is at k.1) in
           let whole : talk_from families request known (f.0 ∷ f.1) ≡ Some known' = ap (talk_from families request known) (sym f.2) ∙ k.2 ∙ e in
           let more = led (λ (k : Answered). talk_from families request (known ++ k ∷ []) f.1) known' (told (locate families request known) f.0) whole in
-          (f.0, more.0, f.3, ap (λ (o : Outcome). told o f.0) so_far.is ∙ more.1)
+          (f.0, more.0, f.3, ap (λ (o : Resolution). told o f.0) so_far.is ∙ more.1)
 
     pub ends : count ≡ length lines → AllZip ReplyLine lines so_far.messages
     ends all = rw (take_all count lines (omega arith)) at so_far.replies

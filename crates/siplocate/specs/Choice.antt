@@ -27,12 +27,12 @@ use Rattle.siplocate.specs.declared.choice.Reason.{Reason}
 use Rattle.siplocate.specs.declared.choice.Reason.TheVariants.{TransportUnsupported, TransportNotSecure, NoAddress}
 use Rattle.siplocate.specs.declared.choice.Target.{Target}
 
-pub data Outcome : Type 0 where
-  targets : List Target → Outcome
-  refused : Reason → Outcome
-  need : Question → Outcome
+pub data Resolution : Type 0 where
+  targets : List Target → Resolution
+  refused : Reason → Resolution
+  need : Question → Resolution
   -- it needs records that are not asked for yet
-  unready : Outcome
+  unready : Resolution
 
 -- ---- the transport (RFC 3263 4.1, 5)
 
@@ -81,7 +81,7 @@ find question (answered ∷ others) =
 abbrev pub target_at : Transport → ℕ → List ℕ → Target
 target_at transport port octets = record { transport = transport; address = address.V4 octets; port = port }
 
-abbrev pub targets_of : Transport → ℕ → List (List ℕ) → Outcome
+abbrev pub targets_of : Transport → ℕ → List (List ℕ) → Resolution
 targets_of transport port addresses =
     if length addresses == 0 then refused NoAddress else targets (map (target_at transport port) addresses)
 
@@ -92,7 +92,7 @@ addresses_in (records.V6 addresses) = []
 addresses_in (records.Srv servers) = []
 addresses_in (records.Naptr rules) = []
 
-abbrev pub addresses_of : Transport → ℕ → Question → Option AnswerValue → Outcome
+abbrev pub addresses_of : Transport → ℕ → Question → Option AnswerValue → Resolution
 addresses_of transport port question None = need question
 addresses_of transport port question (Some answer) = targets_of transport port (addresses_in answer.records)
 
@@ -105,11 +105,11 @@ abbrev pub port_of : Request → Option ℕ
 port_of (Uri uri) = uri.port
 port_of (Via via) = via.port
 
-abbrev pub locate_address : Transport → Option ℕ → Address → Outcome
+abbrev pub locate_address : Transport → Option ℕ → Address → Resolution
 locate_address transport port address =
     targets (record { transport = transport; address = address; port = unwrap_or port (default_port transport) } ∷ [])
 
-abbrev pub locate_host : Transport → Option ℕ → Host → List Answered → Outcome
+abbrev pub locate_host : Transport → Option ℕ → Host → List Answered → Resolution
 locate_host transport port (host.V4 octets) known = locate_address transport port (address.V4 octets)
 locate_host transport port (host.V6 octets) known = locate_address transport port (address.V6 octets)
 locate_host transport (Some port) (host.Domain name) known =
@@ -117,21 +117,21 @@ locate_host transport (Some port) (host.Domain name) known =
 locate_host transport None (host.Domain name) known = unready
 
 -- addresses of IPv4 alone are asked for yet
-abbrev pub locate_over : Result Transport Reason → Families → Request → List Answered → Outcome
+abbrev pub locate_over : Result Transport Reason → Families → Request → List Answered → Resolution
 locate_over (Err reason) families request known = refused reason
 locate_over (Ok transport) family.V4 request known = locate_host transport (port_of request) (target_of request) known
 locate_over (Ok transport) family.V6 request known = unready
 locate_over (Ok transport) family.V4ThenV6 request known = unready
 locate_over (Ok transport) family.V6ThenV4 request known = unready
 
-abbrev pub locate : Families → Request → List Answered → Outcome
+abbrev pub locate : Families → Request → List Answered → Resolution
 locate families request known = locate_over (transport_of request) families request known
 
 -- ---- what messages build up
 
 -- the question that is needed and the answer that a message has for it, unless nothing is needed or the message is no
 -- reply to it
-abbrev pub told : Outcome → Message → Option Answered
+abbrev pub told : Resolution → Message → Option Answered
 told (need question) message =
     if is_none (reply_refusal question message) then Some (record { question = question; answer = answer question message }) else None
 told (targets list) message = None

@@ -6,7 +6,7 @@ use Rattle.dns_message.specs.Messages.{Spells}
 use Rattle.dns_message.specs.declared.message.Message.{Message}
 use Rattle.dns_message.specs.declared.question.Question.{Question}
 use Rattle.dns_answers.specs.Replies.{reply_refusal}
-use Rattle.siplocate.specs.Choice.{Outcome, need, locate, talk}
+use Rattle.siplocate.specs.Choice.{Resolution, need, locate, talk}
 use Rattle.siplocate.specs.declared.arguments.Families.{Families}
 use Rattle.siplocate.specs.declared.choice.Answered.{Answered}
 use Rattle.siplocate.specs.declared.reply.BadReply.{BadReply}
@@ -31,26 +31,26 @@ pub record ReplyLine (line : List ℕ) (message : Message) : Type 0 where
 abbrev pub Digits : List ℕ → List ℕ → Type 0
 Digits line octets = decode_of (digits line) ≡ Ok octets
 
-abbrev pub IsAsking : Outcome → Type 0
-IsAsking outcome = (question : Question) × (outcome ≡ need question)
+abbrev pub IsAsking : Resolution → Type 0
+IsAsking resolution = (question : Question) × (resolution ≡ need question)
 
 -- The fault of a line while this is what is known of a request. The checks come in this order, and each
 -- fault says that those before it found none: the digits, that something is asked, how many octets
 -- there are, that they begin with a message, that it answers the question.
-abbrev pub IsFault : BadReply → Outcome → List ℕ → Type 0
-IsFault NotHex outcome line = (octets : List ℕ) → Digits line octets → ⊥
-IsFault NothingAsked outcome line =
-    (octets : List ℕ) × Digits line octets × ((question : Question) → outcome ≢ need question)
-IsFault TooLong outcome line =
-    (octets : List ℕ) × Digits line octets × IsAsking outcome × (65535 < length octets)
-IsFault Malformed outcome line =
-    (octets : List ℕ) × Digits line octets × IsAsking outcome × (length octets ≤ 65535)
+abbrev pub IsFault : BadReply → Resolution → List ℕ → Type 0
+IsFault NotHex resolution line = (octets : List ℕ) → Digits line octets → ⊥
+IsFault NothingAsked resolution line =
+    (octets : List ℕ) × Digits line octets × ((question : Question) → resolution ≢ need question)
+IsFault TooLong resolution line =
+    (octets : List ℕ) × Digits line octets × IsAsking resolution × (65535 < length octets)
+IsFault Malformed resolution line =
+    (octets : List ℕ) × Digits line octets × IsAsking resolution × (length octets ≤ 65535)
     × ((end : ℕ) (message : Message) → Spells (take end octets) message → ⊥)
-IsFault (NoAnswer refusal) outcome line =
-    (question : Question) × (message : Message) × (outcome ≡ need question) × ReplyLine line message
+IsFault (NoAnswer refusal) resolution line =
+    (question : Question) × (message : Message) × (resolution ≡ need question) × ReplyLine line message
     × (reply_refusal question message ≡ Some refusal)
 -- memory can be refused at any line
-IsFault Memory outcome line = ⊤
+IsFault Memory resolution line = ⊤
 
 -- the first of these lines are replies, each to the question that is needed then, and the next one has this fault
 pub record FailsAt (families : Families) (request : Request) (lines : List (List ℕ)) (reply : BadReply) : Type 0 where

@@ -12,7 +12,7 @@ use Rattle.siplocate.specs.declared.arguments.Families.{Families}
 use Rattle.siplocate.specs.declared.request.Request.{Request}
 use Rattle.siplocate.specs.declared.request.Request.TheVariants.{Uri, Via}
 use Rattle.siplocate.specs.declared.choice.Answered.{Answered}
-use Rattle.siplocate.specs.Choice.{Outcome, unready, locate, talk}
+use Rattle.siplocate.specs.Choice.{Resolution, unready, locate, talk}
 use Rattle.siplocate.specs.declared.reply.BadReply.{BadReply}
 use Rattle.siplocate.specs.declared.reply.BadReply.TheVariants as bad
 use Rattle.siplocate.specs.Replies.{ReplyLine, FailsAt}
@@ -36,19 +36,19 @@ RequestText line (Uri uri) = UriText line uri
 RequestText line (Via via) = (rest : List ℕ) × BeginsVia line rest × ViaText rest via
 
 -- What becomes of the request in the first line, with the replies in the others.
-pub data LocatesTo (families : Families) (text : List ℕ) : Outcome → Type 0 where
+pub data LocatesTo (families : Families) (text : List ℕ) : Resolution → Type 0 where
   -- each of the other lines is a reply to the question that is needed then
-  talked : {outcome : Outcome} (request : Request) (messages : List Message) (known : List Answered)
+  talked : {resolution : Resolution} (request : Request) (messages : List Message) (known : List Answered)
       → RequestText (first_line text) request
       → AllZip ReplyLine (other_lines text) messages
       → talk families request messages ≡ Some known
-      → outcome ≡ locate families request known
-      → LocatesTo families text outcome
+      → resolution ≡ locate families request known
+      → LocatesTo families text resolution
   -- it needs records that are not asked for yet, and the other lines are not looked at
-  waits : {outcome : Outcome} (request : Request) → RequestText (first_line text) request
+  waits : {resolution : Resolution} (request : Request) → RequestText (first_line text) request
       → locate families request [] ≡ unready
-      → outcome ≡ unready
-      → LocatesTo families text outcome
+      → resolution ≡ unready
+      → LocatesTo families text resolution
 
 -- ---- what is no request with replies
 

@@ -19,7 +19,7 @@ use Rattle.siplocate.specs.declared.choice.Reason.{Reason}
 use Rattle.siplocate.specs.declared.choice.Reason.TheVariants.{TransportUnsupported, TransportNotSecure, NotOffered, NoAddress}
 use Rattle.siplocate.specs.declared.choice.Target.{Target}
 use Rattle.siplocate.specs.declared.arguments.Families.{Families}
-use Rattle.siplocate.specs.Choice.{Outcome, targets, refused, need, unready}
+use Rattle.siplocate.specs.Choice.{Resolution, targets, refused, need, unready}
 use Rattle.siplocate.specs.Requests.{HasBadRequest, HasBadReply}
 
 abbrev pub transport_word : Transport → List ℕ
@@ -89,14 +89,14 @@ target_line target =
 abbrev pub question_line : Question → List ℕ
 question_line question = codes "ask " ++ kind_word question.kind ++ 32 ∷ text_of question.name ++ 10 ∷ []
 
--- the lines of an outcome, and its status
-abbrev pub shown : Outcome → List ℕ
+-- the lines of a resolution, and its status
+abbrev pub shown : Resolution → List ℕ
 shown (targets list) = flat_map target_line list
 shown (need question) = question_line question
 shown (refused reason) = codes "refused " ++ reason_word reason ++ 10 ∷ []
 shown unready = codes "fault unready\n"
 
-abbrev pub status_of : Outcome → ℕ
+abbrev pub status_of : Resolution → ℕ
 status_of (targets list) = 0
 status_of (need question) = 1
 status_of (refused reason) = 2

@@ -2,7 +2,7 @@
 ghost use Rattle.std.specs.Prelude.{◌≡◌, map, IfOk};
 ghost use Rattle.std.specs.Option.{option_copied};
 ghost use Rattle.siplocate.specs.Choice as spec;
-ghost use Rattle.siplocate.specs.Views.{outcome_of};
+ghost use Rattle.siplocate.specs.Views.{resolution_of};
 
 use crate::arguments::Families;
 use crate::request::Request;
@@ -116,7 +116,7 @@ fn targets_of(
     port: u16,
     addresses: &[[u8; 4]],
 ) -> Result<Located, AllocError>
-    ensures { IfOk result (λ located. outcome_of located ≡ spec.targets_of transport port addresses.now) }
+    ensures { IfOk result (λ located. resolution_of located ≡ spec.targets_of transport port addresses.now) }
 {
     if addresses.is_empty() {
         return Ok(Located::Refused(Reason::NoAddress));
@@ -132,7 +132,7 @@ fn locate_name(
     name: &Name,
     known: &[Answered],
 ) -> Result<Located, AllocError>
-    ensures { IfOk result (λ located. outcome_of located
+    ensures { IfOk result (λ located. resolution_of located
         ≡ spec.addresses_of transport port (spec.question_of name.now) (spec.find (spec.question_of name.now) known.now)) }
 {
     let question = Question {
@@ -152,7 +152,7 @@ fn locate_address(
     port: Option<u16>,
     address: Address,
 ) -> Result<Located, AllocError>
-    ensures { IfOk result (λ located. outcome_of located ≡ spec.locate_address transport port address) }
+    ensures { IfOk result (λ located. resolution_of located ≡ spec.locate_address transport port address) }
 {
     let port = port.unwrap_or(default_port(transport));
     let target = Target {
@@ -171,7 +171,7 @@ fn locate_host(
     host: &Host,
     known: &[Answered],
 ) -> Result<Located, AllocError>
-    ensures { IfOk result (λ located. outcome_of located ≡ spec.locate_host transport port host.now known.now) }
+    ensures { IfOk result (λ located. resolution_of located ≡ spec.locate_host transport port host.now known.now) }
 {
     match host {
         Host::V4(octets) => locate_address(alloc, transport, port, Address::V4(*octets)),
@@ -190,7 +190,7 @@ pub fn locate(
     request: &Request,
     known: &[Answered],
 ) -> Result<Located, AllocError>
-    ensures { IfOk result (λ located. outcome_of located ≡ spec.locate families request.now known.now) }
+    ensures { IfOk result (λ located. resolution_of located ≡ spec.locate families request.now known.now) }
 {
     let transport = match request.transport() {
         Ok(transport) => transport,

@@ -8,7 +8,7 @@ ghost use Rattle.siplocate.specs.Replies.{ReplyLine, FailsAt};
 ghost use Rattle.siplocate.specs.Requests.{LocatesTo, first_line as first_line_of, other_lines};
 ghost use Rattle.siplocate.specs.Refusals.{of_request, of_reply, RefusedAs};
 ghost use Rattle.siplocate.specs.declared.one.OneRefusal.TheVariants as refusals;
-ghost use Rattle.siplocate.specs.Views.{outcome_of};
+ghost use Rattle.siplocate.specs.Views.{resolution_of};
 ghost use Rattle.siplocate.specs.declared.choice.Answered as choice;
 ghost use Rattle.siplocate.specs.Words as words;
 
@@ -79,15 +79,15 @@ fn talk(
     first: Located,
     text: &str,
 ) -> Result<Located, BadReply>
-    requires { outcome_of first ≡ spec.locate families request.now [] }
+    requires { resolution_of first ≡ spec.locate families request.now [] }
     ensures found { IfOk result (λ located. (messages : List message.Message) × (known : List choice.Answered)
         × AllZip ReplyLine (other_lines text.now) messages
         × (spec.talk families request.now messages ≡ Some known)
-        × (outcome_of located ≡ spec.locate families request.now known)) }
+        × (resolution_of located ≡ spec.locate families request.now known)) }
     ensures read { (messages : List message.Message) (known : List choice.Answered)
         → AllZip ReplyLine (other_lines text.now) messages
         → spec.talk families request.now messages ≡ Some known
-        → MatchResult result (λ located. outcome_of located ≡ spec.locate families request.now known)
+        → MatchResult result (λ located. resolution_of located ≡ spec.locate families request.now known)
         (λ reply. reply ≡ BadReply.Memory) }
     ensures bad { IfErr result (λ reply. (reply ≡ BadReply.Memory)
         ⊎ FailsAt families request.now (other_lines text.now) reply) }
@@ -104,9 +104,9 @@ fn talk(
 
 /// What becomes of the request in the first line of a text, with the replies in the others.
 fn located(alloc: Global, families: Families, text: &str) -> Result<Located, OneRefusal>
-    ensures found { IfOk result (λ located. LocatesTo families text.now (outcome_of located)) }
-    ensures read { (outcome : spec.Outcome) → LocatesTo families text.now outcome
-        → MatchResult result (λ located. outcome_of located ≡ outcome) (λ refusal. refusal ≡ OneRefusal.Memory) }
+    ensures found { IfOk result (λ located. LocatesTo families text.now (resolution_of located)) }
+    ensures read { (resolution : spec.Resolution) → LocatesTo families text.now resolution
+        → MatchResult result (λ located. resolution_of located ≡ resolution) (λ refusal. refusal ≡ OneRefusal.Memory) }
     ensures bad { IfErr result (λ refusal. RefusedAs refusal families text.now) }
 {
     let request = read_request(alloc, first_line(text))?;
@@ -121,13 +121,13 @@ fn located(alloc: Global, families: Families, text: &str) -> Result<Located, One
 pub fn one_text(alloc: Global, families: Families, text: &str) -> Result<(String, u8), AllocError>
     ensures status { IfOk result (λ told. told.1 ≤ 5) }
     // What becomes of the request is printed.
-    ensures located { (outcome : spec.Outcome) → LocatesTo families text.now outcome
-        → IfOk result (λ told. (string_bytes told.0 ≡ words.shown outcome) × (told.1 ≡ words.status_of outcome)) }
+    ensures located { (resolution : spec.Resolution) → LocatesTo families text.now resolution
+        → IfOk result (λ told. (string_bytes told.0 ≡ words.shown resolution) × (told.1 ≡ words.status_of resolution)) }
     // Nothing else is printed but what is wrong, under status 3: the first line where that is no request, and
     // else the first fault of the first line that is no reply.
     ensures only { IfOk result (λ told. ((told.1 ≡ 3) × words.IsBadLine families text.now (string_bytes told.0))
-        ⊎ ((outcome : spec.Outcome) × LocatesTo families text.now outcome
-        × (string_bytes told.0 ≡ words.shown outcome) × (told.1 ≡ words.status_of outcome))) }
+        ⊎ ((resolution : spec.Resolution) × LocatesTo families text.now resolution
+        × (string_bytes told.0 ≡ words.shown resolution) × (told.1 ≡ words.status_of resolution))) }
 {
     match located(alloc, families, text) {
         Ok(located) => Ok((shown(alloc, &located)?, status_of(&located))),

@@ -2,7 +2,7 @@
 ghost use Rattle.std.specs.Prelude.{◌≡◌, ◌≤◌, IfOk};
 ghost use Rattle.std.specs.List.{flat_map};
 ghost use Rattle.std.specs.String.{string_bytes};
-ghost use Rattle.siplocate.specs.Views.{outcome_of};
+ghost use Rattle.siplocate.specs.Views.{resolution_of};
 ghost use Rattle.siplocate.specs.Words as spec;
 
 use crate::choice::{Located, Reason, Target};
@@ -78,9 +78,9 @@ fn question_line(alloc: Global, question: &Question) -> Result<String, AllocErro
     format!(in alloc; "ask {kind} {name}\n")
 }
 
-/// The lines of an outcome.
+/// The lines of a resolution.
 pub fn shown(alloc: Global, located: &Located) -> Result<String, AllocError>
-    ensures { IfOk result (λ lines. string_bytes lines ≡ spec.shown (outcome_of located.now)) }
+    ensures { IfOk result (λ lines. string_bytes lines ≡ spec.shown (resolution_of located.now)) }
 {
     match located {
         Located::Targets(targets) => target_lines(alloc, targets),
@@ -93,9 +93,9 @@ pub fn shown(alloc: Global, located: &Located) -> Result<String, AllocError>
     }
 }
 
-/// The status of an outcome.
+/// The status of a resolution.
 pub fn status_of(located: &Located) -> u8
-    ensures status { result ≡ spec.status_of (outcome_of located.now) }
+    ensures status { result ≡ spec.status_of (resolution_of located.now) }
     ensures range { result ≤ 5 }
 {
     match located {

@@ -7,7 +7,7 @@ ghost use Rattle.dns_message.specs.declared.message.Message as message;
 ghost use Rattle.dns_message.specs.declared.question.Question as question;
 ghost use Rattle.siplocate.specs.Choice.{need, told};
 ghost use Rattle.siplocate.specs.Replies.{digits, Digits, IsFault, ReplyLine};
-ghost use Rattle.siplocate.specs.Views.{outcome_of};
+ghost use Rattle.siplocate.specs.Views.{resolution_of};
 ghost use Rattle.dns_answers.specs.declared.refusal.ReplyRefusal as refusals;
 ghost use Rattle.siplocate.specs.declared.choice.Answered as choice;
 ghost use Rattle.siplocate.specs.declared.reply.BadReply.TheVariants as bad;
@@ -96,9 +96,9 @@ fn message_of(alloc: Global, octets: &[u8]) -> Result<Message, BadReply>
 
 /// The question that comes first.
 fn question_in(located: &Located) -> Result<&Question, BadReply>
-    ensures asked { IfOk result (λ question. outcome_of located.now ≡ need question.now) }
+    ensures asked { IfOk result (λ question. resolution_of located.now ≡ need question.now) }
     ensures nothing { IfErr result (λ reply. (reply ≡ BadReply.NothingAsked)
-        × ((question : question.Question) → outcome_of located.now ≢ need question)) }
+        × ((question : question.Question) → resolution_of located.now ≢ need question)) }
 {
     match located {
         Located::Ask(question) => Ok(question),
@@ -128,14 +128,14 @@ fn answered_by(alloc: Global, question: &Question, message: &Message) -> Result<
 /// The question that comes first, with the answer of a line.
 pub fn answered(alloc: Global, located: &Located, line: &str) -> Result<Answered, BadReply>
     ensures found { IfOk result (λ answered. (found : message.Message) × ReplyLine line.now found
-        × (told (outcome_of located.now) found ≡ Some answered)) }
+        × (told (resolution_of located.now) found ≡ Some answered)) }
     ensures each { IfOk result (λ answered. (found : message.Message) → ReplyLine line.now found
-        → told (outcome_of located.now) found ≡ Some answered) }
+        → told (resolution_of located.now) found ≡ Some answered) }
     ensures read { (found : message.Message) (known : choice.Answered) → ReplyLine line.now found
-        → told (outcome_of located.now) found ≡ Some known
+        → told (resolution_of located.now) found ≡ Some known
         → MatchResult result (λ answered. answered ≡ known) (λ reply. reply ≡ BadReply.Memory) }
     // What is wrong with a line is its first fault.
-    ensures bad { IfErr result (λ reply. IsFault reply (outcome_of located.now) line.now) }
+    ensures bad { IfErr result (λ reply. IsFault reply (resolution_of located.now) line.now) }
 {
     let octets = octets_of(alloc, line)?;
     let question = question_in(located)?;

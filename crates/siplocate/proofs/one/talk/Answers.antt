@@ -7,7 +7,7 @@ use Rattle.std.proofs.lemmas.Result.{err_from_is_err_and}
 use Rattle.siplocate.specs.Choice.{locate}
 use Rattle.siplocate.specs.Requests.{other_lines}
 use Rattle.siplocate.specs.declared.choice.Answered.{Answered}
-use Rattle.siplocate.specs.Views.{outcome_of}
+use Rattle.siplocate.specs.Views.{resolution_of}
 use Rattle.siplocate.proofs.Talks.{begun, next, fails, has_reply, ends, all_known}
 use Rattle.siplocate.proofs.one.talk.Goals as goal
 use Rattle.siplocate.proofs.one.talk.Goals.{In-Some, In-None}
@@ -30,14 +30,14 @@ loop-line-init c = record {
   can_next = search rules;
   is_finite = search rules;
   talking =
-      rw c.new-known.ensures.items (begun c.args.families c.args.request.now (other_lines c.args.text.now) (outcome_of c.args.first) c.requires);
+      rw c.new-known.ensures.items (begun c.args.families c.args.request.now (other_lines c.args.text.now) (resolution_of c.args.first) c.requires);
 }
 
 pub returns-in_err-next-clause-read : goal.returns-in_err-next-clause-read
 returns-in_err-next-clause-read c = λ all known' replies e.
     let l = c.loop-line in
     let this = turn (goal.at.returns-in_err-next-clause-read c).In-Some in
-    let k = has_reply c.args.families c.args.request.now (other_lines c.args.text.now) (length l.yielded) l.known.items (outcome_of l.located) l.invariant.talking c.in-Some.line.now this.0 this.1 all known' replies e in
+    let k = has_reply c.args.families c.args.request.now (other_lines c.args.text.now) (length l.yielded) l.known.items (resolution_of l.located) l.invariant.talking c.in-Some.line.now this.0 this.1 all known' replies e in
     let memory = c.in_err-next.ensures.read k.0 k.1 k.2 k.3 in
     let r = err_from_is_err_and c.from_residual.result c.from_residual.ensures.1 in
     rw (r.1, r.2) memory
@@ -51,9 +51,9 @@ loop-line-preserved c =
     let reply = c.in_ok-next.ensures.found in
     let count = length_push l.yielded c.in-Some.line in
     let grown : c.push.new.self.items ≡ known ++ more ∷ [] = c.in_ok-push.ensures.items in
-    let is : outcome_of c.in_ok-located.located ≡ locate c.args.families c.args.request.now (known ++ more ∷ []) =
+    let is : resolution_of c.in_ok-located.located ≡ locate c.args.families c.args.request.now (known ++ more ∷ []) =
     c.in_ok-located.ensures ∙ ap (locate c.args.families c.args.request.now) (c.as_slice.ensures.value ∙ grown) in
-    let after = next c.args.families c.args.request.now (other_lines c.args.text.now) (length l.yielded) known (outcome_of l.located) l.invariant.talking c.in-Some.line.now this.0 this.1 reply.0 more (outcome_of c.in_ok-located.located) reply.1 reply.2 c.in_ok-next.ensures.each is in
+    let after = next c.args.families c.args.request.now (other_lines c.args.text.now) (length l.yielded) known (resolution_of l.located) l.invariant.talking c.in-Some.line.now this.0 this.1 reply.0 more (resolution_of c.in_ok-located.located) reply.1 reply.2 c.in_ok-next.ensures.each is in
     record {
       can_next = search rules;
       is_finite = search rules;
@@ -65,14 +65,14 @@ returns-clause-found c =
     let l = c.loop-line in
     let talking = l.invariant.talking in
     let all = all_turns (goal.at.returns-clause-found c).In-None in
-    (talking.messages, l.known.items, ends c.args.families c.args.request.now (other_lines c.args.text.now) (length l.yielded) l.known.items (outcome_of l.located) talking all, talking.talked, talking.is)
+    (talking.messages, l.known.items, ends c.args.families c.args.request.now (other_lines c.args.text.now) (length l.yielded) l.known.items (resolution_of l.located) talking all, talking.talked, talking.is)
 
 pub returns-clause-read : goal.returns-clause-read
 returns-clause-read c = λ all known' replies e.
     let l = c.loop-line in
     let talking = l.invariant.talking in
     let done = all_turns (goal.at.returns-clause-read c).In-None in
-    let same = all_known c.args.families c.args.request.now (other_lines c.args.text.now) (length l.yielded) l.known.items (outcome_of l.located) talking done all known' replies e in
+    let same = all_known c.args.families c.args.request.now (other_lines c.args.text.now) (length l.yielded) l.known.items (resolution_of l.located) talking done all known' replies e in
     rw (← same) talking.is
 
 pub returns-in_err-next-clause-bad : goal.returns-in_err-next-clause-bad
@@ -80,4 +80,4 @@ returns-in_err-next-clause-bad c =
     let l = c.loop-line in
     let this = turn (goal.at.returns-in_err-next-clause-bad c).In-Some in
     let r = err_from_is_err_and c.from_residual.result c.from_residual.ensures.1 in
-    rw (r.1, r.2) (inr (fails c.args.families c.args.request.now (other_lines c.args.text.now) (length l.yielded) l.known.items (outcome_of l.located) l.invariant.talking c.in-Some.line.now this.0 this.1 c.in_err-next.field-0.0 c.in_err-next.ensures.bad))
+    rw (r.1, r.2) (inr (fails c.args.families c.args.request.now (other_lines c.args.text.now) (length l.yielded) l.known.items (resolution_of l.located) l.invariant.talking c.in-Some.line.now this.0 this.1 c.in_err-next.field-0.0 c.in_err-next.ensures.bad))
