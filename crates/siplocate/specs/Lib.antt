@@ -1,5 +1,6 @@
 pub mod Choice
 pub mod Commands
+pub mod Jobs
 pub mod Refusals
 pub mod Replies
 pub mod Requests

@@ -21,8 +21,6 @@ pub enum Families {
 pub enum Command {
     /// To locate one request.
     One(Families),
-    /// To locate many requests with so many workers.
-    Run(usize),
     /// Nothing that it knows.
     Usage,
 }

@@ -1,5 +1,5 @@
 //! The input of the program, read whole.
-ghost use Rattle.std.specs.Prelude.{◌≡◌, ◌≤◌, length, IfOk, IfSome, OnOk};
+ghost use Rattle.std.specs.Prelude.{◌≡◌, ◌≢◌, ◌+◌, ◌<◌, ◌≤◌, ◌++◌, ◌↔◌, length, Err, IfOk, IfErr, IfSome, OnOk, OnErr, IsUtf8, vec_capacity, []};
 ghost use Rattle.std.specs.Io.KnownBytes.{IsAtEnd};
 ghost use Rattle.std.specs.String.{string_bytes};
 
@@ -10,13 +10,10 @@ use thiserror::Error;
 /// The most octets of an input.
 const OCTET_LIMIT: usize = 1_048_576;
 
-/// The most reads of an input.
-const READ_LIMIT: u32 = 2_097_152;
-
 /// Why an input was not taken.
 #[derive(Clone, Copy, Debug, PartialEq, Eq, Error)]
 pub enum InputRefusal {
-    /// It is no text, or too long, or a read failed, or there were too many reads.
+    /// It is no text, or too long, or a read failed.
     #[error("the input is no text, or too long, or could not be read")]
     Input,
     /// Memory was refused.
@@ -24,25 +21,46 @@ pub enum InputRefusal {
     Memory,
 }
 
+/// Keeps a further part of the input, within the limit.
+fn keep(octets: &mut Vec<u8>, part: &[u8]) -> Result<(), InputRefusal>
+    requires { length octets.old.items ≤ 1048576 }
+    ensures kept { OnOk result (octets.new.items ≡ octets.old.items ++ part.now) }
+    ensures memory { result ≡ Err InputRefusal.Memory
+        → vec_capacity octets.old < length octets.old.items + length part.now }
+    ensures too_long { (result ≡ Err InputRefusal.Input)
+        ↔ (1048576 < length octets.old.items + length part.now) }
+{
+    if part.len() > OCTET_LIMIT - octets.len() {
+        return Err(InputRefusal::Input);
+    }
+    octets
+        .extend_from_slice(part)
+        .map_err(|_| InputRefusal::Memory)
+}
+
+/// The octets as text.
+fn text_of(octets: Vec<u8>) -> Result<String, InputRefusal>
+    ensures text { IfOk result (λ text. string_bytes text ≡ octets.items) }
+    ensures no_text { IfErr result (λ refusal. (refusal ≡ InputRefusal.Input) × (IsUtf8 octets.items → ⊥)) }
+{
+    String::from_utf8(octets).map_err(|_| InputRefusal::Input)
+}
+
 /// The text of all that was left to read. After a refusal what was read stays read.
 pub fn input_text<R: Read>(alloc: Global, input: &mut R) -> Result<String, InputRefusal>
     ensures whole { IfOk result (λ text. IfSome (R.remaining input.old) (λ octets. string_bytes text ≡ octets)) }
     ensures nothing_left { OnOk result (IsAtEnd (R.remaining input.new)) }
+    ensures memory { result ≡ Err InputRefusal.Memory
+        → IfSome (R.remaining input.old) (λ octets. octets ≢ []) }
     ensures limit { IfOk result (λ text. length (string_bytes text) ≤ 1048576) }
 {
     let mut octets = Vec::new(alloc);
     let mut part = [0; 4096];
-    for _ in 0..READ_LIMIT {
+    loop {
         let count = input.read(&mut part).map_err(|_| InputRefusal::Input)?;
         if count == 0 {
-            return String::from_utf8(octets).map_err(|_| InputRefusal::Input);
+            return text_of(octets);
         }
-        if count > OCTET_LIMIT - octets.len().min(OCTET_LIMIT) {
-            return Err(InputRefusal::Input);
-        }
-        octets
-            .extend_from_slice(&part[..count])
-            .map_err(|_| InputRefusal::Memory)?;
+        keep(&mut octets, &part[..count])?;
     }
-    Err(InputRefusal::Input)
 }

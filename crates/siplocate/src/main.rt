@@ -1,13 +1,13 @@
 //! The program `siplocate`: where a SIP request is sent (RFC 3263), over DNS replies that it is given.
 #![tactic(auto)]
 
-ghost use Rattle.std.specs.Prelude.{◌≤◌, IfOk, OnOk};
-ghost use Rattle.std.specs.Io.KnownBytes.{Appends};
+ghost use Rattle.std.specs.Prelude.{◌≡◌, ◌≤◌, ◌↔◌, IfOk, IsErr};
 
 mod arguments;
 mod choice;
 mod draw;
 mod input;
+mod job;
 mod one;
 mod output;
 mod reply;
@@ -16,21 +16,25 @@ mod request;
 mod tests;
 
 use arguments::{Command, arguments};
-use input::{InputRefusal, input_text};
-use one::one_text;
+use input::input_text;
+use job::{Job, Told, report, tell};
 use std::alloc::AllocError;
-use std::io::{ErrorKind, Write};
+use std::io::ErrorKind;
 use std::process::ExitCode;
 use std::rt::Env;
 use std::{env, io};
 
-const USAGE: &str = "usage: siplocate one [4|6|46|64] | run WORKERS\n";
-
-/// The status of words that the program does not know.
-const USAGE_STATUS: u8 = 4;
-
-/// The status where memory, input or output failed.
-const FAULT_STATUS: u8 = 5;
+/// What the program is asked to do where its words cannot be had: they are no text, but for want of
+/// memory.
+fn without_words(kind: ErrorKind) -> Result<Command, AllocError>
+    ensures usage { IfOk result (λ command. command ≡ Command.Usage) }
+    ensures memory { IsErr result ↔ (kind ≡ ErrorKind.OutOfMemory) }
+{
+    match kind {
+        ErrorKind::OutOfMemory => Err(AllocError),
+        _ => Ok(Command::Usage),
+    }
+}
 
 /// What the program is asked to do.
 fn command<R: Env + AllocGlobal>(rt: &R) -> Result<Command, AllocError> {
@@ -39,56 +43,30 @@ fn command<R: Env + AllocGlobal>(rt: &R) -> Result<Command, AllocError> {
             let words = words.skip(1).collect::<Vec<String>>(rt.alloc())?;
             Ok(arguments(words.as_slice()))
         }
-        Err(error) if error.kind() == ErrorKind::OutOfMemory => Err(AllocError),
-        Err(_) => Ok(Command::Usage),
+        Err(error) => without_words(error.kind()),
     }
 }
 
-/// What the program prints, and its status.
-fn told<R: Env + Input + AllocGlobal>(rt: &R) -> Result<(String, u8), AllocError>
-    ensures { IfOk result (λ told. told.1 ≤ 5) }
-{
-    let alloc = rt.alloc();
+/// What the program is to do, with what it reads for it.
+fn read_job<R: Env + Input + AllocGlobal>(rt: &R) -> Result<Job, AllocError> {
     match command(rt)? {
-        Command::One(families) => match input_text(alloc, &mut rt.reader()) {
-            Ok(text) => one_text(alloc, families, &text),
-            Err(InputRefusal::Memory) => Err(AllocError),
-            Err(InputRefusal::Input) => {
-                Ok((String::from_str(alloc, "fault input\n")?, FAULT_STATUS))
-            }
-        },
-        Command::Run(_) | Command::Usage => Ok((String::from_str(alloc, USAGE)?, USAGE_STATUS)),
+        Command::One(families) => {
+            let input = input_text(rt.alloc(), &mut rt.reader());
+            Ok(Job::One(families, input))
+        }
+        Command::Usage => Ok(Job::Usage),
     }
 }
 
-/// Writes a text.
-fn write_text<W: Write>(output: &mut W, text: &str) -> io::Result<()>
-    ensures { OnOk result (Appends (W.contents output.old) (W.contents output.new) text.now) }
-{
-    output.write_all(text.as_bytes())?;
-    output.flush()
-}
-
-/// Writes a text to the output of the program.
-fn print<R: Print>(rt: &R, text: &str) -> io::Result<()> {
-    write_text(&mut io::writer(rt), text)
-}
-
-/// Prints what the program has to tell, and gives its status.
+/// Does what the program is asked to do, and gives its status.
 fn run<R: Env + Input + Print + AllocGlobal>(rt: &R) -> u8
     ensures { result ≤ 5 }
 {
-    let printed = match told(rt) {
-        Ok((text, status)) => print(rt, &text).map(|()| status),
-        Err(AllocError) => print(rt, "fault memory\n").map(|()| FAULT_STATUS),
+    let told = match read_job(rt) {
+        Ok(job) => tell(rt.alloc(), &job),
+        Err(AllocError) => Told::NoMemory,
     };
-    match printed {
-        Ok(status) => status,
-        Err(_) => {
-            let _ = print(rt, "fault output\n");
-            FAULT_STATUS
-        }
-    }
+    report(&mut io::writer(rt), &told)
 }
 
 fn main(rt: HostRuntime) -> ExitCode {

@@ -1,8 +1,10 @@
 //! The program's main job, by rows worked out by hand, and its edges by a reader and a writer that fail.
-use super::*;
-use crate::arguments::Families;
-use std::alloc::Global;
-use std::io::Read;
+use crate::arguments::{Command, Families, arguments};
+use crate::input::{InputRefusal, input_text};
+use crate::job::{Told, report};
+use crate::one::one_text;
+use std::alloc::{AllocError, Global};
+use std::io::{self, ErrorKind, Read, Write};
 use std::test::Fail;
 
 /// A reply to A of a.example.: 192.0.2.7, TTL 300, with a pointer to the question (RFC 1035 4.1.4).
@@ -446,6 +448,16 @@ fn input(rt: HostRuntime) -> Result<(), Fail> {
     assert_eq!(rt; refusal, Some(InputRefusal::Input));
     let failed = input_text(rt.alloc(), &mut Broken).err();
     assert_eq!(rt; failed, Some(InputRefusal::Input));
-    assert!(rt; write_text(&mut Broken, "udp").is_err());
+    Ok(())
+}
+
+#[test]
+fn reports(rt: HostRuntime) -> Result<(), Fail> {
+    let mut output = Vec::new(rt.alloc());
+    let told = Told::Text(String::from_str(rt.alloc(), "ask\n")?, 1);
+    assert_eq!(rt; report(&mut output, &told), 1);
+    assert_eq!(rt; report(&mut output, &Told::NoMemory), 5);
+    assert_eq!(rt; output.as_slice(), b"ask\nfault memory\n".as_slice());
+    assert_eq!(rt; report(&mut Broken, &told), 5);
     Ok(())
 }

@@ -1,0 +1,53 @@
+-- What the program prints for a job, and its status.
+use Rattle.std.specs.Prelude.{◌≡◌, ◌≤◌, ◌⊎◌, ⊤, ℕ, List, Option, Ok, Err, codes}
+use Rattle.std.specs.Io.KnownBytes.{Appends}
+use Rattle.std.specs.String.{string_bytes}
+use Rattle.siplocate.specs.declared.arguments.Families.{Families}
+use Rattle.siplocate.specs.declared.input.InputRefusal.TheVariants.{Input, Memory}
+use Rattle.siplocate.specs.declared.job.Job.{Job}
+use Rattle.siplocate.specs.declared.job.Job.TheVariants as job
+use Rattle.siplocate.specs.declared.job.Told.{Told}
+use Rattle.siplocate.specs.declared.job.Told.TheVariants.{Text, Usage, NoInput, NoMemory}
+use Rattle.siplocate.specs.Choice.{Resolution}
+use Rattle.siplocate.specs.Requests.{LocatesTo}
+use Rattle.siplocate.specs.Words as words
+
+-- of the request in a text: what becomes of it, or else what is wrong
+pub record TellsOne (families : Families) (text printed : List ℕ) (status : ℕ) : Type 0 where
+  pub range : status ≤ 5
+  pub located : (resolution : Resolution) → LocatesTo families text resolution
+      → (printed ≡ words.shown resolution) × (status ≡ words.status_of resolution)
+  pub only : ((status ≡ 3) × words.IsBadLine families text printed)
+      ⊎ ((resolution : Resolution) × LocatesTo families text resolution
+      × (printed ≡ words.shown resolution) × (status ≡ words.status_of resolution))
+
+-- what is told of the request in a text, where memory may be refused
+abbrev pub TellsText : Families → List ℕ → Told → Type 0
+TellsText families text (Text printed status) = TellsOne families text (string_bytes printed) status
+TellsText families text Usage = ⊥
+TellsText families text NoInput = ⊥
+TellsText families text NoMemory = ⊤
+
+-- what is told for a job
+abbrev pub Tells : Job → Told → Type 0
+Tells (job.One families (Ok text)) told = TellsText families (string_bytes text) told
+Tells (job.One families (Err Input)) told = told ≡ NoInput
+Tells (job.One families (Err Memory)) told = told ≡ NoMemory
+Tells job.Usage told = told ≡ Usage
+
+-- its text, and its status
+abbrev pub printed : Told → List ℕ
+printed (Text text own) = string_bytes text
+printed Usage = codes "usage: siplocate one\n"
+printed NoInput = codes "fault input\n"
+printed NoMemory = codes "fault memory\n"
+
+abbrev pub status : Told → ℕ
+status (Text text own) = own
+status Usage = 4
+status NoInput = 5
+status NoMemory = 5
+
+-- the text was written behind what had been, and the status is its own, or else output failed
+abbrev pub IsReported : Option (List ℕ) → Option (List ℕ) → Told → ℕ → Type 0
+IsReported old new told given = (Appends old new (printed told) × (given ≡ status told)) ⊎ (given ≡ 5)

@@ -1,0 +1,113 @@
+//! What the program prints for what it was asked and what it read, and its status.
+ghost use Rattle.std.specs.Prelude.{◌≡◌, ◌≤◌, IfOk, IfErr, OnOk};
+ghost use Rattle.std.specs.Io.KnownBytes.{Appends};
+ghost use Rattle.siplocate.specs.Jobs as spec;
+
+use crate::arguments::Families;
+use crate::input::InputRefusal;
+use crate::one::one_text;
+use std::alloc::{AllocError, Global};
+use std::io::{self, Write};
+
+/// The status where memory, input or output failed.
+const FAULT_STATUS: u8 = 5;
+
+/// What the program is to do, with what it read for it.
+#[derive(Debug, Drop)]
+pub enum Job {
+    /// To locate one request, from the text that was read.
+    One(Families, Result<String, InputRefusal>),
+    /// To tell how it is used.
+    Usage,
+}
+
+/// What the program tells.
+#[derive(Debug, Drop)]
+pub enum Told {
+    /// This text under this status: what becomes of a request, or what is wrong with it.
+    Text(String, u8),
+    /// How it is used.
+    Usage,
+    /// That there is no input that it can take.
+    NoInput,
+    /// That memory was refused.
+    NoMemory,
+}
+
+/// What is told of the request in a text.
+fn tell_one(alloc: Global, families: Families, text: &str) -> Told
+    ensures told { spec.TellsText families text.now result }
+    ensures range { spec.status result ≤ 5 }
+{
+    match one_text(alloc, families, text) {
+        Ok((printed, status)) => Told::Text(printed, status),
+        Err(AllocError) => Told::NoMemory,
+    }
+}
+
+/// What is told for a job.
+pub fn tell(alloc: Global, job: &Job) -> Told
+    ensures told { spec.Tells job.now result }
+    ensures range { spec.status result ≤ 5 }
+{
+    match job {
+        Job::One(families, Ok(text)) => tell_one(alloc, *families, text),
+        Job::One(_, Err(InputRefusal::Input)) => Told::NoInput,
+        Job::One(_, Err(InputRefusal::Memory)) => Told::NoMemory,
+        Job::Usage => Told::Usage,
+    }
+}
+
+/// The text that is printed.
+fn printed(told: &Told) -> &str
+    ensures { result.now ≡ spec.printed told.now }
+{
+    match told {
+        Told::Text(text, _) => text,
+        Told::Usage => "usage: siplocate one\n",
+        Told::NoInput => "fault input\n",
+        Told::NoMemory => "fault memory\n",
+    }
+}
+
+/// The status, where the text could be printed.
+fn status(told: &Told) -> u8
+    ensures { result ≡ spec.status told.now }
+{
+    match told {
+        Told::Text(_, status) => *status,
+        Told::Usage => 4,
+        Told::NoInput | Told::NoMemory => FAULT_STATUS,
+    }
+}
+
+/// Writes a text.
+fn write_text<W: Write>(output: &mut W, text: &str) -> io::Result<()>
+    ensures { OnOk result (Appends (W.contents output.old) (W.contents output.new) text.now) }
+{
+    output.write_all(text.as_bytes())?;
+    output.flush()
+}
+
+/// The status in the end: output that failed has its own.
+fn status_after(written: &io::Result<()>, status: u8) -> u8
+    ensures written { IfOk written.now (λ _. result ≡ status) }
+    ensures failed { IfErr written.now (λ _. result ≡ 5) }
+{
+    match written {
+        Ok(()) => status,
+        Err(_) => FAULT_STATUS,
+    }
+}
+
+/// Prints what is told, and gives the status.
+pub fn report<W: Write>(output: &mut W, told: &Told) -> u8
+    ensures reported { spec.IsReported (W.contents output.old) (W.contents output.new) told.now result }
+    ensures range { spec.status told.now ≤ 5 → result ≤ 5 }
+{
+    let written = write_text(output, printed(told));
+    if written.is_err() {
+        let _ = write_text(output, "fault output\n");
+    }
+    status_after(&written, status(told))
+}
