@@ -1,5 +1,6 @@
 //! Where memory is refused: the call then says so, or has its answer all the same.
-use crate::tests::{EACH, question_of, reply_of, section_of};
+use crate::tests::kinds::EACH;
+use crate::tests::{question_of, reply_of, section_of};
 use crate::*;
 use dns_message::Kind;
 

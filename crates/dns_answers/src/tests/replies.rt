@@ -1,30 +1,51 @@
 //! Messages that are no replies, and sections that do not count.
 use super::*;
-use dns_message::{read_message, write_reply};
 
-/// A change of a reply, and why it is refused then.
-struct Change {
+/// A message, and the addresses and the life of its answer, or why it has none.
+#[derive(Clone, Copy)]
+struct Row {
     header: Header,
     questions: &'static [(&'static str, u16, u16)],
-    refusal: Option<ReplyRefusal>,
+    answers: &'static [Entry],
+    authority: &'static [Entry],
+    additional: &'static [Entry],
+    found: Result<(&'static [[u8; 4]], u32), ReplyRefusal>,
 }
 
-/// The question of the reply.
-const SAME: &[(&str, u16, u16)] = &[("w.example", 1, 1)];
+/// An address of w.example.
+const ADDRESS: Entry = ("w.example", 300, Says::V4([192, 0, 2, 7]));
 
-const CHANGES: [Change; 17] = [
-    Change {
-        header: HEADER,
-        questions: SAME,
-        refusal: None,
+/// A reply of this address.
+const REPLY: Row = Row {
+    header: HEADER,
+    questions: &[("w.example", 1, 1)],
+    answers: &[ADDRESS],
+    authority: &[],
+    additional: &[],
+    found: Ok((&[[192, 0, 2, 7]], 300)),
+};
+
+const ROWS: &[Row] = &[
+    // the other sections do not count
+    Row {
+        answers: &[],
+        authority: &[ADDRESS],
+        additional: &[ADDRESS],
+        found: Ok((&[], 30)),
+        ..REPLY
     },
+    Row {
+        authority: &[("w.example", 300, Says::Cname("a.example"))],
+        additional: &[ADDRESS],
+        ..REPLY
+    },
+    REPLY,
     // another number
-    Change {
+    Row {
         header: Header { id: 9, ..HEADER },
-        questions: SAME,
-        refusal: None,
+        ..REPLY
     },
-    Change {
+    Row {
         header: Header {
             authoritative: true,
             recursion_available: false,
@@ -32,198 +53,146 @@ const CHANGES: [Change; 17] = [
             ..HEADER
         },
         questions: &[("W.EXAMPLE", 1, 1)],
-        refusal: None,
+        ..REPLY
     },
-    Change {
+    Row {
         header: Header { rcode: 3, ..HEADER },
-        questions: SAME,
-        refusal: None,
+        ..REPLY
     },
-    Change {
+    Row {
         header: Header {
             reply: false,
             ..HEADER
         },
-        questions: SAME,
-        refusal: Some(ReplyRefusal::NotReply),
+        found: Err(ReplyRefusal::NotReply),
+        ..REPLY
     },
-    Change {
+    Row {
         header: Header {
             opcode: 4,
             ..HEADER
         },
-        questions: SAME,
-        refusal: Some(ReplyRefusal::NotReply),
+        found: Err(ReplyRefusal::NotReply),
+        ..REPLY
     },
     // no reply comes before another question
-    Change {
+    Row {
         header: Header {
             reply: false,
             truncated: true,
             ..HEADER
         },
         questions: &[],
-        refusal: Some(ReplyRefusal::NotReply),
+        found: Err(ReplyRefusal::NotReply),
+        ..REPLY
     },
-    Change {
-        header: HEADER,
+    Row {
         questions: &[],
-        refusal: Some(ReplyRefusal::OtherQuestion),
+        found: Err(ReplyRefusal::OtherQuestion),
+        ..REPLY
     },
     // the same question twice
-    Change {
-        header: HEADER,
+    Row {
         questions: &[("w.example", 1, 1), ("w.example", 1, 1)],
-        refusal: Some(ReplyRefusal::OtherQuestion),
+        found: Err(ReplyRefusal::OtherQuestion),
+        ..REPLY
     },
-    Change {
-        header: HEADER,
+    Row {
         questions: &[("a.example", 1, 1)],
-        refusal: Some(ReplyRefusal::OtherQuestion),
+        found: Err(ReplyRefusal::OtherQuestion),
+        ..REPLY
     },
-    Change {
-        header: HEADER,
+    Row {
         questions: &[("w.example", 28, 1)],
-        refusal: Some(ReplyRefusal::OtherQuestion),
+        found: Err(ReplyRefusal::OtherQuestion),
+        ..REPLY
     },
     // of class CH
-    Change {
-        header: HEADER,
+    Row {
         questions: &[("w.example", 1, 3)],
-        refusal: Some(ReplyRefusal::OtherQuestion),
+        found: Err(ReplyRefusal::OtherQuestion),
+        ..REPLY
     },
     // another question comes before a cut
-    Change {
+    Row {
         header: Header {
             truncated: true,
             rcode: 2,
             ..HEADER
         },
         questions: &[("a.example", 1, 1)],
-        refusal: Some(ReplyRefusal::OtherQuestion),
+        found: Err(ReplyRefusal::OtherQuestion),
+        ..REPLY
     },
-    Change {
+    Row {
         header: Header {
             truncated: true,
             ..HEADER
         },
-        questions: SAME,
-        refusal: Some(ReplyRefusal::Truncated),
+        found: Err(ReplyRefusal::Truncated),
+        ..REPLY
     },
     // a cut comes before a fault of the server
-    Change {
+    Row {
         header: Header {
             truncated: true,
             rcode: 2,
             ..HEADER
         },
-        questions: SAME,
-        refusal: Some(ReplyRefusal::Truncated),
+        found: Err(ReplyRefusal::Truncated),
+        ..REPLY
     },
-    Change {
+    Row {
         header: Header { rcode: 2, ..HEADER },
-        questions: SAME,
-        refusal: Some(ReplyRefusal::ServerFault(2)),
+        found: Err(ReplyRefusal::ServerFault(2)),
+        ..REPLY
     },
-    Change {
+    Row {
         header: Header { rcode: 5, ..HEADER },
-        questions: SAME,
-        refusal: Some(ReplyRefusal::ServerFault(5)),
+        found: Err(ReplyRefusal::ServerFault(5)),
+        ..REPLY
     },
 ];
 
-/// The questions of a row.
-fn questions_of(
-    alloc: Global,
-    questions: &[(&'static str, u16, u16)],
-) -> Result<Section<Asked>, Fail> {
-    let mut all = Vec::new(alloc);
-    for (name, code, class_code) in questions {
-        all.push(Asked {
-            name: Name::from_text(alloc, name)?,
-            code: *code,
-            class_code: *class_code,
-        })?;
-    }
-    Ok(Section::from_vec(all))
+/// The message of a row.
+fn message_of(alloc: Global, row: &Row) -> Option<Message> {
+    Some(Message {
+        header: row.header,
+        questions: asked_of(alloc, row.questions)?,
+        answers: section_of(alloc, row.answers)?,
+        authority: section_of(alloc, row.authority)?,
+        additional: section_of(alloc, row.additional)?,
+    })
 }
 
-#[test]
-fn changes(rt: HostRuntime) -> Result<(), Fail> {
-    let question = question_of(rt.alloc(), "w.example", Kind::A).ok_or(NO_MEMORY)?;
-    let entries = [("w.example", 300, Says::V4([192, 0, 2, 7]))];
-    for (place, change) in CHANGES.iter().enumerate() {
-        let message = Message {
-            header: change.header,
-            questions: questions_of(rt.alloc(), change.questions)?,
-            answers: section_of(rt.alloc(), &entries).ok_or(NO_MEMORY)?,
-            authority: Section::from_vec(Vec::new(rt.alloc())),
-            additional: Section::from_vec(Vec::new(rt.alloc())),
-        };
-        match answer_of(rt.alloc(), &question, &message) {
-            Ok(answer) => {
-                assert_eq!(rt; change.refusal, None, "{place}");
-                assert_eq!(rt;
-                    (answer.records().len(), answer.life()),
-                    (1, 300),
-                    "{place}"
-                );
-            }
-            Err(refusal) => assert_eq!(rt; Some(refusal), change.refusal, "{place}"),
+/// What its answer is.
+fn answered(alloc: Global, row: &Row) -> Option<Result<Answer, ReplyRefusal>> {
+    let question = question_of(alloc, "w.example", Kind::A)?;
+    let message = message_of(alloc, row)?;
+    Some(answer_of(alloc, &question, &message))
+}
+
+/// Whether this is what a row has.
+fn is_met(found: &Result<Answer, ReplyRefusal>, row: &Row) -> bool {
+    match (found, &row.found) {
+        (Ok(answer), Ok((addresses, life))) => is_found(answer, addresses, *life),
+        (Err(refusal), Err(other)) => *refusal == *other,
+        _ => false,
+    }
+}
+
+/// The place of the first row that has another answer or refusal.
+fn first_unmet(alloc: Global, rows: &[Row]) -> Option<usize> {
+    for (place, row) in rows.iter().enumerate() {
+        let found = answered(alloc, row);
+        if !found.is_some_and(|found| is_met(&found, row)) {
+            return Some(place);
         }
     }
-    Ok(())
+    None
 }
 
 #[test]
-fn other_sections(rt: HostRuntime) -> Result<(), Fail> {
-    let question = question_of(rt.alloc(), "w.example", Kind::A).ok_or(NO_MEMORY)?;
-    let entries = [("w.example", 300, Says::V4([192, 0, 2, 7]))];
-    let aliases = [("w.example", 300, Says::Cname("a.example"))];
-    let answers = section_of(rt.alloc(), &[]).ok_or(NO_MEMORY)?;
-    let mut message = reply_of(rt.alloc(), &question, answers).ok_or(NO_MEMORY)?;
-    message.authority = section_of(rt.alloc(), &entries).ok_or(NO_MEMORY)?;
-    message.additional = section_of(rt.alloc(), &entries).ok_or(NO_MEMORY)?;
-    let answer = answer_of(rt.alloc(), &question, &message)?;
-    assert_eq!(rt; (answer.records().len(), answer.life()), (0, 30));
-    message.answers = section_of(rt.alloc(), &entries).ok_or(NO_MEMORY)?;
-    message.authority = section_of(rt.alloc(), &aliases).ok_or(NO_MEMORY)?;
-    let answer = answer_of(rt.alloc(), &question, &message)?;
-    assert_eq!(rt; (answer.records().len(), answer.life()), (1, 300));
-    Ok(())
-}
-
-/// A reply of 27 octets that was cut behind its question, A of m.example.
-const CUT: &[u8] =
-    b"\x00\x07\x83\x80\x00\x01\x00\x00\x00\x00\x00\x00\x01m\x07example\x00\x00\x01\x00\x01";
-
-#[test]
-fn a_cut_reply(rt: HostRuntime) -> Result<(), Fail> {
-    let question = question_of(rt.alloc(), "m.example", Kind::A).ok_or(NO_MEMORY)?;
-    let message = read_message(rt.alloc(), CUT)?;
-    let refusal = answer_of(rt.alloc(), &question, &message).err();
-    assert_eq!(rt; (CUT.len(), refusal), (27, Some(ReplyRefusal::Truncated)));
-    let other = question_of(rt.alloc(), "n.example", Kind::A).ok_or(NO_MEMORY)?;
-    let refusal = answer_of(rt.alloc(), &other, &message).err();
-    assert_eq!(rt; refusal, Some(ReplyRefusal::OtherQuestion));
-    Ok(())
-}
-
-#[test]
-fn a_reply_cut_by_its_writer(rt: HostRuntime) -> Result<(), Fail> {
-    let question = question_of(rt.alloc(), "m.example", Kind::A).ok_or(NO_MEMORY)?;
-    let answers = many(rt.alloc(), 20)?;
-    let whole = reply_of(rt.alloc(), &question, answers).ok_or(NO_MEMORY)?;
-    let Header { opcode, rcode, .. } = whole.header;
-    if opcode >= 16 || rcode >= 16 || whole.questions.len() > 1 {
-        return Err("not to be written".into());
-    }
-    let octets = write_reply(rt.alloc(), &whole)?;
-    let message = read_message(rt.alloc(), octets.as_slice())?;
-    let refusal = answer_of(rt.alloc(), &question, &message).err();
-    assert_eq!(rt;
-        (octets.len(), refusal),
-        (27, Some(ReplyRefusal::Truncated))
-    );
-    Ok(())
+fn rows(rt: HostRuntime) {
+    assert_eq!(rt; first_unmet(rt.alloc(), ROWS), None);
 }
