@@ -51,6 +51,11 @@ fn copy_and_text_refused(rt: HostRuntime) {
         if let Ok(text) = name.text() {
             assert_eq!(rt; text.as_str(), "b.example.");
         }
+        if let Ok(parent) = name.parent() {
+            assert!(rt;
+                parent.is_some_and(|parent| parent.wire() == b"\x07example\x00".as_slice())
+            );
+        }
     }
 }
 

@@ -1,428 +1,314 @@
 //! Names by the rules of RFC 1035, worked out by hand, as tables.
 use super::*;
-use std::alloc::{AllocError, Global};
-use std::test::Fail;
-
-const LONGEST_LABEL: &str = "abcdefghijklmnopqrstuvwxyz0123456789abcdefghijklmnopqrstuvwxyz0";
-
-const LABEL_OF_61: &str = "abcdefghijklmnopqrstuvwxyz0123456789abcdefghijklmnopqrstuvwxy";
+use std::alloc::Global;
 
 /// A text, and the octets of its name or why it has none (RFC 1035 2.3.1, 2.3.4).
-struct TextRow {
-    text: &'static str,
-    named: Result<&'static [u8], NameRefusal>,
-}
+type TextRow = (&'static str, Result<&'static [u8], NameRefusal>);
 
-const TEXTS: [TextRow; 21] = [
-    TextRow {
-        text: "A.Example",
-        named: Ok(b"\x01a\x07example\x00"),
-    },
-    TextRow {
-        text: "a.b.",
-        named: Ok(b"\x01a\x01b\x00"),
-    },
-    TextRow {
-        text: "_sip._UDP.b-1.example",
-        named: Ok(b"\x04_sip\x04_udp\x03b-1\x07example\x00"),
-    },
-    TextRow {
-        text: ".",
-        named: Ok(b"\x00"),
-    },
-    TextRow {
-        text: "7",
-        named: Ok(b"\x017\x00"),
-    },
-    TextRow {
-        text: "",
-        named: Err(NameRefusal::EmptyLabel),
-    },
-    TextRow {
-        text: "a..b",
-        named: Err(NameRefusal::EmptyLabel),
-    },
-    TextRow {
-        text: "..",
-        named: Err(NameRefusal::EmptyLabel),
-    },
-    TextRow {
-        text: ".a",
-        named: Err(NameRefusal::EmptyLabel),
-    },
-    TextRow {
-        text: "a..",
-        named: Err(NameRefusal::EmptyLabel),
-    },
-    TextRow {
-        text: "a b",
-        named: Err(NameRefusal::BadOctet),
-    },
-    TextRow {
-        text: "a@b..c",
-        named: Err(NameRefusal::BadOctet),
-    },
-    TextRow {
-        text: "a..b c",
-        named: Err(NameRefusal::EmptyLabel),
-    },
-    TextRow {
-        text: "[a",
-        named: Err(NameRefusal::BadOctet),
-    },
-    TextRow {
-        text: "a`",
-        named: Err(NameRefusal::BadOctet),
-    },
-    TextRow {
-        text: "a/0:",
-        named: Err(NameRefusal::BadOctet),
-    },
-    TextRow {
-        text: "z{",
-        named: Err(NameRefusal::BadOctet),
-    },
-    TextRow {
-        text: "\u{e9}",
-        named: Err(NameRefusal::BadOctet),
-    },
-    TextRow {
-        text: "abcdefghijklmnopqrstuvwxyz0123456789abcdefghijklmnopqrstuvwxyz01",
-        named: Err(NameRefusal::LongLabel),
-    },
-    TextRow {
-        text: "abcdefghijklmnopqrstuvwxyz0123456789abcdefghijklmnopqrstuvwxyz01 ",
-        named: Err(NameRefusal::BadOctet),
-    },
-    TextRow {
-        text: "a\\046b",
-        named: Err(NameRefusal::BadOctet),
-    },
+const TEXTS: &[TextRow] = &[
+    ("A.Example", Ok(b"\x01a\x07example\x00")),
+    ("a.b.", Ok(b"\x01a\x01b\x00")),
+    (
+        "_sip._UDP.b-1.example",
+        Ok(b"\x04_sip\x04_udp\x03b-1\x07example\x00"),
+    ),
+    (".", Ok(b"\x00")),
+    ("7", Ok(b"\x017\x00")),
+    ("", Err(NameRefusal::EmptyLabel)),
+    ("a..b", Err(NameRefusal::EmptyLabel)),
+    ("..", Err(NameRefusal::EmptyLabel)),
+    (".a", Err(NameRefusal::EmptyLabel)),
+    ("a..", Err(NameRefusal::EmptyLabel)),
+    ("a b", Err(NameRefusal::BadOctet)),
+    ("a@b..c", Err(NameRefusal::BadOctet)),
+    ("a..b c", Err(NameRefusal::EmptyLabel)),
+    ("[a", Err(NameRefusal::BadOctet)),
+    ("a`", Err(NameRefusal::BadOctet)),
+    ("a/0:", Err(NameRefusal::BadOctet)),
+    ("z{", Err(NameRefusal::BadOctet)),
+    ("\u{e9}", Err(NameRefusal::BadOctet)),
+    (
+        "abcdefghijklmnopqrstuvwxyz0123456789abcdefghijklmnopqrstuvwxyz01",
+        Err(NameRefusal::LongLabel),
+    ),
+    (
+        "abcdefghijklmnopqrstuvwxyz0123456789abcdefghijklmnopqrstuvwxyz01 ",
+        Err(NameRefusal::BadOctet),
+    ),
+    ("a\\046b", Err(NameRefusal::BadOctet)),
+    // 255 octets, 256, 258, and an octet that no text has behind these
+    (
+        "abcdefghijklmnopqrstuvwxyz0123456789abcdefghijklmnopqrstuvwxyz0.abcdefghijklmnopqrstuvwxyz\
+        0123456789abcdefghijklmnopqrstuvwxyz0.abcdefghijklmnopqrstuvwxyz0123456789abcdefghijklmnopq\
+        rstuvwxyz0.abcdefghijklmnopqrstuvwxyz0123456789abcdefghijklmnopqrstuvwxy.",
+        Ok(
+            b"\x3fabcdefghijklmnopqrstuvwxyz0123456789abcdefghijklmnopqrstuvwxyz0\x3fabcdefghijklmn\
+            opqrstuvwxyz0123456789abcdefghijklmnopqrstuvwxyz0\x3fabcdefghijklmnopqrstuvwxyz01234567\
+            89abcdefghijklmnopqrstuvwxyz0\x3dabcdefghijklmnopqrstuvwxyz0123456789abcdefghijklmnopqr\
+            stuvwxy\x00",
+        ),
+    ),
+    (
+        "abcdefghijklmnopqrstuvwxyz0123456789abcdefghijklmnopqrstuvwxyz0.abcdefghijklmnopqrstuvwxyz\
+        0123456789abcdefghijklmnopqrstuvwxyz0.abcdefghijklmnopqrstuvwxyz0123456789abcdefghijklmnopq\
+        rstuvwxyz0.abcdefghijklmnopqrstuvwxyz0123456789abcdefghijklmnopqrstuvwxyz",
+        Err(NameRefusal::LongName),
+    ),
+    (
+        "abcdefghijklmnopqrstuvwxyz0123456789abcdefghijklmnopqrstuvwxyz0.abcdefghijklmnopqrstuvwxyz\
+        0123456789abcdefghijklmnopqrstuvwxyz0.abcdefghijklmnopqrstuvwxyz0123456789abcdefghijklmnopq\
+        rstuvwxyz0.abcdefghijklmnopqrstuvwxyz0123456789abcdefghijklmnopqrstuvwxyz0",
+        Err(NameRefusal::LongName),
+    ),
+    (
+        "abcdefghijklmnopqrstuvwxyz0123456789abcdefghijklmnopqrstuvwxyz0.abcdefghijklmnopqrstuvwxyz\
+        0123456789abcdefghijklmnopqrstuvwxyz0.abcdefghijklmnopqrstuvwxyz0123456789abcdefghijklmnopq\
+        rstuvwxyz0.abcdefghijklmnopqrstuvwxyz0123456789abcdefghijklmnopqrstuvwxyz0. ",
+        Err(NameRefusal::BadOctet),
+    ),
 ];
+
+/// Whether a text has the name of its row, or the refusal.
+fn is_named(alloc: Global, row: &TextRow) -> bool {
+    match (Name::from_text(alloc, row.0), &row.1) {
+        (Ok(name), Ok(octets)) => name.wire() == *octets,
+        (Err(refusal), Err(other)) => refusal == *other,
+        _ => false,
+    }
+}
 
 #[test]
 fn texts(rt: HostRuntime) {
-    for TextRow { text, named } in &TEXTS {
-        match Name::from_text(rt.alloc(), text) {
-            Ok(name) => assert_eq!(rt; Ok(name.wire()), *named, "{text:?}"),
-            Err(refusal) => assert_eq!(rt; Err(refusal), *named, "{text:?}"),
-        }
+    for row in TEXTS {
+        assert!(rt; is_named(rt.alloc(), row), "{:?}", row.0);
     }
 }
 
-#[test]
-fn longest_texts(rt: HostRuntime) -> Result<(), Fail> {
-    let alloc = rt.alloc();
-    let front = format!(in alloc; "{LONGEST_LABEL}.{LONGEST_LABEL}.{LONGEST_LABEL}")?;
-    let longest = format!(in alloc; "{front}.{LABEL_OF_61}.")?;
-    assert_eq!(rt; Name::from_text(alloc, &longest)?.wire().len(), 255);
-    let long = format!(in alloc; "{front}.{LABEL_OF_61}z")?;
-    assert_eq!(rt;
-        Name::from_text(alloc, &long).err(),
-        Some(NameRefusal::LongName)
-    );
-    let longer = format!(in alloc; "{front}.{LONGEST_LABEL}")?;
-    assert_eq!(rt;
-        Name::from_text(alloc, &longer).err(),
-        Some(NameRefusal::LongName)
-    );
-    let bad_at_the_end = format!(in alloc; "{front}.{LONGEST_LABEL}. ")?;
-    assert_eq!(rt;
-        Name::from_text(alloc, &bad_at_the_end).err(),
-        Some(NameRefusal::BadOctet)
-    );
-    Ok(())
+/// Whether a name has this text.
+fn has_text(name: &Name, text: &str) -> bool {
+    match name.text() {
+        Ok(found) => found.as_str() == text,
+        Err(_) => false,
+    }
 }
 
-/// A name of a text, two labels, and the text of the name with these in front (RFC 2782).
-struct PrefixRow {
-    name: &'static str,
-    service: &'static str,
-    proto: &'static str,
-    prefixed: Result<&'static str, NameRefusal>,
-}
+/// A name of a text, two labels, and the text of the name with these in front, or why it has
+/// none (RFC 2782).
+type PrefixRow = (
+    &'static str,
+    &'static str,
+    &'static str,
+    Result<&'static str, NameRefusal>,
+);
 
-const PREFIXES: [PrefixRow; 6] = [
-    PrefixRow {
-        name: "b.example",
-        service: "_sip",
-        proto: "_udp",
-        prefixed: Ok("_sip._udp.b.example."),
-    },
-    PrefixRow {
-        name: ".",
-        service: "_SIPS",
-        proto: "_TCP",
-        prefixed: Ok("_sips._tcp."),
-    },
-    PrefixRow {
-        name: "b.example",
-        service: "",
-        proto: "a.b",
-        prefixed: Err(NameRefusal::EmptyLabel),
-    },
-    PrefixRow {
-        name: "b.example",
-        service: "_sip",
-        proto: "a.b",
-        prefixed: Err(NameRefusal::BadOctet),
-    },
-    PrefixRow {
-        name: "b.example",
-        service: "_sip.",
-        proto: "",
-        prefixed: Err(NameRefusal::BadOctet),
-    },
-    PrefixRow {
-        name: "b.example",
-        service: "_sip",
-        proto: "abcdefghijklmnopqrstuvwxyz0123456789abcdefghijklmnopqrstuvwxyz01",
-        prefixed: Err(NameRefusal::LongLabel),
-    },
+const PREFIXES: &[PrefixRow] = &[
+    ("b.example", "_sip", "_udp", Ok("_sip._udp.b.example.")),
+    (".", "_SIPS", "_TCP", Ok("_sips._tcp.")),
+    ("b.example", "", "a.b", Err(NameRefusal::EmptyLabel)),
+    ("b.example", "_sip", "a.b", Err(NameRefusal::BadOctet)),
+    ("b.example", "_sip.", "", Err(NameRefusal::BadOctet)),
+    (
+        "b.example",
+        "_sip",
+        "abcdefghijklmnopqrstuvwxyz0123456789abcdefghijklmnopqrstuvwxyz01",
+        Err(NameRefusal::LongLabel),
+    ),
+    // a name of 245 octets, with ten in front and with eleven
+    (
+        "abcdefghijklmnopqrstuvwxyz0123456789abcdefghijklmnopqrstuvwxyz0.abcdefghijklmnopqrstuvwxyz\
+        0123456789abcdefghijklmnopqrstuvwxyz0.abcdefghijklmnopqrstuvwxyz0123456789abcdefghijklmnopq\
+        rstuvwxyz0.abcdefghijklmnopqrstuvwxyz0123456789abcdefghijklmno",
+        "_sip",
+        "_udp",
+        Ok(
+            "_sip._udp.abcdefghijklmnopqrstuvwxyz0123456789abcdefghijklmnopqrstuvwxyz0.abcdefghijkl\
+            mnopqrstuvwxyz0123456789abcdefghijklmnopqrstuvwxyz0.abcdefghijklmnopqrstuvwxyz012345678\
+            9abcdefghijklmnopqrstuvwxyz0.abcdefghijklmnopqrstuvwxyz0123456789abcdefghijklmno.",
+        ),
+    ),
+    (
+        "abcdefghijklmnopqrstuvwxyz0123456789abcdefghijklmnopqrstuvwxyz0.abcdefghijklmnopqrstuvwxyz\
+        0123456789abcdefghijklmnopqrstuvwxyz0.abcdefghijklmnopqrstuvwxyz0123456789abcdefghijklmnopq\
+        rstuvwxyz0.abcdefghijklmnopqrstuvwxyz0123456789abcdefghijklmno",
+        "_sips",
+        "_tcp",
+        Err(NameRefusal::LongName),
+    ),
 ];
 
-#[test]
-fn prefixes(rt: HostRuntime) -> Result<(), Fail> {
-    for row in &PREFIXES {
-        let name = Name::from_text(rt.alloc(), row.name)?;
-        match name.prefixed(row.service, row.proto) {
-            Ok(prefixed) => {
-                assert_eq!(rt;
-                    Ok(prefixed.text()?.as_str()),
-                    row.prefixed,
-                    "{}",
-                    row.service
-                );
-            }
-            Err(refusal) => assert_eq!(rt; Err(refusal), row.prefixed, "{}", row.service),
-        }
+/// Whether the name of a row with its labels in front is what the row has.
+fn is_prefixed(name: &Name, row: &PrefixRow) -> bool {
+    match (name.prefixed(row.1, row.2), &row.3) {
+        (Ok(prefixed), Ok(text)) => has_text(&prefixed, text),
+        (Err(refusal), Err(other)) => refusal == *other,
+        _ => false,
     }
-    Ok(())
 }
 
 #[test]
-fn longest_prefixes(rt: HostRuntime) -> Result<(), Fail> {
-    let alloc = rt.alloc();
-    let text = format!(in alloc;
-        "{LONGEST_LABEL}.{LONGEST_LABEL}.{LONGEST_LABEL}.{}",
-        &LABEL_OF_61[..51]
-    )?;
-    let name = Name::from_text(alloc, &text)?;
-    assert_eq!(rt; name.wire().len(), 245);
-    assert_eq!(rt; name.prefixed("_sip", "_udp")?.wire().len(), 255);
-    assert_eq!(rt;
-        name.prefixed("_sips", "_tcp").err(),
-        Some(NameRefusal::LongName)
-    );
-    Ok(())
+fn prefixes(rt: HostRuntime) {
+    for row in PREFIXES {
+        let name = Name::from_text(rt.alloc(), row.0);
+        assert!(rt;
+            name.is_ok_and(|name| is_prefixed(&name, row)),
+            "{} {}",
+            row.0,
+            row.1
+        );
+    }
 }
 
 /// Octets of a message, a place, and the name there with the place after it (RFC 1035 3.1, 4.1.4).
-struct PlaceRow {
-    message: &'static [u8],
-    place: usize,
-    read: Option<(&'static str, usize)>,
-}
+type PlaceRow = (&'static [u8], usize, Option<(&'static str, usize)>);
 
-const PLACES: [PlaceRow; 25] = [
-    PlaceRow {
-        message: b"\x01b\x00\x01a\xc0\x00",
-        place: 3,
-        read: Some(("a.b.", 7)),
-    },
-    PlaceRow {
-        message: b"\x03a.b\x00",
-        place: 0,
-        read: Some(("a\\046b.", 5)),
-    },
-    PlaceRow {
-        message: b"\x03A\x7f\xff\x00",
-        place: 0,
-        read: Some(("a\\127\\255.", 5)),
-    },
-    PlaceRow {
-        message: b"\x00",
-        place: 0,
-        read: Some((".", 1)),
-    },
-    PlaceRow {
-        message: b"\x00\xc0\x00\xc0\x01\x01a\xc0\x03",
-        place: 5,
-        read: Some(("a.", 9)),
-    },
-    PlaceRow {
-        message: b"\x01a\x01b\x00\xc0\x02",
-        place: 5,
-        read: Some(("b.", 7)),
-    },
-    PlaceRow {
-        message: b"\x01a\x00\xff",
-        place: 0,
-        read: Some(("a.", 3)),
-    },
+const PLACES: &[PlaceRow] = &[
+    (b"\x01b\x00\x01a\xc0\x00", 3, Some(("a.b.", 7))),
+    (b"\x03a.b\x00", 0, Some(("a\\046b.", 5))),
+    (b"\x03A\x7f\xff\x00", 0, Some(("a\\127\\255.", 5))),
+    (b"\x00", 0, Some((".", 1))),
+    (b"\x00\xc0\x00\xc0\x01\x01a\xc0\x03", 5, Some(("a.", 9))),
+    (b"\x01a\x01b\x00\xc0\x02", 5, Some(("b.", 7))),
+    (b"\x01a\x00\xff", 0, Some(("a.", 3))),
     // A pointer to itself, forward, to its own run, past the end.
-    PlaceRow {
-        message: b"\x00\x00\x00\x00\x00\x00\x00\x00\x00\x00\x00\x00\xc0\x0c",
-        place: 12,
-        read: None,
-    },
-    PlaceRow {
-        message: b"\x00\x00\x00\x00\x00\x00\x00\x00\x00\x00\x00\x00\xc0\xff",
-        place: 12,
-        read: None,
-    },
-    PlaceRow {
-        message: b"\xc0\x02\x00",
-        place: 0,
-        read: None,
-    },
-    PlaceRow {
-        message: b"\x01a\xc0\x00",
-        place: 0,
-        read: None,
-    },
-    PlaceRow {
-        message: b"\x01a\xc0\x00",
-        place: 2,
-        read: None,
-    },
+    (
+        b"\x00\x00\x00\x00\x00\x00\x00\x00\x00\x00\x00\x00\xc0\x0c",
+        12,
+        None,
+    ),
+    (
+        b"\x00\x00\x00\x00\x00\x00\x00\x00\x00\x00\x00\x00\xc0\xff",
+        12,
+        None,
+    ),
+    (b"\xc0\x02\x00", 0, None),
+    (b"\x01a\xc0\x00", 0, None),
+    (b"\x01a\xc0\x00", 2, None),
     // A run that ends behind the place from which a pointer leads to it.
-    PlaceRow {
-        message: b"\x03a\xc0\x00\x00",
-        place: 2,
-        read: None,
-    },
-    PlaceRow {
-        message: b"\x01a\x01b\xc0\x02\x00",
-        place: 4,
-        read: None,
-    },
-    PlaceRow {
-        message: b"\x02ab\xc0\x00\x00\x01x\xc0\x00",
-        place: 6,
-        read: None,
-    },
+    (b"\x03a\xc0\x00\x00", 2, None),
+    (b"\x01a\x01b\xc0\x02\x00", 4, None),
+    (b"\x02ab\xc0\x00\x00\x01x\xc0\x00", 6, None),
     // Top bits 01 and 10.
-    PlaceRow {
-        message: b"\x40a\x00",
-        place: 0,
-        read: None,
-    },
-    PlaceRow {
-        message: b"\x80a\x00",
-        place: 0,
-        read: None,
-    },
-    PlaceRow {
-        message: b"\x01a\xbf\x00",
-        place: 0,
-        read: None,
-    },
+    (b"\x40a\x00", 0, None),
+    (b"\x80a\x00", 0, None),
+    (b"\x01a\xbf\x00", 0, None),
     // An octet that is missing.
-    PlaceRow {
-        message: b"",
-        place: 0,
-        read: None,
-    },
-    PlaceRow {
-        message: b"\x00",
-        place: 1,
-        read: None,
-    },
-    PlaceRow {
-        message: b"\x00",
-        place: 18_446_744_073_709_551_615,
-        read: None,
-    },
-    PlaceRow {
-        message: b"\x01",
-        place: 0,
-        read: None,
-    },
-    PlaceRow {
-        message: b"\x02a",
-        place: 0,
-        read: None,
-    },
-    PlaceRow {
-        message: b"\x01a",
-        place: 0,
-        read: None,
-    },
-    PlaceRow {
-        message: b"\x00\x01a\xc0",
-        place: 1,
-        read: None,
-    },
+    (b"", 0, None),
+    (b"\x00", 1, None),
+    (b"\x00", 18_446_744_073_709_551_615, None),
+    (b"\x01", 0, None),
+    (b"\x02a", 0, None),
+    (b"\x01a", 0, None),
+    (b"\x00\x01a\xc0", 1, None),
+    // 255 octets, and 256
+    (
+        b"\x3fxxxxxxxxxxxxxxxxxxxxxxxxxxxxxxxxxxxxxxxxxxxxxxxxxxxxxxxxxxxxxxx\x3fxxxxxxxxxxxxxxxxxx\
+        xxxxxxxxxxxxxxxxxxxxxxxxxxxxxxxxxxxxxxxxxxxxx\x3fxxxxxxxxxxxxxxxxxxxxxxxxxxxxxxxxxxxxxxxxxx\
+        xxxxxxxxxxxxxxxxxxxxx\x3dxxxxxxxxxxxxxxxxxxxxxxxxxxxxxxxxxxxxxxxxxxxxxxxxxxxxxxxxxxxxx\x00",
+        0,
+        Some((
+            "xxxxxxxxxxxxxxxxxxxxxxxxxxxxxxxxxxxxxxxxxxxxxxxxxxxxxxxxxxxxxxx.xxxxxxxxxxxxxxxxxxxxxx\
+            xxxxxxxxxxxxxxxxxxxxxxxxxxxxxxxxxxxxxxxxx.xxxxxxxxxxxxxxxxxxxxxxxxxxxxxxxxxxxxxxxxxxxxx\
+            xxxxxxxxxxxxxxxxxx.xxxxxxxxxxxxxxxxxxxxxxxxxxxxxxxxxxxxxxxxxxxxxxxxxxxxxxxxxxxxx.",
+            255,
+        )),
+    ),
+    (
+        b"\x3fxxxxxxxxxxxxxxxxxxxxxxxxxxxxxxxxxxxxxxxxxxxxxxxxxxxxxxxxxxxxxxx\x3fxxxxxxxxxxxxxxxxxx\
+        xxxxxxxxxxxxxxxxxxxxxxxxxxxxxxxxxxxxxxxxxxxxx\x3fxxxxxxxxxxxxxxxxxxxxxxxxxxxxxxxxxxxxxxxxxx\
+        xxxxxxxxxxxxxxxxxxxxx\x3exxxxxxxxxxxxxxxxxxxxxxxxxxxxxxxxxxxxxxxxxxxxxxxxxxxxxxxxxxxxxx\x00",
+        0,
+        None,
+    ),
+    // a text of 294 octets
+    (
+        b"\x3f...............................................................\x0a..........\x00",
+        0,
+        Some((
+            "\\046\\046\\046\\046\\046\\046\\046\\046\\046\\046\\046\\046\\046\\046\\046\\046\\046\
+            \\046\\046\\046\\046\\046\\046\\046\\046\\046\\046\\046\\046\\046\\046\\046\\046\\046\\\
+            046\\046\\046\\046\\046\\046\\046\\046\\046\\046\\046\\046\\046\\046\\046\\046\\046\\04\
+            6\\046\\046\\046\\046\\046\\046\\046\\046\\046\\046\\046.\\046\\046\\046\\046\\046\\046\
+            \\046\\046\\046\\046.",
+            76,
+        )),
+    ),
 ];
 
-#[test]
-fn places(rt: HostRuntime) -> Result<(), Fail> {
-    for row in &PLACES {
-        match read_name(rt.alloc(), row.message, row.place) {
-            Ok((name, after)) => {
-                let text = name.text()?;
-                assert_eq!(rt; Some((text.as_str(), after)), row.read, "{:?}", row.message);
-            }
-            Err(refusal) => {
-                assert_eq!(rt; refusal, NameReadRefusal::Malformed);
-                assert_eq!(rt; None, row.read, "{:?}", row.message);
-            }
-        }
+/// Whether what is read at the place of a row is what the row has.
+fn is_read(alloc: Global, row: &PlaceRow) -> bool {
+    match (read_name(alloc, row.0, row.1), &row.2) {
+        (Ok((name, after)), Some((text, end))) => after == *end && has_text(&name, text),
+        (Err(refusal), None) => refusal == NameReadRefusal::Malformed,
+        _ => false,
     }
-    Ok(())
 }
 
-/// The octets of labels of these lengths, behind one another and closed.
-fn labels_of(alloc: Global, lengths: &[u8]) -> Result<Vec<u8>, AllocError> {
-    let mut octets = Vec::new(alloc);
-    for length in lengths {
-        octets.push(*length)?;
-        for _ in 0..*length {
-            octets.push(b'x')?;
-        }
+#[test]
+fn places(rt: HostRuntime) {
+    for row in PLACES {
+        assert!(rt; is_read(rt.alloc(), row), "{:?}", row.0);
     }
-    octets.push(0)?;
-    Ok(octets)
 }
 
-#[test]
-fn longest_names(rt: HostRuntime) -> Result<(), Fail> {
-    let longest = labels_of(rt.alloc(), &[63, 63, 63, 61])?;
-    let (name, after) = read_name(rt.alloc(), &longest, 0)?;
-    assert_eq!(rt; name.wire(), longest.as_slice());
-    assert_eq!(rt; after, 255);
-    let long = labels_of(rt.alloc(), &[63, 63, 63, 62])?;
-    let refusal = read_name(rt.alloc(), &long, 0).err();
-    assert_eq!(rt; refusal, Some(NameReadRefusal::Malformed));
-    Ok(())
-}
-
-#[test]
-fn chain_of_pointers(rt: HostRuntime) -> Result<(), Fail> {
-    let mut message = vec![in rt.alloc(); 0, 0xc0, 0]?;
+/// 8,193 pointers behind a root, each to the one before it.
+fn pointers(alloc: Global) -> Option<Vec<u8>> {
+    let mut message = vec![in alloc; 0, 0xc0, 0].ok()?;
     for place in 1..8193u16 {
-        let offset = 2 * (place - 1) + 1;
-        message.push(0xc0 + (offset / 256) as u8)?;
-        message.push((offset % 256) as u8)?;
+        let offset = 0xc000 + 2 * (place - 1) + 1;
+        message.extend_from_slice(&offset.to_be_bytes()).ok()?;
     }
-    assert_eq!(rt; message.len(), 16387);
-    let (name, after) = read_name(rt.alloc(), &message, 16385)?;
-    assert!(rt; name.is_root());
-    assert_eq!(rt; after, 16387);
-    Ok(())
+    Some(message)
+}
+
+/// Whether the root is read at the last of them.
+fn leads_to_root(alloc: Global, message: &[u8]) -> bool {
+    match read_name(alloc, message, 16385) {
+        Ok((name, after)) => name.is_root() && after == 16387,
+        Err(_) => false,
+    }
 }
 
 #[test]
-fn written_and_copied(rt: HostRuntime) -> Result<(), Fail> {
-    let name = Name::from_text(rt.alloc(), "A.Example")?;
-    let mut out = vec![in rt.alloc(); 9, 9]?;
-    write_name(&name, &mut out)?;
-    assert_eq!(rt; out.as_slice(), b"\x09\x09\x01a\x07example\x00".as_slice());
-    assert!(rt; !name.is_root());
-    assert!(rt; name.try_clone()? == name);
-    assert!(rt; Name::from_text(rt.alloc(), "a.example.")? == name);
-    assert!(rt; Name::from_text(rt.alloc(), "a.exampl")? != name);
-    assert!(rt; Name::from_text(rt.alloc(), ".")? != name);
-    Ok(())
+fn chain_of_pointers(rt: HostRuntime) {
+    let message = pointers(rt.alloc());
+    assert!(rt; message.is_some_and(|message| leads_to_root(rt.alloc(), &message)));
+}
+
+/// The octets of a copy of a name, written behind two others.
+fn written(alloc: Global, text: &str) -> Option<Vec<u8>> {
+    let name = Name::from_text(alloc, text).ok()?;
+    let copy = name.try_clone().ok()?;
+    let mut out = vec![in alloc; 9, 9].ok()?;
+    write_name(&copy, &mut out).ok()?;
+    Some(out)
+}
+
+#[test]
+fn written_and_copied(rt: HostRuntime) {
+    let rows: [(&str, &[u8]); 2] = [
+        ("A.Example", b"\x09\x09\x01a\x07example\x00"),
+        (".", b"\x09\x09\x00"),
+    ];
+    for (text, octets) in rows {
+        let out = written(rt.alloc(), text);
+        assert_eq!(rt; out.as_deref(), Some(octets), "{text}");
+    }
+}
+
+/// Whether the names of two texts are equal.
+fn are_equal(alloc: Global, text: &str, other: &str) -> Option<bool> {
+    let name = Name::from_text(alloc, text).ok()?;
+    let other = Name::from_text(alloc, other).ok()?;
+    Some(name == other)
+}
+
+#[test]
+fn equal_names(rt: HostRuntime) {
+    for (other, equal) in [("a.example.", true), ("a.exampl", false), (".", false)] {
+        assert_eq!(rt;
+            are_equal(rt.alloc(), "A.Example", other),
+            Some(equal),
+            "{other}"
+        );
+    }
 }
