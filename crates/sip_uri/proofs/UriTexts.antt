@@ -1,18 +1,19 @@
 -- A text spells a URI exactly where its reader reads that URI.
-use Rattle.std.proofs.Common.{◌≡◌, ℕ, ◌≤◌, Bool, true, false, not, List, ◌∷◌, ◌++◌, length, Option, Result, Ok, Err, refl, sym, ap, ◌∙◌, eqb, append_assoc}
+use Rattle.std.proofs.Common.{◌≡◌, ℕ, ◌≤◌, Bool, true, false, not, List, ◌∷◌, ◌++◌, length, Option, Some, None, Result, Ok, Err, refl, sym, ap, ◌∙◌, inl, inr, eqb, append_assoc}
 use Rattle.std.specs.Char.{is_ascii_digit}
 use Rattle.std.specs.Prelude.{MatchResult, IfOk}
 use Rattle.sip_uri.specs.Readers.Parts.{before, behind}
-use Rattle.sip_uri.specs.Uris.{params_text, headers_text, UriText, IsNamedUri}
-use Rattle.sip_uri.specs.Readers.Uris.{behind_scheme, behind_user, place_of, said_by, check_headers, uri_parts}
+use Rattle.sip_uri.specs.Uris.{params_text, headers_text, UriText, HasScheme, IsNamedUri}
+use Rattle.sip_uri.specs.Readers.Uris.{is_secure, both, behind_scheme, behind_user, place_of, said_by, check_headers, uri_parts}
 use Rattle.sip_uri.specs.declared.host.Host.{Host}
 use Rattle.sip_uri.specs.declared.transport.Spoken.{Spoken}
 use Rattle.sip_uri.specs.declared.uri.SipUri.{SipUri}
 use Rattle.sip_uri.specs.declared.refusal.UriRefusal.{UriRefusal}
-use Rattle.sip_uri.specs.declared.refusal.UriRefusal.TheVariants.{Memory}
+use Rattle.sip_uri.specs.declared.refusal.UriRefusal.TheVariants.{BadScheme, Memory}
 use Rattle.sip_uri.proofs.Cutting.{lacks, joined, cut_back}
 use Rattle.sip_uri.proofs.Lists.{all-append, same_Ok}
 use Rattle.sip_uri.proofs.HostOctets.{is_host_octet}
+use Rattle.sip_uri.proofs.Faults.{IsOfOctets, of_octets, uri_fault, or_fault}
 use Rattle.sip_uri.proofs.ParamBlocks.{ParamsRead, said_read, said_again, block_of, block_text, block_lacks}
 use Rattle.sip_uri.proofs.UriPieces.{bind_of, SchemeRead, scheme_read, scheme_again, UserRead, behind_user_read, user_again, PlaceRead, place_read, place_again, host_lacks, port_lacks}
 use Rattle.sip_uri.proofs.UriHeaders.{HeadersRead, check_read, check_again, headers_of, headers_back, headers_no_at}
@@ -145,6 +146,40 @@ module _ (text : List ℕ) (uri : SipUri) (is : UriText text uri) where
       let five = check_again is.headers is.are_headers in
       ap uri_parts whole_text ∙ rw one (rw two (rw (cut_headers.0, cut_headers.1) (rw (cut_params.0, cut_params.1) (rw three (rw four (rw five refl))))))
 
+-- ---- where its scheme is bad
+
+scheme_fault : (text : List ℕ) (fault : UriRefusal) → behind_scheme text ≡ Err fault → BadScheme ≡ fault
+unfolding behind_scheme
+scheme_fault text fault e = or_fault (both (is_secure (before 58 text)) (behind 58 text)) BadScheme fault e
+
+pub uri_octets : (text : List ℕ) (fault : UriRefusal) → uri_parts text ≡ Err fault → IsOfOctets fault
+uri_octets text fault e =
+    elim (uri_fault text fault e) [
+      | inl front ↦ rw (← scheme_fault text fault front) tt
+      | inr later ↦ of_octets fault later
+    ]
+
+pub bad_scheme : (text : List ℕ) → uri_parts text ≡ Err BadScheme → HasScheme text → ⊥
+bad_scheme text e has =
+    elim (uri_fault text BadScheme e) [
+      | inl front ↦ (
+          let again = scheme_again has.scheme has.secure has.rest has.is_scheme in
+          let no : ◌≡◌ {A = Result (Bool × List ℕ) UriRefusal} (Err BadScheme) (Ok (has.secure, has.rest)) = sym front ∙ ap behind_scheme has.joined ∙ again in
+          cc)
+      | inr later ↦ later
+    ]
+
+scheme_lacks : (text : List ℕ) → (HasScheme text → ⊥) → (o : Option (Bool × List ℕ)) → both (is_secure (before 58 text)) (behind 58 text) ≡ o → behind_scheme text ≡ Err BadScheme
+unfolding behind_scheme
+scheme_lacks text none None is = rw is refl
+scheme_lacks text none (Some found) is =
+    let read = scheme_read text found.0 found.1 (rw is refl) in
+    absurd (none (record { scheme = read.scheme; rest = found.1; secure = found.0; joined = read.text_is; is_scheme = read.is }))
+
+pub bad_scheme_again : (text : List ℕ) → (HasScheme text → ⊥) → uri_parts text ≡ Err BadScheme
+unfolding uri_parts
+bad_scheme_again text none = rw (scheme_lacks text none (both (is_secure (before 58 text)) (behind 58 text)) refl) refl
+
 -- ---- what the reader answers, with memory for names or without
 
 module _ (text : List ℕ) (parts : SipUri) (read : uri_parts text ≡ Ok parts) where
@@ -163,3 +198,12 @@ module _ (text : List ℕ) (parts : SipUri) (read : uri_parts text ≡ Ok parts)
   pub memory_is : (r : Result SipUri UriRefusal) → Answer r → length text ≤ 1024 → r ≡ Err Memory → (uri : SipUri) × UriText text uri × IsNamedUri uri
   memory_is (Ok found) is short e = absurd cc
   memory_is (Err refusal) is short e = (parts, uri_read text parts short read, is.1)
+
+  pub scheme_there : length text ≤ 1024 → HasScheme text
+  scheme_there short =
+      let is = uri_read text parts short read in
+      record { scheme = is.scheme; rest = _; secure = parts.secure; joined = is.joined; is_scheme = is.is_scheme }
+
+  pub scheme_is : (r : Result SipUri UriRefusal) → Answer r → r ≡ Err BadScheme → ⊥
+  scheme_is (Ok found) is e = cc
+  scheme_is (Err refusal) is e = let wanted = is.0 in cc

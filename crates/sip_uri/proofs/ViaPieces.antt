@@ -10,7 +10,8 @@ use Rattle.dns_name.specs.Labels.{small_letters}
 use Rattle.sip_uri.specs.ViaClasses.{is_blank, is_token_octet, row, behind_row}
 use Rattle.sip_uri.specs.Readers.ViaFronts.{behind_token, with_blanks, transport_in, behind_protocol}
 use Rattle.sip_uri.specs.Vias.{IsBlanks, IsToken, ProtocolText}
-use Rattle.sip_uri.proofs.Lists.{steps_of}
+use Rattle.std.proofs.lemmas.List.{length-append}
+use Rattle.sip_uri.proofs.Lists.{steps_of, all-append}
 use Rattle.sip_uri.proofs.ParamTexts.{same_names, names_same}
 use Rattle.sip_uri.proofs.ViaRows.{Ends, row_and, row_all, behind_ends, row_again, MarkRead, mark_read, mark_again, begins_apart}
 use Rattle.sip_uri.proofs.ViaSteps.{blanks_end}
@@ -171,3 +172,29 @@ protocol_again text transport rest is ends =
     let l = row_again is_blank is.last rest is.last_blank ends in
     let three : transport_in end ≡ Some (transport, rest) = rw (k.0, k.1) (rw (l.0, l.1) (blanks_again transport is.last rest is.is_transport.some is.apart)) in
     rw whole (rw start (rw one (rw two three)))
+
+-- a protocol in front of any text is read up to the blanks behind it
+pub protocol_found : (text transport rest : List ℕ) → ProtocolText text transport → behind_protocol (text ++ rest) ≡ Some (transport, behind_row is_blank rest)
+protocol_found text transport rest is =
+    let blanks : List ℕ = row is_blank rest in
+    let more : ProtocolText (text ++ blanks) transport = record {
+      first = is.first;
+      sip = is.sip;
+      second = is.second;
+      third = is.third;
+      fourth = is.fourth;
+      fifth = is.fifth;
+      last = is.last ++ blanks;
+      joined = ap (λ (t : List ℕ). t ++ blanks) is.joined ∙ pieces_end is.first is.sip is.second is.third is.fourth is.fifth transport is.last blanks;
+      is_sip = is.is_sip;
+      is_transport = is.is_transport;
+      first_blank = is.first_blank;
+      second_blank = is.second_blank;
+      third_blank = is.third_blank;
+      fourth_blank = is.fourth_blank;
+      fifth_blank = is.fifth_blank;
+      last_blank = all-append is_blank is.last blanks is.last_blank (row_all is_blank rest);
+      apart = omega (arith, is.apart, length-append is.last blanks);
+    } in
+    let whole : text ++ rest ≡ (text ++ blanks) ++ behind_row is_blank rest = ap (λ (t : List ℕ). text ++ t) (sym (row_and is_blank rest)) ∙ sym (append_assoc text blanks (behind_row is_blank rest)) in
+    ap behind_protocol whole ∙ protocol_again (text ++ blanks) transport (behind_row is_blank rest) more (behind_ends is_blank rest)

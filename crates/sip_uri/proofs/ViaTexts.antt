@@ -1,5 +1,5 @@
 -- A text spells a Via exactly where its reader reads that Via.
-use Rattle.std.proofs.Common.{◌≡◌, ℕ, ◌≤◌, List, ◌++◌, length, Option, Some, None, Result, Ok, Err, refl, sym, ap, ◌∙◌, arith}
+use Rattle.std.proofs.Common.{◌≡◌, ℕ, ◌≤◌, List, ◌++◌, length, Option, Some, None, Result, Ok, Err, ◌⊎◌, inl, inr, refl, sym, ap, ◌∙◌, arith}
 use Rattle.std.specs.Option.{option_map, ok_or}
 use Rattle.std.proofs.lemmas.Bool.Decides.{nat_tests}
 use Rattle.sip_uri.specs.Hosts.{HostText, IsNamed}
@@ -9,7 +9,7 @@ use Rattle.sip_uri.specs.Readers.Uris.{port_number}
 use Rattle.sip_uri.specs.ViaClasses.{is_blank, is_in_port, row, behind_row}
 use Rattle.sip_uri.specs.Readers.Vias.{behind_mark}
 use Rattle.sip_uri.specs.Readers.ViaFronts.{behind_protocol, via_host, port_in, via_port, via_of, via_parts}
-use Rattle.sip_uri.specs.Vias.{ViaParams, ViaText}
+use Rattle.sip_uri.specs.Vias.{ViaParams, ViaText, HasProtocol}
 use Rattle.sip_uri.specs.declared.host.Host.{Host}
 use Rattle.sip_uri.specs.declared.via.Via.{Via}
 use Rattle.sip_uri.specs.declared.via_parts.ViaParts.{ViaParts}
@@ -19,10 +19,10 @@ use Rattle.sip_uri.proofs.Lists.{same_Ok}
 use Rattle.sip_uri.proofs.HostOctets.{is_host_octet}
 use Rattle.sip_uri.proofs.HostTexts.{host_octets}
 use Rattle.sip_uri.proofs.UriPieces.{bind_of, from_ok_or}
-use Rattle.sip_uri.proofs.Faults.{IsOfOctets, OfOctets, then_of, or_of}
+use Rattle.sip_uri.proofs.Faults.{IsOfOctets, IsLater, OfLater, of_octets, then_later, or_later, either_of, or_fault}
 use Rattle.sip_uri.proofs.ViaRows.{Ends, begins_apart}
 use Rattle.sip_uri.proofs.ViaSteps.{follows}
-use Rattle.sip_uri.proofs.ViaPieces.{protocol_read, protocol_again}
+use Rattle.sip_uri.proofs.ViaPieces.{protocol_read, protocol_again, protocol_found}
 use Rattle.sip_uri.proofs.ViaPlaces.{via_host_read, via_host_again, some_in_host, via_port_read, via_port_again, port_follows}
 
 -- ---- what is read is spelled
@@ -84,25 +84,59 @@ via_again text via is =
     let spoken : spoken_of is.transport ≡ via.transport = sym is.is_transport in
     ap via_parts is.joined ∙ rw one (rw two (rw three (rw spoken refl)))
 
--- ---- its faults
+fault_apart : {A : Type 0} (fault : UriRefusal) (x : A) → ◌≡◌ {A = Result A UriRefusal} (Err fault) (Ok x) → ⊥
+fault_apart fault x e = cc
 
-port_faults : (text : List ℕ) (o : Option (List ℕ)) → OfOctets (port_in text o)
-port_faults text None = tt
-port_faults text (Some digits) = or_of (option_map (λ (port : ℕ). (Some port, behind_row is_in_port digits)) (port_number (row is_in_port digits))) BadPort tt
+-- ---- its faults, and where its protocol is bad
 
-via_port_faults : (text : List ℕ) → OfOctets (via_port text)
+port_later : (text : List ℕ) (o : Option (List ℕ)) → OfLater (port_in text o)
+port_later text None = tt
+port_later text (Some digits) = or_later (option_map (λ (port : ℕ). (Some port, behind_row is_in_port digits)) (port_number (row is_in_port digits))) BadPort tt
+
+via_port_later : (text : List ℕ) → OfLater (via_port text)
 unfolding via_port
-via_port_faults text = port_faults text (behind_mark 58 text)
+via_port_later text = port_later text (behind_mark 58 text)
 
-via_faults : (text : List ℕ) → OfOctets (via_parts text)
+via_fault : (text : List ℕ) (fault : UriRefusal) → via_parts text ≡ Err fault → (ok_or (behind_protocol text) BadVia ≡ Err fault) ⊎ IsLater fault
 unfolding via_parts
-via_faults text =
-    then_of (ok_or (behind_protocol text) BadVia) _ (or_of (behind_protocol text) BadVia tt) (λ protocol.
-    then_of (ok_or (via_host protocol.1) BadHost) _ (or_of (via_host protocol.1) BadHost tt) (λ host.
-    then_of (via_port host.1) _ (via_port_faults host.1) (λ port. tt)))
+via_fault text =
+    either_of (ok_or (behind_protocol text) BadVia) _ (λ protocol.
+    then_later (ok_or (via_host protocol.1) BadHost) _ (or_later (via_host protocol.1) BadHost tt) (λ host.
+    then_later (via_port host.1) _ (via_port_later host.1) (λ port. tt)))
 
-pub via_fault : (text : List ℕ) (fault : UriRefusal) → via_parts text ≡ Err fault → IsOfOctets fault
-via_fault text fault e = rw e at (via_faults text)
+pub via_octets : (text : List ℕ) (fault : UriRefusal) → via_parts text ≡ Err fault → IsOfOctets fault
+via_octets text fault e =
+    elim (via_fault text fault e) [
+      | inl front ↦ rw (← or_fault (behind_protocol text) BadVia fault front) tt
+      | inr later ↦ of_octets fault later
+    ]
+
+pub bad_protocol : (text : List ℕ) → via_parts text ≡ Err BadVia → HasProtocol text → ⊥
+bad_protocol text e has =
+    elim (via_fault text BadVia e) [
+      | inl front ↦ (
+          let again = protocol_found has.protocol has.transport has.rest has.is_protocol in
+          let found : behind_protocol text ≡ Some (has.transport, behind_row is_blank has.rest) = ap behind_protocol has.joined ∙ again in
+          fault_apart BadVia (has.transport, behind_row is_blank has.rest) (sym front ∙ ap (λ (o : Option (List ℕ × List ℕ)). ok_or o BadVia) found))
+      | inr later ↦ later
+    ]
+
+protocol_lacks : (text : List ℕ) → (HasProtocol text → ⊥) → (o : Option (List ℕ × List ℕ)) → behind_protocol text ≡ o → behind_protocol text ≡ None
+protocol_lacks text none None is = is
+protocol_lacks text none (Some found) is =
+    let read = protocol_read text found.0 found.1 is in
+    absurd (none (record { protocol = read.protocol; transport = found.0; rest = found.1; joined = read.text_is; is_protocol = read.is }))
+
+pub bad_protocol_again : (text : List ℕ) → (HasProtocol text → ⊥) → via_parts text ≡ Err BadVia
+unfolding via_parts
+bad_protocol_again text none = rw (protocol_lacks text none (behind_protocol text) refl) refl
+
+pub protocol_there : (text : List ℕ) (via : Via) (rest : List ℕ) → via_parts text ≡ Ok (via, rest) → HasProtocol text
+unfolding via_parts
+protocol_there text via rest e =
+    let protocol = bind_of _ (ok_or (behind_protocol text) BadVia) (via, rest) e in
+    let read = protocol_read text protocol.0.0 protocol.0.1 (from_ok_or (behind_protocol text) BadVia protocol.0 protocol.1) in
+    record { protocol = read.protocol; transport = protocol.0.0; rest = protocol.0.1; joined = read.text_is; is_protocol = read.is }
 
 -- ---- what the reader answers
 
@@ -122,9 +156,6 @@ module _ (text : List ℕ) (parts : ViaParts) (rest : List ℕ) (read : via_part
 
     pub via_only : (via : Via) → ViaText text via → ◌≡◌ {A = Via} (record { transport = parts.transport; host = h; port = parts.port }) via
     via_only via is = rw named (spells_no_more via is).0
-
-fault_apart : {A : Type 0} (fault : UriRefusal) (x : A) → ◌≡◌ {A = Result A UriRefusal} (Err fault) (Ok x) → ⊥
-fault_apart fault x e = cc
 
 pub none_spelled : (text : List ℕ) (fault : UriRefusal) → via_parts text ≡ Err fault → (via : Via) → ViaText text via → ⊥
 none_spelled text fault e via is = fault_apart fault (via, is.params) (sym e ∙ via_again text via is)

@@ -22,6 +22,14 @@ abbrev pub SchemeText : List ℕ → Bool → Type 0
 SchemeText text false = small_letters text ≡ 115 ∷ 105 ∷ 112 ∷ []
 SchemeText text true = small_letters text ≡ 115 ∷ 105 ∷ 112 ∷ 115 ∷ []
 
+-- a scheme and `:` stand in front of a text
+pub record HasScheme (text : List ℕ) : Type 0 where
+  pub scheme : List ℕ
+  pub rest : List ℕ
+  pub secure : Bool
+  pub joined : text ≡ scheme ++ 58 ∷ rest
+  pub is_scheme : SchemeText scheme secure
+
 -- nothing; or a user, and at will `:` and a password, with `@` behind them
 pub data UserText (text : List ℕ) : Type 0 where
   nobody : text ≡ [] → UserText text

@@ -71,6 +71,14 @@ pub record ProtocolText (text transport : List ℕ) : Type 0 where
   pub last_blank : IsBlanks last
   pub apart : 0 < length last
 
+-- a protocol and a transport stand in front of a text
+pub record HasProtocol (text : List ℕ) : Type 0 where
+  pub protocol : List ℕ
+  pub transport : List ℕ
+  pub rest : List ℕ
+  pub joined : text ≡ protocol ++ rest
+  pub is_protocol : ProtocolText protocol transport
+
 -- The text spells the Via: it is the protocol, the host, the port and the parameters, one after the other, and has at
 -- most 1,024 octets.
 pub record ViaText (text : List ℕ) (via : Via) : Type 0 where

@@ -2,7 +2,7 @@
 ghost use Rattle.std.specs.Prelude.{◌≡◌, ◌↔◌, ◌<◌, ◌≤◌, length, IfOk, IfSome, MatchResult, Err};
 ghost use Rattle.sip_uri.specs.Readers.Hosts.{IsHostPart};
 ghost use Rattle.sip_uri.specs.Readers.Uris.{uri_of};
-ghost use Rattle.sip_uri.specs.Uris.{UriText, IsNamedUri};
+ghost use Rattle.sip_uri.specs.Uris.{UriText, HasScheme, IsNamedUri};
 ghost use Rattle.sip_uri.specs.declared.uri.SipUri.{SipUri};
 
 use crate::host_part::with_name;
@@ -48,6 +48,9 @@ pub fn read_uri(alloc: Global, text: &str) -> Result<SipUri, UriRefusal>
         → (uri : SipUri) × UriText text.now uri × IsNamedUri uri }
     // A text is too long exactly above 1,024 octets.
     ensures long { result ≡ Err UriRefusal.TooLong ↔ 1024 < length text.now }
+    // Its scheme is bad exactly where it is not too long, and neither `sip:` nor `sips:` is in front.
+    ensures scheme { result ≡ Err UriRefusal.BadScheme
+        ↔ (length text.now ≤ 1024) × (HasScheme text.now → ⊥) }
 {
     let text = text.as_bytes();
     if text.len() > TEXT_LIMIT {

@@ -1,7 +1,7 @@
 //! Vias as texts (RFC 3261 20.42, 25.1).
-ghost use Rattle.std.specs.Prelude.{◌≡◌, ◌↔◌, ◌<◌, length, IfOk, MatchResult, Err};
+ghost use Rattle.std.specs.Prelude.{◌≡◌, ◌↔◌, ◌<◌, ◌≤◌, length, IfOk, MatchResult, Err};
 ghost use Rattle.sip_uri.specs.Hosts.{IsNamed};
-ghost use Rattle.sip_uri.specs.Vias.{ViaText};
+ghost use Rattle.sip_uri.specs.Vias.{ViaText, HasProtocol};
 ghost use Rattle.sip_uri.specs.declared.via.Via.{Via};
 
 use crate::host_part::with_name;
@@ -25,6 +25,9 @@ pub fn read_via(alloc: Global, text: &str) -> Result<Via, UriRefusal>
         → (via : Via) × ViaText text.now via × IsNamed via.host }
     // A text is too long exactly above 1,024 octets.
     ensures long { result ≡ Err UriRefusal.TooLong ↔ 1024 < length text.now }
+    // Its protocol is bad exactly where it is not too long, and no protocol and transport are in front.
+    ensures protocol { result ≡ Err UriRefusal.BadVia
+        ↔ (length text.now ≤ 1024) × (HasProtocol text.now → ⊥) }
 {
     let text = text.as_bytes();
     if text.len() > TEXT_LIMIT {
