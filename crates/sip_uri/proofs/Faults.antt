@@ -135,9 +135,9 @@ uri_fault text =
     then_later (said_by (behind 59 (before 63 rest))) _ (said_later (behind 59 (before 63 rest))) (λ by.
     then_later (check_headers (behind 63 rest)) _ (headers_later (behind 63 rest)) (λ none. tt)))))
 
-pub param_later : (fault : UriRefusal) → (fault ≡ BadParam) ⊎ (fault ≡ RepeatedParam) → IsLater fault
-param_later fault (inl is) = rw is tt
-param_later fault (inr is) = rw is tt
+pub param_later : {A B : Type 0} (fault : UriRefusal) → (fault ≡ BadParam × A) ⊎ (fault ≡ RepeatedParam × B) → IsLater fault
+param_later fault (inl is) = rw is.0 tt
+param_later fault (inr is) = rw is.0 tt
 
 -- no fault but one is that of an absent value
 pub or_fault : {A : Type 0} (o : Option A) (named fault : UriRefusal) → ok_or o named ≡ Err fault → named ≡ fault

@@ -1,5 +1,5 @@
 -- All parameters of a Via are what their reader reads.
-use Rattle.std.proofs.Common.{◌≡◌, ℕ, zero, suc, ◌+◌, ◌<◌, ◌≤◌, true, false, List, [], ◌∷◌, ◌++◌, length, map, get_or, Some, None, refl, sym, ap, ◌∙◌, inl, inr, arith, append_assoc, add_assoc}
+use Rattle.std.proofs.Common.{◌≡◌, ℕ, zero, suc, ◌+◌, ◌-◌, ◌<◌, ◌≤◌, true, false, List, [], ◌∷◌, ◌++◌, length, map, get_or, Some, None, refl, sym, ap, ◌∙◌, inl, inr, arith, append_assoc, add_assoc}
 use Rattle.std.specs.List.{AllPairs}
 use Rattle.std.specs.Str.{str_eq_ignore_ascii_case}
 use Rattle.std.proofs.lemmas.Bool.{cases_Bool}
@@ -8,7 +8,7 @@ use Rattle.std.proofs.lemmas.List.{append-nil, length-append, map-append, get_or
 use Rattle.std.proofs.lemmas.List.Quantifiers.{all_pairs_push}
 use Rattle.dns_name.specs.Labels.{small_letters}
 use Rattle.sip_uri.specs.ViaClasses.{is_blank, row, behind_row}
-use Rattle.sip_uri.specs.Readers.Vias.{behind_mark, next_param, names, stands_in}
+use Rattle.sip_uri.specs.Readers.Vias.{behind_mark, next_param, names, stands_in, AreNamesApart}
 use Rattle.sip_uri.specs.Vias.{IsBlanks, ParamsText, nothing, param, ViaParams}
 use Rattle.sip_uri.proofs.ParamTexts.{names_same, names_other}
 use Rattle.sip_uri.proofs.ParamLists.{Differ}
@@ -77,6 +77,10 @@ from_none text keys e (param t others front behind found value rest front_blank 
     let k : next_param text ≡ Some (found, rest) = next_again text front behind found value rest front_blank behind_blank is_name is_value (follows rest others are) joined in
     absurd (let no : None ≡ Some (found, rest) = sym e ∙ k in cc)
 
+no_names : (count : ℕ) (text : List ℕ) → next_param text ≡ None → names count text ≡ []
+no_names zero text e = refl
+no_names (suc count) text e = rw e refl
+
 -- ---- a reader that has come to a place
 
 pub record WalkedSoFar (text rest : List ℕ) (count : ℕ) : Type 0 where
@@ -104,6 +108,13 @@ module _ (text rest : List ℕ) (count : ℕ) (so_far : WalkedSoFar text rest co
       let blank = from_none rest k.0 none k.1 in
       omega (arith, some, ap length (row_alone is_blank rest blank).1)
 
+  pub apart_here : next_param rest ≡ None → AreNamesApart text
+  apart_here none =
+      let more : ℕ = length text - count in
+      let all : count + more ≡ length text = omega (arith, so_far.bound) in
+      let whole : names (length text) text ≡ names count text = ap (λ (n : ℕ). names n text) (sym all) ∙ so_far.further more ∙ ap (λ (x : List (List ℕ)). names count text ++ x) (no_names more rest none) ∙ append-nil (names count text) in
+      rw whole so_far.apart
+
   module _ (name after : List ℕ) (e : next_param rest ≡ Some (name, after)) where
     pub again_here : stands_in (names count text) name ≡ true → ViaParams text → ⊥
     again_here again is =
@@ -111,6 +122,17 @@ module _ (text rest : List ℕ) (count : ℕ) (so_far : WalkedSoFar text rest co
         let l = from_next rest k.0 name after e k.1 in
         let whole : is.keys ≡ keys_of (names count text) ++ small_letters name ∷ l.0 = k.2 ∙ ap (λ (x : List (List ℕ)). keys_of (names count text) ++ x) l.1 in
         let new = not_in (names count text) name l.0 (apart_at is.keys (keys_of (names count text) ++ small_letters name ∷ l.0) whole is.apart) in
+        let no : true ≡ false = sym again ∙ new in
+        cc
+
+    pub repeated_here : stands_in (names count text) name ≡ true → length after < length rest → AreNamesApart text → ⊥
+    repeated_here again shorter apart =
+        let more : ℕ = length text - (count + 1) in
+        let all : count + suc more ≡ length text = omega (arith, so_far.bound) in
+        let step : names (suc more) rest ≡ name ∷ names more after = rw e refl in
+        let whole : names (length text) text ≡ names count text ++ name ∷ names more after = ap (λ (n : ℕ). names n text) (sym all) ∙ so_far.further (suc more) ∙ ap (λ (x : List (List ℕ)). names count text ++ x) step in
+        let keys : keys_of (names (length text) text) ≡ keys_of (names count text) ++ small_letters name ∷ keys_of (names more after) = ap keys_of whole ∙ map-append small_letters (names count text) (name ∷ names more after) in
+        let new = not_in (names count text) name (keys_of (names more after)) (apart_at (keys_of (names (length text) text)) (keys_of (names count text) ++ small_letters name ∷ keys_of (names more after)) keys apart) in
         let no : true ≡ false = sym again ∙ new in
         cc
 

@@ -1,8 +1,9 @@
 -- What the readers of the parts of a Via give, as functions on lists.
-use Rattle.std.specs.Prelude.{ℕ, zero, suc, ◌==◌, nat_lt, Bool, true, false, ◌||◌, List, [], ◌∷◌, slice_index, drop, Option, Some, None, if◌then◌else◌}
-use Rattle.std.specs.List.{list_any}
+use Rattle.std.specs.Prelude.{◌≡◌, ℕ, zero, suc, ◌==◌, nat_lt, Bool, true, false, ◌||◌, List, [], ◌∷◌, length, map, slice_index, drop, Option, Some, None, if◌then◌else◌}
+use Rattle.std.specs.List.{AllPairs, list_any}
 use Rattle.std.specs.Option.{option_map}
 use Rattle.std.specs.Str.{str_eq_ignore_ascii_case}
+use Rattle.dns_name.specs.Labels.{small_letters}
 use Rattle.sip_uri.specs.Readers.Texts.{◌>>=◌}
 use Rattle.sip_uri.specs.ViaClasses.{is_blank, is_token_octet, is_in_host, is_in_port, is_value_octet, row, behind_row}
 use Rattle.sip_uri.specs.declared.rows.Row.{Row}
@@ -71,3 +72,7 @@ names (suc count) text = names_of (names count) (next_param text)
 
 abbrev pub stands_in : List (List ℕ) → List ℕ → Bool
 stands_in earlier name = list_any (λ (other : List ℕ). str_eq_ignore_ascii_case other name) earlier
+
+-- no two of the parameters in front have one name
+abbrev pub AreNamesApart : List ℕ → Type 0
+AreNamesApart text = AllPairs (λ a b. a ≡ b → ⊥) (map small_letters (names (length text) text))
