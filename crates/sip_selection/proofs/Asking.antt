@@ -1,0 +1,189 @@
+-- Which questions a request can need, where answers are added.
+use Rattle.std.proofs.Common.{◌≡◌, ℕ, zero, suc, Bool, true, false, ◌||◌, if◌then◌else◌, List, [], ◌∷◌, ◌++◌, map, Option, Some, None, Ok, Err, All, IfSome, ok_or, slice_get, refl, sym, subst, ap, ◌∙◌}
+use Rattle.std.specs.Bool.{⊤}
+use Rattle.std.specs.List.{list_any}
+use Rattle.std.specs.Option.{option_map_or}
+use Rattle.std.proofs.lemmas.List.Elements.{All-head, All-nil, All-tail, All-weaker}
+use Rattle.dns_answers.specs.Values.{AnswerValue}
+use Rattle.dns_message.specs.declared.kind.Kind.{Kind}
+use Rattle.dns_message.specs.declared.kind.Kind.TheVariants as kind
+use Rattle.dns_message.specs.declared.naptr.NaptrRecord.{NaptrRecord}
+use Rattle.dns_message.specs.declared.question.Question.{Question}
+use Rattle.dns_message.specs.declared.srv.SrvRecord.{SrvRecord}
+use Rattle.sip_uri.specs.declared.transport.Transport.{Transport}
+use Rattle.srv_choice.specs.Outcomes.{order_from, is_root, denies, listing}
+use Rattle.srv_choice.specs.declared.outcome.SrvOutcome.{SrvOutcome}
+use Rattle.srv_choice.specs.declared.outcome.SrvOutcome.TheVariants.{Absent, Denied, Listed}
+use Rattle.sip_selection.specs.Known.{Given, Needing, made, joined, find_answer, answer_to, addresses_in, servers_in, rules_in}
+use Rattle.sip_selection.specs.Services.{kind_targets, targets_of, server_targets, place_targets, Offer, listed, is_listed, is_denied, offer_of, offer_by, offer_named, offer_along, offers_along, next_word, target_at}
+use Rattle.sip_selection.specs.declared.target.Target.{Target}
+use Rattle.sip_selection.specs.declared.way.Way.{Way}
+use Rattle.sip_selection.proofs.Growth.{answer-grows}
+use Rattle.sip_selection.proofs.Meeting.{Meets, meets-more, made-meets, after-meets, found-meets, joined-meets}
+
+abbrev pub AnyTarget : Target → Type 0
+AnyTarget target = ⊤
+
+abbrev AnyPlace : ℕ → Type 0
+AnyPlace place = ⊤
+
+pub or_left : (a b : Bool) → (a || b) ≡ false → a ≡ false
+or_left true b is = absurd cc
+or_left false b is = refl
+
+pub or_right : (a b : Bool) → (a || b) ≡ false → b ≡ false
+or_right true b is = absurd cc
+or_right false b is = is
+
+picked : {X : Type 0} (P : X → Type 0) (xs : List X) (place : ℕ) → All P xs → IfSome (slice_get xs place) P
+picked P [] place each = tt
+picked P (x ∷ xs) zero each = All-head P x xs each
+picked P (x ∷ xs) (suc place) each = picked P xs place (All-tail P x xs each)
+
+-- ---- what the answers say
+
+abbrev pub servers_at : Needing AnswerValue → List SrvRecord
+servers_at (Ok answer) = servers_in answer.records
+servers_at (Err question) = []
+
+abbrev pub rules_at : Needing AnswerValue → List NaptrRecord
+rules_at (Ok answer) = rules_in answer.records
+rules_at (Err question) = []
+
+abbrev pub services : List (List ℕ) → Question
+services name = record { name = name; kind = kind.Srv }
+
+abbrev pub servers_of : List Given → Option (List (List ℕ)) → List SrvRecord
+servers_of given None = []
+servers_of given (Some name) = servers_at (answer_to given (services name))
+
+abbrev pub are_some : List SrvRecord → Bool
+are_some [] = false
+are_some (first ∷ others) = true
+
+abbrev pub has_servers : List Given → Way → Bool
+has_servers given way = are_some (servers_of given way.name)
+
+nothing_listed : (servers : List SrvRecord) (words : List ℕ) (word : ℕ) → order_from servers words word ≡ Absent → are_some servers ≡ false
+nothing_listed [] words word = λ is. refl
+nothing_listed (first ∷ others) words word = by (denies (first ∷ others))
+  where
+    by : (b : Bool) → (if b then Denied else listing (first ∷ others) words word) ≡ Absent → true ≡ false
+    by true is = absurd cc
+    by false is = absurd cc
+
+-- ---- the questions that are needed, R of all that can be
+
+module _ (R : Question → Type 0) (given more : List Given) (kinds : List Kind) where
+  abbrev pub all : List Given
+  all = given ++ more
+
+  pub answer-asks : (question : Question) → R question → Meets (λ answer. answer_to all question ≡ Ok answer) R (answer_to given question)
+  answer-asks question asked =
+      meets-more R (λ answer. find_answer given question ≡ Some answer) (λ answer. answer_to all question ≡ Ok answer)
+      (answer_to given question)
+      (λ answer found. answer-grows given more question answer (ap (λ (it : Option AnswerValue). ok_or it question) found))
+      (found-meets R (find_answer given question) question (λ none. asked))
+
+  -- its addresses can be asked for
+  abbrev pub Asks : List (List ℕ) → Type 0
+  Asks name = All (λ asked. R (record { name = name; kind = asked })) kinds
+
+  abbrev pub AsksOf : SrvRecord → Type 0
+  AsksOf server = Asks server.target
+
+  abbrev pub WayAsks : Option (List (List ℕ)) → Type 0
+  WayAsks None = ⊤
+  WayAsks (Some name) = R (services name) × All AsksOf (servers_at (answer_to all (services name)))
+
+  kind-asks : (transport : Transport) (port : ℕ) (name : List (List ℕ)) (asked : Kind) → R (record { name = name; kind = asked })
+      → Meets (All AnyTarget) R (kind_targets given kinds transport port name asked)
+  kind-asks transport port name asked is =
+      let question : Question = record { name = name; kind = asked } in
+      made-meets R (All AnyTarget) (λ (answer : AnswerValue). map (target_at transport port) (addresses_in answer.records))
+      (answer_to given question)
+      (meets-more R (λ answer. answer_to all question ≡ Ok answer)
+      (λ answer. All AnyTarget (map (target_at transport port) (addresses_in answer.records))) (answer_to given question)
+      (λ answer found. λ i d lt. tt) (answer-asks question is))
+
+  pub targets-ask : (transport : Transport) (port : ℕ) (name : List (List ℕ)) → Asks name
+      → Meets (All AnyTarget) R (targets_of given kinds transport port name)
+  targets-ask transport port name each =
+      joined-meets R AnyTarget (kind_targets given kinds transport port name) kinds
+      (All-weaker (λ asked. R (record { name = name; kind = asked }))
+      (λ asked. Meets (All AnyTarget) R (kind_targets given kinds transport port name asked))
+      (kind-asks transport port name) kinds each)
+
+  server-by : (transport : Transport) (server : SrvRecord) (root : Bool) → is_root server.target ≡ root → AsksOf server
+      → Meets (All AnyTarget) R (server_targets given kinds transport server)
+  server-by transport server true e asks = rw e (All-nil AnyTarget)
+  server-by transport server false e asks = rw e (targets-ask transport server.port server.target asks)
+
+  place-by : (transport : Transport) (server : Option SrvRecord) → IfSome server AsksOf
+      → Meets (All AnyTarget) R (option_map_or (server_targets given kinds transport) server (Ok []))
+  place-by transport None asks = All-nil AnyTarget
+  place-by transport (Some server) asks = server-by transport server (is_root server.target) refl asks
+
+  -- where nothing is listed or denied there are no servers
+  abbrev IsTold : List SrvRecord → Offer → Type 0
+  IsTold servers offer = is_listed offer ≡ false → is_denied offer ≡ false → are_some servers ≡ false
+
+  outcome-asks : (transport : Transport) (servers : List SrvRecord) (words : List ℕ) (word : ℕ) (outcome : SrvOutcome)
+      → order_from servers words word ≡ outcome → All AsksOf servers
+      → Meets (IsTold servers) R (offer_of given kinds transport servers outcome)
+  outcome-asks transport servers words word Absent e asks = λ _ _. nothing_listed servers words word e
+  outcome-asks transport servers words word Denied e asks = λ _ is. absurd cc
+  outcome-asks transport servers words word (Listed places next) e asks =
+      made-meets R (IsTold servers) (λ targets. listed targets next) (joined (place_targets given kinds transport servers) places)
+      (meets-more R (All AnyTarget) (λ targets. IsTold servers (listed targets next))
+      (joined (place_targets given kinds transport servers) places) (λ targets _. λ is _. absurd cc)
+      (joined-meets R AnyTarget (place_targets given kinds transport servers) places
+      (All-weaker AnyPlace (λ place. Meets (All AnyTarget) R (place_targets given kinds transport servers place))
+      (λ place _. place-by transport (slice_get servers place) (picked AsksOf servers place asks)) places (λ i d lt. tt))))
+
+  named-asks : (words : List ℕ) (transport : Transport) (word : ℕ) (name : Option (List (List ℕ))) → WayAsks name
+      → Meets (IsTold (servers_of all name)) R (offer_named given kinds words transport word name)
+  named-asks words transport word None asks = λ _ _. refl
+  named-asks words transport word (Some name) asks =
+      let question : Question = services name in
+      let Told : Offer → Type 0 = IsTold (servers_at (answer_to all question)) in
+      after-meets R Told (offer_by given kinds words transport word) (answer_to given question)
+      (meets-more R (λ answer. answer_to all question ≡ Ok answer)
+      (λ answer. Meets Told R (offer_by given kinds words transport word answer)) (answer_to given question)
+      (λ answer is.
+      let same : servers_at (answer_to all question) ≡ servers_in answer.records = ap servers_at is in
+      let each : All AsksOf (servers_in answer.records) = subst (All AsksOf) same asks.1 in
+      subst (λ servers. Meets (IsTold servers) R (offer_by given kinds words transport word answer)) (sym same)
+      (outcome-asks transport (servers_in answer.records) words word (order_from (servers_in answer.records) words word) refl each))
+      (answer-asks question asks.0))
+
+  abbrev pub AreTold : List Way → List Offer → Type 0
+  AreTold ways offers = list_any is_listed offers ≡ false → list_any is_denied offers ≡ false → list_any (has_servers all) ways ≡ false
+
+  both-told : (way : Way) (ways : List Way) (offer : Offer) (others : List Offer) → IsTold (servers_of all way.name) offer
+      → AreTold ways others → AreTold (way ∷ ways) (offer ∷ others)
+  both-told way ways offer others is are unlisted undenied =
+      let first : has_servers all way ≡ false = is (or_left (is_listed offer) (list_any is_listed others) unlisted)
+      (or_left (is_denied offer) (list_any is_denied others) undenied) in
+      let rest : list_any (has_servers all) ways ≡ false =
+      are (or_right (is_listed offer) (list_any is_listed others) unlisted)
+      (or_right (is_denied offer) (list_any is_denied others) undenied) in
+      ap (λ b. b || list_any (has_servers all) ways) first ∙ rest
+
+  pub offers-ask : (words : List ℕ) (ways : List Way) (word : ℕ) → All (λ way. WayAsks way.name) ways
+      → Meets (AreTold ways) R (offers_along given kinds words ways word)
+  offers-ask words [] word asks = λ _ _. refl
+  offers-ask words (way ∷ ways) word asks =
+      after-meets R (AreTold (way ∷ ways)) (λ offer. made (λ others. offer ∷ others)
+      (offers_along given kinds words ways (next_word word offer))) (offer_along given kinds words way word)
+      (meets-more R (IsTold (servers_of all way.name))
+      (λ offer. Meets (AreTold (way ∷ ways)) R
+      (made (λ others. offer ∷ others) (offers_along given kinds words ways (next_word word offer))))
+      (offer_along given kinds words way word)
+      (λ offer is. made-meets R (AreTold (way ∷ ways)) (λ others. offer ∷ others)
+      (offers_along given kinds words ways (next_word word offer))
+      (meets-more R (AreTold ways) (λ others. AreTold (way ∷ ways) (offer ∷ others))
+      (offers_along given kinds words ways (next_word word offer))
+      (λ others are. both-told way ways offer others is are)
+      (offers-ask words ways (next_word word offer) (All-tail (λ way. WayAsks way.name) way ways asks))))
+      (named-asks words way.transport word way.name (All-head (λ way. WayAsks way.name) way ways asks)))

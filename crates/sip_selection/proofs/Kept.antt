@@ -1,0 +1,74 @@
+-- What is known of each way that rules lead.
+use Rattle.std.proofs.Common.{◌≡◌, ◌≤◌, Bool, true, false, List, [], ◌∷◌, length, All, Option, Some, None, take, get_or, refl, subst, arith}
+use Rattle.std.specs.List.{filter_map}
+use Rattle.std.specs.Option.{option_map, option_and_then}
+use Rattle.std.proofs.lemmas.Bool.{and_parts}
+use Rattle.std.proofs.lemmas.List.{length-map, length-take}
+use Rattle.std.proofs.lemmas.List.Elements.{All-nil, All-cons, All-map, All-take, All-filter}
+use Rattle.std.proofs.lemmas.List.Sorted.{All-permutation}
+use Rattle.dns_message.specs.declared.naptr.NaptrRecord.{NaptrRecord}
+use Rattle.sip_uri.specs.declared.transport.Transport.{Transport}
+use Rattle.sip_uri.specs.declared.transport.Transport.TheVariants.{Udp, Tcp, Sctp, Tls}
+use Rattle.sip_selection.specs.Callers.{same_transport}
+use Rattle.sip_selection.specs.Rules.{Led, names_servers, transport_of_service, is_usable, usable, led_by, first_in_order, by_preference, way_of, kept}
+use Rattle.sip_selection.specs.declared.caps.Caps.{Caps}
+use Rattle.sip_selection.specs.declared.way.Way.{Way}
+use Rattle.sip_selection.proofs.Rising.{all_stand}
+
+module _ (secure : Bool) (caps : Caps) where
+  usable_by : (rule : NaptrRecord) (it : Led) (transport : Transport) (test : Bool) → is_usable secure caps transport ≡ test
+      → option_map (λ transport. record { rule = rule; transport = transport }) (usable secure caps transport) ≡ Some it
+      → is_usable secure caps it.transport ≡ true
+  usable_by rule it transport true e is =
+      let made : Some (record { rule = rule; transport = transport }) ≡ Some it = rw e at is in
+      let same : transport ≡ it.transport = cc in
+      subst (λ (t : Transport). is_usable secure caps t ≡ true) same e
+  usable_by rule it transport false e is = let none : None ≡ Some it = rw e at is in absurd cc
+
+  service_by : (rule : NaptrRecord) (it : Led) (service : Option Transport)
+      → option_map (λ transport. record { rule = rule; transport = transport }) (option_and_then (usable secure caps) service) ≡ Some it
+      → is_usable secure caps it.transport ≡ true
+  service_by rule it None is = absurd cc
+  service_by rule it (Some transport) is = usable_by rule it transport (is_usable secure caps transport) refl is
+
+  named_by : (rule : NaptrRecord) (it : Led) (named : Bool) → names_servers rule ≡ named → led_by secure caps rule ≡ Some it
+      → is_usable secure caps it.transport ≡ true
+  named_by rule it true e is = service_by rule it (transport_of_service rule.services) (rw e at is)
+  named_by rule it false e is = let none : None ≡ Some it = rw e at is in absurd cc
+
+  abbrev IsUsable : Led → Type 0
+  IsUsable it = is_usable secure caps it.transport ≡ true
+
+  more_led : (rule : NaptrRecord) (rules : List NaptrRecord) (led : Option Led) → led_by secure caps rule ≡ led
+      → All IsUsable (filter_map (led_by secure caps) rules) → All IsUsable (filter_map (led_by secure caps) (rule ∷ rules))
+  more_led rule rules (Some it) e each = rw e (All-cons IsUsable it _ (named_by rule it (names_servers rule) refl e) each)
+  more_led rule rules None e each = rw e each
+
+  all_led : (rules : List NaptrRecord) → All IsUsable (filter_map (led_by secure caps) rules)
+  all_led [] = All-nil IsUsable
+  all_led (rule ∷ rules) = more_led rule rules (led_by secure caps rule) refl (all_led rules)
+
+  -- each goes over a transport that may be taken
+  pub kept_usable : (rules : List NaptrRecord) → All (λ way. is_usable secure caps way.transport ≡ true) (kept secure caps rules)
+  kept_usable rules =
+      let leads = filter_map (led_by secure caps) rules in
+      let first = first_in_order leads in
+      All-map (λ (way : Way). is_usable secure caps way.transport ≡ true) way_of (take 8 (by_preference first))
+      (All-take IsUsable 8 (by_preference first) (All-permutation IsUsable first (by_preference first) (all_stand first)
+      (All-filter _ IsUsable leads (all_led rules))))
+
+  -- there are at most eight
+  pub kept_few : (rules : List NaptrRecord) → length (kept secure caps rules) ≤ 8
+  kept_few rules = simp (length-map, length-take) (omega arith)
+
+tls_alone : (transport : Transport) → same_transport transport Tls ≡ true → transport ≡ Tls
+tls_alone Udp is = absurd cc
+tls_alone Tcp is = absurd cc
+tls_alone Sctp is = absurd cc
+tls_alone Tls is = refl
+
+-- for SIPS each goes over TLS
+pub kept_secure : (caps : Caps) (rules : List NaptrRecord) → All (λ way. way.transport ≡ Tls) (kept true caps rules)
+kept_secure caps rules i d lt =
+    let each : is_usable true caps (get_or (kept true caps rules) i d).transport ≡ true = kept_usable true caps rules i d lt in
+    tls_alone _ (and_parts _ _ each).1

@@ -1,0 +1,6 @@
+use Rattle.std.proofs.Common.{◌∙◌}
+use Rattle.sip_selection.proofs.Slots.{held}
+use Rattle.sip_selection.proofs.caps.Caps.offers.Goals as goal
+
+pub returns : goal.returns
+returns c = c.is_held.ensures ∙ held c.args.self.now.slots c.args.transport

@@ -1,0 +1,57 @@
+-- What the caller can do: its transports, in order of preference, and its families of addresses.
+use Rattle.std.specs.Prelude.{◌<◌, ◌≤◌, Bool, true, false, not, ◌&&◌, IsTrue, List, [], ◌∷◌, ◌++◌, length, map, take, Option, Some, None}
+use Rattle.std.specs.List.{list_any, filter_map}
+use Rattle.dns_message.specs.declared.kind.Kind.{Kind}
+use Rattle.dns_message.specs.declared.kind.Kind.TheVariants as kind
+use Rattle.sip_uri.specs.declared.transport.Transport.{Transport}
+use Rattle.sip_uri.specs.declared.transport.Transport.TheVariants.{Udp, Tcp, Sctp, Tls}
+use Rattle.sip_selection.specs.declared.caps.Caps.{Caps}
+use Rattle.sip_selection.specs.declared.caps.Families.{Families}
+use Rattle.sip_selection.specs.declared.caps.Families.TheVariants.{V4, V6, V4ThenV6, V6ThenV4}
+
+-- two transports are the same
+abbrev pub same_transport : Transport → Transport → Bool
+same_transport Udp Udp = true
+same_transport Tcp Tcp = true
+same_transport Sctp Sctp = true
+same_transport Tls Tls = true
+same_transport _ _ = false
+
+-- none of these stands again after itself
+abbrev pub are_distinct : List Transport → Bool
+are_distinct [] = true
+are_distinct (first ∷ others) = not (list_any (λ other. same_transport other first) others) && are_distinct others
+
+-- 1 to 4 transports, none of them twice
+pub record AreOffered (transports : List Transport) : Type 0 where
+  pub some : 0 < length transports
+  pub few : length transports ≤ 4
+  pub distinct : IsTrue (are_distinct transports)
+
+-- the transports of a caller, in order of preference
+abbrev pub transports_of : Caps → List Transport
+transports_of caps = filter_map (λ slot. slot) caps.slots
+
+abbrev pub families_of : Caps → Families
+families_of caps = caps.families
+
+-- the caps with these transports and families
+abbrev pub caps_of : List Transport → Families → Caps
+caps_of transports families =
+    record { slots = take 4 (map Some transports ++ None ∷ None ∷ None ∷ None ∷ []); families = families }
+
+-- whether a slot holds this transport
+abbrev pub holds : Option Transport → Transport → Bool
+holds None transport = false
+holds (Some offered) transport = same_transport offered transport
+
+-- whether a transport is among the caller's
+abbrev pub offers : Caps → Transport → Bool
+offers caps transport = list_any (λ offered. same_transport offered transport) (transports_of caps)
+
+-- the kinds of address question, in the order in which they are asked
+abbrev pub kinds_of : Families → List Kind
+kinds_of V4 = kind.A ∷ []
+kinds_of V6 = kind.Aaaa ∷ []
+kinds_of V4ThenV6 = kind.A ∷ kind.Aaaa ∷ []
+kinds_of V6ThenV4 = kind.Aaaa ∷ kind.A ∷ []

@@ -1,0 +1,142 @@
+-- Where a request goes: RFC 3263 4.1, 4.2 and 5 over the answers given, as one value.
+use Rattle.std.specs.Prelude.{ℕ, Bool, not, List, [], ◌∷◌, map, filter, Option, Some, None, unwrap_or, Result, Ok, Err, if◌then◌else◌}
+use Rattle.std.specs.List.{filter_map, flat_map, list_any}
+use Rattle.dns_message.specs.declared.kind.Kind.TheVariants as kind
+use Rattle.dns_message.specs.declared.naptr.NaptrRecord.{NaptrRecord}
+use Rattle.dns_message.specs.declared.question.Question.{Question}
+use Rattle.sip_uri.specs.declared.host.Host.{Host}
+use Rattle.sip_uri.specs.declared.host.Host.TheVariants as host
+use Rattle.sip_uri.specs.declared.numeric.Address.{Address}
+use Rattle.sip_uri.specs.declared.numeric.Address.TheVariants as address
+use Rattle.sip_uri.specs.declared.transport.Spoken.{Spoken}
+use Rattle.sip_uri.specs.declared.transport.Transport.{Transport}
+use Rattle.sip_uri.specs.declared.transport.Transport.TheVariants.{Tls}
+use Rattle.sip_selection.specs.declared.caps.Caps.{Caps}
+use Rattle.sip_selection.specs.Callers.{offers, families_of, transports_of, kinds_of, same_transport}
+use Rattle.sip_selection.specs.Known.{Given, Needing, after, made, answer_to, rules_in}
+use Rattle.sip_selection.specs.Requests.{target_of, port_of, spoken_of, is_secure, transport_of, usual_transport, default_port}
+use Rattle.sip_selection.specs.Rules.{kept}
+use Rattle.sip_selection.specs.Services.{way_to, target_at, targets_of, Offer, offers_along, is_listed, is_denied, offered_targets}
+use Rattle.sip_selection.specs.declared.reason.Reason.{Reason}
+use Rattle.sip_selection.specs.declared.reason.Reason.TheVariants.{TransportUnsupported, NotOffered, NoAddress}
+use Rattle.sip_selection.specs.declared.request.Request.{Request}
+use Rattle.sip_selection.specs.declared.target.Target.{Target}
+use Rattle.sip_selection.specs.declared.way.Way.{Way}
+
+-- where a request goes: to these targets, nowhere, or as the answer to this question will say
+pub data Resolution : Type 0 where
+  targets : List Target → Resolution
+  refused : Reason → Resolution
+  need : Question → Resolution
+
+-- targets or why there are none, in which an empty list is none
+abbrev pub Settled : Type 0
+Settled = Result (List Target) Reason
+
+abbrev pub settled : Settled → Resolution
+settled (Ok []) = refused NoAddress
+settled (Ok (first ∷ others)) = targets (first ∷ others)
+settled (Err reason) = refused reason
+
+abbrev pub resolved : Needing Settled → Resolution
+resolved (Ok it) = settled it
+resolved (Err question) = need question
+
+-- a transport, if it is one of the caller's
+abbrev pub offered : Caps → Result Transport Reason → Result Transport Reason
+offered caps (Ok transport) = if offers caps transport then Ok transport else Err TransportUnsupported
+offered caps (Err reason) = Err reason
+
+-- the transport where none is named: TLS for SIPS, else UDP
+abbrev pub usual : Bool → Caps → Result Transport Reason
+usual secure caps = offered caps (Ok (usual_transport secure))
+
+-- ---- addresses
+
+-- an address, at the port that is written or the usual one
+abbrev pub to_address : Address → Option ℕ → Result Transport Reason → Needing Settled
+to_address address port (Ok transport) =
+    Ok (Ok (target_at transport (unwrap_or port (default_port transport)) address ∷ []))
+to_address address port (Err reason) = Ok (Err reason)
+
+module _ (caps : Caps) (given : List Given) where
+  -- the addresses of a name at a port
+  abbrev pub to_name : List (List ℕ) → ℕ → Transport → Needing Settled
+  to_name name port transport = made Ok (targets_of given (kinds_of (families_of caps)) transport port name)
+
+  abbrev pub to_port : List (List ℕ) → ℕ → Result Transport Reason → Needing Settled
+  to_port name port (Ok transport) = to_name name port transport
+  to_port name port (Err reason) = Ok (Err reason)
+
+  -- the addresses of a domain that has no services
+  abbrev pub to_domain : List (List ℕ) → Result Transport Reason → Needing Settled
+  to_domain name (Ok transport) = to_name name (default_port transport) transport
+  to_domain name (Err reason) = Ok (Err reason)
+
+  -- ---- services
+
+  -- The targets of all services that are listed, joined. Where none is listed and one is denied, the
+  -- request is not offered; where all are absent, it goes to the domain itself.
+  abbrev pub by_offers : List (List ℕ) → Result Transport Reason → List Offer → Needing Settled
+  by_offers name fallback offers =
+      if list_any is_listed offers then Ok (Ok (flat_map offered_targets offers)) else
+      (if list_any is_denied offers then Ok (Err NotOffered) else to_domain name fallback)
+
+module _ (caps : Caps) (words : List ℕ) (given : List Given) where
+  abbrev pub along : List (List ℕ) → Result Transport Reason → List Way → Needing Settled
+  along name fallback ways =
+      after (by_offers caps given name fallback) (offers_along given (kinds_of (families_of caps)) words ways 0)
+
+  -- the service of the transport that is named
+  abbrev pub to_service : List (List ℕ) → Result Transport Reason → Needing Settled
+  to_service name (Ok transport) = along name (Ok transport) (way_to name transport ∷ [])
+  to_service name (Err reason) = Ok (Err reason)
+
+-- ---- without NAPTR records: a SIP URI does without TLS, and a SIPS URI takes it alone
+
+abbrev pub is_tried : Bool → Transport → Bool
+is_tried secure transport = if secure then same_transport transport Tls else not (same_transport transport Tls)
+
+abbrev pub tried_ways : Bool → List (List ℕ) → List (Option Transport) → List Way
+tried_ways secure name slots = map (way_to name) (filter (is_tried secure) (filter_map (λ slot. slot) slots))
+
+abbrev pub own_ways : Bool → Caps → List (List ℕ) → List Way
+own_ways secure caps name = map (way_to name) (filter (is_tried secure) (transports_of caps))
+
+module _ (secure : Bool) (caps : Caps) (words : List ℕ) (given : List Given) where
+  -- the rules that are kept; without one, the services of the domain
+  abbrev pub led : List (List ℕ) → List Way → Needing Settled
+  led name [] = along caps words given name (usual secure caps) (own_ways secure caps name)
+  led name (first ∷ others) = along caps words given name (Ok first.transport) (first ∷ others)
+
+  abbrev pub by_rules : List (List ℕ) → List NaptrRecord → Needing Settled
+  by_rules name rules = led name (kept secure caps rules)
+
+  abbrev pub by_naptr : List (List ℕ) → Needing Settled
+  by_naptr name =
+      after (λ answer. by_rules name (rules_in answer.records)) (answer_to given (record { name = name; kind = kind.Naptr }))
+
+  -- of a SIPS URI, TLS has to be among the caller's transports before anything is asked
+  abbrev pub discovered : List (List ℕ) → Result Transport Reason → Needing Settled
+  discovered name (Ok transport) = by_naptr name
+  discovered name (Err reason) = if secure then Ok (Err reason) else by_naptr name
+
+-- ---- the request
+
+module _ (request : Request) (caps : Caps) (words : List ℕ) (given : List Given) where
+  abbrev pub transport : Result Transport Reason
+  transport = offered caps (transport_of request)
+
+  abbrev pub to_host : Host → Option ℕ → Option Spoken → Needing Settled
+  to_host (host.V4 octets) port named = to_address (address.V4 octets) port transport
+  to_host (host.V6 octets) port named = to_address (address.V6 octets) port transport
+  to_host (host.Domain name) (Some port) named = to_port caps given name port transport
+  to_host (host.Domain name) None (Some named) = to_service caps words given name transport
+  to_host (host.Domain name) None None =
+      discovered (is_secure request) caps words given name (usual (is_secure request) caps)
+
+  abbrev pub chosen : Needing Settled
+  chosen = to_host (target_of request) (port_of request) (spoken_of request)
+
+  abbrev pub locate : Resolution
+  locate = resolved chosen

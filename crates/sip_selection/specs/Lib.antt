@@ -1,0 +1,10 @@
+pub mod Requests
+pub mod Callers
+pub mod Known
+pub mod Services
+pub mod Rules
+pub mod Choice
+pub mod Trials
+pub mod Views
+pub mod Selections
+pub mod Nexts

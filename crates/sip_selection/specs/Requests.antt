@@ -1,0 +1,65 @@
+-- What a request says of where it goes (RFC 3263 4, 5).
+use Rattle.std.specs.Prelude.{ℕ, Bool, true, false, Option, Some, None, unwrap_or, Result, Ok, Err}
+use Rattle.sip_uri.specs.declared.host.Host.{Host}
+use Rattle.sip_uri.specs.declared.transport.Spoken.{Spoken}
+use Rattle.sip_uri.specs.declared.transport.Spoken.TheVariants as spoken
+use Rattle.sip_uri.specs.declared.transport.Transport.{Transport}
+use Rattle.sip_uri.specs.declared.transport.Transport.TheVariants.{Udp, Tcp, Sctp, Tls}
+use Rattle.sip_selection.specs.declared.reason.Reason.{Reason}
+use Rattle.sip_selection.specs.declared.reason.Reason.TheVariants.{TransportUnsupported, TransportNotSecure}
+use Rattle.sip_selection.specs.declared.request.Request.{Request}
+use Rattle.sip_selection.specs.declared.request.Request.TheVariants.{Uri, Via}
+
+-- TARGET: of a URI the parameter maddr where there is one, else the host; of a Via the host
+abbrev pub target_of : Request → Host
+target_of (Uri uri) = unwrap_or uri.maddr uri.host
+target_of (Via via) = via.host
+
+abbrev pub port_of : Request → Option ℕ
+port_of (Uri uri) = uri.port
+port_of (Via via) = via.port
+
+-- the transport that is named, if one is
+abbrev pub spoken_of : Request → Option Spoken
+spoken_of (Uri uri) = uri.transport
+spoken_of (Via via) = Some via.transport
+
+-- a SIPS URI
+abbrev pub is_secure : Request → Bool
+is_secure (Uri uri) = uri.secure
+is_secure (Via via) = false
+
+-- ---- the transport (RFC 3263 4.1, 5)
+
+-- a named one is meant as it is written
+abbrev pub plainly : Spoken → Result Transport Reason
+plainly (spoken.Known transport) = Ok transport
+plainly spoken.Other = Err TransportUnsupported
+
+-- by a SIPS URI TLS over TCP is meant, under either name (RFC 3261 19.1.1, 26.2.2)
+abbrev pub securely : Spoken → Result Transport Reason
+securely (spoken.Known Udp) = Err TransportNotSecure
+securely (spoken.Known Tcp) = Ok Tls
+securely (spoken.Known Sctp) = Err TransportUnsupported
+securely (spoken.Known Tls) = Ok Tls
+securely spoken.Other = Err TransportUnsupported
+
+-- where none is named: TLS for SIPS, else UDP
+abbrev pub usual_transport : Bool → Transport
+usual_transport true = Tls
+usual_transport false = Udp
+
+abbrev pub meant_by : Bool → Option Spoken → Result Transport Reason
+meant_by secure None = Ok (usual_transport secure)
+meant_by true (Some named) = securely named
+meant_by false (Some named) = plainly named
+
+abbrev pub transport_of : Request → Result Transport Reason
+transport_of request = meant_by (is_secure request) (spoken_of request)
+
+-- the port where none is written (RFC 3261 18.1.1, 19.1.2)
+abbrev pub default_port : Transport → ℕ
+default_port Tls = 5061
+default_port Udp = 5060
+default_port Tcp = 5060
+default_port Sctp = 5060

@@ -1,0 +1,119 @@
+-- The services of a name, and the targets that SRV records give (RFC 3263 4.1, 4.2, RFC 2782).
+use Rattle.std.specs.Prelude.{ℕ, nat_lt, Bool, true, false, List, [], ◌∷◌, length, map, codes, Option, Some, None, slice_get, Ok, if◌then◌else◌}
+use Rattle.std.specs.Option.{option_map_or}
+use Rattle.dns_answers.specs.Values.{AnswerValue}
+use Rattle.dns_name.specs.Labels.{wire_of}
+use Rattle.dns_message.specs.declared.kind.Kind.{Kind}
+use Rattle.dns_message.specs.declared.kind.Kind.TheVariants as kind
+use Rattle.dns_message.specs.declared.srv.SrvRecord.{SrvRecord}
+use Rattle.sip_uri.specs.declared.numeric.Address.{Address}
+use Rattle.sip_uri.specs.declared.transport.Transport.{Transport}
+use Rattle.sip_uri.specs.declared.transport.Transport.TheVariants.{Udp, Tcp, Sctp, Tls}
+use Rattle.srv_choice.specs.Outcomes.{order_from, is_root}
+use Rattle.srv_choice.specs.declared.outcome.SrvOutcome.{SrvOutcome}
+use Rattle.srv_choice.specs.declared.outcome.SrvOutcome.TheVariants.{Absent, Denied, Listed}
+use Rattle.sip_selection.specs.Known.{Given, Needing, after, made, joined, answer_to, addresses_in, servers_in}
+use Rattle.sip_selection.specs.declared.target.Target.{Target}
+use Rattle.sip_selection.specs.declared.way.Way.{Way}
+
+-- the labels in front of a domain, by the transport of the service (RFC 3263 4.1, RFC 2782)
+abbrev pub service_label : Transport → List ℕ
+service_label Udp = codes "_sip"
+service_label Tcp = codes "_sip"
+service_label Sctp = codes "_sip"
+service_label Tls = codes "_sips"
+
+abbrev pub proto_label : Transport → List ℕ
+proto_label Udp = codes "_udp"
+proto_label Tcp = codes "_tcp"
+proto_label Sctp = codes "_sctp"
+proto_label Tls = codes "_tcp"
+
+-- a name, where it has at most 255 octets
+abbrev pub fitting : List (List ℕ) → Option (List (List ℕ))
+fitting name = if nat_lt 255 (length (wire_of name)) then None else Some name
+
+-- the service of a domain by a transport, and the name of its SRV records
+abbrev pub way_to : List (List ℕ) → Transport → Way
+way_to domain transport = record { transport = transport; name = fitting (service_label transport ∷ proto_label transport ∷ domain) }
+
+-- ---- targets
+
+abbrev pub target_at : Transport → ℕ → Address → Target
+target_at transport port address = record { transport = transport; address = address; port = port }
+
+module _ (given : List Given) (kinds : List Kind) where
+  -- the addresses of a name at a port: of each kind of question in turn (RFC 3263 4.2)
+  abbrev pub kind_targets : Transport → ℕ → List (List ℕ) → Kind → Needing (List Target)
+  kind_targets transport port name kind =
+      made (λ answer. map (target_at transport port) (addresses_in answer.records)) (answer_to given (record { name = name; kind = kind }))
+
+  abbrev pub targets_of : Transport → ℕ → List (List ℕ) → Needing (List Target)
+  targets_of transport port name = joined (kind_targets transport port name) kinds
+
+  -- those of a server, at its port; the root among several servers is passed over
+  abbrev pub server_targets : Transport → SrvRecord → Needing (List Target)
+  server_targets transport server =
+      if is_root server.target then Ok [] else targets_of transport server.port server.target
+
+  -- those of the server at a place
+  abbrev pub place_targets : Transport → List SrvRecord → ℕ → Needing (List Target)
+  place_targets transport servers place = option_map_or (server_targets transport) (slice_get servers place) (Ok [])
+
+-- ---- a service
+
+-- what there is of a service: nothing, the word that it is not offered, or targets, and the place of
+-- the next random word
+pub data Offer : Type 0 where
+  absent : Offer
+  denied : Offer
+  listed : List Target → ℕ → Offer
+
+abbrev pub is_listed : Offer → Bool
+is_listed absent = false
+is_listed denied = false
+is_listed (listed targets next) = true
+
+abbrev pub is_denied : Offer → Bool
+is_denied absent = false
+is_denied denied = true
+is_denied (listed targets next) = false
+
+abbrev pub offered_targets : Offer → List Target
+offered_targets absent = []
+offered_targets denied = []
+offered_targets (listed targets next) = targets
+
+-- absent and denied services use no word
+abbrev pub next_word : ℕ → Offer → ℕ
+next_word word absent = word
+next_word word denied = word
+next_word word (listed targets next) = next
+
+module _ (given : List Given) (kinds : List Kind) where
+  abbrev pub offer_of : Transport → List SrvRecord → SrvOutcome → Needing Offer
+  offer_of transport servers Absent = Ok absent
+  offer_of transport servers Denied = Ok denied
+  offer_of transport servers (Listed places next) =
+      made (λ targets. listed targets next) (joined (place_targets given kinds transport servers) places)
+
+  -- what the SRV records of a way offer, ordered by the words from a place on; where a way has no name,
+  -- there are none
+  abbrev pub offer_by : List ℕ → Transport → ℕ → AnswerValue → Needing Offer
+  offer_by words transport word answer =
+      offer_of transport (servers_in answer.records) (order_from (servers_in answer.records) words word)
+
+  abbrev pub offer_named : List ℕ → Transport → ℕ → Option (List (List ℕ)) → Needing Offer
+  offer_named words transport word None = Ok absent
+  offer_named words transport word (Some name) =
+      after (offer_by words transport word) (answer_to given (record { name = name; kind = kind.Srv }))
+
+  abbrev pub offer_along : List ℕ → Way → ℕ → Needing Offer
+  offer_along words way word = offer_named words way.transport word way.name
+
+  -- one after the other, the words going on from each to the next
+  abbrev pub offers_along : List ℕ → List Way → ℕ → Needing (List Offer)
+  offers_along words [] word = Ok []
+  offers_along words (way ∷ ways) word =
+      after (λ offer. made (λ others. offer ∷ others) (offers_along words ways (next_word word offer)))
+      (offer_along words way word)

@@ -1,0 +1,81 @@
+//! Where a SIP request or response goes (RFC 3263 4, 5), asked for one DNS question at a time.
+//!
+//! A `Selection` does no input or output. It says which question it needs, takes the answer, and
+//! ends with targets in the order in which they are to be tried, or with the reason why there are
+//! none. A `Failover` then goes through the targets as the caller tells how each try went
+//! (RFC 3263 4.3).
+//!
+//! ```text
+//! let mut selection = Selection::new(alloc, request, caps, words)?;
+//! loop {
+//!     match selection.next() {
+//!         Next::Ask(question) => {
+//!             let question = question.try_clone()?;
+//!             let answer = /* ask a name server */;
+//!             selection.give(alloc, &question, answer)?;
+//!         }
+//!         Next::Targets(targets) => { /* try them, by a Failover */ }
+//!         Next::Refused(reason) => { /* it goes nowhere */ }
+//!     }
+//! }
+//! ```
+//!
+//! For `sip:b.example`, a caller with UDP and TCP, and IPv4 alone, it can go so:
+//!
+//! ```text
+//! next: NAPTR b.example.                give: no records
+//! next: SRV   _sip._udp.b.example.      give: one record, whose target is the root
+//! next: SRV   _sip._tcp.b.example.      give: port 5070 of s.b.example.
+//! next: A     s.b.example.              give: 192.0.2.20
+//! next: TCP to 192.0.2.20, port 5070
+//! ```
+//!
+//! What is next depends on the request, the caller's transports and families, the random words and
+//! the answers given, and on nothing else. `next` takes no memory, and to call it again changes
+//! nothing. `give` takes the answer to the question that is asked, and no other; after a refusal
+//! the selection is as before, so the same answer can be given again where memory was refused. An
+//! answer is given at most once for a question, though several servers can have the same name.
+//!
+//! `specs/Choice.antt` says where a request goes, as one function `locate` of all this. Laws tell
+//! what follows from it: a numeric target asks nothing (`numeric_targets_ask_nothing`), a SIPS
+//! request goes over TLS alone (`secure_requests_go_over_tls`), each target has an address that was
+//! answered or written (`targets_are_answered`), and where a request goes stays so when further
+//! answers are given (`resolutions_are_final`). There are at most 521 questions
+//! (`questions_are_few`) and 16,384 targets (`targets_are_few`).
+//!
+//! Each `give` computes the choice anew from all answers given so far. It does not go on from where
+//! the choice stopped.
+#![tactic(auto)]
+
+mod caps;
+mod choice;
+mod choice_laws;
+mod failover;
+mod known;
+mod laws;
+mod offers;
+mod reason;
+mod request;
+mod rules;
+mod selection;
+mod target;
+mod targets;
+mod transports;
+mod way;
+
+pub use caps::{Caps, Families};
+pub use choice_laws::{
+    numeric_targets_ask_nothing, questions_are_few, questions_are_missing,
+    secure_requests_go_over_tls, targets_are_answered, targets_are_few, targets_are_offered,
+};
+pub use failover::{Event, Failover, Failure, Progress};
+pub use laws::{resolutions_are_final, rules_stand_by_preference, trials_follow_events};
+pub use reason::Reason;
+pub use request::Request;
+pub use selection::{GiveRefusal, Next, Selection};
+pub use target::Target;
+
+#[cfg(test)]
+mod refusals;
+#[cfg(test)]
+mod tests;

@@ -1,0 +1,279 @@
+//! NAPTR records and where they lead, worked out by hand, as a table.
+use crate::caps::{Caps, Families};
+use crate::rules::kept;
+use crate::way::Way;
+use dns_message::{CharString, NaptrRecord};
+use dns_name::Name;
+use sip_uri::Transport;
+use sip_uri::Transport::{Sctp, Tcp, Tls, Udp};
+use std::alloc::Global;
+use std::test::Fail;
+
+/// ORDER, PREFERENCE, flags, services, regular expression and replacement.
+pub(crate) type Rule = (
+    u16,
+    u16,
+    &'static str,
+    &'static str,
+    &'static str,
+    &'static str,
+);
+
+/// Rules, whether the URI is a SIPS one, the caller's transports, and where that leads.
+struct Row {
+    rules: &'static [Rule],
+    secure: bool,
+    transports: &'static [Transport],
+    ways: &'static [(Transport, &'static str)],
+}
+
+/// The example of RFC 3263 4.1.
+pub(crate) const EXAMPLE: &[Rule] = &[
+    (50, 50, "s", "SIPS+D2T", "", "_sips._tcp.example.com."),
+    (90, 50, "s", "SIP+D2T", "", "_sip._tcp.example.com"),
+    (100, 50, "s", "SIP+D2U", "", "_sip._udp.example.com."),
+];
+
+/// Nine rules, the last one in the message preferred.
+const NINE: &[Rule] = &[
+    (7, 9, "s", "SIP+D2U", "", "i.example"),
+    (7, 8, "s", "SIP+D2U", "", "h.example"),
+    (7, 7, "s", "SIP+D2T", "", "g.example"),
+    (7, 6, "s", "SIP+D2U", "", "f.example"),
+    (7, 5, "s", "SIP+D2U", "", "e.example"),
+    (7, 4, "s", "SIP+D2T", "", "d.example"),
+    (7, 3, "s", "SIP+D2U", "", "c.example"),
+    (7, 2, "s", "SIP+D2U", "", "b.example"),
+    (7, 1, "s", "SIP+D2T", "", "a.example"),
+];
+
+const ROWS: &[Row] = &[
+    // without TLS, TCP is preferred
+    Row {
+        rules: EXAMPLE,
+        secure: false,
+        transports: &[Udp, Tcp],
+        ways: &[(Tcp, "_sip._tcp.example.com.")],
+    },
+    Row {
+        rules: EXAMPLE,
+        secure: false,
+        transports: &[Udp, Tcp, Tls],
+        ways: &[(Tls, "_sips._tcp.example.com.")],
+    },
+    Row {
+        rules: EXAMPLE,
+        secure: false,
+        transports: &[Sctp, Udp],
+        ways: &[(Udp, "_sip._udp.example.com.")],
+    },
+    Row {
+        rules: EXAMPLE,
+        secure: false,
+        transports: &[Sctp],
+        ways: &[],
+    },
+    // a SIPS URI goes by TLS alone
+    Row {
+        rules: EXAMPLE,
+        secure: true,
+        transports: &[Udp, Tcp, Tls],
+        ways: &[(Tls, "_sips._tcp.example.com.")],
+    },
+    Row {
+        rules: EXAMPLE,
+        secure: true,
+        transports: &[Udp, Tcp],
+        ways: &[],
+    },
+    Row {
+        rules: &[
+            (10, 0, "s", "SIP+D2T", "", "_sip._tcp.b.example"),
+            (20, 0, "s", "SIPS+D2T", "", "_sips._tcp.b.example"),
+        ],
+        secure: true,
+        transports: &[Tcp, Tls],
+        ways: &[(Tls, "_sips._tcp.b.example.")],
+    },
+    // letters of any case, and of a name small ones
+    Row {
+        rules: &[
+            (1, 1, "S", "sip+d2u", "", "U.Example"),
+            (1, 2, "s", "Sip+d2T", "", "t.example"),
+            (1, 3, "S", "SIP+d2s", "", "s.example"),
+            (1, 4, "s", "siPS+D2t", "", "l.example"),
+        ],
+        secure: false,
+        transports: &[Udp, Tcp, Sctp, Tls],
+        ways: &[
+            (Udp, "u.example."),
+            (Tcp, "t.example."),
+            (Sctp, "s.example."),
+            (Tls, "l.example."),
+        ],
+    },
+    // other flags, a regular expression, and the root
+    Row {
+        rules: &[
+            (1, 1, "u", "SIP+D2U", "", "u.example"),
+            (1, 1, "a", "SIP+D2U", "", "a.example"),
+            (1, 1, "", "SIP+D2U", "", "n.example"),
+            (1, 1, "ss", "SIP+D2U", "", "t.example"),
+            (1, 1, "s", "SIP+D2U", "!^.*$!sip:r@example!", "."),
+            (1, 1, "s", "SIP+D2U", "!a!b!", "r.example"),
+            (1, 1, "s", "SIP+D2U", "", "."),
+        ],
+        secure: false,
+        transports: &[Udp, Tcp],
+        ways: &[],
+    },
+    // other services
+    Row {
+        rules: &[
+            (1, 1, "s", "SIPS+D2U", "", "a.example"),
+            (1, 1, "s", "SIP+D2X", "", "b.example"),
+            (1, 1, "s", "SIP+D2UU", "", "c.example"),
+            (1, 1, "s", "SIP", "", "d.example"),
+            (1, 1, "s", "", "", "e.example"),
+            (1, 1, "s", "E2U+sip", "", "f.example"),
+        ],
+        secure: false,
+        transports: &[Udp, Tcp, Sctp, Tls],
+        ways: &[],
+    },
+    // the least ORDER is that of the rules that lead to a service
+    Row {
+        rules: &[
+            (1, 1, "u", "SIP+D2U", "", "a.example"),
+            (2, 1, "s", "E2U+sip", "", "b.example"),
+            (3, 1, "s", "SIP+D2U", "!a!b!", "c.example"),
+            (4, 1, "s", "SIP+D2U", "", "."),
+            (5, 1, "s", "SIPS+D2T", "", "d.example"),
+            (20, 1, "s", "SIP+D2T", "", "e.example"),
+            (10, 2, "s", "SIP+D2U", "", "f.example"),
+            (10, 1, "s", "SIP+D2T", "", "g.example"),
+        ],
+        secure: false,
+        transports: &[Udp, Tcp],
+        ways: &[(Tcp, "g.example."), (Udp, "f.example.")],
+    },
+    // ORDER counts before PREFERENCE
+    Row {
+        rules: &[
+            (65_535, 0, "s", "SIP+D2U", "", "a.example"),
+            (0, 65_535, "s", "SIP+D2T", "", "b.example"),
+            (1, 0, "s", "SIP+D2U", "", "c.example"),
+        ],
+        secure: false,
+        transports: &[Udp, Tcp],
+        ways: &[(Tcp, "b.example.")],
+    },
+    // of one PREFERENCE they stand as in the message
+    Row {
+        rules: &[
+            (10, 5, "s", "SIP+D2T", "", "a.example"),
+            (10, 5, "s", "SIP+D2U", "", "b.example"),
+            (10, 1, "s", "SIPS+D2T", "", "c.example"),
+            (10, 9, "s", "SIP+D2U", "", "d.example"),
+            (10, 5, "s", "SIP+D2T", "", "e.example"),
+            (10, 1, "s", "SIP+D2U", "", "f.example"),
+        ],
+        secure: false,
+        transports: &[Tls, Udp, Tcp],
+        ways: &[
+            (Tls, "c.example."),
+            (Udp, "f.example."),
+            (Tcp, "a.example."),
+            (Udp, "b.example."),
+            (Tcp, "e.example."),
+            (Udp, "d.example."),
+        ],
+    },
+    // the ninth is not kept
+    Row {
+        rules: NINE,
+        secure: false,
+        transports: &[Udp, Tcp],
+        ways: &[
+            (Tcp, "a.example."),
+            (Udp, "b.example."),
+            (Udp, "c.example."),
+            (Tcp, "d.example."),
+            (Udp, "e.example."),
+            (Udp, "f.example."),
+            (Tcp, "g.example."),
+            (Udp, "h.example."),
+        ],
+    },
+    Row {
+        rules: NINE,
+        secure: false,
+        transports: &[Tcp],
+        ways: &[
+            (Tcp, "a.example."),
+            (Tcp, "d.example."),
+            (Tcp, "g.example."),
+        ],
+    },
+    Row {
+        rules: &[],
+        secure: false,
+        transports: &[Udp],
+        ways: &[],
+    },
+];
+
+/// A character string of this text, where there is memory for it.
+fn char_string(alloc: Global, text: &str) -> Option<CharString> {
+    CharString::new(Vec::from_slice(alloc, text.as_bytes()).ok()?)
+}
+
+/// Records of these rules, where there is memory for them.
+pub(crate) fn records(alloc: Global, rules: &[Rule]) -> Option<Vec<NaptrRecord>> {
+    let mut records = Vec::new(alloc);
+    for rule in rules {
+        let (order, preference, flags, services, regexp, replacement) = *rule;
+        records
+            .push(NaptrRecord {
+                order,
+                preference,
+                flags: char_string(alloc, flags)?,
+                services: char_string(alloc, services)?,
+                regexp: char_string(alloc, regexp)?,
+                replacement: Name::from_text(alloc, replacement).ok()?,
+            })
+            .ok()?;
+    }
+    Some(records)
+}
+
+/// The transports of ways and the texts of their names, where there is memory for them.
+fn told(alloc: Global, ways: &[Way]) -> Option<Vec<(Transport, String)>> {
+    let mut told = Vec::new(alloc);
+    for way in ways {
+        let name = way.name.as_ref()?.text().ok()?;
+        told.push((way.transport, name)).ok()?;
+    }
+    Some(told)
+}
+
+/// Where the rules of a row lead, where there is memory for it.
+fn led(alloc: Global, row: &Row) -> Option<Vec<(Transport, String)>> {
+    let caps = Caps::new(row.transports, Families::V4)?;
+    let rules = records(alloc, row.rules)?;
+    let ways = kept(alloc, row.secure, &caps, &rules).ok()?;
+    told(alloc, &ways)
+}
+
+#[test]
+fn rules_lead(rt: HostRuntime) -> Result<(), Fail> {
+    for row in ROWS {
+        let ways = led(rt.alloc(), row).ok_or("memory")?;
+        assert_eq!(rt; ways.len(), row.ways.len());
+        for (way, expected) in ways.iter().zip(row.ways) {
+            assert_eq!(rt; way.0, expected.0);
+            assert_eq!(rt; way.1.as_str(), expected.1);
+        }
+    }
+    Ok(())
+}

@@ -1,0 +1,88 @@
+//! The transport of a request (RFC 3263 4.1, 5).
+ghost use Rattle.std.specs.Prelude.{◌≡◌};
+ghost use Rattle.sip_selection.specs.Choice as choice;
+ghost use Rattle.sip_selection.specs.Requests as spec;
+
+use crate::caps::Caps;
+use crate::reason::Reason;
+use crate::request::Request;
+use sip_uri::{Spoken, Transport};
+
+/// The port of a transport where none is written (RFC 3261 18.1.1, 19.1.2).
+pub(crate) fn default_port(transport: Transport) -> u16
+    ensures { result ≡ spec.default_port transport }
+{
+    match transport {
+        Transport::Udp | Transport::Tcp | Transport::Sctp => 5060,
+        Transport::Tls => 5061,
+    }
+}
+
+/// The transport that is meant by one as it is written.
+fn plainly(spoken: Spoken) -> Result<Transport, Reason>
+    ensures { result ≡ spec.plainly spoken }
+{
+    match spoken {
+        Spoken::Known(transport) => Ok(transport),
+        Spoken::Other => Err(Reason::TransportUnsupported),
+    }
+}
+
+/// The transport that is meant by one of a SIPS URI (RFC 3261 19.1.1, 26.2.2).
+fn securely(spoken: Spoken) -> Result<Transport, Reason>
+    ensures { result ≡ spec.securely spoken }
+{
+    match spoken {
+        Spoken::Known(Transport::Tcp | Transport::Tls) => Ok(Transport::Tls),
+        Spoken::Known(Transport::Udp) => Err(Reason::TransportNotSecure),
+        Spoken::Known(Transport::Sctp) | Spoken::Other => Err(Reason::TransportUnsupported),
+    }
+}
+
+/// The transport where none is named.
+fn usual_transport(secure: bool) -> Transport
+    ensures { result ≡ spec.usual_transport secure }
+{
+    if secure {
+        Transport::Tls
+    } else {
+        Transport::Udp
+    }
+}
+
+/// The transport that a request means.
+fn transport_of(request: &Request) -> Result<Transport, Reason>
+    ensures { result ≡ spec.transport_of request.now }
+{
+    match request.spoken() {
+        None => Ok(usual_transport(request.is_secure())),
+        Some(spoken) if request.is_secure() => securely(spoken),
+        Some(spoken) => plainly(spoken),
+    }
+}
+
+/// A transport, if it is one of the caller's.
+fn offered(caps: &Caps, transport: Result<Transport, Reason>) -> Result<Transport, Reason>
+    ensures { result ≡ choice.offered caps.now transport }
+{
+    let transport = transport?;
+    if caps.offers(transport) {
+        Ok(transport)
+    } else {
+        Err(Reason::TransportUnsupported)
+    }
+}
+
+/// The transport that a request means, if it is one of the caller's.
+pub(crate) fn transport_offered(request: &Request, caps: &Caps) -> Result<Transport, Reason>
+    ensures { result ≡ choice.offered caps.now (spec.transport_of request.now) }
+{
+    offered(caps, transport_of(request))
+}
+
+/// The transport where none is named, if it is one of the caller's.
+pub(crate) fn usual(secure: bool, caps: &Caps) -> Result<Transport, Reason>
+    ensures { result ≡ choice.usual secure caps.now }
+{
+    offered(caps, Ok(usual_transport(secure)))
+}
