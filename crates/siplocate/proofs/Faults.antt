@@ -2,7 +2,7 @@
 use Rattle.std.proofs.Common.{◌≡◌, ℕ, ◌<◌, ◌≤◌, List, length, take, inl, inr, ◌⊎◌}
 use Rattle.dns_message.specs.Messages.{Spells}
 use Rattle.dns_message.specs.declared.message.Message.{Message}
-use Rattle.siplocate.specs.Choice.{Resolution}
+use Rattle.sip_selection.specs.Choice.{Resolution}
 use Rattle.siplocate.specs.Replies.{Digits, IsAsking, IsFault}
 use Rattle.siplocate.specs.declared.reply.BadReply.{BadReply}
 use Rattle.siplocate.specs.declared.reply.BadReply.TheVariants.{TooLong, Malformed, Memory}

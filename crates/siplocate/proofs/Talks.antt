@@ -4,19 +4,20 @@ use Rattle.std.specs.List.{AllZip}
 use Rattle.std.specs.Option.{option_and_then}
 use Rattle.std.proofs.lemmas.List.{drop_more, take_more, drop_all, take_all, take-append-drop}
 use Rattle.dns_message.specs.declared.message.Message.{Message}
-use Rattle.siplocate.specs.declared.request.Request.{Request}
-use Rattle.siplocate.specs.declared.arguments.Families.{Families}
-use Rattle.siplocate.specs.declared.choice.Answered.{Answered}
-use Rattle.siplocate.specs.Choice.{Resolution, told, locate, talk, talk_from}
+use Rattle.sip_selection.specs.declared.request.Request.{Request}
+use Rattle.sip_selection.specs.declared.caps.Families.{Families}
+use Rattle.sip_selection.specs.Choice.{Resolution}
+use Rattle.sip_selection.specs.Known.{Given}
+use Rattle.siplocate.specs.Talks.{goes, told, talk, talk_from}
 use Rattle.siplocate.specs.declared.reply.BadReply.{BadReply}
 use Rattle.siplocate.specs.Replies.{ReplyLine, IsFault, FailsAt}
 
-carried : (f g : Answered → Option (List Answered)) (x y : List Answered) (o : Option Answered) → ((k : Answered) → f k ≡ Some x → g k ≡ Some y) → option_and_then f o ≡ Some x → option_and_then g o ≡ Some y
+carried : (f g : Given → Option (List Given)) (x y : List Given) (o : Option Given) → ((k : Given) → f k ≡ Some x → g k ≡ Some y) → option_and_then f o ≡ Some x → option_and_then g o ≡ Some y
 carried f g x y None h e = absurd cc
 carried f g x y (Some k) h e = h k e
 
 -- an option that leads to something is something
-led : (f : Answered → Option (List Answered)) (x : List Answered) (o : Option Answered) → option_and_then f o ≡ Some x → (k : Answered) × (o ≡ Some k)
+led : (f : Given → Option (List Given)) (x : List Given) (o : Option Given) → option_and_then f o ≡ Some x → (k : Given) × (o ≡ Some k)
 led f x None e = absurd cc
 led f x (Some k) e = (k, refl)
 
@@ -37,33 +38,33 @@ no_reply [] all = refl
 no_reply (message ∷ others) none = absurd none
 
 module _ (families : Families) (request : Request) where
-  talk-push : (known : List Answered) (messages : List Message) (known' : List Answered) (message : Message) (more : Answered) → talk_from families request known messages ≡ Some known'
-      → told (locate families request known') message ≡ Some more
+  talk-push : (known : List Given) (messages : List Message) (known' : List Given) (message : Message) (more : Given) → talk_from families request known messages ≡ Some known'
+      → told (goes families request known') message ≡ Some more
       → talk_from families request known (messages ++ message ∷ []) ≡ Some (known' ++ more ∷ [])
   talk-push known [] known' message more e t =
       let same : known ≡ known' = cc in
-      let here : told (locate families request known) message ≡ Some more = rw same t in
+      let here : told (goes families request known) message ≡ Some more = rw same t in
       rw (here, same) refl
   talk-push known (m ∷ messages) known' message more e t =
       carried
-      (λ (k : Answered). talk_from families request (known ++ k ∷ []) messages)
-      (λ (k : Answered). talk_from families request (known ++ k ∷ []) (messages ++ message ∷ []))
-      known' (known' ++ more ∷ []) (told (locate families request known) m)
+      (λ (k : Given). talk_from families request (known ++ k ∷ []) messages)
+      (λ (k : Given). talk_from families request (known ++ k ∷ []) (messages ++ message ∷ []))
+      known' (known' ++ more ∷ []) (told (goes families request known) m)
       (λ k e'. talk-push (known ++ k ∷ []) messages known' message more e' t) e
 
   -- after so many lines this is known, and this is the resolution
-  pub record Talking (lines : List (List ℕ)) (count : ℕ) (known : List Answered) (resolution : Resolution) : Type 0 where
-    pub is : resolution ≡ locate families request known
+  pub record Talking (lines : List (List ℕ)) (count : ℕ) (known : List Given) (resolution : Resolution) : Type 0 where
+    pub is : resolution ≡ goes families request known
     pub messages : List Message
     pub replies : AllZip ReplyLine (take count lines) messages
     pub talked : talk families request messages ≡ Some known
     pub goes_on : (all : List Message) → AllZip ReplyLine lines all
         → (rest : List Message) × AllZip ReplyLine (drop count lines) rest × (talk_from families request known rest ≡ talk families request all)
 
-  pub begun : (lines : List (List ℕ)) (resolution : Resolution) → resolution ≡ locate families request [] → Talking lines 0 [] resolution
+  pub begun : (lines : List (List ℕ)) (resolution : Resolution) → resolution ≡ goes families request [] → Talking lines 0 [] resolution
   begun lines resolution e = record { is = e; messages = []; replies = tt; talked = refl; goes_on = λ all replies. (all, replies, refl) }
 
-  module _ (lines : List (List ℕ)) (count : ℕ) (known : List Answered) (resolution : Resolution) (so_far : Talking lines count known resolution) where
+  module _ (lines : List (List ℕ)) (count : ℕ) (known : List Given) (resolution : Resolution) (so_far : Talking lines count known resolution) where
     module _ (line : List ℕ) (within : count < length lines) (is : line ≡ get_or lines count line) where
       rest-is : drop count lines ≡ line ∷ drop (count + 1) lines
       rest-is = drop_more lines count line within ∙ ap (λ (l : List ℕ). l ∷ drop (count + 1) lines) (sym is)
@@ -71,9 +72,9 @@ module _ (families : Families) (request : Request) where
       front-is : take (count + 1) lines ≡ take count lines ++ line ∷ []
       front-is = take_more lines count line within ∙ ap (λ (l : List ℕ). take count lines ++ l ∷ []) (sym is)
 
-      pub next : (message : Message) (more : Answered) (resolution' : Resolution) → ReplyLine line message → told resolution message ≡ Some more
+      pub next : (message : Message) (more : Given) (resolution' : Resolution) → ReplyLine line message → told resolution message ≡ Some more
           → ((found : Message) → ReplyLine line found → told resolution found ≡ Some more)
-          → resolution' ≡ locate families request (known ++ more ∷ [])
+          → resolution' ≡ goes families request (known ++ more ∷ [])
           → Talking lines (count + 1) (known ++ more ∷ []) resolution'
       next message more resolution' reply t each e = record {
         is = e;
@@ -83,7 +84,7 @@ module _ (families : Families) (request : Request) where
         goes_on = λ all replies.
             let k = so_far.goes_on all replies in
             let f = first_reply line (drop (count + 1) lines) k.0 (rw rest-is at k.1) in
-            let told-is : told (locate families request known) f.0 ≡ Some more = rw so_far.is at each f.0 f.3 in
+            let told-is : told (goes families request known) f.0 ≡ Some more = rw so_far.is at each f.0 f.3 in
             let one : talk_from families request (known ++ more ∷ []) f.1 ≡ talk_from families request known (f.0 ∷ f.1) = rw told-is refl in
             (f.1, f.4, one ∙ ap (talk_from families request known) (sym f.2) ∙ k.2);
       }
@@ -103,18 +104,18 @@ module _ (families : Families) (request : Request) where
       }
 
       -- where all lines are replies, this one is
-      pub has_reply : (all : List Message) (known' : List Answered) → AllZip ReplyLine lines all → talk families request all ≡ Some known' → (message : Message) × (more : Answered) × ReplyLine line message × (told resolution message ≡ Some more)
+      pub has_reply : (all : List Message) (known' : List Given) → AllZip ReplyLine lines all → talk families request all ≡ Some known' → (message : Message) × (more : Given) × ReplyLine line message × (told resolution message ≡ Some more)
       has_reply all known' replies e =
           let k = so_far.goes_on all replies in
           let f = first_reply line (drop (count + 1) lines) k.0 (rw rest-is at k.1) in
           let whole : talk_from families request known (f.0 ∷ f.1) ≡ Some known' = ap (talk_from families request known) (sym f.2) ∙ k.2 ∙ e in
-          let more = led (λ (k : Answered). talk_from families request (known ++ k ∷ []) f.1) known' (told (locate families request known) f.0) whole in
+          let more = led (λ (k : Given). talk_from families request (known ++ k ∷ []) f.1) known' (told (goes families request known) f.0) whole in
           (f.0, more.0, f.3, ap (λ (o : Resolution). told o f.0) so_far.is ∙ more.1)
 
     pub ends : count ≡ length lines → AllZip ReplyLine lines so_far.messages
     ends all = rw (take_all count lines (omega arith)) at so_far.replies
 
-    pub all_known : count ≡ length lines → (all : List Message) (known' : List Answered) → AllZip ReplyLine lines all → talk families request all ≡ Some known' → known ≡ known'
+    pub all_known : count ≡ length lines → (all : List Message) (known' : List Given) → AllZip ReplyLine lines all → talk families request all ≡ Some known' → known ≡ known'
     all_known done all known' replies e =
         let k = so_far.goes_on all replies in
         let none = no_reply k.0 (rw (drop_all count lines (omega arith)) at k.1) in

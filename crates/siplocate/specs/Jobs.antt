@@ -2,13 +2,13 @@
 use Rattle.std.specs.Prelude.{◌≡◌, ◌≤◌, ◌⊎◌, ⊤, ℕ, List, Option, Ok, Err, codes}
 use Rattle.std.specs.Io.KnownBytes.{Appends}
 use Rattle.std.specs.String.{string_bytes}
-use Rattle.siplocate.specs.declared.arguments.Families.{Families}
+use Rattle.sip_selection.specs.declared.caps.Families.{Families}
 use Rattle.siplocate.specs.declared.input.InputRefusal.TheVariants.{Input, Memory}
 use Rattle.siplocate.specs.declared.job.Job.{Job}
 use Rattle.siplocate.specs.declared.job.Job.TheVariants as job
 use Rattle.siplocate.specs.declared.job.Told.{Told}
 use Rattle.siplocate.specs.declared.job.Told.TheVariants.{Text, Usage, NoInput, NoMemory}
-use Rattle.siplocate.specs.Choice.{Resolution}
+use Rattle.sip_selection.specs.Choice.{Resolution}
 use Rattle.siplocate.specs.Requests.{LocatesTo}
 use Rattle.siplocate.specs.Words as words
 
@@ -38,7 +38,7 @@ Tells job.Usage told = told ≡ Usage
 -- its text, and its status
 abbrev pub printed : Told → List ℕ
 printed (Text text own) = string_bytes text
-printed Usage = codes "usage: siplocate one\n"
+printed Usage = codes "usage: siplocate one [4|6|46|64]\n"
 printed NoInput = codes "fault input\n"
 printed NoMemory = codes "fault memory\n"
 

@@ -6,7 +6,7 @@ use Rattle.siplocate.specs.declared.one.OneRefusal.{OneRefusal}
 use Rattle.siplocate.specs.declared.one.OneRefusal.TheVariants.{Request, Reply, Memory}
 use Rattle.siplocate.specs.declared.reply.BadReply.{BadReply}
 use Rattle.siplocate.specs.declared.reply.BadReply.TheVariants as bad
-use Rattle.siplocate.specs.declared.arguments.Families.{Families}
+use Rattle.sip_selection.specs.declared.caps.Families.{Families}
 use Rattle.siplocate.specs.Requests.{HasBadRequest, HasBadReply}
 
 abbrev pub of_request : UriRefusal → OneRefusal

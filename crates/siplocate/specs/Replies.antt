@@ -6,12 +6,13 @@ use Rattle.dns_message.specs.Messages.{Spells}
 use Rattle.dns_message.specs.declared.message.Message.{Message}
 use Rattle.dns_message.specs.declared.question.Question.{Question}
 use Rattle.dns_answers.specs.Replies.{reply_refusal}
-use Rattle.siplocate.specs.Choice.{Resolution, need, locate, talk}
-use Rattle.siplocate.specs.declared.arguments.Families.{Families}
-use Rattle.siplocate.specs.declared.choice.Answered.{Answered}
+use Rattle.sip_selection.specs.Choice.{Resolution, need}
+use Rattle.sip_selection.specs.Known.{Given}
+use Rattle.siplocate.specs.Talks.{goes, talk}
+use Rattle.sip_selection.specs.declared.caps.Families.{Families}
 use Rattle.siplocate.specs.declared.reply.BadReply.{BadReply}
 use Rattle.siplocate.specs.declared.reply.BadReply.TheVariants.{NotHex, NothingAsked, TooLong, Malformed, NoAnswer, Memory}
-use Rattle.siplocate.specs.declared.request.Request.{Request}
+use Rattle.sip_selection.specs.declared.request.Request.{Request}
 
 -- what is no blank
 abbrev pub digits : List ℕ → List ℕ
@@ -58,8 +59,8 @@ pub record FailsAt (families : Families) (request : Request) (lines : List (List
   pub line : List ℕ
   pub back : List (List ℕ)
   pub messages : List Message
-  pub known : List Answered
+  pub known : List Given
   pub lines_are : lines ≡ front ++ line ∷ back
   pub replies : AllZip ReplyLine front messages
   pub talked : talk families request messages ≡ Some known
-  pub fault : IsFault reply (locate families request known) line
+  pub fault : IsFault reply (goes families request known) line

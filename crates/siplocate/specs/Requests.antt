@@ -8,11 +8,12 @@ use Rattle.sip_uri.specs.Uris.{UriText}
 use Rattle.sip_uri.specs.Vias.{ViaText}
 use Rattle.sip_uri.specs.declared.refusal.UriRefusal.{UriRefusal}
 use Rattle.sip_uri.specs.declared.refusal.UriRefusal.TheVariants as uri
-use Rattle.siplocate.specs.declared.arguments.Families.{Families}
-use Rattle.siplocate.specs.declared.request.Request.{Request}
-use Rattle.siplocate.specs.declared.request.Request.TheVariants.{Uri, Via}
-use Rattle.siplocate.specs.declared.choice.Answered.{Answered}
-use Rattle.siplocate.specs.Choice.{Resolution, unready, locate, talk}
+use Rattle.sip_selection.specs.declared.caps.Families.{Families}
+use Rattle.sip_selection.specs.declared.request.Request.{Request}
+use Rattle.sip_selection.specs.declared.request.Request.TheVariants.{Uri, Via}
+use Rattle.sip_selection.specs.Choice.{Resolution}
+use Rattle.sip_selection.specs.Known.{Given}
+use Rattle.siplocate.specs.Talks.{goes, talk}
 use Rattle.siplocate.specs.declared.reply.BadReply.{BadReply}
 use Rattle.siplocate.specs.declared.reply.BadReply.TheVariants as bad
 use Rattle.siplocate.specs.Replies.{ReplyLine, FailsAt}
@@ -35,20 +36,16 @@ abbrev pub RequestText : List ℕ → Request → Type 0
 RequestText line (Uri uri) = UriText line uri
 RequestText line (Via via) = (rest : List ℕ) × BeginsVia line rest × ViaText rest via
 
--- What becomes of the request in the first line, with the replies in the others.
-pub data LocatesTo (families : Families) (text : List ℕ) : Resolution → Type 0 where
-  -- each of the other lines is a reply to the question that is needed then
-  talked : {resolution : Resolution} (request : Request) (messages : List Message) (known : List Answered)
-      → RequestText (first_line text) request
-      → AllZip ReplyLine (other_lines text) messages
-      → talk families request messages ≡ Some known
-      → resolution ≡ locate families request known
-      → LocatesTo families text resolution
-  -- it needs records that are not asked for yet, and the other lines are not looked at
-  waits : {resolution : Resolution} (request : Request) → RequestText (first_line text) request
-      → locate families request [] ≡ unready
-      → resolution ≡ unready
-      → LocatesTo families text resolution
+-- What becomes of the request in the first line: each of the other lines is a reply to the question that is
+-- needed then.
+pub record LocatesTo (families : Families) (text : List ℕ) (resolution : Resolution) : Type 0 where
+  pub request : Request
+  pub messages : List Message
+  pub given : List Given
+  pub spelled : RequestText (first_line text) request
+  pub replies : AllZip ReplyLine (other_lines text) messages
+  pub talked : talk families request messages ≡ Some given
+  pub is : resolution ≡ goes families request given
 
 -- ---- what is no request with replies
 

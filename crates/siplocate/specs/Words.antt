@@ -15,11 +15,11 @@ use Rattle.dns_answers.specs.declared.refusal.ReplyRefusal.{ReplyRefusal}
 use Rattle.dns_answers.specs.declared.refusal.ReplyRefusal.TheVariants as refusal
 use Rattle.siplocate.specs.declared.reply.BadReply.{BadReply}
 use Rattle.siplocate.specs.declared.reply.BadReply.TheVariants as bad
-use Rattle.siplocate.specs.declared.choice.Reason.{Reason}
-use Rattle.siplocate.specs.declared.choice.Reason.TheVariants.{TransportUnsupported, TransportNotSecure, NotOffered, NoAddress}
-use Rattle.siplocate.specs.declared.choice.Target.{Target}
-use Rattle.siplocate.specs.declared.arguments.Families.{Families}
-use Rattle.siplocate.specs.Choice.{Resolution, targets, refused, need, unready}
+use Rattle.sip_selection.specs.declared.reason.Reason.{Reason}
+use Rattle.sip_selection.specs.declared.reason.Reason.TheVariants.{TransportUnsupported, TransportNotSecure, NotOffered, NoAddress}
+use Rattle.sip_selection.specs.declared.target.Target.{Target}
+use Rattle.sip_selection.specs.declared.caps.Families.{Families}
+use Rattle.sip_selection.specs.Choice.{Resolution, targets, refused, need}
 use Rattle.siplocate.specs.Requests.{HasBadRequest, HasBadReply}
 
 abbrev pub transport_word : Transport → List ℕ
@@ -94,10 +94,8 @@ abbrev pub shown : Resolution → List ℕ
 shown (targets list) = flat_map target_line list
 shown (need question) = question_line question
 shown (refused reason) = codes "refused " ++ reason_word reason ++ 10 ∷ []
-shown unready = codes "fault unready\n"
 
 abbrev pub status_of : Resolution → ℕ
 status_of (targets list) = 0
 status_of (need question) = 1
 status_of (refused reason) = 2
-status_of unready = 5

@@ -1,20 +1,9 @@
 //! The words after the program's name.
 ghost use Rattle.std.specs.Prelude.{◌≡◌, map};
 ghost use Rattle.std.specs.String.{string_bytes};
-ghost use Rattle.siplocate.specs.Commands.{command_of};
+ghost use Rattle.siplocate.specs.Commands.{command_of, families_of};
 
-/// The families of addresses that are asked for, in this order.
-#[derive(Clone, Copy, Debug, PartialEq, Eq)]
-pub enum Families {
-    /// IPv4 alone.
-    V4,
-    /// IPv6 alone.
-    V6,
-    /// IPv4, then IPv6.
-    V4ThenV6,
-    /// IPv6, then IPv4.
-    V6ThenV4,
-}
+use sip_selection::Families;
 
 /// What the program is asked to do.
 #[derive(Clone, Copy, Debug, PartialEq, Eq)]
@@ -25,12 +14,28 @@ pub enum Command {
     Usage,
 }
 
+/// The families of a word.
+fn families_of(word: &str) -> Option<Families>
+    ensures { result ≡ families_of word.now }
+{
+    match word {
+        "4" => Some(Families::V4),
+        "6" => Some(Families::V6),
+        "46" => Some(Families::V4ThenV6),
+        "64" => Some(Families::V6ThenV4),
+        _ => None,
+    }
+}
+
 /// The command of these words.
 pub fn arguments(words: &[String]) -> Command
     ensures { result ≡ command_of (map string_bytes words.now) }
 {
     match words {
-        [word] if word.as_str() == "one" => Command::One(Families::V4),
+        [one] if one.as_str() == "one" => Command::One(Families::V4),
+        [one, families] if one.as_str() == "one" => {
+            families_of(families).map_or(Command::Usage, Command::One)
+        }
         _ => Command::Usage,
     }
 }

@@ -1,6 +1,6 @@
 //! The random words of a draw.
-ghost use Rattle.std.specs.Prelude.{◌≡◌, ◌<◌, ℕ, slice_index};
-ghost use Rattle.rand_chacha.specs.ChaCha.{word_at, key_of};
+ghost use Rattle.std.specs.Prelude.{◌≡◌};
+ghost use Rattle.siplocate.specs.Draws.{drawn};
 
 use rand_chacha::ChaCha20Rng;
 use rand_core::SeedableRng;
@@ -10,7 +10,7 @@ use srv_choice::{WORD_COUNT, Words};
 /// The words of the draw of a number: the first of the stream of that number which ChaCha20 (RFC 8439 2.3, with a block
 /// counter and a nonce of 64 bits each) makes of the key. Each has 32 bits.
 pub fn draw_words(key: [u8; 32], number: u64) -> Words
-    ensures { (i : ℕ) → i < WORD_COUNT → slice_index result.0 i ≡ word_at 10 (key_of key) number i }
+    ensures { result.0 ≡ drawn key number }
 {
     let mut stream = ChaCha20Rng::from_seed(key);
     stream.set_stream(number);

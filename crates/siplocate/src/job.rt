@@ -3,9 +3,9 @@ ghost use Rattle.std.specs.Prelude.{◌≡◌, ◌≤◌, IfOk, IfErr, OnOk};
 ghost use Rattle.std.specs.Io.KnownBytes.{Appends};
 ghost use Rattle.siplocate.specs.Jobs as spec;
 
-use crate::arguments::Families;
 use crate::input::InputRefusal;
 use crate::one::one_text;
+use sip_selection::Families;
 use std::alloc::{AllocError, Global};
 use std::io::{self, Write};
 
@@ -64,7 +64,7 @@ fn printed(told: &Told) -> &str
 {
     match told {
         Told::Text(text, _) => text,
-        Told::Usage => "usage: siplocate one\n",
+        Told::Usage => "usage: siplocate one [4|6|46|64]\n",
         Told::NoInput => "fault input\n",
         Told::NoMemory => "fault memory\n",
     }

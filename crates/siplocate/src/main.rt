@@ -4,7 +4,6 @@
 ghost use Rattle.std.specs.Prelude.{◌≡◌, ◌≤◌, ◌↔◌, IfOk, IsErr};
 
 mod arguments;
-mod choice;
 mod draw;
 mod input;
 mod job;

@@ -3,21 +3,22 @@ ghost use Rattle.std.specs.Prelude.{◌≡◌, ◌≤◌, ◌⊎◌, ℕ, List, 
 ghost use Rattle.std.specs.List.{AllZip};
 ghost use Rattle.std.specs.String.{string_bytes};
 ghost use Rattle.dns_message.specs.declared.message.Message as message;
-ghost use Rattle.siplocate.specs.Choice as spec;
+ghost use Rattle.sip_selection.specs.Choice as choice;
+ghost use Rattle.sip_selection.specs.Known as known;
+ghost use Rattle.sip_selection.specs.Selections.{now_of};
+ghost use Rattle.siplocate.specs.Talks as spec;
 ghost use Rattle.siplocate.specs.Replies.{ReplyLine, FailsAt};
 ghost use Rattle.siplocate.specs.Requests.{LocatesTo, first_line as first_line_of, other_lines};
 ghost use Rattle.siplocate.specs.Refusals.{of_request, of_reply, RefusedAs};
 ghost use Rattle.siplocate.specs.declared.one.OneRefusal.TheVariants as refusals;
-ghost use Rattle.siplocate.specs.Views.{resolution_of};
-ghost use Rattle.siplocate.specs.declared.choice.Answered as choice;
 ghost use Rattle.siplocate.specs.Words as words;
 
-use crate::arguments::Families;
-use crate::choice::{Located, locate};
+use crate::draw::draw_words;
 use crate::output::{bad_reply, bad_request, shown, status_of};
-use crate::reply::{BadReply, answered};
-use crate::request::{Request, read_request};
-use sip_uri::UriRefusal;
+use crate::reply::{BadReply, take_reply};
+use crate::request::read_request;
+use sip_selection::{Caps, Families, Request, Selection};
+use sip_uri::{Transport, UriRefusal};
 use std::alloc::{AllocError, Global};
 
 /// The status of what is no request, or has a reply that is none.
@@ -71,66 +72,79 @@ fn first_line(text: &str) -> &str
     text.lines().next().unwrap_or("")
 }
 
-/// Where a request goes, with the replies in the lines after the first one. Without them it goes to `first`.
+/// The choice of a request, over the program's transports and random words.
+fn selection_of(
+    alloc: Global,
+    families: Families,
+    request: Request,
+) -> Result<Selection, AllocError>
+    ensures { IfOk result (λ it. it ≡ spec.selected families request []) }
+{
+    let transports = [
+        Transport::Udp,
+        Transport::Tcp,
+        Transport::Tls,
+        Transport::Sctp,
+    ];
+    let caps = Caps::new(&transports, families).unwrap();
+    Selection::new(alloc, request, caps, draw_words([0; 32], 1))
+}
+
+/// The choice of a request, with the replies in the lines after the first one.
 fn talk(
     alloc: Global,
     families: Families,
-    request: &Request,
-    first: Located,
+    request: Request,
     text: &str,
-) -> Result<Located, BadReply>
-    requires { resolution_of first ≡ spec.locate families request.now [] }
-    ensures found { IfOk result (λ located. (messages : List message.Message) × (known : List choice.Answered)
+) -> Result<Selection, BadReply>
+    ensures found { IfOk result (λ it. (messages : List message.Message) × (given : List known.Given)
         × AllZip ReplyLine (other_lines text.now) messages
-        × (spec.talk families request.now messages ≡ Some known)
-        × (resolution_of located ≡ spec.locate families request.now known)) }
-    ensures read { (messages : List message.Message) (known : List choice.Answered)
+        × (spec.talk families request messages ≡ Some given)
+        × (it ≡ spec.selected families request given)) }
+    ensures read { (messages : List message.Message) (given : List known.Given)
         → AllZip ReplyLine (other_lines text.now) messages
-        → spec.talk families request.now messages ≡ Some known
-        → MatchResult result (λ located. resolution_of located ≡ spec.locate families request.now known)
+        → spec.talk families request messages ≡ Some given
+        → MatchResult result (λ it. it ≡ spec.selected families request given)
         (λ reply. reply ≡ BadReply.Memory) }
     ensures bad { IfErr result (λ reply. (reply ≡ BadReply.Memory)
-        ⊎ FailsAt families request.now (other_lines text.now) reply) }
+        ⊎ FailsAt families request (other_lines text.now) reply) }
 {
-    let mut known = Vec::new(alloc);
-    let mut located = first;
+    let mut selection = selection_of(alloc, families, request)?;
     for line in text.lines().skip(1) {
-        let next = answered(alloc, &located, line)?;
-        known.push(next)?;
-        located = locate(alloc, families, request, known.as_slice())?;
+        take_reply(alloc, &mut selection, line)?;
     }
-    Ok(located)
+    Ok(selection)
 }
 
-/// What becomes of the request in the first line of a text, with the replies in the others.
-fn located(alloc: Global, families: Families, text: &str) -> Result<Located, OneRefusal>
-    ensures found { IfOk result (λ located. LocatesTo families text.now (resolution_of located)) }
-    ensures read { (resolution : spec.Resolution) → LocatesTo families text.now resolution
-        → MatchResult result (λ located. resolution_of located ≡ resolution) (λ refusal. refusal ≡ OneRefusal.Memory) }
+/// The choice of the request in the first line of a text, with the replies in the others.
+fn located(alloc: Global, families: Families, text: &str) -> Result<Selection, OneRefusal>
+    ensures found { IfOk result (λ it. LocatesTo families text.now (now_of it)) }
+    ensures read { (resolution : choice.Resolution) → LocatesTo families text.now resolution
+        → MatchResult result (λ it. now_of it ≡ resolution) (λ refusal. refusal ≡ OneRefusal.Memory) }
     ensures bad { IfErr result (λ refusal. RefusedAs refusal families text.now) }
 {
     let request = read_request(alloc, first_line(text))?;
-    let located = locate(alloc, families, &request, &[])?;
-    if let Located::Unready = located {
-        return Ok(located);
-    }
-    Ok(talk(alloc, families, &request, located, text)?)
+    Ok(talk(alloc, families, request, text)?)
 }
 
 /// What the program prints for a request with replies, and its status.
 pub fn one_text(alloc: Global, families: Families, text: &str) -> Result<(String, u8), AllocError>
     ensures status { IfOk result (λ told. told.1 ≤ 5) }
     // What becomes of the request is printed.
-    ensures located { (resolution : spec.Resolution) → LocatesTo families text.now resolution
-        → IfOk result (λ told. (string_bytes told.0 ≡ words.shown resolution) × (told.1 ≡ words.status_of resolution)) }
+    ensures located { (resolution : choice.Resolution) → LocatesTo families text.now resolution
+        → IfOk result (λ told. (string_bytes told.0 ≡ words.shown resolution)
+        × (told.1 ≡ words.status_of resolution)) }
     // Nothing else is printed but what is wrong, under status 3: the first line where that is no request, and
     // else the first fault of the first line that is no reply.
     ensures only { IfOk result (λ told. ((told.1 ≡ 3) × words.IsBadLine families text.now (string_bytes told.0))
-        ⊎ ((resolution : spec.Resolution) × LocatesTo families text.now resolution
+        ⊎ ((resolution : choice.Resolution) × LocatesTo families text.now resolution
         × (string_bytes told.0 ≡ words.shown resolution) × (told.1 ≡ words.status_of resolution))) }
 {
     match located(alloc, families, text) {
-        Ok(located) => Ok((shown(alloc, &located)?, status_of(&located))),
+        Ok(selection) => {
+            let next = selection.next();
+            Ok((shown(alloc, next)?, status_of(next)))
+        }
         Err(OneRefusal::Memory) => Err(AllocError),
         Err(OneRefusal::Request(refusal)) => Ok((bad_request(alloc, refusal)?, BAD_STATUS)),
         Err(OneRefusal::Reply(reply)) => Ok((bad_reply(alloc, reply)?, BAD_STATUS)),

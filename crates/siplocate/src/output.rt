@@ -2,13 +2,13 @@
 ghost use Rattle.std.specs.Prelude.{◌≡◌, ◌≤◌, IfOk};
 ghost use Rattle.std.specs.List.{flat_map};
 ghost use Rattle.std.specs.String.{string_bytes};
-ghost use Rattle.siplocate.specs.Views.{resolution_of};
+ghost use Rattle.sip_selection.specs.Nexts.{next_of};
 ghost use Rattle.siplocate.specs.Words as spec;
 
-use crate::choice::{Located, Reason, Target};
 use crate::reply::BadReply;
 use dns_answers::ReplyRefusal;
 use dns_message::{Kind, Question};
+use sip_selection::{Next, Reason, Target};
 use sip_uri::{Transport, UriRefusal, address_text};
 use std::alloc::{AllocError, Global};
 
@@ -78,31 +78,29 @@ fn question_line(alloc: Global, question: &Question) -> Result<String, AllocErro
     format!(in alloc; "ask {kind} {name}\n")
 }
 
-/// The lines of a resolution.
-pub fn shown(alloc: Global, located: &Located) -> Result<String, AllocError>
-    ensures { IfOk result (λ lines. string_bytes lines ≡ spec.shown (resolution_of located.now)) }
+/// The lines of what is next.
+pub fn shown(alloc: Global, next: Next<'_>) -> Result<String, AllocError>
+    ensures { IfOk result (λ lines. string_bytes lines ≡ spec.shown (next_of next.entry)) }
 {
-    match located {
-        Located::Targets(targets) => target_lines(alloc, targets),
-        Located::Ask(question) => question_line(alloc, question),
-        Located::Refused(reason) => {
-            let reason = reason_word(*reason);
+    match next {
+        Next::Targets(targets) => target_lines(alloc, targets),
+        Next::Ask(question) => question_line(alloc, question),
+        Next::Refused(reason) => {
+            let reason = reason_word(reason);
             format!(in alloc; "refused {reason}\n")
         }
-        Located::Unready => String::from_str(alloc, "fault unready\n"),
     }
 }
 
-/// The status of a resolution.
-pub fn status_of(located: &Located) -> u8
-    ensures status { result ≡ spec.status_of (resolution_of located.now) }
+/// The status of what is next.
+pub fn status_of(next: Next<'_>) -> u8
+    ensures status { result ≡ spec.status_of (next_of next.entry) }
     ensures range { result ≤ 5 }
 {
-    match located {
-        Located::Targets(_) => 0,
-        Located::Ask(_) => 1,
-        Located::Refused(_) => 2,
-        Located::Unready => 5,
+    match next {
+        Next::Targets(_) => 0,
+        Next::Ask(_) => 1,
+        Next::Refused(_) => 2,
     }
 }
 

@@ -1,8 +1,9 @@
 //! The program's main job, by rows worked out by hand, and its edges by a reader and a writer that fail.
-use crate::arguments::{Command, Families, arguments};
+use crate::arguments::{Command, arguments};
 use crate::input::{InputRefusal, input_text};
 use crate::job::{Told, report};
 use crate::one::one_text;
+use sip_selection::Families;
 use std::alloc::{AllocError, Global};
 use std::io::{self, ErrorKind, Read, Write};
 use std::test::Fail;
@@ -205,8 +206,8 @@ const ROWS: [Row; 56] = [
     },
     Row {
         lines: &["sip:a.example", "0"],
-        printed: "fault unready\n",
-        status: 5,
+        printed: "bad reply NotHex\n",
+        status: 3,
     },
     Row {
         lines: &[],
@@ -270,8 +271,8 @@ const ROWS: [Row; 56] = [
     },
     Row {
         lines: &["sip:c.example;transport=tls"],
-        printed: "fault unready\n",
-        status: 5,
+        printed: "ask SRV _sips._tcp.c.example.\n",
+        status: 1,
     },
     Row {
         lines: &["sip:192.0.2.7;maddr=a.example:5070"],
@@ -320,8 +321,8 @@ const ROWS: [Row; 56] = [
     },
     Row {
         lines: &["Via: SIP/2.0/UDP d.example"],
-        printed: "fault unready\n",
-        status: 5,
+        printed: "ask SRV _sip._udp.d.example.\n",
+        status: 1,
     },
     Row {
         lines: &["Via: SIP/3.0/UDP d.example"],
@@ -394,9 +395,13 @@ fn long_requests(rt: HostRuntime) -> Result<(), Fail> {
 
 #[test]
 fn other_families(rt: HostRuntime) -> Result<(), Fail> {
-    for families in [Families::V6, Families::V4ThenV6, Families::V6ThenV4] {
+    for (families, line) in [
+        (Families::V6, "ask AAAA a.example.\n"),
+        (Families::V4ThenV6, "ask A a.example.\n"),
+        (Families::V6ThenV4, "ask AAAA a.example.\n"),
+    ] {
         let (printed, status) = one_text(rt.alloc(), families, "sip:a.example:5070\n")?;
-        assert_eq!(rt; (printed.as_str(), status), ("fault unready\n", 5));
+        assert_eq!(rt; (printed.as_str(), status), (line, 1));
     }
     Ok(())
 }
@@ -408,6 +413,11 @@ fn commands(rt: HostRuntime) -> Result<(), Fail> {
     assert_eq!(rt; arguments(&one), Command::One(Families::V4));
     let run = vec![in alloc; String::from_str(alloc, "run")?]?;
     assert_eq!(rt; arguments(&run), Command::Usage);
+    let words = vec![in alloc;
+        String::from_str(alloc, "one")?,
+        String::from_str(alloc, "64")?,
+    ]?;
+    assert_eq!(rt; arguments(&words), Command::One(Families::V6ThenV4));
     assert_eq!(rt; arguments(&[]), Command::Usage);
     Ok(())
 }

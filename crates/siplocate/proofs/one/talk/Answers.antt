@@ -1,13 +1,14 @@
-use Rattle.std.proofs.Common.{◌≡◌, List, ◌∷◌, ◌++◌, [], ◌<◌, length, get_or, rules, ap, ◌∙◌, inr}
+use Rattle.std.proofs.Common.{◌≡◌, List, ◌∷◌, ◌++◌, [], ◌<◌, length, get_or, rules, ap, refl, sym, ◌∙◌, inr}
 use Rattle.std.proofs.lemmas.Iterator.Adapters.{YieldsList-from_skip}
 use Rattle.std.proofs.lemmas.Iterator.Splits.{YieldsList-from_lines}
 use Rattle.std.proofs.lemmas.Iterator.Consumers.{YieldsList-turn, YieldsList-end}
 use Rattle.std.proofs.lemmas.List.{length_push}
 use Rattle.std.proofs.lemmas.Result.{err_from_is_err_and}
-use Rattle.siplocate.specs.Choice.{locate}
+use Rattle.sip_selection.specs.Choice.{Resolution}
+use Rattle.sip_selection.specs.Known.{Given}
+use Rattle.sip_selection.specs.Selections.{SelectionValue, given_too, now_of}
 use Rattle.siplocate.specs.Requests.{other_lines}
-use Rattle.siplocate.specs.declared.choice.Answered.{Answered}
-use Rattle.siplocate.specs.Views.{resolution_of}
+use Rattle.siplocate.specs.Talks.{goes, selected, told}
 use Rattle.siplocate.proofs.Talks.{begun, next, fails, has_reply, ends, all_known}
 use Rattle.siplocate.proofs.one.talk.Goals as goal
 use Rattle.siplocate.proofs.one.talk.Goals.{In-Some, In-None}
@@ -26,37 +27,54 @@ all_turns c =
     all.1
 
 pub loop-line-init : goal.loop-line-init
-loop-line-init c = record {
-  can_next = search rules;
-  is_finite = search rules;
-  talking =
-      rw c.new-known.ensures.items (begun c.args.families c.args.request.now (other_lines c.args.text.now) (resolution_of c.args.first) c.requires);
-}
+loop-line-init c =
+    let start = c.in_ok-selection.ensures in
+    let none : c.in_ok-selection.selection.given ≡ [] = ap (λ (it : SelectionValue). it.given) start in
+    record {
+      can_next = search rules;
+      is_finite = search rules;
+      selection = start ∙ ap (selected c.args.families c.args.request) (sym none);
+      talking = rw none (begun c.args.families c.args.request (other_lines c.args.text.now) (goes c.args.families c.args.request []) refl);
+    }
 
-pub returns-in_err-next-clause-read : goal.returns-in_err-next-clause-read
-returns-in_err-next-clause-read c = λ all known' replies e.
+pub returns-in_err-take_reply-clause-read : goal.returns-in_err-take_reply-clause-read
+returns-in_err-take_reply-clause-read c = λ all known' replies e.
     let l = c.loop-line in
-    let this = turn (goal.at.returns-in_err-next-clause-read c).In-Some in
-    let k = has_reply c.args.families c.args.request.now (other_lines c.args.text.now) (length l.yielded) l.known.items (resolution_of l.located) l.invariant.talking c.in-Some.line.now this.0 this.1 all known' replies e in
-    let memory = c.in_err-next.ensures.read k.0 k.1 k.2 k.3 in
-    let r = err_from_is_err_and c.from_residual.result c.from_residual.ensures.1 in
+    let given = l.selection.given in
+    let this = turn (goal.at.returns-in_err-take_reply-clause-read c).In-Some in
+    let k = has_reply c.args.families c.args.request (other_lines c.args.text.now) (length l.yielded) given (goes c.args.families c.args.request given) l.invariant.talking c.in-Some.line.now this.0 this.1 all known' replies e in
+    let memory = c.in_err-take_reply.ensures.read k.0 k.1 k.2 (ap (λ (it : SelectionValue). told (now_of it) k.0) l.invariant.selection ∙ k.3) in
+    let r = err_from_is_err_and c.from_residual-in_err-take_reply.result c.from_residual-in_err-take_reply.ensures.1 in
     rw (r.1, r.2) memory
+
+pub returns-in_err-take_reply-clause-bad : goal.returns-in_err-take_reply-clause-bad
+returns-in_err-take_reply-clause-bad c =
+    let l = c.loop-line in
+    let given = l.selection.given in
+    let this = turn (goal.at.returns-in_err-take_reply-clause-bad c).In-Some in
+    let r = err_from_is_err_and c.from_residual-in_err-take_reply.result c.from_residual-in_err-take_reply.ensures.1 in
+    let here : now_of l.selection ≡ goes c.args.families c.args.request given = ap now_of l.invariant.selection in
+    rw (r.1, r.2) (inr (fails c.args.families c.args.request (other_lines c.args.text.now) (length l.yielded) given (goes c.args.families c.args.request given) l.invariant.talking c.in-Some.line.now this.0 this.1
+    c.in_err-take_reply.field-0.0 (rw here at c.in_err-take_reply.ensures.bad)))
 
 pub loop-line-preserved : goal.loop-line-preserved
 loop-line-preserved c =
     let l = c.loop-line in
-    let known : List Answered = l.known.items in
-    let more : Answered = c.in_ok-next.next in
+    let given : List Given = l.selection.given in
     let this = turn (goal.at.loop-line-preserved c).In-Some in
-    let reply = c.in_ok-next.ensures.found in
+    let taken = c.in_ok-take_reply.ensures.taken in
     let count = length_push l.yielded c.in-Some.line in
-    let grown : c.push.new.self.items ≡ known ++ more ∷ [] = c.in_ok-push.ensures.items in
-    let is : resolution_of c.in_ok-located.located ≡ locate c.args.families c.args.request.now (known ++ more ∷ []) =
-    c.in_ok-located.ensures ∙ ap (locate c.args.families c.args.request.now) (c.as_slice.ensures.value ∙ grown) in
-    let after = next c.args.families c.args.request.now (other_lines c.args.text.now) (length l.yielded) known (resolution_of l.located) l.invariant.talking c.in-Some.line.now this.0 this.1 reply.0 more (resolution_of c.in_ok-located.located) reply.1 reply.2 c.in_ok-next.ensures.each is in
+    let here : now_of l.selection ≡ goes c.args.families c.args.request given = ap now_of l.invariant.selection in
+    let grown : c.take_reply.new.selection.given ≡ given ++ taken.more ∷ [] = ap (λ (it : SelectionValue). it.given) taken.is in
+    let after = next c.args.families c.args.request (other_lines c.args.text.now) (length l.yielded) given (goes c.args.families c.args.request given) l.invariant.talking c.in-Some.line.now this.0 this.1
+    taken.message taken.more (goes c.args.families c.args.request (given ++ taken.more ∷ [])) taken.reply
+    (ap (λ (resolution : Resolution). told resolution taken.message) (sym here) ∙ taken.told_is)
+    (λ found line. ap (λ (resolution : Resolution). told resolution found) (sym here) ∙ taken.each found line) refl in
     record {
       can_next = search rules;
       is_finite = search rules;
+      selection = taken.is ∙ ap (λ (it : SelectionValue). given_too it taken.more.question taken.more.answer) l.invariant.selection
+          ∙ ap (selected c.args.families c.args.request) (sym grown);
       talking = rw (count, grown) after;
     }
 
@@ -64,20 +82,15 @@ pub returns-clause-found : goal.returns-clause-found
 returns-clause-found c =
     let l = c.loop-line in
     let talking = l.invariant.talking in
+    let given = l.selection.given in
     let all = all_turns (goal.at.returns-clause-found c).In-None in
-    (talking.messages, l.known.items, ends c.args.families c.args.request.now (other_lines c.args.text.now) (length l.yielded) l.known.items (resolution_of l.located) talking all, talking.talked, talking.is)
+    (talking.messages, given, ends c.args.families c.args.request (other_lines c.args.text.now) (length l.yielded) given (goes c.args.families c.args.request given) talking all, talking.talked, l.invariant.selection)
 
 pub returns-clause-read : goal.returns-clause-read
 returns-clause-read c = λ all known' replies e.
     let l = c.loop-line in
     let talking = l.invariant.talking in
+    let given = l.selection.given in
     let done = all_turns (goal.at.returns-clause-read c).In-None in
-    let same = all_known c.args.families c.args.request.now (other_lines c.args.text.now) (length l.yielded) l.known.items (resolution_of l.located) talking done all known' replies e in
-    rw (← same) talking.is
-
-pub returns-in_err-next-clause-bad : goal.returns-in_err-next-clause-bad
-returns-in_err-next-clause-bad c =
-    let l = c.loop-line in
-    let this = turn (goal.at.returns-in_err-next-clause-bad c).In-Some in
-    let r = err_from_is_err_and c.from_residual.result c.from_residual.ensures.1 in
-    rw (r.1, r.2) (inr (fails c.args.families c.args.request.now (other_lines c.args.text.now) (length l.yielded) l.known.items (resolution_of l.located) l.invariant.talking c.in-Some.line.now this.0 this.1 c.in_err-next.field-0.0 c.in_err-next.ensures.bad))
+    let same = all_known c.args.families c.args.request (other_lines c.args.text.now) (length l.yielded) given (goes c.args.families c.args.request given) talking done all known' replies e in
+    l.invariant.selection ∙ ap (selected c.args.families c.args.request) same

@@ -3,7 +3,7 @@ use Rattle.std.proofs.lemmas.Result.{err_from_is_err_and}
 use Rattle.sip_uri.specs.Vias.{ViaText}
 use Rattle.sip_uri.specs.declared.uri.SipUri.{SipUri}
 use Rattle.sip_uri.specs.declared.via.Via.{Via as ViaValue}
-use Rattle.siplocate.specs.declared.request.Request.TheVariants.{Uri, Via}
+use Rattle.sip_selection.specs.declared.request.Request.TheVariants.{Uri, Via}
 use Rattle.siplocate.proofs.Colons.{not_both}
 use Rattle.siplocate.proofs.request.read_request.Goals as goal
 
