@@ -99,6 +99,23 @@ format_within within format.Cname message p code class_code end a x = (within me
 format_within within format.Soa message p code class_code end a x = (soa_ends within message p end x.0 x.2).1
 format_within within format.Other message p code class_code end a x = x.2.stands.within
 
+pub naptr_ends : WithinEnd → (message : List ℕ) (p end : ℕ) (a : NaptrRecord) → NaptrAt message p a end → p < end
+naptr_ends within message p end a x =
+    let flags = (char_string_ends message (p + 4) x.services_start a.flags x.flags).0 in
+    let services = (char_string_ends message x.services_start x.regexp_start a.services x.services).0 in
+    let regexp = (char_string_ends message x.regexp_start x.replacement_start a.regexp x.regexp).0 in
+    let replacement = (within message x.replacement_start end a.replacement x.replacement).0 in
+    omega arith
+
+pub format_goes_on : WithinEnd → (f : DataFormat) (message : List ℕ) (p code class_code end : ℕ) (a : Rdata) → FormatAt f message p code class_code a end → p ≤ end
+format_goes_on within format.A message p code class_code end a x = omega (arith, x.2.stands.size)
+format_goes_on within format.Aaaa message p code class_code end a x = omega (arith, x.2.stands.size)
+format_goes_on within format.Srv message p code class_code end a x = omega (arith, (within message (p + 6) end x.0.target x.2.target).0)
+format_goes_on within format.Naptr message p code class_code end a x = omega (arith, naptr_ends within message p end x.0 x.2)
+format_goes_on within format.Cname message p code class_code end a x = omega (arith, (within message p end x.0 x.2).0)
+format_goes_on within format.Soa message p code class_code end a x = omega (arith, (soa_ends within message p end x.0 x.2).0)
+format_goes_on within format.Other message p code class_code end a x = omega (arith, x.2.stands.size)
+
 -- ---- each rests on the octets before its end
 
 AddressAt-other : (size : ℕ) (message other : List ℕ) (limit : ℕ) → take limit message ≡ take limit other → (p end : ℕ) (octets : List ℕ) → AddressAt size message p octets end → end ≤ limit → AddressAt size other p octets end

@@ -1,5 +1,5 @@
 -- Numbers, octets and lists of parts at places.
-use Rattle.std.proofs.Common.{◌≡◌, ℕ, ◌+◌, ◌<◌, ◌≤◌, List, [], ◌∷◌, ◌++◌, length, take, drop, slice_index, slice_range, get_or, refl, sym, ap, ◌∙◌, subst, arith}
+use Rattle.std.proofs.Common.{◌≡◌, ℕ, suc, ◌+◌, ◌<◌, ◌≤◌, List, [], ◌∷◌, ◌++◌, length, take, drop, slice_index, slice_range, get_or, refl, sym, ap, ◌∙◌, subst, drop-cons, arith}
 use Rattle.std.specs.Int.{Width, byte_len}
 use Rattle.std.proofs.lemmas.List.{length-take, take-take, get_or-take, get_or-drop, drop-drop}
 use Rattle.std.proofs.lemmas.Slice.{between_is}
@@ -27,6 +27,19 @@ other_octets message p octet octets end at = record {
   within = at.within;
   are = between_is message (p + 1) end ∙ sym (drop-drop 1 p (take end message)) ∙ ap (drop 1) (sym (between_is message p end) ∙ at.are);
 }
+
+-- an octet in front of others stands there with them
+pub octets_behind : (message : List ℕ) (p octet : ℕ) (octets : List ℕ) (end : ℕ) → slice_index message p ≡ octet → OctetsAt message (p + 1) octets end → OctetsAt message p (octet ∷ octets) end
+octets_behind message p octet octets end first others =
+    let front : get_or (take end message) p 0 ≡ octet = get_or-take end message p 0 (omega (arith, others.size)) ∙ first in
+    let next : suc p ≡ p + 1 = omega arith in
+    let behind : drop (suc p) (take end message) ≡ octets = ap (λ (n : ℕ). drop n (take end message)) next ∙ sym (between_is message (p + 1) end) ∙ others.are in
+    let here = drop-cons (take end message) p 0 (omega (arith, others.size, others.within, length-take end message)) in
+    record {
+      size = omega (arith, others.size);
+      within = others.within;
+      are = between_is message p end ∙ rw (front, behind) at here;
+    }
 
 -- ---- two messages with the same first octets
 

@@ -1,6 +1,8 @@
 -- The octets of parts as they are written: how many there are.
-use Rattle.std.proofs.Common.{◌≡◌, ℕ, zero, suc, ◌+◌, ◌<◌, ◌≤◌, List, [], ◌∷◌, length, take, get_or, refl, ap, arith, length-append}
-use Rattle.std.specs.List.{flat_map}
+use Rattle.std.proofs.Common.{◌≡◌, ℕ, zero, suc, ◌+◌, ◌<◌, ◌≤◌, List, [], ◌∷◌, ◌++◌, length, take, get_or, refl, sym, ap, ◌∙◌, arith, length-append}
+use Rattle.std.specs.List.{AllByRecursion, flat_map}
+use Rattle.std.proofs.lemmas.Grind.{take_at_read}
+use Rattle.std.proofs.lemmas.List.{flat_map_more}
 use Rattle.dns_name.specs.Labels.{wire_of}
 use Rattle.dns_message.specs.Written.{two_octets, four_octets, string_octets, srv_octets, naptr_octets, soa_octets, rdata_octets, question_octets, record_octets, header_octets, count_octets, plain}
 use Rattle.dns_message.specs.declared.header.Header.{Header}
@@ -68,6 +70,24 @@ pub length-plain : (message : Message) → length (plain message) ≡ 12 + lengt
     + length (flat_map record_octets message.authority) + length (flat_map record_octets message.additional)
 unfolding plain
 length-plain message = simp (length-append, length-header_octets, length-count_octets) (omega arith)
+
+-- ---- one part more
+
+take-next : {X : Type 0} (xs : List X) (i : ℕ) (x : X) → i < length xs → x ≡ get_or xs i x → take (i + 1) xs ≡ take i xs ++ x ∷ []
+take-next xs i x lt is = (take_at_read xs i x lt).1 ∙ ap (λ y. take i xs ++ y ∷ []) (sym is)
+
+-- the octets of the parts before the next one, and those of that one behind them
+pub octets-next : {X : Type 0} (octets_of : X → List ℕ) (front before after : List ℕ) (xs : List X) (i : ℕ) (x : X) → i < length xs → x ≡ get_or xs i x
+    → before ≡ front ++ flat_map octets_of (take i xs) → after ≡ before ++ octets_of x → after ≡ front ++ flat_map octets_of (take (i + 1) xs)
+octets-next octets_of front before after xs i x lt is so_far more =
+    more ∙ ap (λ l. l ++ octets_of x) so_far ∙ flat_map_more octets_of front (take i xs) x ∙ ap (λ l. front ++ flat_map octets_of l) (sym (take-next xs i x lt is))
+
+all-push : {X : Type 0} (P : X → Type 0) (xs : List X) (x : X) → AllByRecursion P xs → P x → AllByRecursion P (xs ++ x ∷ [])
+all-push P [] x all here = (here, tt)
+all-push P (y ∷ ys) x all here = (all.0, all-push P ys x all.1 here)
+
+pub all-next : {X : Type 0} (P : X → Type 0) (xs : List X) (i : ℕ) (x : X) → i < length xs → x ≡ get_or xs i x → AllByRecursion P (take i xs) → P x → AllByRecursion P (take (i + 1) xs)
+all-next P xs i x lt is all here = rw (take-next xs i x lt is) (all-push P (take i xs) x all here)
 
 -- ---- the counts of a message fit where its octets do
 

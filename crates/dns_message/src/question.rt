@@ -11,6 +11,7 @@ use crate::refusal::{EntryRefusal, MessageRefusal, Part};
 use crate::section::Section;
 use dns_name::{Name, name_rests_before_its_end, one_name_at_a_place, read_name};
 use std::alloc::{AllocError, Global};
+use std::hash::{Hash, Hasher};
 
 /// A question to ask, in class IN.
 #[derive(Debug, Drop)]
@@ -63,6 +64,26 @@ impl Eq for Question {
     ghost laws = { and_equiv
         (on_equiv (λ (question : Question). question.name) (lists_equiv (lists_equiv nat_eq_equiv)))
         (on_equiv (λ (question : Question). kind_code question.kind) nat_eq_equiv) };
+}
+
+/// By its name, so that equal questions have one hash.
+impl Hash for Question {
+    ghost use Rattle.std.specs.Hash as fed;
+    ghost use Rattle.std.specs.Cmp.Lexicographic.{pointwise_decides, bytes_decides};
+    ghost use Rattle.std.specs.Prelude.{nat_eq};
+    ghost use Rattle.std.proofs.lemmas.Bool.{and_parts};
+    ghost use Rattle.dns_name.specs.Labels.{wire_of, same_name};
+    ghost use Rattle.dns_message.specs.Kinds.{kind_code};
+
+    ghost hash_input = { λ question. fed.slice fed.u8 (wire_of question.name) };
+
+    ghost respects_eq = { λ it other same.
+        (fed.same_Alike (λ name. fed.slice fed.u8 (wire_of name)) (pointwise_decides bytes_decides)).fed it.name other.name
+        (and_parts (same_name it.name other.name) (nat_eq (kind_code it.kind) (kind_code other.kind)) same).0 };
+
+    fn hash<H: Hasher>(&self, state: &mut H) {
+        self.name.hash(state)
+    }
 }
 
 /// A question as a message has it.

@@ -83,15 +83,15 @@ impl Rdata {
     pub fn try_clone(&self) -> Result<Rdata, AllocError>
         ensures { IfOk result (λ copy. copy ≡ self.now) }
     {
-        Ok(match self {
-            Rdata::Addr4(octets) => Rdata::Addr4(*octets),
-            Rdata::Addr6(octets) => Rdata::Addr6(*octets),
-            Rdata::Srv(server) => Rdata::Srv(server.try_clone()?),
-            Rdata::Naptr(rule) => Rdata::Naptr(rule.try_clone()?),
-            Rdata::Cname(name) => Rdata::Cname(name.try_clone()?),
-            Rdata::Soa(authority) => Rdata::Soa(authority.try_clone()?),
-            Rdata::Other(other) => Rdata::Other(other.try_clone()?),
-        })
+        match self {
+            Rdata::Addr4(octets) => Ok(Rdata::Addr4(*octets)),
+            Rdata::Addr6(octets) => Ok(Rdata::Addr6(*octets)),
+            Rdata::Srv(server) => Ok(Rdata::Srv(server.try_clone()?)),
+            Rdata::Naptr(rule) => Ok(Rdata::Naptr(rule.try_clone()?)),
+            Rdata::Cname(name) => Ok(Rdata::Cname(name.try_clone()?)),
+            Rdata::Soa(authority) => Ok(Rdata::Soa(authority.try_clone()?)),
+            Rdata::Other(other) => Ok(Rdata::Other(other.try_clone()?)),
+        }
     }
 }
 

@@ -1,7 +1,8 @@
 //! SOA records (RFC 1035 3.3.13).
-ghost use Rattle.std.specs.Prelude.{◌≡◌, ◌≤◌, ℕ, length, IfOk, IfErr, MatchResult};
+ghost use Rattle.std.specs.Prelude.{◌≡◌, ◌+◌, ◌<◌, ◌≤◌, ℕ, length, IfOk, IfErr, MatchOption, MatchResult};
+ghost use Rattle.std.specs.Int.{w32};
 ghost use Rattle.dns_message.specs.Layouts.{SoaAt};
-ghost use Rattle.dns_message.specs.Places.{NamedAt};
+ghost use Rattle.dns_message.specs.Places.{NumberAt, NamedAt};
 ghost use Rattle.dns_message.specs.declared.soa.SoaRecord as soa;
 
 use crate::number::u32_at;
@@ -45,6 +46,35 @@ impl SoaRecord {
     }
 }
 
+/// The numbers behind the names of a start of authority.
+#[derive(Clone, Copy)]
+struct Numbers {
+    serial: u32,
+    refresh: u32,
+    retry: u32,
+    expire: u32,
+    minimum: u32,
+}
+
+/// These numbers, in twenty octets at a place.
+fn numbers_at(bytes: &[u8], place: usize) -> Option<Numbers>
+    requires { place ≤ length bytes.now }
+    ensures { MatchOption result (length bytes.now < place + 20)
+        (λ numbers. NumberAt w32 bytes.now place numbers.serial
+        × NumberAt w32 bytes.now (place + 4) numbers.refresh
+        × NumberAt w32 bytes.now (place + 8) numbers.retry
+        × NumberAt w32 bytes.now (place + 12) numbers.expire
+        × NumberAt w32 bytes.now (place + 16) numbers.minimum) }
+{
+    Some(Numbers {
+        serial: u32_at(bytes, place)?,
+        refresh: u32_at(bytes, place + 4)?,
+        retry: u32_at(bytes, place + 8)?,
+        expire: u32_at(bytes, place + 12)?,
+        minimum: u32_at(bytes, place + 16)?,
+    })
+}
+
 /// Reads the record at a place, and gives the place after it.
 pub(crate) fn soa_at(
     alloc: Global,
@@ -62,15 +92,16 @@ pub(crate) fn soa_at(
     name_rests_before_its_end();
     let (mname, place) = read_name(alloc, bytes, place)?;
     let (rname, place) = read_name(alloc, bytes, place)?;
+    let numbers = numbers_at(bytes, place).ok_or(EntryRefusal::Malformed)?;
     Ok((
         SoaRecord {
             mname,
             rname,
-            serial: u32_at(bytes, place).ok_or(EntryRefusal::Malformed)?,
-            refresh: u32_at(bytes, place + 4).ok_or(EntryRefusal::Malformed)?,
-            retry: u32_at(bytes, place + 8).ok_or(EntryRefusal::Malformed)?,
-            expire: u32_at(bytes, place + 12).ok_or(EntryRefusal::Malformed)?,
-            minimum: u32_at(bytes, place + 16).ok_or(EntryRefusal::Malformed)?,
+            serial: numbers.serial,
+            refresh: numbers.refresh,
+            retry: numbers.retry,
+            expire: numbers.expire,
+            minimum: numbers.minimum,
         },
         place + 20,
     ))

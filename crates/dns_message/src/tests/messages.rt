@@ -32,6 +32,14 @@ pub(crate) const HEADER: Header = Header {
     rcode: 0,
 };
 
+/// The header of a reply to `QUERY`, of a server that is no authority and asks others.
+const FORWARDED: Header = Header {
+    id: 0x1234,
+    authoritative: false,
+    recursion_available: true,
+    ..HEADER
+};
+
 /// No question and no record.
 pub(crate) const NONE: Row = Row {
     octets: b"",
@@ -57,12 +65,7 @@ const ROWS: &[Row] = &[
     },
     Row {
         octets: REPLY,
-        header: Header {
-            id: 0x1234,
-            authoritative: false,
-            recursion_available: true,
-            ..HEADER
-        },
+        header: FORWARDED,
         questions: &[(b"\x01a\x07example\x00", 1, 1)],
         answers: "a.example. 300 A 192.0.2.7\n",
         ..NONE
@@ -71,12 +74,7 @@ const ROWS: &[Row] = &[
     Row {
         octets: b"\x124\x81\x80\x00\x01\x00\x01\x00\x00\x00\x00\x01a\x07example\x00\x00\x01\x00\x01\
         \xc0\x0c\x00\x01\x00\x01\x00\x00\x01\x2c\x00\x04\xc0\x00\x02\x07\xff",
-        header: Header {
-            id: 0x1234,
-            authoritative: false,
-            recursion_available: true,
-            ..HEADER
-        },
+        header: FORWARDED,
         questions: &[(b"\x01a\x07example\x00", 1, 1)],
         answers: "a.example. 300 A 192.0.2.7\n",
         ..NONE
@@ -84,12 +82,7 @@ const ROWS: &[Row] = &[
     Row {
         octets: b"\x124\x81\xf0\x00\x01\x00\x01\x00\x00\x00\x00\x01a\x07example\x00\x00\x01\x00\x01\
         \xc0\x0c\x00\x01\x00\x01\x00\x00\x01\x2c\x00\x04\xc0\x00\x02\x07",
-        header: Header {
-            id: 0x1234,
-            authoritative: false,
-            recursion_available: true,
-            ..HEADER
-        },
+        header: FORWARDED,
         questions: &[(b"\x01a\x07example\x00", 1, 1)],
         answers: "a.example. 300 A 192.0.2.7\n",
         ..NONE
@@ -128,12 +121,7 @@ const ROWS: &[Row] = &[
     Row {
         octets: b"\x124\x81\x80\x00\x01\x00\x01\x00\x00\x00\x00\x01a\x07example\x00\x00\x01\x00\x01\
         \xc0\x0c\x00\x01\x00\x03\x00\x00\x01\x2c\x00\x04\xc0\x00\x02\x07",
-        header: Header {
-            id: 0x1234,
-            authoritative: false,
-            recursion_available: true,
-            ..HEADER
-        },
+        header: FORWARDED,
         questions: &[(b"\x01a\x07example\x00", 1, 1)],
         answers: "a.example. 300 type 1 class 3 of c0 00 02 07\n",
         ..NONE
@@ -141,12 +129,7 @@ const ROWS: &[Row] = &[
     Row {
         octets: b"\x124\x81\x80\x00\x01\x00\x01\x00\x00\x00\x00\x01a\x07example\x00\x00\x01\x00\x01\
         \xc0\x0c\x00\x10\x00\x01\x00\x00\x01\x2c\x00\x04\xc0\x00\x02\x07",
-        header: Header {
-            id: 0x1234,
-            authoritative: false,
-            recursion_available: true,
-            ..HEADER
-        },
+        header: FORWARDED,
         questions: &[(b"\x01a\x07example\x00", 1, 1)],
         answers: "a.example. 300 type 16 class 1 of c0 00 02 07\n",
         ..NONE
@@ -154,24 +137,14 @@ const ROWS: &[Row] = &[
     Row {
         octets: b"\x124\x81\x80\x00\x01\x00\x01\x00\x00\x00\x00\x01a\x07example\x00\x00\x01\x00\x01\
         \xc0\x0c\x00\x29\x10\x00\x00\x00\x01\x2c\x00\x04\xc0\x00\x02\x07",
-        header: Header {
-            id: 0x1234,
-            authoritative: false,
-            recursion_available: true,
-            ..HEADER
-        },
+        header: FORWARDED,
         questions: &[(b"\x01a\x07example\x00", 1, 1)],
         answers: "a.example. 300 type 41 class 4096 of c0 00 02 07\n",
         ..NONE
     },
     Row {
         octets: SRV_REPLY,
-        header: Header {
-            id: 2,
-            authoritative: false,
-            recursion_available: true,
-            ..HEADER
-        },
+        header: Header { id: 2, ..FORWARDED },
         questions: &[(b"\x04_sip\x04_udp\x01b\x07example\x00", 33, 1)],
         answers: "_sip._udp.b.example. 60 SRV 10 60 5060 s.b.example.\n",
         ..NONE

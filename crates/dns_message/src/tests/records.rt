@@ -99,11 +99,16 @@ fn reply_of(alloc: Global, code: u16, class_code: u16, data: &[u8]) -> Option<Ve
     Some(reply)
 }
 
+/// What the data of the first answer says.
+fn first_text(alloc: Global, message: &Message) -> Option<String> {
+    data_text(alloc, &message.answers.as_slice().first()?.rdata)
+}
+
 /// What data of a type and class says, as that of the first answer of a reply.
 fn said_of(alloc: Global, code: u16, class_code: u16, data: &[u8]) -> Option<String> {
     let reply = reply_of(alloc, code, class_code, data)?;
     match read_message(alloc, reply.as_slice()) {
-        Ok(message) => data_text(alloc, &message.answers.as_slice().first()?.rdata),
+        Ok(message) => first_text(alloc, &message),
         Err(MessageRefusal::Malformed(Part::Answers)) => String::from_str(alloc, MALFORMED).ok(),
         Err(_) => None,
     }

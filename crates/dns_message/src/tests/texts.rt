@@ -27,13 +27,19 @@ fn naptr_text(alloc: Global, rule: &NaptrRecord) -> Option<String> {
     format!(in alloc; "NAPTR {order} {preference} {flags} {services} {regexp} {replacement}").ok()
 }
 
-/// What the start of a zone says.
-fn soa_text(alloc: Global, authority: &SoaRecord) -> Option<String> {
+/// The numbers of the start of a zone.
+fn numbers_text(alloc: Global, authority: &SoaRecord) -> Option<String> {
     let (serial, refresh, retry) = (authority.serial, authority.refresh, authority.retry);
     let (expire, minimum) = (authority.expire, authority.minimum);
+    format!(in alloc; "{serial} {refresh} {retry} {expire} {minimum}").ok()
+}
+
+/// What the start of a zone says.
+fn soa_text(alloc: Global, authority: &SoaRecord) -> Option<String> {
     let mname = authority.mname.text().ok()?;
     let rname = authority.rname.text().ok()?;
-    format!(in alloc; "SOA {mname} {rname} {serial} {refresh} {retry} {expire} {minimum}").ok()
+    let numbers = numbers_text(alloc, authority)?;
+    format!(in alloc; "SOA {mname} {rname} {numbers}").ok()
 }
 
 /// What data says that is kept as it stands.

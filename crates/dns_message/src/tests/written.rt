@@ -57,7 +57,7 @@ fn queries(rt: HostRuntime) {
 }
 
 /// The octets of a reply that has at most one question.
-fn written(alloc: Global, message: &Message) -> Option<Vec<u8>> {
+pub(crate) fn written(alloc: Global, message: &Message) -> Option<Vec<u8>> {
     let Header { opcode, rcode, .. } = message.header;
     if opcode < 16 && rcode < 16 && message.questions.len() <= 1 {
         write_reply(alloc, message).ok()
@@ -152,16 +152,20 @@ fn record_of_size(alloc: Global, size: usize) -> Option<Record> {
     })
 }
 
+/// The question for addresses of m.example, or none.
+fn questions_of(alloc: Global, asks: bool) -> Option<Section<Asked>> {
+    if asks {
+        asked(alloc)
+    } else {
+        Some(Section::from_vec(Vec::new(alloc)))
+    }
+}
+
 /// The octets of a reply with so many octets of data, with its question or without one.
 fn written_of_size(alloc: Global, size: usize, asks: bool) -> Option<Vec<u8>> {
-    let questions = if asks {
-        asked(alloc)?
-    } else {
-        Section::from_vec(Vec::new(alloc))
-    };
-    let entry = record_of_size(alloc, size)?;
-    let reply = reply_with(alloc, questions, vec![in alloc; entry].ok()?);
-    written(alloc, &reply)
+    let questions = questions_of(alloc, asks)?;
+    let answers = vec![in alloc; record_of_size(alloc, size)?].ok()?;
+    written(alloc, &reply_with(alloc, questions, answers))
 }
 
 /// The length of such a reply, and whether it is cut.

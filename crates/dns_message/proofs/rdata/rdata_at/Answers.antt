@@ -1,7 +1,55 @@
-use Rattle.std.proofs.Common.{sym, ap, ◌∙◌}
+use Rattle.std.proofs.Common.{◌≡◌, length, slice_range, sym, ap, ◌∙◌}
 use Rattle.std.proofs.lemmas.Result.{err_from_is_err_and}
-use Rattle.dns_message.specs.declared.rdata.Rdata.TheVariants.{Naptr}
+use Rattle.dns_message.specs.Data.{data_format}
+use Rattle.dns_message.specs.Refusals.{refusal_of_name}
+use Rattle.dns_message.specs.declared.rdata.Rdata.TheVariants.{Addr4, Addr6, Srv, Naptr, Cname, Soa}
+use Rattle.dns_message.proofs.Layouts.{format_goes_on, format_within}
 use Rattle.dns_message.proofs.rdata.rdata_at.Goals as goal
+use Rattle.dns_message.proofs.rdata.rdata_at.Goals.{In_ok-octets}
+
+-- the octets between the two places
+between : (c : In_ok-octets) → c.in_ok-octets.octets.now ≡ slice_range c.args.bytes.now c.args.place c.args.end
+between c = let part = rw c.in_ok-octets.ensures.ok_part at c.get.ensures.lookup in part.0.2
+
+pub returns-in_err-address_of-in-A-clause-read : goal.returns-in_err-address_of-in-A-clause-read
+returns-in_err-address_of-in-A-clause-read c = λ data' x.
+    let there = rw (sym c.data_format.ensures ∙ c.in-A.is) at x in
+    let octets = between (goal.at.returns-in_err-address_of-in-A-clause-read c).In_ok-octets ∙ there.2.stands.are in
+    absurd (c.in_err-address_of-in-A.ensures.1 (ap length octets ∙ there.2.size_is))
+
+pub returns-in_ok-address_of-in-A-clause-read : goal.returns-in_ok-address_of-in-A-clause-read
+returns-in_ok-address_of-in-A-clause-read c = λ data' x.
+    let there = rw (sym c.data_format.ensures ∙ c.in-A.is) at x in
+    let octets = between (goal.at.returns-in_ok-address_of-in-A-clause-read c).In_ok-octets ∙ there.2.stands.are in
+    ap Addr4 (c.in_ok-address_of-in-A.ensures.0 ∙ octets) ∙ sym there.1
+
+pub returns-in_err-address_of-in-Aaaa-clause-read : goal.returns-in_err-address_of-in-Aaaa-clause-read
+returns-in_err-address_of-in-Aaaa-clause-read c = λ data' x.
+    let there = rw (sym c.data_format.ensures ∙ c.in-Aaaa.is) at x in
+    let octets = between (goal.at.returns-in_err-address_of-in-Aaaa-clause-read c).In_ok-octets ∙ there.2.stands.are in
+    absurd (c.in_err-address_of-in-Aaaa.ensures.1 (ap length octets ∙ there.2.size_is))
+
+pub returns-in_ok-address_of-in-Aaaa-clause-read : goal.returns-in_ok-address_of-in-Aaaa-clause-read
+returns-in_ok-address_of-in-Aaaa-clause-read c = λ data' x.
+    let there = rw (sym c.data_format.ensures ∙ c.in-Aaaa.is) at x in
+    let octets = between (goal.at.returns-in_ok-address_of-in-Aaaa-clause-read c).In_ok-octets ∙ there.2.stands.are in
+    ap Addr6 (c.in_ok-address_of-in-Aaaa.ensures.0 ∙ octets) ∙ sym there.1
+
+pub returns-in_err-srv_at-in-Srv-clause-read : goal.returns-in_err-srv_at-in-Srv-clause-read
+returns-in_err-srv_at-in-Srv-clause-read c = λ data' x.
+    let there = rw (sym c.data_format.ensures ∙ c.in-Srv.is) at x in
+    let p = err_from_is_err_and c.from_residual-in_err-srv_at-in-Srv.result c.from_residual-in_err-srv_at-in-Srv.ensures.1 in
+    rw p.1 (p.2 ∙ c.in_err-srv_at-in-Srv.ensures.read there.0 c.args.end there.2)
+
+pub returns-in_err-ending_at-in-Srv-clause-read : goal.returns-in_err-ending_at-in-Srv-clause-read
+returns-in_err-ending_at-in-Srv-clause-read c = λ data' x.
+    let there = rw (sym c.data_format.ensures ∙ c.in-Srv.is) at x in
+    absurd (c.in_err-ending_at-in-Srv.ensures.1 (c.in_ok-srv_at-in-Srv.ensures.read there.0 c.args.end there.2).1)
+
+pub returns-in_ok-ending_at-in-Srv-clause-read : goal.returns-in_ok-ending_at-in-Srv-clause-read
+returns-in_ok-ending_at-in-Srv-clause-read c = λ data' x.
+    let there = rw (sym c.data_format.ensures ∙ c.in-Srv.is) at x in
+    ap Srv (c.in_ok-ending_at-in-Srv.ensures.0 ∙ (c.in_ok-srv_at-in-Srv.ensures.read there.0 c.args.end there.2).0) ∙ sym there.1
 
 pub returns-in_err-naptr_at-in-Naptr-clause-read : goal.returns-in_err-naptr_at-in-Naptr-clause-read
 returns-in_err-naptr_at-in-Naptr-clause-read c = λ data' x.
@@ -14,13 +62,54 @@ returns-in_err-ending_at-in-Naptr-clause-read c = λ data' x.
     let there = rw (sym c.data_format.ensures ∙ c.in-Naptr.is) at x in
     absurd (c.in_err-ending_at-in-Naptr.ensures.1 (c.in_ok-naptr_at-in-Naptr.ensures.read there.0 c.args.end there.2).1)
 
+pub returns-in_ok-ending_at-in-Naptr-clause-read : goal.returns-in_ok-ending_at-in-Naptr-clause-read
+returns-in_ok-ending_at-in-Naptr-clause-read c = λ data' x.
+    let there = rw (sym c.data_format.ensures ∙ c.in-Naptr.is) at x in
+    ap Naptr (c.in_ok-ending_at-in-Naptr.ensures.0 ∙ (c.in_ok-naptr_at-in-Naptr.ensures.read there.0 c.args.end there.2).0) ∙ sym there.1
+
+pub returns-in_err-read_name-in-Cname-clause-read : goal.returns-in_err-read_name-in-Cname-clause-read
+returns-in_err-read_name-in-Cname-clause-read c = λ data' x.
+    let there = rw (sym c.data_format.ensures ∙ c.in-Cname.is) at x in
+    let p = err_from_is_err_and c.from_residual-in_err-read_name-in-Cname.result c.from_residual-in_err-read_name-in-Cname.ensures.1 in
+    rw p.1 (p.2 ∙ ap refusal_of_name (c.in_err-read_name-in-Cname.ensures.read there.0 c.args.end there.2))
+
+pub returns-in_err-ending_at-in-Cname-clause-read : goal.returns-in_err-ending_at-in-Cname-clause-read
+returns-in_err-ending_at-in-Cname-clause-read c = λ data' x.
+    let there = rw (sym c.data_format.ensures ∙ c.in-Cname.is) at x in
+    absurd (c.in_err-ending_at-in-Cname.ensures.1 (c.in_ok-read_name-in-Cname.ensures.read there.0 c.args.end there.2).1)
+
+pub returns-in_ok-ending_at-in-Cname-clause-read : goal.returns-in_ok-ending_at-in-Cname-clause-read
+returns-in_ok-ending_at-in-Cname-clause-read c = λ data' x.
+    let there = rw (sym c.data_format.ensures ∙ c.in-Cname.is) at x in
+    ap Cname (c.in_ok-ending_at-in-Cname.ensures.0 ∙ (c.in_ok-read_name-in-Cname.ensures.read there.0 c.args.end there.2).0) ∙ sym there.1
+
 pub returns-in_err-soa_at-in-Soa-clause-read : goal.returns-in_err-soa_at-in-Soa-clause-read
 returns-in_err-soa_at-in-Soa-clause-read c = λ data' x.
     let there = rw (sym c.data_format.ensures ∙ c.in-Soa.is) at x in
     let p = err_from_is_err_and c.from_residual-in_err-soa_at-in-Soa.result c.from_residual-in_err-soa_at-in-Soa.ensures.1 in
     rw p.1 (p.2 ∙ c.in_err-soa_at-in-Soa.ensures.read there.0 c.args.end there.2)
 
-pub returns-in_ok-ending_at-in-Naptr-clause-read : goal.returns-in_ok-ending_at-in-Naptr-clause-read
-returns-in_ok-ending_at-in-Naptr-clause-read c = λ data' x.
-    let there = rw (sym c.data_format.ensures ∙ c.in-Naptr.is) at x in
-    ap Naptr (c.in_ok-ending_at-in-Naptr.ensures.0 ∙ (c.in_ok-naptr_at-in-Naptr.ensures.read there.0 c.args.end there.2).0) ∙ sym there.1
+pub returns-in_err-ending_at-in-Soa-clause-read : goal.returns-in_err-ending_at-in-Soa-clause-read
+returns-in_err-ending_at-in-Soa-clause-read c = λ data' x.
+    let there = rw (sym c.data_format.ensures ∙ c.in-Soa.is) at x in
+    absurd (c.in_err-ending_at-in-Soa.ensures.1 (c.in_ok-soa_at-in-Soa.ensures.read there.0 c.args.end there.2).1)
+
+pub returns-in_ok-ending_at-in-Soa-clause-read : goal.returns-in_ok-ending_at-in-Soa-clause-read
+returns-in_ok-ending_at-in-Soa-clause-read c = λ data' x.
+    let there = rw (sym c.data_format.ensures ∙ c.in-Soa.is) at x in
+    ap Soa (c.in_ok-ending_at-in-Soa.ensures.0 ∙ (c.in_ok-soa_at-in-Soa.ensures.read there.0 c.args.end there.2).0) ∙ sym there.1
+
+pub returns-in_err-octets-in-Other-clause-read : goal.returns-in_err-octets-in-Other-clause-read
+returns-in_err-octets-in-Other-clause-read c = λ data' x.
+    let p = err_from_is_err_and c.from_residual-in_err-octets-in-Other.result c.from_residual-in_err-octets-in-Other.ensures.1 in
+    rw p.1 p.2
+
+pub returns-in_err-octets-clause-read : goal.returns-in_err-octets-clause-read
+returns-in_err-octets-clause-read c = λ data' x.
+    let within = c.name_rests_before_its_end.ensures.within in
+    let f = data_format c.args.code c.args.class_code in
+    let goes_on = format_goes_on within f c.args.bytes.now c.args.place c.args.code c.args.class_code c.args.end data' x in
+    let ends = format_within within f c.args.bytes.now c.args.place c.args.code c.args.class_code c.args.end data' x in
+    let none = rw c.in_err-octets.ensures.ok_part at c.get.ensures.lookup in
+    let some = none.1 (goes_on, ends) in
+    absurd cc

@@ -1,0 +1,32 @@
+use Rattle.std.proofs.Common.{ap, ◌∙◌}
+use Rattle.std.proofs.lemmas.Result.{err_from_is_err_and}
+use Rattle.dns_message.specs.Layouts.{SrvAt}
+use Rattle.dns_message.specs.Refusals.{refusal_of_name}
+use Rattle.dns_message.specs.declared.srv.SrvRecord.{SrvRecord}
+use Rattle.dns_message.proofs.Layouts.{one_srv}
+use Rattle.dns_message.proofs.srv.srv_at.Goals as goal
+use Rattle.dns_message.proofs.srv.srv_at.Goals.{In_ok-target}
+
+abbrev server_read : In_ok-target → SrvRecord
+server_read c = record { priority = c.in_ok-priority.priority; weight = c.in_ok-weight.weight; port = c.in_ok-port.port; target = c.in_ok-target.target }
+
+-- what was read stands there
+this : (c : In_ok-target) → SrvAt c.args.bytes.now c.args.place (server_read c) c.in_ok-target.end
+this c = record {
+  priority = rw c.in_ok-priority.ensures.ok_part at c.u16_at.ensures;
+  weight = rw c.in_ok-weight.ensures.ok_part at c.u16_at-2.ensures;
+  port = rw c.in_ok-port.ensures.ok_part at c.u16_at-3.ensures;
+  target = c.in_ok-target.ensures.found;
+}
+
+pub returns-clause-found : goal.returns-clause-found
+returns-clause-found c = this c
+
+pub returns-clause-read : goal.returns-clause-read
+returns-clause-read c = λ server end there.
+    one_srv c.one_name_at_a_place.ensures c.args.bytes.now c.args.place c.in_ok-target.end end (server_read c) server (this c) there
+
+pub returns-in_err-target-clause-read : goal.returns-in_err-target-clause-read
+returns-in_err-target-clause-read c = λ server end there.
+    let p = err_from_is_err_and c.from_residual-in_err-target.result c.from_residual-in_err-target.ensures.1 in
+    rw p.1 (p.2 ∙ ap refusal_of_name (c.in_err-target.ensures.read server.target end there.target))
