@@ -1,5 +1,8 @@
 mod Cutting
+mod Colons
 mod Digits
+mod Fronts
+mod GroupSteps
 mod Groups
 mod Lists
 mod V4Texts
@@ -10,6 +13,7 @@ mod Hostnames
 mod DomainTexts
 mod HostOctets
 mod ParamSteps
+mod RunSteps
 mod RunTexts
 mod HostTexts
 mod Places

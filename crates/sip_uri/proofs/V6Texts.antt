@@ -12,6 +12,7 @@ use Rattle.sip_uri.specs.Numbers.{hexadecimal}
 use Rattle.sip_uri.specs.Readers.Parts.{parted}
 use Rattle.sip_uri.specs.Addresses.{V4Text, GroupText, AreGroups, GroupsText, SideText, V6Text, whole, shortened}
 use Rattle.sip_uri.specs.Readers.Texts.{hexadecimal_group, ipv4, group, last_group, groups, side, filled, sixteen, behind_colons, with_front, around_colons, ipv6, ipv6_around}
+use Rattle.sip_uri.proofs.Colons.{around, colons_are, front_nothing, front_twice}
 use Rattle.sip_uri.proofs.Cutting.{lacks, alone, parts-joined}
 use Rattle.sip_uri.proofs.Lists.{steps_of, mapped_from, either_of, all_weaker}
 use Rattle.sip_uri.proofs.V4Texts.{ipv4_read, ipv4_again, is_dotted_octet, ipv4_octets, some_in_ipv4}
@@ -142,19 +143,6 @@ no_colon x (y ∷ text) e = rw e refl
 colon_alone : (y : ℕ) (text : List ℕ) → eqb y 58 ≡ false → behind_colons (58 ∷ y ∷ text) ≡ None
 colon_alone y text e = rw e refl
 
--- what is around two colons, from what stands here and what stands further on
-abbrev around : ℕ → List ℕ → Option (List ℕ) → Option (List ℕ × List ℕ)
-around x text None = option_map (with_front (x ∷ [])) (around_colons text)
-around x text (Some right) = Some ([], right)
-
-colons_at : (x : ℕ) (text : List ℕ) (o : Option (List ℕ))
-    → elim o as (λ _. Option (List ℕ × List ℕ)) [ None ↦ option_map (with_front (x ∷ [])) (around_colons text) | Some right ↦ Some ([], right) ] ≡ around x text o
-colons_at x text None = refl
-colons_at x text (Some right) = refl
-
-colons_are : (x : ℕ) (text : List ℕ) → around_colons (x ∷ text) ≡ around x text (behind_colons (x ∷ text))
-colons_are x text = colons_at x text (behind_colons (x ∷ text))
-
 moved : (x : ℕ) (text l r left right : List ℕ) → x ∷ l ≡ left → r ≡ right → text ≡ l ++ 58 ∷ 58 ∷ r → x ∷ text ≡ left ++ 58 ∷ 58 ∷ right
 moved x text l r left right same same' e = rw (← same, ← same') (ap (λ (t : List ℕ). x ∷ t) e)
 
@@ -176,14 +164,6 @@ colons_read (x ∷ text) left right e =
     colons_here x text left right (λ l r k. colons_read text l r k) (behind_colons (x ∷ text)) refl (sym (colons_are x text) ∙ e)
 
 -- ---- a text of parts has no two colons in a row
-
-front_nothing : (o : Option (List ℕ × List ℕ)) → option_map (with_front []) o ≡ o
-front_nothing None = refl
-front_nothing (Some sides) = refl
-
-front_twice : (a b : List ℕ) (o : Option (List ℕ × List ℕ)) → option_map (with_front a) (option_map (with_front b) o) ≡ option_map (with_front (a ++ b)) o
-front_twice a b None = refl
-front_twice a b (Some sides) = ap (λ (l : List ℕ). Some (l, sides.1)) (sym (append_assoc a b sides.0))
 
 past_part : (part rest : List ℕ) → lacks 58 part ≡ true → around_colons (part ++ rest) ≡ option_map (with_front part) (around_colons rest)
 past_part [] rest e = sym (front_nothing (around_colons rest))

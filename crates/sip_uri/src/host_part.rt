@@ -8,7 +8,7 @@ use crate::host::Host;
 use crate::hostname::is_hostname;
 use crate::ipv4::ipv4;
 use crate::ipv6::ipv6;
-use crate::parts::next_part;
+use crate::parts::{behind_front, next_part};
 use crate::refusal::UriRefusal;
 use dns_name::Name;
 use std::alloc::Global;
@@ -68,11 +68,13 @@ pub(crate) fn host_in_front(text: &[u8]) -> Option<(HostPart<'_>, Option<&[u8]>)
     ensures host { option_map (λ found. (spec.host_of found.0, option_map (λ digits. digits.now) found.1)) result ≡ spec.host_in_front text.now }
     ensures hostname { IfSome result (λ found. spec.IsHostPart found.0) }
 {
-    if let [b'[', rest @ ..] = text {
-        return host_in_brackets(rest);
+    match behind_front(text, b'[') {
+        Some(rest) => host_in_brackets(rest),
+        None => {
+            let (host, port) = next_part(text, b':');
+            Some((plain_host(host)?, port))
+        }
     }
-    let (host, port) = next_part(text, b':');
-    Some((plain_host(host)?, port))
 }
 
 /// The host of a text.

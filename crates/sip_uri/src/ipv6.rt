@@ -6,15 +6,22 @@ ghost use Rattle.sip_uri.specs.Readers.Texts as spec;
 
 use crate::ipv4::ipv4;
 use crate::numbers::hexadecimal;
-use crate::parts::next_part;
+use crate::parts::{behind_front, next_part};
 use arrayvec::ArrayVec;
+
+/// What follows two colons in front.
+fn behind_colons(text: &[u8]) -> Option<&[u8]>
+    ensures { option_map (λ rest. rest.now) result ≡ spec.behind_colons text.now }
+{
+    behind_front(behind_front(text, b':')?, b':')
+}
 
 /// What stands before the first two colons in a row, and what stands behind them.
 fn around_colons(text: &[u8]) -> Option<(&[u8], &[u8])>
     ensures { option_map (λ sides. (sides.0.now, sides.1.now)) result ≡ spec.around_colons text.now }
 {
     for at in 0..text.len() {
-        if let [b':', b':', right @ ..] = &text[at..] {
+        if let Some(right) = behind_colons(&text[at..]) {
             return Some((&text[..at], right));
         }
     }

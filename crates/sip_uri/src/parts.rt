@@ -1,7 +1,7 @@
 //! A text, cut at an octet.
 ghost use Rattle.std.specs.Prelude.{◌≡◌};
 ghost use Rattle.std.specs.Option.{option_map};
-ghost use Rattle.sip_uri.specs.Readers.Parts.{before, behind};
+ghost use Rattle.sip_uri.specs.Readers.Parts.{before, behind, behind_front};
 
 /// What stands before the first octet of a kind, and what stands behind it, if there is one.
 pub(crate) fn next_part(text: &[u8], octet: u8) -> (&[u8], Option<&[u8]>)
@@ -14,4 +14,14 @@ pub(crate) fn next_part(text: &[u8], octet: u8) -> (&[u8], Option<&[u8]>)
         }
     }
     (text, None)
+}
+
+/// What follows an octet, where it stands in front.
+pub(crate) fn behind_front(text: &[u8], octet: u8) -> Option<&[u8]>
+    ensures { option_map (λ rest. rest.now) result ≡ behind_front octet text.now }
+{
+    match text {
+        [first, rest @ ..] if *first == octet => Some(rest),
+        _ => None,
+    }
 }

@@ -1,22 +1,60 @@
 //! Tests of URIs, with values of RFC 3261, RFC 4475 and RFC 5118 and by hand.
 use crate::address_tests::host_text;
-use crate::{SipUri, UriRefusal, one_uri_of_a_text, read_uri, same_exactly_where_equal};
+use crate::{Host, SipUri, UriRefusal, one_uri_of_a_text, read_uri, same_exactly_where_equal};
 use std::alloc::Global;
 use std::test::Fail;
+
+/// The text of the host that `maddr` names, or `-`.
+fn maddr_text(alloc: Global, maddr: &Option<Host>) -> Result<String, Fail> {
+    match maddr {
+        None => Ok(String::from_str(alloc, "-")?),
+        Some(maddr) => host_text(alloc, maddr),
+    }
+}
 
 /// What a URI says, in one line.
 fn uri_line(alloc: Global, uri: &SipUri) -> Result<String, Fail> {
     let host = host_text(alloc, &uri.host)?;
-    let maddr = match &uri.maddr {
-        None => String::from_str(alloc, "-")?,
-        Some(maddr) => host_text(alloc, maddr)?,
-    };
-    let (host, maddr) = (host.as_str(), maddr.as_str());
-    let secure = uri.secure;
+    let maddr = maddr_text(alloc, &uri.maddr)?;
     Ok(format!(in alloc;
-        "{secure} {host} {:?} {:?} {maddr}",
-        uri.port, uri.transport
+        "{} {host} {:?} {:?} {maddr}",
+        uri.secure, uri.port, uri.transport
     )?)
+}
+
+/// The URI of a text.
+fn uri_of(alloc: Global, text: &str) -> Result<SipUri, Fail> {
+    match read_uri(alloc, text) {
+        Ok(uri) => Ok(uri),
+        Err(refusal) => Err(Fail::new(format_args!("{text:?} {refusal:?}"))),
+    }
+}
+
+/// A copy, which has to be equal.
+fn copy_of(uri: &SipUri) -> Result<SipUri, Fail> {
+    let copy = uri.try_clone()?;
+    if copy == *uri {
+        Ok(copy)
+    } else {
+        Err(Fail::new(format_args!("a copy of {copy:?}")))
+    }
+}
+
+/// What the copy of the URI of a text says, in one line.
+fn copied_line(alloc: Global, text: &str) -> Result<String, Fail> {
+    let uri = uri_of(alloc, text)?;
+    let copy = copy_of(&uri)?;
+    uri_line(alloc, &copy)
+}
+
+/// Fails where the copy of the URI of a text does not say this line.
+fn says(alloc: Global, text: &str, line: &str) -> Result<(), Fail> {
+    let said = copied_line(alloc, text)?;
+    if said.as_str() == line {
+        Ok(())
+    } else {
+        Err(Fail::new(format_args!("{text:?} {said:?}")))
+    }
 }
 
 /// Texts of URIs, and what they and their copies say.
@@ -180,14 +218,7 @@ const URIS: [(&str, &str); 47] = [
 #[test]
 fn uris(rt: HostRuntime) -> Result<(), Fail> {
     for (text, line) in &URIS {
-        match read_uri(rt.alloc(), text) {
-            Ok(uri) => {
-                let copy = uri.try_clone()?;
-                assert_eq!(rt; uri_line(rt.alloc(), &copy)?.as_str(), *line, "{text:?}");
-                assert_eq!(rt; copy, uri, "{text:?}");
-            }
-            Err(refusal) => return Err(Fail::new(format_args!("{text:?} {refusal:?}"))),
-        }
+        says(rt.alloc(), text, line)?;
     }
     Ok(())
 }
@@ -284,11 +315,22 @@ fn fault_of(alloc: Global, text: &str) -> Option<UriRefusal> {
     }
 }
 
-#[test]
-fn faults(rt: HostRuntime) {
-    for (text, fault) in &FAULTS {
-        assert_eq!(rt; fault_of(rt.alloc(), text), Some(*fault), "{text:?}");
+/// Fails where a text is not refused so.
+fn refused(alloc: Global, text: &str, fault: Option<UriRefusal>) -> Result<(), Fail> {
+    let found = fault_of(alloc, text);
+    if found == fault {
+        Ok(())
+    } else {
+        Err(Fail::new(format_args!("{text:?} {found:?}")))
     }
+}
+
+#[test]
+fn faults(rt: HostRuntime) -> Result<(), Fail> {
+    for (text, fault) in &FAULTS {
+        refused(rt.alloc(), text, Some(*fault))?;
+    }
+    Ok(())
 }
 
 /// A URI of sixteen octets and so many letters.
@@ -302,14 +344,9 @@ fn long_uri(alloc: Global, letters: u16) -> Result<String, Fail> {
 
 #[test]
 fn lengths(rt: HostRuntime) -> Result<(), Fail> {
-    assert_eq!(rt;
-        fault_of(rt.alloc(), long_uri(rt.alloc(), 1008)?.as_str()),
-        None
-    );
-    assert_eq!(rt;
-        fault_of(rt.alloc(), long_uri(rt.alloc(), 1009)?.as_str()),
-        Some(UriRefusal::TooLong)
-    );
+    for (letters, fault) in [(1008, None), (1009, Some(UriRefusal::TooLong))] {
+        refused(rt.alloc(), long_uri(rt.alloc(), letters)?.as_str(), fault)?;
+    }
     Ok(())
 }
 
@@ -327,8 +364,7 @@ fn long_host(alloc: Global, last: &str) -> Result<String, Fail> {
 fn host_lengths(rt: HostRuntime) -> Result<(), Fail> {
     // 253 octets, with and without a closing dot, and 254
     for (last, fault) in [("a", None), ("a.", None), ("aa", Some(UriRefusal::BadHost))] {
-        let text = long_host(rt.alloc(), last)?;
-        assert_eq!(rt; fault_of(rt.alloc(), text.as_str()), fault, "{last:?}");
+        refused(rt.alloc(), long_host(rt.alloc(), last)?.as_str(), fault)?;
     }
     Ok(())
 }

@@ -5,6 +5,7 @@ ghost use Rattle.sip_uri.specs.Readers.Vias as spec;
 ghost use Rattle.sip_uri.specs.Vias.{ViaParams};
 
 use crate::params::is_same;
+use crate::parts::behind_front;
 use crate::refusal::UriRefusal;
 use crate::rows::{Row, behind_blanks, behind_mark, cut_row};
 
@@ -36,11 +37,13 @@ fn behind_quoted(text: &[u8]) -> Option<&[u8]>
 fn behind_value(text: &[u8]) -> Option<&[u8]>
     ensures { option_map (λ rest. rest.now) result ≡ spec.behind_value text.now }
 {
-    if let [b'"', quoted @ ..] = text {
-        return behind_quoted(quoted);
+    match behind_front(text, b'"') {
+        Some(quoted) => behind_quoted(quoted),
+        None => {
+            let (value, rest) = cut_row(Row::Value, text);
+            if value.is_empty() { None } else { Some(rest) }
+        }
     }
-    let (value, rest) = cut_row(Row::Value, text);
-    if value.is_empty() { None } else { Some(rest) }
 }
 
 /// What follows the value, where `=` stands in front.

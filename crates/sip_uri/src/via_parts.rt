@@ -7,7 +7,7 @@ ghost use Rattle.sip_uri.specs.Readers.ViaFronts as spec;
 
 use crate::host_part::{HostPart, plain_host};
 use crate::ipv6::ipv6;
-use crate::parts::next_part;
+use crate::parts::{behind_front, next_part};
 use crate::refusal::UriRefusal;
 use crate::rows::{Row, behind_blanks, behind_mark, cut_row};
 use crate::transport::{Spoken, spoken_of};
@@ -71,11 +71,13 @@ fn via_host(text: &[u8]) -> Option<(HostPart<'_>, &[u8])>
     ensures host { option_map (λ found. (host.host_of found.0, found.1.now)) result ≡ spec.via_host text.now }
     ensures hostname { IfSome result (λ found. host.IsHostPart found.0) }
 {
-    if let [b'[', rest @ ..] = text {
-        return via_host_in_brackets(rest);
+    match behind_front(text, b'[') {
+        Some(rest) => via_host_in_brackets(rest),
+        None => {
+            let (host, rest) = cut_row(Row::Host, text);
+            Some((plain_host(host)?, rest))
+        }
     }
-    let (host, rest) = cut_row(Row::Host, text);
-    Some((plain_host(host)?, rest))
 }
 
 /// The port, where a colon stands before it, and what follows it.

@@ -12,6 +12,11 @@ abbrev pub behind : ℕ → List ℕ → Option (List ℕ)
 behind octet [] = None
 behind octet (x ∷ xs) = cond (x == octet) (Some xs) (behind octet xs)
 
+-- what follows an octet, where it stands in front
+abbrev pub behind_front : ℕ → List ℕ → Option (List ℕ)
+behind_front octet [] = None
+behind_front octet (x ∷ xs) = cond (x == octet) (Some xs) None
+
 -- all the parts between octets of a kind
 abbrev pub parted : ℕ → List ℕ → List (List ℕ)
 parted octet text = slice_split (λ (x : ℕ). x == octet) text

@@ -1,10 +1,10 @@
-use Rattle.std.proofs.Common.{◌≡◌, ℕ, List, Ok, Err, sym, ap, ◌∙◌, arith}
+use Rattle.std.proofs.Common.{◌≡◌, ℕ, List, Ok, Err, sym, ap, ◌∙◌}
 use Rattle.std.proofs.lemmas.Result.{err_from_is_err_and}
 use Rattle.sip_uri.specs.Readers.ViaFronts.{via_of, via_parts}
 use Rattle.sip_uri.specs.declared.refusal.UriRefusal.{UriRefusal}
 use Rattle.sip_uri.specs.declared.refusal.UriRefusal.TheVariants.{TooLong, BadVia, Memory}
 use Rattle.sip_uri.specs.declared.via.Via.{Via}
-use Rattle.sip_uri.proofs.Faults.{IsOfOctets, IsLater, param_later, handed_on, handed_is, same_Err}
+use Rattle.sip_uri.proofs.Faults.{IsOfOctets, IsLater, param_later, handed_on, handed_is, same_Err, short_text, no_long_text}
 use Rattle.sip_uri.proofs.ViaTexts.{none_spelled, via_octets, bad_protocol, bad_protocol_again, protocol_there, spells_no_more, via_wanted, via_found, via_only}
 use Rattle.sip_uri.proofs.via_text.read_via.Goals as goal
 use Rattle.sip_uri.proofs.via_text.read_via.Goals.{In_err-parts, In_ok-parts}
@@ -28,14 +28,14 @@ pub returns-in_err-parts-clause-long : goal.returns-in_err-parts-clause-long
 returns-in_err-parts-clause-long c =
     let e = err_from_is_err_and c.from_residual.result c.from_residual.ensures.1 in (
       λ long. absurd (handed_on IsOfOctets c.from_residual.result e.0 c.in_err-parts.field-0.0 TooLong e.1 e.2 (fault_of (goal.at.returns-in_err-parts-clause-long c).In_err-parts) (λ no. no) long),
-      λ more. absurd (omega arith),
+      λ more. absurd (no_long_text _ _ c.as_bytes-text.ensures.len c.if-text-gt-TEXT_LIMIT.false more),
     )
 
 pub returns-in_err-parts-clause-protocol : goal.returns-in_err-parts-clause-protocol
 returns-in_err-parts-clause-protocol c =
     let e = err_from_is_err_and c.from_residual.result c.from_residual.ensures.1 in
     let is = refused (goal.at.returns-in_err-parts-clause-protocol c).In_err-parts in (
-      λ bad. (omega arith, bad_protocol c.args.text.now (is ∙ ap (λ (x : UriRefusal). Err x) (handed_is c.from_residual.result e.0 c.in_err-parts.field-0.0 BadVia e.1 e.2 bad))),
+      λ bad. (short_text _ _ c.as_bytes-text.ensures.len c.if-text-gt-TEXT_LIMIT.false, bad_protocol c.args.text.now (is ∙ ap (λ (x : UriRefusal). Err x) (handed_is c.from_residual.result e.0 c.in_err-parts.field-0.0 BadVia e.1 e.2 bad))),
       λ none. (
           let again = bad_protocol_again c.args.text.now none.1 in
           let same : c.in_err-parts.field-0.0 ≡ BadVia = same_Err {A = Via × List ℕ} c.in_err-parts.field-0.0 BadVia (sym is ∙ again) in
@@ -51,11 +51,11 @@ returns-in_err-check_via_params-clause-read c = λ via is.
 
 pub returns-in_err-host-clause-memory : goal.returns-in_err-host-clause-memory
 returns-in_err-host-clause-memory c = λ _.
-    via_wanted c.args.text.now c.in_ok-parts.parts c.in_ok-parts.params.now (parsed (goal.at.returns-in_err-host-clause-memory c).In_ok-parts) (omega arith) c.in_ok-check_via_params.ensures.ok c.in_err-host.ensures.1
+    via_wanted c.args.text.now c.in_ok-parts.parts c.in_ok-parts.params.now (parsed (goal.at.returns-in_err-host-clause-memory c).In_ok-parts) (short_text _ _ c.as_bytes-text.ensures.len c.if-text-gt-TEXT_LIMIT.false) c.in_ok-check_via_params.ensures.ok c.in_err-host.ensures.1
 
 pub returns-clause-found : goal.returns-clause-found
 returns-clause-found c =
-    via_found c.args.text.now c.in_ok-parts.parts c.in_ok-parts.params.now (parsed (goal.at.returns-clause-found c).In_ok-parts) c.in_ok-host.host c.in_ok-host.ensures (omega arith) c.in_ok-check_via_params.ensures.ok
+    via_found c.args.text.now c.in_ok-parts.parts c.in_ok-parts.params.now (parsed (goal.at.returns-clause-found c).In_ok-parts) c.in_ok-host.host c.in_ok-host.ensures (short_text _ _ c.as_bytes-text.ensures.len c.if-text-gt-TEXT_LIMIT.false) c.in_ok-check_via_params.ensures.ok
 
 pub returns-clause-read : goal.returns-clause-read
 returns-clause-read c = λ via is.
