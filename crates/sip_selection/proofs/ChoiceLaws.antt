@@ -10,7 +10,8 @@ use Rattle.sip_uri.specs.declared.numeric.Address.{Address}
 use Rattle.sip_uri.specs.declared.numeric.Address.TheVariants as address
 use Rattle.sip_uri.specs.declared.transport.Transport.{Transport}
 use Rattle.sip_uri.specs.declared.transport.Transport.TheVariants.{Tls}
-use Rattle.sip_selection.specs.Callers.{families_of, kinds_of, offers, same_transport, transports_of}
+use Rattle.sip_uri.specs.Same.{same_transport}
+use Rattle.sip_selection.specs.Callers.{families_of, kinds_of, offers, transports_of}
 use Rattle.sip_selection.specs.Choice.{targets, need, resolved, offered, is_tried, to_address, locate}
 use Rattle.sip_selection.specs.Known.{Given, find_answer}
 use Rattle.sip_selection.specs.Requests.{target_of, port_of, spoken_of, is_secure, meant_by, transport_of, usual_transport}
@@ -22,7 +23,8 @@ use Rattle.sip_selection.specs.declared.request.Request.{Request}
 use Rattle.sip_selection.specs.declared.target.Target.{Target}
 use Rattle.sip_selection.proofs.Outcomes.{AllOver, Resolves, Missing, Sound, all_over, all_sound}
 use Rattle.sip_selection.proofs.Sources.{IsAnswered}
-use Rattle.sip_selection.proofs.Ways.{and_left, and_right, filter-all, own_offered, secure_means_tls, tls_alone}
+use Rattle.std.proofs.lemmas.Bool.{and_parts}
+use Rattle.sip_selection.proofs.Ways.{filter-all, own_offered, secure_means_tls, tls_alone}
 
 module _ (request : Request) (caps : Caps) (words : List ℕ) (given : List Given) where
   targets-of : (Q : List Target → Type 0) (R : Question → Type 0) (found : List Target) → locate request caps words given ≡ targets found
@@ -48,7 +50,7 @@ module _ (request : Request) (caps : Caps) (words : List ℕ) (given : List Give
 
   offered-over : AllOver request caps words given (λ transport. offers caps transport ≡ true)
   offered-over = record {
-    by_rule = λ transport is. and_left (offers caps transport) _ is;
+    by_rule = λ transport is. (and_parts (offers caps transport) _ is).0;
     own = All-filter (is_tried (is_secure request)) (λ transport. offers caps transport ≡ true) (transports_of caps)
         (own_offered caps);
     meant = λ transport is. (offered-is (transport_of request) transport is).1;
@@ -65,7 +67,7 @@ module _ (request : Request) (caps : Caps) (words : List ℕ) (given : List Give
   module _ (secure : is_secure request ≡ true) where
     ruled-tls : (transport : Transport) → is_usable (is_secure request) caps transport ≡ true → transport ≡ Tls
     ruled-tls transport is =
-        let tls : (if is_secure request then same_transport transport Tls else true) ≡ true = and_right (offers caps transport) _ is in
+        let tls : (if is_secure request then same_transport transport Tls else true) ≡ true = (and_parts (offers caps transport) _ is).1 in
         let here : same_transport transport Tls ≡ true = rw secure at tls in
         tls_alone transport here
 

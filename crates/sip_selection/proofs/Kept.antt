@@ -1,15 +1,11 @@
 -- What is known of each way that rules lead.
-use Rattle.std.proofs.Common.{◌≡◌, ◌≤◌, Bool, true, false, List, [], ◌∷◌, length, All, Option, Some, None, take, get_or, refl, subst, arith}
+use Rattle.std.proofs.Common.{◌≡◌, Bool, true, false, List, [], ◌∷◌, All, Option, Some, None, take, refl, subst}
 use Rattle.std.specs.List.{filter_map}
 use Rattle.std.specs.Option.{option_map, option_and_then}
-use Rattle.std.proofs.lemmas.Bool.{and_parts}
-use Rattle.std.proofs.lemmas.List.{length-map, length-take}
 use Rattle.std.proofs.lemmas.List.Elements.{All-nil, All-cons, All-map, All-take, All-filter}
 use Rattle.std.proofs.lemmas.List.Sorted.{All-permutation}
 use Rattle.dns_message.specs.declared.naptr.NaptrRecord.{NaptrRecord}
 use Rattle.sip_uri.specs.declared.transport.Transport.{Transport}
-use Rattle.sip_uri.specs.declared.transport.Transport.TheVariants.{Udp, Tcp, Sctp, Tls}
-use Rattle.sip_selection.specs.Callers.{same_transport}
 use Rattle.sip_selection.specs.Rules.{Led, names_servers, transport_of_service, is_usable, usable, led_by, first_in_order, by_preference, way_of, kept}
 use Rattle.sip_selection.specs.declared.caps.Caps.{Caps}
 use Rattle.sip_selection.specs.declared.way.Way.{Way}
@@ -56,19 +52,3 @@ module _ (secure : Bool) (caps : Caps) where
       All-map (λ (way : Way). is_usable secure caps way.transport ≡ true) way_of (take 8 (by_preference first))
       (All-take IsUsable 8 (by_preference first) (All-permutation IsUsable first (by_preference first) (all_stand first)
       (All-filter _ IsUsable leads (all_led rules))))
-
-  -- there are at most eight
-  pub kept_few : (rules : List NaptrRecord) → length (kept secure caps rules) ≤ 8
-  kept_few rules = simp (length-map, length-take) (omega arith)
-
-tls_alone : (transport : Transport) → same_transport transport Tls ≡ true → transport ≡ Tls
-tls_alone Udp is = absurd cc
-tls_alone Tcp is = absurd cc
-tls_alone Sctp is = absurd cc
-tls_alone Tls is = refl
-
--- for SIPS each goes over TLS
-pub kept_secure : (caps : Caps) (rules : List NaptrRecord) → All (λ way. way.transport ≡ Tls) (kept true caps rules)
-kept_secure caps rules i d lt =
-    let each : is_usable true caps (get_or (kept true caps rules) i d).transport ≡ true = kept_usable true caps rules i d lt in
-    tls_alone _ (and_parts _ _ each).1

@@ -11,9 +11,12 @@ mod Counting
 mod Asking
 mod Runs
 mod Room
-mod Joins
-mod Pushed
-mod OfferRuns
+mod Needings
+mod Reaching
+mod Answered
+mod Walking
+mod Choosing
+mod Turns
 mod TriedWays
 mod Preferences
 mod LeastOrder

@@ -2,7 +2,8 @@
 use Rattle.std.proofs.Common.{◌≡◌, List, [], ◌∷◌, Option, Some, None, refl, ap, ◌||◌}
 use Rattle.std.specs.List.{list_any, filter_map}
 use Rattle.sip_uri.specs.declared.transport.Transport.{Transport}
-use Rattle.sip_selection.specs.Callers.{holds, same_transport}
+use Rattle.sip_uri.specs.Same.{same_transport}
+use Rattle.sip_selection.specs.Callers.{holds}
 
 pub held : (slots : List (Option Transport)) (transport : Transport)
     → list_any (λ slot. holds slot transport) slots ≡ list_any (λ offered. same_transport offered transport) (filter_map (λ slot. slot) slots)

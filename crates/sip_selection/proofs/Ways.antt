@@ -1,5 +1,5 @@
 -- The ways that NAPTR records lead to, and those of a caller's own transports.
-use Rattle.std.proofs.Common.{◌≡◌, Bool, true, false, ◌&&◌, if◌then◌else◌, List, [], ◌∷◌, filter, Option, Some, None, Ok, All, Contains, refl}
+use Rattle.std.proofs.Common.{◌≡◌, Bool, true, false, if◌then◌else◌, List, [], ◌∷◌, filter, Option, Some, None, Ok, All, Contains, refl}
 use Rattle.std.proofs.lemmas.List.Elements.{All-cons, All-contains_itself, All-nil, All-weaker}
 use Rattle.std.proofs.lemmas.List.Folds.{list_any-from_Any}
 use Rattle.dns_message.specs.declared.naptr.NaptrRecord.{NaptrRecord}
@@ -7,7 +7,8 @@ use Rattle.sip_uri.specs.declared.transport.Spoken.{Spoken}
 use Rattle.sip_uri.specs.declared.transport.Spoken.TheVariants as spoken
 use Rattle.sip_uri.specs.declared.transport.Transport.{Transport}
 use Rattle.sip_uri.specs.declared.transport.Transport.TheVariants.{Udp, Tcp, Sctp, Tls}
-use Rattle.sip_selection.specs.Callers.{offers, same_transport, transports_of}
+use Rattle.sip_uri.specs.Same.{same_transport}
+use Rattle.sip_selection.specs.Callers.{offers, transports_of}
 use Rattle.sip_selection.specs.Requests.{meant_by}
 use Rattle.sip_selection.specs.Rules.{is_usable, kept}
 use Rattle.sip_selection.specs.declared.way.Way.{Way}
@@ -15,14 +16,6 @@ use Rattle.sip_selection.proofs.Kept.{kept_usable}
 use Rattle.sip_selection.specs.declared.caps.Caps.{Caps}
 
 -- ---- transports
-
-pub and_left : (a b : Bool) → a && b ≡ true → a ≡ true
-and_left true b is = refl
-and_left false b is = absurd cc
-
-pub and_right : (a b : Bool) → a && b ≡ true → b ≡ true
-and_right true b is = is
-and_right false b is = absurd cc
 
 pub same_as_itself : (transport : Transport) → same_transport transport transport ≡ true
 same_as_itself Udp = refl

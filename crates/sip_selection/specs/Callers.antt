@@ -3,19 +3,11 @@ use Rattle.std.specs.Prelude.{◌<◌, ◌≤◌, Bool, true, false, not, ◌&&�
 use Rattle.std.specs.List.{list_any, filter_map}
 use Rattle.dns_message.specs.declared.kind.Kind.{Kind}
 use Rattle.dns_message.specs.declared.kind.Kind.TheVariants as kind
+use Rattle.sip_uri.specs.Same.{same_transport}
 use Rattle.sip_uri.specs.declared.transport.Transport.{Transport}
-use Rattle.sip_uri.specs.declared.transport.Transport.TheVariants.{Udp, Tcp, Sctp, Tls}
 use Rattle.sip_selection.specs.declared.caps.Caps.{Caps}
 use Rattle.sip_selection.specs.declared.caps.Families.{Families}
 use Rattle.sip_selection.specs.declared.caps.Families.TheVariants.{V4, V6, V4ThenV6, V6ThenV4}
-
--- two transports are the same
-abbrev pub same_transport : Transport → Transport → Bool
-same_transport Udp Udp = true
-same_transport Tcp Tcp = true
-same_transport Sctp Sctp = true
-same_transport Tls Tls = true
-same_transport _ _ = false
 
 -- none of these stands again after itself
 abbrev pub are_distinct : List Transport → Bool

@@ -12,7 +12,8 @@ use Rattle.sip_uri.specs.declared.transport.Spoken.{Spoken}
 use Rattle.sip_uri.specs.declared.transport.Transport.{Transport}
 use Rattle.sip_uri.specs.declared.transport.Transport.TheVariants.{Tls}
 use Rattle.sip_selection.specs.declared.caps.Caps.{Caps}
-use Rattle.sip_selection.specs.Callers.{offers, families_of, transports_of, kinds_of, same_transport}
+use Rattle.sip_uri.specs.Same.{same_transport}
+use Rattle.sip_selection.specs.Callers.{offers, families_of, transports_of, kinds_of}
 use Rattle.sip_selection.specs.Known.{Given, Needing, after, made, answer_to, rules_in}
 use Rattle.sip_selection.specs.Requests.{target_of, port_of, spoken_of, is_secure, transport_of, usual_transport, default_port}
 use Rattle.sip_selection.specs.Rules.{kept}

@@ -6,5 +6,6 @@ pub mod Rules
 pub mod Choice
 pub mod Trials
 pub mod Views
+pub mod Stages
 pub mod Selections
 pub mod Nexts

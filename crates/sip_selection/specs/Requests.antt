@@ -1,5 +1,7 @@
 -- What a request says of where it goes (RFC 3263 4, 5).
 use Rattle.std.specs.Prelude.{ℕ, Bool, true, false, Option, Some, None, unwrap_or, Result, Ok, Err}
+use Rattle.sip_uri.specs.Hosts as hosts
+use Rattle.sip_uri.specs.Uris.{IsNamedUri}
 use Rattle.sip_uri.specs.declared.host.Host.{Host}
 use Rattle.sip_uri.specs.declared.transport.Spoken.{Spoken}
 use Rattle.sip_uri.specs.declared.transport.Spoken.TheVariants as spoken
@@ -9,6 +11,11 @@ use Rattle.sip_selection.specs.declared.reason.Reason.{Reason}
 use Rattle.sip_selection.specs.declared.reason.Reason.TheVariants.{TransportUnsupported, TransportNotSecure}
 use Rattle.sip_selection.specs.declared.request.Request.{Request}
 use Rattle.sip_selection.specs.declared.request.Request.TheVariants.{Uri, Via}
+
+-- one of its hosts is a name
+abbrev pub IsNamed : Request → Type 0
+IsNamed (Uri uri) = IsNamedUri uri
+IsNamed (Via via) = hosts.IsNamed via.host
 
 -- TARGET: of a URI the parameter maddr where there is one, else the host; of a Via the host
 abbrev pub target_of : Request → Host

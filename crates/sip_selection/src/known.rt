@@ -1,27 +1,22 @@
 //! The answers that were given (RFC 3263 4), and the question that comes first where one lacks.
-ghost use Rattle.std.specs.Prelude.{◌≡◌, IfErr, MatchResult, map};
-ghost use Rattle.std.specs.Option.{option_copied};
-ghost use Rattle.sip_selection.specs.Known.{answer_to, find_answer};
-ghost use Rattle.sip_selection.specs.Views.{given_of, StopsAt};
+ghost use Rattle.std.specs.Prelude.{◌≡◌, ◌∷◌, ◌++◌, [], List, MatchResult, OnOk, OnErr, Err};
+ghost use Rattle.std.specs.Arc.{arc_value};
+ghost use Rattle.sip_selection.specs.Known.{Given, answer_to};
+ghost use Rattle.sip_selection.specs.Views.{StopsAt};
 ghost use Rattle.sip_selection.specs.declared.known.Stop.TheVariants as stop;
 
 use dns_answers::Answer;
 use dns_message::{Kind, Question};
 use dns_name::Name;
-use std::alloc::{AllocError, AllocFailed};
+use indexmap::IndexMap;
+use std::alloc::{AllocError, Global};
+use std::marker::Model;
 use std::sync::Arc;
 
-/// A question with its answer.
-#[derive(Debug, Drop)]
-pub(crate) struct Answered {
-    pub(crate) question: Question,
-    pub(crate) answer: Arc<Answer>,
-}
-
-/// Why a choice could not be finished.
-#[derive(Debug, Drop)]
+/// Why an answer is not known.
+#[derive(Drop)]
 pub(crate) enum Stop {
-    /// This question comes first.
+    /// This question has none.
     Need(Question),
     /// Memory was refused.
     Memory,
@@ -35,42 +30,74 @@ impl From<AllocError> for Stop {
     }
 }
 
-impl<T: Drop> From<AllocFailed<T>> for Stop {
-    ghost from_gives = { λ _ it. it ≡ stop.Memory };
-
-    fn from(_: AllocFailed<T>) -> Stop {
-        Stop::Memory
-    }
+/// The answers that were given, in the order in which they came, and by their questions.
+#[derive(Drop)]
+pub(crate) struct Known {
+    answers: IndexMap<Question, Arc<Answer>>,
 }
 
-/// The answer to the question for this kind of records of a name, if it is known.
-fn find<'a>(known: &'a [Answered], name: &Name, kind: Kind) -> Option<&'a Answer>
-    ensures { option_copied result
-        ≡ find_answer (map given_of known.now) (record { name = name.now; kind = kind }) }
-{
-    for answered in known {
-        if answered.question.name == *name && answered.question.kind == kind {
-            return Some(&answered.answer);
+impl Model for Known {
+    ghost use Rattle.std.specs.Prelude.{List, map};
+    ghost use Rattle.sip_selection.specs.Known.{Given};
+    ghost use Rattle.sip_selection.specs.Views.{given_of};
+
+    ghost Value = { List Given };
+
+    ghost view = { λ it. map given_of it.answers.entries };
+}
+
+impl Known {
+    /// None.
+    pub(crate) fn new(alloc: Global) -> Known
+        ensures { result ≡ [] }
+    {
+        Known {
+            answers: IndexMap::new(alloc),
         }
     }
-    None
-}
 
-/// The answer to that question, which comes first where it lacks.
-pub(crate) fn answer_to<'a>(
-    known: &'a [Answered],
-    name: &Name,
-    kind: Kind,
-) -> Result<&'a Answer, Stop>
-    ensures { MatchResult result
-        (λ answer. answer_to (map given_of known.now) (record { name = name.now; kind = kind }) ≡ Ok answer.now)
-        (λ it. StopsAt it (answer_to (map given_of known.now) (record { name = name.now; kind = kind }))) }
-{
-    match find(known, name, kind) {
-        Some(answer) => Ok(answer),
-        None => Err(Stop::Need(Question {
+    /// The answer to the question for this kind of records of a name, or that question.
+    pub(crate) fn answer_to(&self, name: &Name, kind: Kind) -> Result<&Arc<Answer>, Stop>
+        ensures { MatchResult result
+            (λ answer. answer_to self.now (record { name = name.now; kind = kind }) ≡ Ok (arc_value answer.now))
+            (λ it. StopsAt it (answer_to self.now (record { name = name.now; kind = kind }))) }
+    {
+        let question = Question {
             name: name.try_clone()?,
             kind,
-        })),
+        };
+        match self.answers.get(&question) {
+            Some(answer) => Ok(answer),
+            None => Err(Stop::Need(question)),
+        }
+    }
+
+    /// Adds the answer to a question that had none.
+    pub(crate) fn push(&mut self, question: Question, answer: Arc<Answer>) -> Result<(), AllocError>
+        requires { answer_to self.old question ≡ Err question }
+        ensures pushed { OnOk result (self.new
+            ≡ self.old ++ record { question = question; answer = arc_value answer } ∷ []) }
+        ensures unchanged { OnErr result (self.new ≡ self.old) }
+    {
+        match self.answers.insert(question, answer) {
+            Ok(_) => Ok(()),
+            Err(_) => Err(AllocError),
+        }
+    }
+
+    /// Adds an answer, in the place of one to the same question.
+    #[cfg(test)]
+    pub(crate) fn put(&mut self, question: &Question, answer: &Arc<Answer>) -> Option<()> {
+        let question = question.try_clone().ok()?;
+        let answer = Arc::try_clone(answer).ok()?;
+        self.answers.insert(question, answer).ok()?;
+        Some(())
+    }
+
+    /// Takes the last one away.
+    pub(crate) fn pop(&mut self)
+        ensures { (others : List Given) (last : Given) → self.old ≡ others ++ last ∷ [] → self.new ≡ others }
+    {
+        let _ = self.answers.pop();
     }
 }

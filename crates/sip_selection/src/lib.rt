@@ -43,8 +43,8 @@
 //! answers are given (`resolutions_are_final`). There are at most 521 questions
 //! (`questions_are_few`) and 16,384 targets (`targets_are_few`).
 //!
-//! Each `give` computes the choice anew from all answers given so far. It does not go on from where
-//! the choice stopped.
+//! Each `give` goes on from where the choice stopped. It takes memory for the answer, for the targets
+//! that it leads to and for the next question, and keeps what was found before.
 #![tactic(auto)]
 
 mod caps;
@@ -53,14 +53,15 @@ mod choice_laws;
 mod failover;
 mod known;
 mod laws;
-mod offers;
 mod reason;
 mod request;
 mod rules;
 mod selection;
+mod stage;
 mod target;
 mod targets;
 mod transports;
+mod walk;
 mod way;
 
 pub use caps::{Caps, Families};

@@ -1,5 +1,5 @@
 //! Requests, and what they say of where they go (RFC 3263 4, 5).
-ghost use Rattle.std.specs.Prelude.{◌≡◌, IfOk};
+ghost use Rattle.std.specs.Prelude.{◌≡◌, IfOk, OnErr};
 ghost use Rattle.sip_selection.specs.Requests as spec;
 
 use sip_uri::{Host, SipUri, Spoken, Via};
@@ -15,9 +15,10 @@ pub enum Request {
 }
 
 impl Request {
-    /// A copy.
+    /// A copy. Memory is taken for the names of hosts alone.
     pub fn try_clone(&self) -> Result<Request, AllocError>
-        ensures { IfOk result (λ copy. copy ≡ self.now) }
+        ensures copy { IfOk result (λ copy. copy ≡ self.now) }
+        ensures memory { OnErr result (spec.IsNamed self.now) }
     {
         Ok(match self {
             Request::Uri(uri) => Request::Uri(uri.try_clone()?),

@@ -1,33 +1,29 @@
 //! The choice of one request, question by question (RFC 3263 4, 5).
-ghost use Rattle.std.specs.Prelude.{◌≡◌, ◌≢◌, ◌↔◌, ◌∷◌, ◌++◌, [], IfOk, OnErr, OnOk};
+ghost use Rattle.std.specs.Prelude.{◌≡◌, ◌≢◌, ◌↔◌, IfOk, OnErr, OnOk};
 ghost use Rattle.std.specs.Arc.{arc_value};
 ghost use Rattle.dns_answers.specs.Records.{kind_of};
-ghost use Rattle.sip_selection.specs.Choice.{locate, need};
+ghost use Rattle.sip_selection.specs.Choice.{need};
 ghost use Rattle.sip_selection.specs.Nexts.{next_of};
 ghost use Rattle.sip_selection.specs.Selections.{begun, given_too, now_of};
-ghost use Rattle.sip_selection.specs.Views.{all_given, located_of};
+ghost use Rattle.sip_selection.specs.Stages.{Comes, StageFits, stage_left};
 ghost use Rattle.sip_selection.specs.declared.selection.GiveRefusal.TheVariants as refusals;
 
 use crate::caps::Caps;
-use crate::choice::{Settled, choose};
-use crate::known::{Answered, Stop};
+use crate::choice::{begin, resume};
+use crate::choice_laws::numeric_targets_ask_nothing;
+use crate::known::Known;
 use crate::reason::Reason;
 use crate::request::Request;
+use crate::stage::{Basis, Stage, Turn};
 use crate::target::Target;
 use dns_answers::Answer;
 use dns_message::{Question, same_questions_are_equal};
+use sip_uri::Host;
 use srv_choice::Words;
 use std::alloc::{AllocError, AllocFailed, Global};
 use std::marker::Model;
 use std::sync::Arc;
 use thiserror::Error;
-
-/// What a choice comes to, with the answers so far.
-#[derive(Debug, Drop)]
-pub(crate) enum Located {
-    Settled(Settled),
-    Need(Question),
-}
 
 /// What is next for a request.
 #[derive(Clone, Copy)]
@@ -76,38 +72,37 @@ pub struct Selection {
     request: Request,
     caps: Caps,
     words: Words,
-    known: Vec<Answered>,
-    located: Located,
+    known: Known,
+    targets: Vec<Target>,
+    turn: Turn,
 }
 
 impl Model for Selection {
-    ghost use Rattle.std.specs.Prelude.{◌≡◌};
-    ghost use Rattle.sip_selection.specs.Choice.{locate};
+    ghost use Rattle.sip_selection.specs.Choice.{chosen};
+    ghost use Rattle.sip_selection.specs.Requests.{is_secure, target_of};
     ghost use Rattle.sip_selection.specs.Selections.{SelectionValue};
-    ghost use Rattle.sip_selection.specs.Views.{all_given, located_of};
+    ghost use Rattle.sip_selection.specs.Stages.{ComesTo, name_of};
 
     ghost Value = { SelectionValue };
 
-    ghost view = { λ it. record { request = it.request; caps = it.caps; words = it.words.0; given = all_given it.known.items } };
+    ghost view = { λ it. record { request = it.request; caps = it.caps; words = it.words.0; given = it.known } };
 
-    ghost invariant = { λ it. located_of it.located ≡ locate it.request it.caps it.words.0 (all_given it.known.items) };
+    ghost invariant = { λ it. ComesTo (is_secure it.request) it.caps it.words.0 (name_of (target_of it.request))
+        it.known (chosen it.request it.caps it.words.0) it.turn it.targets.items };
 }
 
-/// Where a request goes, with the answers so far.
-fn locate_now(
-    alloc: Global,
-    request: &Request,
-    caps: &Caps,
-    words: &Words,
-    known: &[Answered],
-) -> Result<Located, AllocError>
-    ensures { IfOk result (λ it. located_of it ≡ locate request.now caps.now words.now.0 (all_given known.now)) }
+/// Goes on from a stage with one answer more, and adds the targets that are found.
+fn advance(targets: &mut Vec<Target>, basis: &Basis<'_>, stage: &Stage) -> Result<Turn, AllocError>
+    requires { StageFits stage.now }
+    ensures goes { IfOk result (λ turn. Comes basis.now
+        (stage_left basis.now.secure basis.now.caps.now basis.now.words.now.0 basis.now.name.now stage.now targets.old.items)
+        turn targets.new.items) }
+    ensures unchanged { OnErr result (targets.new.items ≡ targets.old.items) }
 {
-    match choose(alloc, request, caps, words, known) {
-        Ok(settled) => Ok(Located::Settled(settled)),
-        Err(Stop::Need(question)) => Ok(Located::Need(question)),
-        Err(Stop::Memory) => Err(AllocError),
-    }
+    let mut found = Vec::new(basis.alloc);
+    let turn = resume(&mut found, basis, stage)?;
+    targets.extend_from_slice(found.as_slice())?;
+    Ok(turn)
 }
 
 impl Selection {
@@ -120,14 +115,16 @@ impl Selection {
     ) -> Result<Selection, AllocError>
         ensures { IfOk result (λ it. it ≡ begun request caps words.0) }
     {
-        let known = Vec::new(alloc);
-        let located = locate_now(alloc, &request, &caps, &words, &known)?;
+        let known = Known::new(alloc);
+        let mut targets = Vec::new(alloc);
+        let turn = begin(&mut targets, alloc, &request, &caps, &words, &known)?;
         Ok(Selection {
             request,
             caps,
             words,
             known,
-            located,
+            targets,
+            turn,
         })
     }
 
@@ -137,13 +134,11 @@ impl Selection {
     pub fn next(&self) -> Next<'_>
         ensures { next_of result ≡ now_of self.now }
     {
-        match &self.located {
-            Located::Need(question) => Next::Ask(question),
-            Located::Settled(Settled::Refused(reason)) => Next::Refused(*reason),
-            Located::Settled(Settled::Targets(targets)) if targets.is_empty() => {
-                Next::Refused(Reason::NoAddress)
-            }
-            Located::Settled(Settled::Targets(targets)) => Next::Targets(targets.as_slice()),
+        match &self.turn {
+            Turn::Ask(question, _) => Next::Ask(question),
+            Turn::Refused(reason) => Next::Refused(*reason),
+            Turn::Found if self.targets.is_empty() => Next::Refused(Reason::NoAddress),
+            Turn::Found => Next::Targets(self.targets.as_slice()),
         }
     }
 
@@ -161,23 +156,33 @@ impl Selection {
             × (kind_of (arc_value answer).records ≢ question.now.kind)) }
     {
         same_questions_are_equal();
-        match &self.located {
-            Located::Need(asked) if asked == question => {}
-            _ => return Err(GiveRefusal::NotAsked),
+        numeric_targets_ask_nothing();
+        let (Host::Domain(name), Turn::Ask(asked, stage)) = (self.request.target(), &self.turn)
+        else {
+            return Err(GiveRefusal::NotAsked);
+        };
+        if asked != question {
+            return Err(GiveRefusal::NotAsked);
         }
         if answer.records().kind() != question.kind {
             return Err(GiveRefusal::WrongKind);
         }
-        let question = question.try_clone()?;
-        self.known.push(Answered { question, answer })?;
-        let next = locate_now(alloc, &self.request, &self.caps, &self.words, &self.known);
-        match next {
-            Ok(located) => {
-                self.located = located;
+        self.known.push(question.try_clone()?, answer)?;
+        let basis = Basis {
+            alloc,
+            secure: self.request.is_secure(),
+            caps: &self.caps,
+            words: &self.words,
+            name,
+            known: &self.known,
+        };
+        match advance(&mut self.targets, &basis, stage) {
+            Ok(turn) => {
+                self.turn = turn;
                 Ok(())
             }
             Err(AllocError) => {
-                let _ = self.known.pop();
+                self.known.pop();
                 Err(GiveRefusal::Memory)
             }
         }

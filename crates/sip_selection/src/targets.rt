@@ -1,14 +1,16 @@
 //! The targets of the addresses of names (RFC 3263 4.2).
-ghost use Rattle.std.specs.Prelude.{◌≡◌, ◌++◌, List, MatchResult, OnOk, map};
-ghost use Rattle.sip_selection.specs.Known.{addresses_in, joined};
+ghost use Rattle.std.specs.Prelude.{◌≡◌, ◌++◌, List, IfOk, OnOk, map};
+ghost use Rattle.sip_selection.specs.Known.{addresses_in};
 ghost use Rattle.sip_selection.specs.Services as spec;
-ghost use Rattle.sip_selection.specs.Views.{given_of, StopsAt};
+ghost use Rattle.sip_selection.specs.Stages as stage;
 ghost use Rattle.sip_selection.specs.declared.target.Target as target;
 
-use crate::known::{Answered, Stop, answer_to};
+use crate::caps::kinds_of;
+use crate::known::Stop;
+use crate::stage::{Basis, Cursor};
 use crate::target::Target;
 use dns_answers::Records;
-use dns_message::{Kind, SrvRecord};
+use dns_message::{Question, SrvRecord};
 use dns_name::Name;
 use sip_uri::{Address, Transport};
 use std::alloc::AllocError;
@@ -70,93 +72,90 @@ fn push_addresses(
     }
 }
 
-/// Adds the addresses of a name at a port: of each of these kinds in turn.
-pub(crate) fn push_name(
+/// Adds the addresses of a name at a port, from a kind on: all, or up to the kind whose question has no answer.
+pub(crate) fn push_kinds(
     targets: &mut Vec<Target>,
-    known: &[Answered],
-    kinds: &[Kind],
+    basis: &Basis<'_>,
     transport: Transport,
     port: u16,
     name: &Name,
-) -> Result<(), Stop>
-    ensures { MatchResult result
-        (λ _. (found : List target.Target)
-        × (spec.targets_of (map given_of known.now) kinds.now transport port name.now ≡ Ok found)
-        × (targets.new.items ≡ targets.old.items ++ found))
-        (λ it. StopsAt it (spec.targets_of (map given_of known.now) kinds.now transport port name.now)) }
+    from: usize,
+) -> Result<Option<(usize, Question)>, AllocError>
+    ensures { IfOk result (λ stop. (found : List target.Target) × (targets.new.items ≡ targets.old.items ++ found)
+        × stage.Reaches basis.now.known.now (λ all. stage.kinds_left basis.now.caps.now all transport port name.now) from stop found) }
 {
-    for kind in kinds {
-        let answer = answer_to(known, name, *kind)?;
-        push_addresses(targets, transport, port, answer.records())?;
+    let kinds = kinds_of(basis.caps.families());
+    for at in from..kinds.len() {
+        match basis.known.answer_to(name, kinds[at]) {
+            Ok(answer) => push_addresses(targets, transport, port, answer.records())?,
+            Err(Stop::Need(question)) => return Ok(Some((at, question))),
+            Err(Stop::Memory) => return Err(AllocError),
+        }
     }
-    Ok(())
+    Ok(None)
 }
 
-/// Adds the addresses of a server at its port, unless its target is the root.
+/// Adds the addresses of a server at its port, from a kind on, unless its target is the root.
 fn push_server(
     targets: &mut Vec<Target>,
-    known: &[Answered],
-    kinds: &[Kind],
+    basis: &Basis<'_>,
     transport: Transport,
     server: &SrvRecord,
-) -> Result<(), Stop>
-    ensures { MatchResult result
-        (λ _. (found : List target.Target)
-        × (spec.server_targets (map given_of known.now) kinds.now transport server.now ≡ Ok found)
-        × (targets.new.items ≡ targets.old.items ++ found))
-        (λ it. StopsAt it (spec.server_targets (map given_of known.now) kinds.now transport server.now)) }
+    from: usize,
+) -> Result<Option<(usize, Question)>, AllocError>
+    ensures { IfOk result (λ stop. (found : List target.Target) × (targets.new.items ≡ targets.old.items ++ found)
+        × stage.Reaches basis.now.known.now (λ all. stage.server_left basis.now.caps.now all transport server.now) from stop found) }
 {
     if server.target.is_root() {
-        return Ok(());
+        return Ok(None);
     }
-    push_name(
-        targets,
-        known,
-        kinds,
-        transport,
-        server.port,
-        &server.target,
-    )
+    push_kinds(targets, basis, transport, server.port, &server.target, from)
 }
 
-/// Adds the addresses of the server at a place, if there is one.
+/// Adds the addresses of the server at a place, if there is one, from a kind on.
 fn push_place(
     targets: &mut Vec<Target>,
-    known: &[Answered],
-    kinds: &[Kind],
+    basis: &Basis<'_>,
     transport: Transport,
     servers: &[SrvRecord],
     place: usize,
-) -> Result<(), Stop>
-    ensures { MatchResult result
-        (λ _. (found : List target.Target)
-        × (spec.place_targets (map given_of known.now) kinds.now transport servers.now place ≡ Ok found)
-        × (targets.new.items ≡ targets.old.items ++ found))
-        (λ it. StopsAt it (spec.place_targets (map given_of known.now) kinds.now transport servers.now place)) }
+    from: usize,
+) -> Result<Option<(usize, Question)>, AllocError>
+    ensures { IfOk result (λ stop. (found : List target.Target) × (targets.new.items ≡ targets.old.items ++ found)
+        × stage.Reaches basis.now.known.now (λ all. stage.place_left basis.now.caps.now all transport servers.now place) from stop found) }
 {
     match servers.get(place) {
-        Some(server) => push_server(targets, known, kinds, transport, server),
-        None => Ok(()),
+        Some(server) => push_server(targets, basis, transport, server, from),
+        None => Ok(None),
     }
 }
 
-/// Adds the addresses of the servers at these places, in this order.
+/// Adds the addresses of the servers at these places, in this order, from a cursor on: all, or up to the first question
+/// without an answer.
 pub(crate) fn push_places(
     targets: &mut Vec<Target>,
-    known: &[Answered],
-    kinds: &[Kind],
+    basis: &Basis<'_>,
     transport: Transport,
     servers: &[SrvRecord],
     places: &[usize],
-) -> Result<(), Stop>
-    ensures { MatchResult result
-        (λ _. (found : List target.Target)
-        × (joined (spec.place_targets (map given_of known.now) kinds.now transport servers.now) places.now ≡ Ok found)
-        × (targets.new.items ≡ targets.old.items ++ found))
-        (λ it. StopsAt it (joined (spec.place_targets (map given_of known.now) kinds.now transport servers.now) places.now)) }
+    from: Cursor,
+) -> Result<Option<(Cursor, Question)>, AllocError>
+    ensures { IfOk result (λ stop. (found : List target.Target) × (targets.new.items ≡ targets.old.items ++ found)
+        × stage.Reaches basis.now.known.now (λ all. stage.servers_left basis.now.caps.now all transport servers.now places.now) from stop found) }
 {
-    for place in places {
-        push_place(targets, known, kinds, transport, servers, *place)?;
+    let mut kind = from.kind;
+    for server in from.server..places.len() {
+        if let Some((kind, question)) = push_place(
+            targets,
+            basis,
+            transport,
+            servers,
+            places[server],
+            kind,
+        )? {
+            return Ok(Some((Cursor { server, kind }, question)));
+        }
+        kind = 0;
     }
-    Ok(())
+    Ok(None)
 }

@@ -12,6 +12,7 @@ mod caps;
 mod conversations;
 mod failover;
 mod gives;
+mod random;
 mod rules;
 
 use rules::{Rule, records};

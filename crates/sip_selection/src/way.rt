@@ -8,7 +8,7 @@ use std::alloc::AllocError;
 
 /// A service that is looked for: by which transport, and the name of its SRV records, unless that would
 /// have more than 255 octets.
-#[derive(Debug, Drop)]
+#[derive(Drop)]
 pub(crate) struct Way {
     pub(crate) transport: Transport,
     pub(crate) name: Option<Name>,

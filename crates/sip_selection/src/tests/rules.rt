@@ -35,7 +35,7 @@ pub(crate) const EXAMPLE: &[Rule] = &[
 ];
 
 /// Nine rules, the last one in the message preferred.
-const NINE: &[Rule] = &[
+pub(crate) const NINE: &[Rule] = &[
     (7, 9, "s", "SIP+D2U", "", "i.example"),
     (7, 8, "s", "SIP+D2U", "", "h.example"),
     (7, 7, "s", "SIP+D2T", "", "g.example"),

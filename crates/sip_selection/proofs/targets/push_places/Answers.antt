@@ -1,32 +1,17 @@
-use Rattle.std.proofs.Common.{map, get_or}
-use Rattle.std.proofs.lemmas.List.{get_or_default}
-use Rattle.std.proofs.lemmas.Result.{err_from_is_err_and}
-use Rattle.sip_selection.specs.Services.{place_targets}
-use Rattle.sip_selection.specs.Views.{given_of}
-use Rattle.sip_selection.proofs.Joins.{stops-joined}
-use Rattle.sip_selection.proofs.Pushed.{pushed-none, pushed-more, pushed-all}
+use Rattle.std.proofs.Common.{get_or, refl}
+use Rattle.sip_selection.specs.Stages.{servers_left}
+use Rattle.sip_selection.proofs.Reaching.{came-more, came-stop, server-part, server-stops}
 use Rattle.sip_selection.proofs.targets.push_places.Goals as goal
 
-pub loop-place-init : goal.loop-place-init
-loop-place-init c = pushed-none _ c.args.targets.now.items
-
-pub loop-place-preserved : goal.loop-place-preserved
-loop-place-preserved c =
-    let l = c.loop-place in
-    let places = c.args.places.now in
-    let pushed = c.in_ok-push_place.ensures in
-    pushed-more (place_targets (map given_of c.args.known.now) c.args.kinds.now c.args.transport c.args.servers.now) c.args.targets.now.items places l.place-index (get_or places l.place-index 0) c.loop-place-test.true
-    (get_or_default places l.place-index _ _ c.loop-place-test.true) l.targets.items c.push_place.new.targets.items pushed.0 l.invariant pushed.1 pushed.2
-
-pub returns-in_err-push_place : goal.returns-in_err-push_place
-returns-in_err-push_place c =
-    let l = c.loop-place in
-    let places = c.args.places.now in
-    let p = err_from_is_err_and c.from_residual.result c.from_residual.ensures.1 in
-    rw (p.1, p.2) (stops-joined (place_targets (map given_of c.args.known.now) c.args.kinds.now c.args.transport c.args.servers.now) places l.place-index (get_or places l.place-index 0) c.loop-place-test.true
-    (get_or_default places l.place-index _ _ c.loop-place-test.true) l.invariant.found l.invariant.is c.in_err-push_place.field-0.0 c.in_err-push_place.ensures)
-
-pub returns : goal.returns
-returns c =
-    let l = c.loop-place in
-    pushed-all _ c.args.targets.now.items c.args.places.now l.place-index l.targets.items c.loop-place-test.false l.auto.place-index-end l.invariant
+pub returns-in-Some : goal.returns-in-Some
+returns-in-Some c =
+    let l = c.loop-server in
+    let a = c.args in
+    let caps = a.basis.now.caps.now in
+    let given = a.basis.now.known.now in
+    let part = rw c.in-Some.is at c.in_ok-kind.ensures in
+    let place = get_or a.places.now l.server 0 in
+    came-stop given (λ all. servers_left caps all a.transport a.servers.now a.places.now) a.from a.targets.now.items _ _ c.in-Some.question
+    (came-more given (λ all. servers_left caps all a.transport a.servers.now a.places.now) a.from a.targets.now.items _ _ l.targets.items _ part.0 l.invariant part.1
+    (server-part caps a.transport a.servers.now a.places.now l.server l.kind place c.loop-server-test.true refl given c.in-Some.kind c.in-Some.question part.0 part.2))
+    (server-stops caps a.transport a.servers.now a.places.now l.server l.kind place c.loop-server-test.true refl given c.in-Some.kind c.in-Some.question part.0 part.2)

@@ -1,0 +1,48 @@
+-- What is next in a choice is where it goes by the answers so far.
+use Rattle.std.proofs.Common.{◌≡◌, ℕ, Bool, true, false, not, true≢false, sym, List, [], ◌∷◌, ◌++◌, Ok, Err, refl, ap, ◌∙◌}
+use Rattle.dns_message.specs.declared.question.Question.{Question}
+use Rattle.sip_selection.specs.Choice.{need, refused, settled, resolved, chosen, locate}
+use Rattle.sip_selection.specs.Known.{Given, answer_to}
+use Rattle.sip_selection.specs.Requests.{is_secure, target_of}
+use Rattle.sip_selection.specs.Stages.{ComesTo, name_of, stage_left}
+use Rattle.sip_selection.specs.declared.caps.Caps.{Caps}
+use Rattle.sip_selection.specs.declared.reason.Reason.{Reason}
+use Rattle.sip_selection.specs.declared.request.Request.{Request}
+use Rattle.sip_selection.specs.declared.stage.Stage.{Stage}
+use Rattle.sip_selection.specs.declared.stage.Turn.{Turn}
+use Rattle.sip_selection.specs.declared.stage.Turn.TheVariants.{Ask, Found, Refused}
+use Rattle.sip_selection.specs.declared.target.Target.{Target}
+use Rattle.sip_selection.proofs.ChoiceLaws.{missing_is}
+use Rattle.sip_selection.proofs.Growth.{answer-grows}
+use Rattle.sip_selection.proofs.Reaching.{extends-itself}
+
+module _ (request : Request) (caps : Caps) (words : List ℕ) (given : List Given) (found : List Target) where
+  abbrev pub Stands : Turn → Type 0
+  Stands turn = ComesTo (is_secure request) caps words (name_of (target_of request)) given (chosen request caps words) turn found
+
+  pub asked-is : (question : Question) (stage : Stage) → Stands (Ask question stage) → locate request caps words given ≡ need question
+  asked-is question stage comes = ap resolved (comes.0 given (extends-itself given) ∙ comes.1.0)
+
+  pub found-is : Stands Found → locate request caps words given ≡ settled (Ok found)
+  found-is comes = ap resolved (comes.0 given (extends-itself given))
+
+  pub refused-is : (reason : Reason) → Stands (Refused reason) → locate request caps words given ≡ refused reason
+  refused-is reason comes = ap resolved (comes.0 given (extends-itself given))
+
+  pub unknown-is : (question : Question) (stage : Stage) → Stands (Ask question stage) → answer_to given question ≡ Err question
+  unknown-is question stage comes = rw (missing_is request caps words given question (asked-is question stage comes)).0 refl
+
+  -- with an answer more, the choice goes on from its stage
+  pub goes-on : (question : Question) (stage : Stage) → Stands (Ask question stage)
+      → (more : Given) (turn : Turn) (found' : List Target)
+      → ComesTo (is_secure request) caps words (name_of (target_of request)) (given ++ more ∷ [])
+      (stage_left (is_secure request) caps words (name_of (target_of request)) stage found) turn found'
+      → ComesTo (is_secure request) caps words (name_of (target_of request)) (given ++ more ∷ []) (chosen request caps words) turn found'
+  goes-on question stage comes more turn found' next = (
+    λ all extends. comes.0 all (λ asked answer is. extends asked answer (answer-grows given (more ∷ []) asked answer is)) ∙ next.0 all extends,
+    next.1,
+  )
+
+pub not-false : (b : Bool) → false ≡ not b → b ≡ true
+not-false true is = refl
+not-false false is = absurd (true≢false (sym is))

@@ -1,0 +1,113 @@
+-- What is left of a walk along ways, from one way to the next.
+use Rattle.std.proofs.Common.{◌≡◌, ℕ, ◌+◌, ◌<◌, Bool, true, false, List, ◌∷◌, ◌++◌, drop, get_or, length, Some, Result, Ok, Err, IfOk, refl, sym, ap, ◌∙◌, append_assoc}
+use Rattle.std.specs.List.{flat_map}
+use Rattle.std.proofs.lemmas.List.{drop_more}
+use Rattle.dns_answers.specs.Values.{AnswerValue}
+use Rattle.dns_message.specs.declared.kind.Kind.TheVariants as kind
+use Rattle.dns_message.specs.declared.srv.SrvRecord.{SrvRecord}
+use Rattle.sip_uri.specs.declared.transport.Transport.{Transport}
+use Rattle.srv_choice.specs.Outcomes.{order_from}
+use Rattle.srv_choice.specs.declared.outcome.SrvOutcome.TheVariants.{Listed}
+use Rattle.sip_selection.specs.Callers.{families_of, kinds_of}
+use Rattle.sip_selection.specs.Choice.{Settled}
+use Rattle.sip_selection.specs.Known.{Given, Needing, after, made, joined, answer_to, servers_in}
+use Rattle.sip_selection.specs.Services.{Offer, listed, offered_targets, next_word, place_targets, offer_by, offer_along, offers_along}
+use Rattle.sip_selection.specs.Stages.{Extends, behind, ended, walk_left, offer_left, servers_left, Walks}
+use Rattle.sip_selection.specs.declared.caps.Caps.{Caps}
+use Rattle.sip_selection.specs.declared.reason.Reason.{Reason}
+use Rattle.sip_selection.specs.declared.stage.Basis.{Basis}
+use Rattle.sip_selection.specs.declared.stage.Reached.{Reached}
+use Rattle.sip_selection.specs.declared.stage.Walk.{Walk}
+use Rattle.sip_selection.specs.declared.target.Target.{Target}
+use Rattle.sip_selection.specs.declared.way.Way.{Way}
+use Rattle.sip_selection.proofs.Needings.{after-made, after-after, after-each}
+use Rattle.sip_selection.proofs.Reaching.{all-left}
+
+module _ (caps : Caps) (words : List ℕ) (name : List (List ℕ)) (all : List Given) (ways : List Way) (fallback : Result Transport Reason) where
+  -- ---- one offer more
+
+  listed-by : (walk : Walk) (found targets : List Target) (places : List ℕ) (next : ℕ) (others : List Offer) (any : Bool) → walk.is_listed ≡ any
+      → ended caps words name all fallback walk found (listed targets next ∷ others)
+      ≡ ended caps words name all fallback (behind walk (Listed places next)) (found ++ targets) others
+  listed-by walk found targets places next others true e =
+      rw e (ap (λ (l : List Target). Ok (Ok l)) (sym (append_assoc found targets (flat_map offered_targets others))))
+  listed-by walk found targets places next others false e =
+      rw e (ap (λ (l : List Target). Ok (Ok l)) (sym (append_assoc found targets (flat_map offered_targets others))))
+
+  module _ (walk : Walk) (found : List Target) where
+    abbrev rest : ℕ → Needing (List Offer)
+    rest word = offers_along all (kinds_of (families_of caps)) words (drop (walk.way + 1) ways) word
+
+    listed-left : (places : List ℕ) (next : ℕ) (targets : List Target)
+        → offer_left caps words name all ways fallback walk found (Ok (listed targets next))
+        ≡ walk_left caps words name all ways fallback (behind walk (Listed places next)) (found ++ targets)
+    listed-left places next targets =
+        after-made (ended caps words name all fallback walk found) (λ others. listed targets next ∷ others) (rest next)
+        ∙ after-each (λ others. ended caps words name all fallback walk found (listed targets next ∷ others))
+        (ended caps words name all fallback (behind walk (Listed places next)) (found ++ targets))
+        (λ others. listed-by walk found targets places next others walk.is_listed refl) (rest next)
+
+    -- ---- what SRV records offer
+
+    module _ (transport : Transport) (answer : AnswerValue) where
+      abbrev servers : List SrvRecord
+      servers = servers_in answer.records
+
+      abbrev targets-of : List ℕ → Needing (List Target)
+      targets-of places = joined (place_targets all (kinds_of (families_of caps)) transport servers) places
+
+      pub answer-listed : (places : List ℕ) (next : ℕ) → order_from servers words walk.word ≡ Listed places next
+          → offer_left caps words name all ways fallback walk found (offer_by all (kinds_of (families_of caps)) words transport walk.word answer)
+          ≡ after (λ more. walk_left caps words name all ways fallback (behind walk (Listed places next)) (found ++ more))
+          (servers_left caps all transport servers places (record { server = 0; kind = 0 }))
+      answer-listed places next is = rw (is, all-left caps transport servers all places)
+          (after-made (λ offer. offer_left caps words name all ways fallback walk found (Ok offer)) (λ targets. listed targets next) (targets-of places)
+          ∙ after-each (λ targets. offer_left caps words name all ways fallback walk found (Ok (listed targets next)))
+          (λ more. walk_left caps words name all ways fallback (behind walk (Listed places next)) (found ++ more))
+          (listed-left places next) (targets-of places))
+
+    -- ---- the next way
+
+    pub way-left : (way : Way) → drop walk.way ways ≡ way ∷ drop (walk.way + 1) ways
+        → walk_left caps words name all ways fallback walk found
+        ≡ offer_left caps words name all ways fallback walk found (offer_along all (kinds_of (families_of caps)) words way walk.word)
+    way-left way there = rw there (after-after (ended caps words name all fallback walk found)
+        (λ offer. made (λ others. offer ∷ others) (rest (next_word walk.word offer))) (offer_along all (kinds_of (families_of caps)) words way walk.word))
+
+    pub named-left : (way : Way) (owner : List (List ℕ)) → way.name ≡ Some owner → drop walk.way ways ≡ way ∷ drop (walk.way + 1) ways
+        → (answer : AnswerValue) → answer_to all (record { name = owner; kind = kind.Srv }) ≡ Ok answer
+        → walk_left caps words name all ways fallback walk found
+        ≡ offer_left caps words name all ways fallback walk found (offer_by all (kinds_of (families_of caps)) words way.transport walk.word answer)
+    named-left way owner named there answer known = way-left way there ∙ rw (named, known) refl
+
+-- ---- what is reached
+
+pub ok-each : {X E : Type 0} (P Q : X → Type 0) → ((x : X) → P x → Q x) → (result : Result X E) → IfOk result P → IfOk result Q
+ok-each P Q each (Ok x) is = each x is
+ok-each P Q each (Err e) is = tt
+
+abbrev pub AlongLeft : Type 0
+AlongLeft = List Given → Result Transport Reason → List Target → Needing Settled
+
+-- what is left the same, leads as far
+pub walks-too : (basis : Basis) (ways : List Way) (left left' : AlongLeft) (to : Reached) (before now : List Target)
+    → ((all : List Given) → Extends basis.known.now all → (fallback : Result Transport Reason) (found : List Target) → left' all fallback found ≡ left all fallback found)
+    → Walks basis ways left to before now → Walks basis ways left' to before now
+walks-too basis ways left left' to before now same walks = λ fallback front. (
+  λ all extends. same all extends fallback (front ++ before) ∙ (walks fallback front).0 all extends,
+  (walks fallback front).1,
+)
+
+pub next-way : (ways : List Way) (walk : Walk) (at : ℕ) (way : Way) → walk.way ≡ at → at < length ways → way ≡ get_or ways at way
+    → drop walk.way ways ≡ way ∷ drop (walk.way + 1) ways
+next-way ways walk at way here within is = rw here (drop_more ways at way within ∙ ap (λ (w : Way). w ∷ drop (at + 1) ways) (sym is))
+
+-- what leads to the beginning of a walk, and then the walk
+pub walks-then : (basis : Basis) (ways : List Way) (left left' : AlongLeft) (to : Reached) (before between now : List Target)
+    → ((fallback : Result Transport Reason) (front : List Target) (all : List Given) → Extends basis.known.now all
+    → left' all fallback (front ++ before) ≡ left all fallback (front ++ between))
+    → Walks basis ways left to between now → Walks basis ways left' to before now
+walks-then basis ways left left' to before between now first walks = λ fallback front. (
+  λ all extends. first fallback front all extends ∙ (walks fallback front).0 all extends,
+  (walks fallback front).1,
+)

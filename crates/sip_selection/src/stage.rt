@@ -1,0 +1,146 @@
+//! How far a choice has come (RFC 3263 4.1, 4.2).
+ghost use Rattle.std.specs.Prelude.{◌≡◌, ◌<◌};
+ghost use Rattle.sip_selection.specs.Stages as spec;
+
+use crate::caps::Caps;
+use crate::known::Known;
+use crate::reason::Reason;
+use crate::way::Way;
+use dns_answers::Answer;
+use dns_message::Question;
+use dns_name::Name;
+use sip_uri::Transport;
+use srv_choice::{Places, SrvOutcome, Words};
+use std::alloc::Global;
+use std::sync::Arc;
+
+/// What the choice for a domain goes by, with the answers so far.
+#[derive(Clone, Copy)]
+pub(crate) struct Basis<'a> {
+    pub(crate) alloc: Global,
+    /// For a SIPS URI.
+    pub(crate) secure: bool,
+    pub(crate) caps: &'a Caps,
+    pub(crate) words: &'a Words,
+    /// The domain.
+    pub(crate) name: &'a Name,
+    pub(crate) known: &'a Known,
+}
+
+/// The services that are looked for.
+#[derive(Drop)]
+pub(crate) struct Lead {
+    /// One after the other.
+    pub(crate) ways: Vec<Way>,
+    /// The transport of the domain itself, where all of them are absent.
+    pub(crate) fallback: Result<Transport, Reason>,
+}
+
+/// How far services were looked for.
+#[derive(Clone, Copy)]
+pub(crate) struct Walk {
+    /// The place of the next way.
+    pub(crate) way: usize,
+    /// The place of the next random word.
+    pub(crate) word: usize,
+    /// One is listed at least.
+    pub(crate) is_listed: bool,
+    /// One is denied at least.
+    pub(crate) is_denied: bool,
+}
+
+impl Walk {
+    /// Before the first way.
+    pub(crate) fn start() -> Walk
+        ensures { result ≡ spec.start }
+    {
+        Walk {
+            way: 0,
+            word: 0,
+            is_listed: false,
+            is_denied: false,
+        }
+    }
+
+    /// Behind the next way, of which the SRV records say this.
+    pub(crate) fn behind(self, outcome: &SrvOutcome) -> Walk
+        requires { self.way < 8 }
+        ensures { result ≡ spec.behind self outcome.now }
+    {
+        let walk = Walk {
+            way: self.way + 1,
+            ..self
+        };
+        match outcome {
+            SrvOutcome::Absent => walk,
+            SrvOutcome::Denied => Walk {
+                is_denied: true,
+                ..walk
+            },
+            SrvOutcome::Listed(_, next) => Walk {
+                word: *next,
+                is_listed: true,
+                ..walk
+            },
+        }
+    }
+}
+
+/// A service that is listed.
+#[derive(Drop)]
+pub(crate) struct Listing {
+    pub(crate) transport: Transport,
+    /// Its SRV records.
+    pub(crate) answer: Arc<Answer>,
+    /// Their order.
+    pub(crate) places: Places,
+}
+
+/// How far the addresses of servers were looked for.
+#[derive(Clone, Copy)]
+pub(crate) struct Cursor {
+    /// How many servers are done.
+    pub(crate) server: usize,
+    /// How many kinds of address of the next server are done.
+    pub(crate) kind: usize,
+}
+
+/// Where a question comes up among services.
+#[derive(Drop)]
+pub(crate) enum Spot {
+    /// The SRV records of the next way.
+    Service(Walk),
+    /// The addresses of a server of a listed service; behind the service, the walk goes on from there.
+    Server(Arc<Listing>, Cursor, Walk),
+}
+
+/// How far a walk has come.
+#[derive(Drop)]
+pub(crate) enum Reached {
+    /// It goes on from here.
+    Walk(Walk),
+    /// It stops here, where this question has no answer.
+    Stop(Spot, Question),
+}
+
+/// Where a question comes up in a choice.
+#[derive(Drop)]
+pub(crate) enum Stage {
+    /// The NAPTR records of the domain.
+    Rules,
+    /// One of its services.
+    Along(Arc<Lead>, Spot),
+    /// The addresses of the domain, by a transport at a port; so many kinds are done.
+    Domain(Transport, u16, usize),
+}
+
+/// What is next in a choice.
+#[derive(Drop)]
+pub(crate) enum Turn {
+    /// The answer to this question, at this stage.
+    Ask(Question, Stage),
+    /// The targets that were found are all.
+    Found,
+    /// There is no target.
+    Refused(Reason),
+}
