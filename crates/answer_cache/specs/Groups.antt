@@ -1,0 +1,21 @@
+-- The group of a question, by the hash FNV-1a of 32 bits (draft-eastlake-fnv).
+use Rattle.std.specs.Prelude.{ℕ, ◌*◌, ◌/◌, ◌%◌, ◌^◌, List, [], ◌∷◌, ◌++◌, bit_xor}
+use Rattle.std.specs.List.{fold}
+use Rattle.dns_name.specs.Labels.{wire_of}
+use Rattle.dns_message.specs.Kinds.{kind_code}
+use Rattle.dns_message.specs.declared.question.Question.{Question}
+
+-- the hash with one octet more
+abbrev pub hash_more : ℕ → ℕ → ℕ
+hash_more hash octet = (bit_xor hash octet * 16777619) % 2 ^ 32
+
+abbrev pub hash_of : List ℕ → ℕ
+hash_of octets = fold hash_more 2166136261 octets
+
+-- what is hashed: the name without pointers, and the two octets of the type
+abbrev pub hashed_of : Question → List ℕ
+hashed_of question = wire_of question.name ++ (kind_code question.kind / 256) ∷ (kind_code question.kind % 256) ∷ []
+
+-- one of 64
+abbrev pub group_of : Question → ℕ
+group_of question = hash_of (hashed_of question) % 64

@@ -1,0 +1,48 @@
+-- What a history of stores answers. It is one list in the order of time, the oldest store first.
+use Rattle.std.specs.Prelude.{◌≡◌, ℕ, ◌+◌, ◌<◌, ◌≤◌, ◌==◌, nat_lt, List, length, Option, Some, None, option_and_then, if◌then◌else◌}
+use Rattle.std.specs.List.{All, filter, last_or}
+use Rattle.dns_answers.specs.Records.{kind_of}
+use Rattle.dns_answers.specs.Values.{AnswerValue}
+use Rattle.dns_message.specs.Questions.{same_question}
+use Rattle.dns_message.specs.declared.question.Question.{Question}
+use Rattle.answer_cache.specs.Groups.{group_of}
+
+-- a store: the number of its seat, the question, the answer, and the moment at which its life begins, in seconds
+pub record Store : Type 0 where
+  pub seat : ℕ
+  pub question : Question
+  pub answer : AnswerValue
+  pub moment : ℕ
+
+-- the stores of a question
+abbrev pub stores_of : Question → List Store → List Store
+stores_of question history = filter (λ store. same_question store.question question) history
+
+-- the answer of a store, while it lives
+abbrev pub living : ℕ → Store → Option AnswerValue
+living now store = if nat_lt now (store.moment + store.answer.life) then Some store.answer else None
+
+-- the answer of the last store of a question; none where that has expired, or there is none
+abbrev pub cached : List Store → Question → ℕ → Option AnswerValue
+cached history question now = option_and_then (living now) (last_or None (stores_of question history))
+
+-- the stores whose questions are in a group
+abbrev pub in_group : ℕ → List Store → List Store
+in_group group history = filter (λ store. group_of store.question == group) history
+
+-- there are 64 stores in the question's group
+abbrev pub IsFull : List Store → Question → Type 0
+IsFull history question = 64 ≤ length (in_group (group_of question) history)
+
+-- the stores of a seat
+abbrev pub mine : List Store → ℕ → List Store
+mine history seat = filter (λ store. store.seat == seat) history
+
+-- an answer that lives, of its question's kind
+abbrev pub IsSound : Store → Type 0
+IsSound store = (0 < store.answer.life) × (kind_of store.answer.records ≡ store.question.kind)
+
+-- each store is sound, and no group has more than 64
+pub record IsHistory (history : List Store) : Type 0 where
+  pub sound : All IsSound history
+  pub few : (group : ℕ) → length (in_group group history) ≤ 64

@@ -1,0 +1,35 @@
+-- What a list of stores takes, where no other seat is there.
+use Rattle.std.specs.Prelude.{◌≡◌, ◌<◌, List, [], ◌∷◌, ◌++◌}
+use Rattle.answer_cache.specs.Histories.{Store, IsFull, mine}
+use Rattle.answer_cache.specs.Seats.{Offer, SeatView, store_of}
+use Rattle.answer_cache.specs.declared.refusal.StoreRefusal.{StoreRefusal}
+use Rattle.answer_cache.specs.declared.refusal.StoreRefusal.TheVariants.{Lifeless, GenerationFull, Contended, Memory}
+
+-- the store of the one seat
+abbrev pub own_store : Offer → Store
+own_store offer = record { seat = 0; question = offer.question; answer = offer.answer; moment = offer.moment }
+
+-- what the seat sees
+abbrev pub seat_at : List Store → List Offer → SeatView
+seat_at history offered = record { number = 0; seen = history; own = mine history 0; offered = offered }
+
+abbrev pub offered_too : SeatView → Offer → SeatView
+offered_too seat offer = record seat { offered = seat.offered ++ offer ∷ [] }
+
+abbrev pub stored_too : SeatView → Offer → SeatView
+stored_too seat offer = record seat {
+  seen = seat.seen ++ store_of seat offer ∷ [];
+  own = seat.own ++ store_of seat offer ∷ [];
+  offered = seat.offered ++ offer ∷ [];
+}
+
+-- the answer lives, and there is room in the question's group
+abbrev pub Takes : List Store → Offer → Type 0
+Takes history offer = (0 < offer.answer.life) × (IsFull history offer.question → ⊥)
+
+-- Each refusal comes exactly where this is so. Memory is wanted only for what would be taken.
+abbrev pub Refuses : List Store → Offer → StoreRefusal → Type 0
+Refuses history offer Lifeless = offer.answer.life ≡ 0
+Refuses history offer GenerationFull = (0 < offer.answer.life) × IsFull history offer.question
+Refuses history offer Contended = ⊥
+Refuses history offer Memory = Takes history offer

@@ -1,0 +1,66 @@
+-- What contracts see of a seat, and how a call changes it.
+use Rattle.std.specs.Prelude.{◌≡◌, ℕ, ◌+◌, ◌<◌, ◌≤◌, List, [], ◌∷◌, ◌++◌, length}
+use mathlib.Core.List.{IsPrefix}
+use Rattle.dns_answers.specs.Values.{AnswerValue}
+use Rattle.dns_message.specs.declared.question.Question.{Question}
+use Rattle.answer_cache.specs.Histories.{Store, IsFull, IsHistory, mine}
+use Rattle.answer_cache.specs.declared.refusal.StoreRefusal.{StoreRefusal}
+use Rattle.answer_cache.specs.declared.refusal.StoreRefusal.TheVariants.{Lifeless, GenerationFull, Contended, Memory}
+
+-- what a store was handed, whatever it answered
+pub record Offer : Type 0 where
+  pub question : Question
+  pub answer : AnswerValue
+  pub moment : ℕ
+
+abbrev pub offer_of : Question → AnswerValue → ℕ → Offer
+offer_of question answer moment = record { question = question; answer = answer; moment = moment }
+
+-- its number, the history that it has seen, its own stores, and what its stores were handed
+pub record SeatView : Type 0 where
+  pub number : ℕ
+  pub seen : List Store
+  pub own : List Store
+  pub offered : List Offer
+
+-- what holds of each seat: its own stores are those of the history, once each and in their order
+pub record IsSeat (seat : SeatView) : Type 0 where
+  pub own : mine seat.seen seat.number ≡ seat.own
+  pub history : IsHistory seat.seen
+
+-- each call leaves the number, and goes on with the history
+pub record GoesOn (old new : SeatView) : Type 0 where
+  pub number : new.number ≡ old.number
+  pub seen : IsPrefix old.seen new.seen
+
+-- a call that stores nothing, and is handed nothing to store
+pub record StoresNothing (old new : SeatView) : Type 0 where
+  pub own : new.own ≡ old.own
+  pub offered : new.offered ≡ old.offered
+
+abbrev pub store_of : SeatView → Offer → Store
+store_of seat offer =
+    record { seat = seat.number; question = offer.question; answer = offer.answer; moment = offer.moment }
+
+-- What was handed is the last store of the history. Before it, the history had no other store of this seat
+-- than before the call, and the question's group was not full.
+pub record IsStored (old new : SeatView) (offer : Offer) : Type 0 where
+  pub lives : 0 < offer.answer.life
+  pub before : List Store
+  pub later : IsPrefix old.seen before
+  pub others : mine before old.number ≡ old.own
+  pub room : IsFull before offer.question → ⊥
+  pub last : new.seen ≡ before ++ store_of old offer ∷ []
+  pub own : new.own ≡ old.own ++ store_of old offer ∷ []
+
+-- Why what was handed is not stored. That it does not live is the reason exactly where its life is 0.
+abbrev pub WhyNot : SeatView → SeatView → Offer → StoreRefusal → Type 0
+WhyNot old new offer Lifeless = offer.answer.life ≡ 0
+WhyNot old new offer GenerationFull = (0 < offer.answer.life) × IsFull new.seen offer.question
+-- 16 other stores came in between
+WhyNot old new offer Contended = (0 < offer.answer.life) × (length old.seen + 16 ≤ length new.seen)
+WhyNot old new offer Memory = 0 < offer.answer.life
+
+-- the seat has no store more
+abbrev pub IsRefused : SeatView → SeatView → Offer → StoreRefusal → Type 0
+IsRefused old new offer refusal = (new.own ≡ old.own) × WhyNot old new offer refusal

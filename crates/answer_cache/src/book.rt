@@ -1,0 +1,65 @@
+//! What a book of answers is.
+ghost use Rattle.std.specs.Prelude.{◌≡◌, ◌∷◌, ◌++◌, [], IfErr, IfOk, OnOk};
+ghost use Rattle.std.specs.Arc.{arc_value};
+ghost use Rattle.std.specs.Option.{option_map};
+ghost use Rattle.dns_answers.specs.Records.{kind_of};
+ghost use Rattle.answer_cache.specs.Histories.{cached};
+ghost use Rattle.answer_cache.specs.Seats.{GoesOn, IsRefused, IsSeat, IsStored, SeatView, StoresNothing, offer_of};
+
+use crate::refusal::StoreRefusal;
+use dns_answers::{Answer, Moment};
+use dns_message::Question;
+use std::alloc::AllocError;
+use std::sync::{Arc, Wait};
+
+/// A book of answers that seats share: one history of what was stored, which only grows.
+///
+/// A seat is used by one thread at a time. It sees a history, and each call through it goes on with that history: what
+/// it had seen is in front of what it sees then. What is stored stays until the book is dropped.
+pub trait AnswerBook {
+    /// A seat at the book.
+    type Seat;
+
+    // The seat was made with this book.
+    ghost belongs: { Self → Self.Seat → Type 0 };
+
+    // Its number, the history that it has seen, its own stores, and what its stores were handed.
+    ghost seat: { Self.Seat → SeatView };
+
+    /// The answer of the last store of the question, while it lives: from the moment of its store on, for as many
+    /// seconds as its life is. An older store does not come back when the last one has expired.
+    fn lookup(
+        &self,
+        at: &mut Self::Seat,
+        question: &Question,
+        now: Moment,
+    ) -> Result<Option<Arc<Answer>>, AllocError>
+        requires { belongs self.now at.old }
+        ensures stays { belongs self.now at.new }
+        ensures goes_on { GoesOn (seat at.old) (seat at.new) }
+        ensures stores_nothing { StoresNothing (seat at.old) (seat at.new) }
+        ensures found { IfOk result (λ found. option_map arc_value found ≡ cached (seat at.new).seen question.now now) };
+
+    /// Stores an answer, whose life begins now.
+    fn store<R: Wait>(
+        &self,
+        rt: &R,
+        at: &mut Self::Seat,
+        question: &Question,
+        answer: &Arc<Answer>,
+        now: Moment,
+    ) -> Result<(), StoreRefusal>
+        requires made_here { belongs self.now at.old }
+        requires kind { kind_of (arc_value answer.now).records ≡ question.now.kind }
+        ensures stays { belongs self.now at.new }
+        ensures goes_on { GoesOn (seat at.old) (seat at.new) }
+        ensures offered { (seat at.new).offered
+            ≡ (seat at.old).offered ++ offer_of question.now (arc_value answer.now) now ∷ [] }
+        ensures stored { OnOk result
+            (IsStored (seat at.old) (seat at.new) (offer_of question.now (arc_value answer.now) now)) }
+        ensures refused { IfErr result
+            (IsRefused (seat at.old) (seat at.new) (offer_of question.now (arc_value answer.now) now)) };
+
+    // What holds of each seat of the book.
+    ghost holds: { (book : Self) (at : Self.Seat) → belongs book at → IsSeat (seat at) };
+}

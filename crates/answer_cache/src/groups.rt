@@ -1,0 +1,32 @@
+//! The group of a question.
+ghost use Rattle.std.specs.Prelude.{◌≡◌, ◌<◌};
+ghost use Rattle.answer_cache.specs.Groups.{group_of, hash_more, hash_of, hashed_of};
+
+use dns_message::Question;
+
+/// How many groups there are.
+pub(crate) const GROUP_COUNT: u8 = 64;
+
+/// The hash with one octet more (FNV-1a, 32 bits).
+fn hash_more(hash: u32, octet: u8) -> u32
+    ensures { result ≡ hash_more hash octet }
+{
+    (hash ^ u32::from(octet)).wrapping_mul(16_777_619)
+}
+
+/// The group of a question, from 0 to 63: that of all questions whose name and type have the same hash, modulo 64.
+/// Stores of one group are kept together. Takes no memory.
+#[must_use]
+pub fn group(question: &Question) -> u8
+    ensures group { result ≡ group_of question.now }
+    ensures below { result < 64 }
+{
+    let [high, low] = question.kind.code().to_be_bytes();
+    let hash = question
+        .name
+        .wire()
+        .iter()
+        .fold(2_166_136_261, |hash: u32, octet| hash_more(hash, *octet));
+    let hash = hash_more(hash_more(hash, high), low);
+    (hash % u32::from(GROUP_COUNT)) as u8
+}

@@ -1,0 +1,108 @@
+//! The book of one thread.
+ghost use Rattle.std.specs.Prelude.{◌≡◌, ◌∷◌, ◌++◌, [], IfErr, IfOk, OnErr, OnOk};
+ghost use Rattle.std.specs.Arc.{arc_value};
+ghost use Rattle.std.specs.Option.{option_map};
+ghost use Rattle.dns_answers.specs.Records.{kind_of};
+ghost use Rattle.answer_cache.specs.Histories.{IsHistory, cached};
+ghost use Rattle.answer_cache.specs.Lists.{Refuses, Takes, offered_too, seat_at, stored_too};
+ghost use Rattle.answer_cache.specs.Seats.{IsSeat, offer_of};
+
+use crate::book::AnswerBook;
+use crate::offers::Offers;
+use crate::refusal::StoreRefusal;
+use crate::store_list::StoreList;
+use dns_answers::{Answer, Moment};
+use dns_message::Question;
+use std::alloc::{AllocError, Global};
+use std::marker::Model;
+use std::sync::{Arc, Wait};
+
+/// A book of one thread: what was stored lies in its one seat.
+#[derive(Debug, Drop)]
+pub struct ListCache(());
+
+/// The seat at a `ListCache`.
+#[derive(Drop)]
+pub struct ListSeat {
+    stores: StoreList,
+    offers: Offers,
+}
+
+impl Model for ListSeat {
+    ghost use Rattle.answer_cache.specs.Lists.{seat_at};
+    ghost use Rattle.answer_cache.specs.Seats.{SeatView};
+
+    ghost Value = { SeatView };
+
+    ghost view = { λ it. seat_at it.stores it.offers.list };
+}
+
+impl ListCache {
+    /// A book in which nothing is stored, and its seat. Takes no memory.
+    #[must_use]
+    pub fn new(alloc: Global) -> (ListCache, ListSeat)
+        ensures seat { result.1 ≡ seat_at [] [] }
+        ensures is { IsSeat result.1 }
+    {
+        let seat = ListSeat {
+            stores: StoreList::new(alloc),
+            offers: Offers::none(),
+        };
+        seat.is_seat();
+        (ListCache(()), seat)
+    }
+}
+
+impl ListSeat {
+    /// What holds of each seat.
+    fn is_seat(&self)
+        ensures { IsSeat self.now }
+    {
+        self.stores.is_history();
+    }
+}
+
+impl AnswerBook for ListCache {
+    type Seat = ListSeat;
+
+    ghost use Rattle.answer_cache.specs.Seats.{IsSeat};
+
+    ghost belongs = { λ book at. IsSeat at };
+
+    ghost seat = { λ at. at };
+
+    ghost holds = { λ book at it. it };
+
+    fn lookup(
+        &self,
+        at: &mut ListSeat,
+        question: &Question,
+        now: Moment,
+    ) -> Result<Option<Arc<Answer>>, AllocError>
+        ensures leaves { at.new ≡ at.old }
+        ensures found { IfOk result (λ found. option_map arc_value found ≡ cached at.old.seen question.now now) }
+    {
+        at.stores.lookup(question, now)
+    }
+
+    fn store<R: Wait>(
+        &self,
+        _rt: &R,
+        at: &mut ListSeat,
+        question: &Question,
+        answer: &Arc<Answer>,
+        now: Moment,
+    ) -> Result<(), StoreRefusal>
+        requires kind { kind_of (arc_value answer.now).records ≡ question.now.kind }
+        ensures is { IsSeat at.new }
+        ensures stored { OnOk result (at.new ≡ stored_too at.old (offer_of question.now (arc_value answer.now) now)) }
+        ensures takes { OnOk result (Takes at.old.seen (offer_of question.now (arc_value answer.now) now)) }
+        ensures unchanged { OnErr result (at.new ≡ offered_too at.old (offer_of question.now (arc_value answer.now) now)) }
+        ensures refused { IfErr result (Refuses at.old.seen (offer_of question.now (arc_value answer.now) now)) }
+    {
+        at.offers = at.offers.with(question, answer, now);
+        let stored = at.stores.add(question, answer, now);
+        at.is_seat();
+        stored
+    }
+}

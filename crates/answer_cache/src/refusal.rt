@@ -1,0 +1,39 @@
+//! Why an answer was not stored.
+ghost use Rattle.std.specs.Prelude.{◌≡◌};
+ghost use Rattle.answer_cache.specs.declared.refusal.StoreRefusal.TheVariants as refusals;
+
+use std::alloc::{AllocError, AllocFailed};
+use thiserror::Error;
+
+/// Why an answer was not stored. That it has no life is looked at first; memory may be wanted before the other two.
+#[derive(Clone, Copy, Debug, PartialEq, Eq, Error)]
+pub enum StoreRefusal {
+    /// Its life is 0.
+    #[error("the answer may not be kept")]
+    Lifeless,
+    /// There are 64 stores in the group of the question.
+    #[error("the group of the question is full")]
+    GenerationFull,
+    /// Other stores came in between, 16 times.
+    #[error("other stores came in between")]
+    Contended,
+    /// Memory was refused.
+    #[error("out of memory")]
+    Memory,
+}
+
+impl From<AllocError> for StoreRefusal {
+    ghost from_gives = { λ _ refusal. refusal ≡ refusals.Memory };
+
+    fn from(_: AllocError) -> StoreRefusal {
+        StoreRefusal::Memory
+    }
+}
+
+impl<T: Drop> From<AllocFailed<T>> for StoreRefusal {
+    ghost from_gives = { λ _ refusal. refusal ≡ refusals.Memory };
+
+    fn from(_: AllocFailed<T>) -> StoreRefusal {
+        StoreRefusal::Memory
+    }
+}
