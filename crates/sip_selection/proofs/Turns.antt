@@ -1,9 +1,14 @@
 -- What is next in a choice is where it goes by the answers so far.
-use Rattle.std.proofs.Common.{◌≡◌, ℕ, Bool, true, false, not, true≢false, sym, List, [], ◌∷◌, ◌++◌, Ok, Err, refl, ap, ◌∙◌}
+use Rattle.std.proofs.Common.{◌≡◌, ℕ, ◌≤◌, Bool, true, false, not, true≢false, sym, List, [], ◌∷◌, ◌++◌, length, Ok, Err, refl, ap, ◌∙◌, inl, inr, arith}
+use Rattle.std.proofs.lemmas.Bool.{cases_lt}
+use Rattle.std.proofs.lemmas.List.{get_or_append_left, get_or_push, length_push, take-append-le, take_at}
+use Rattle.std.proofs.lemmas.List.Elements.{All-push}
+use Rattle.dns_answers.specs.Records.{count_of}
 use Rattle.dns_message.specs.declared.question.Question.{Question}
 use Rattle.sip_selection.specs.Choice.{need, refused, settled, resolved, chosen, locate}
 use Rattle.sip_selection.specs.Known.{Given, answer_to}
 use Rattle.sip_selection.specs.Requests.{is_secure, target_of}
+use Rattle.sip_selection.specs.Selections.{AreAskedOneByOne}
 use Rattle.sip_selection.specs.Stages.{ComesTo, name_of, stage_left}
 use Rattle.sip_selection.specs.declared.caps.Caps.{Caps}
 use Rattle.sip_selection.specs.declared.reason.Reason.{Reason}
@@ -31,6 +36,21 @@ module _ (request : Request) (caps : Caps) (words : List ℕ) (given : List Give
 
   pub unknown-is : (question : Question) (stage : Stage) → Stands (Ask question stage) → answer_to given question ≡ Err question
   unknown-is question stage comes = rw (missing_is request caps words given question (asked-is question stage comes)).0 refl
+
+  -- the answer to the question that is needed stands behind the others
+  pub asked-too : AreAskedOneByOne request caps words given → (more : Given) → locate request caps words given ≡ need more.question
+      → count_of more.answer.records ≤ 32 → AreAskedOneByOne request caps words (given ++ more ∷ [])
+  asked-too asked more needed few = record {
+    few = All-push (λ (it : Given). count_of it.answer.records ≤ 32) given more asked.few few;
+    needed = λ k it within. elim (cases_lt k (length given)) [
+      | inl before ↦
+          let front = take-append-le k given (more ∷ []) (omega (arith, before)) in
+          rw (front, get_or_append_left given (more ∷ []) it k before) (asked.needed k it before)
+      | inr behind ↦
+          let last : length given ≡ k = omega (arith, behind, within, length_push given more) in
+          rw (take_at given (more ∷ []) k last, get_or_push given more it k last) needed
+    ];
+  }
 
   -- with an answer more, the choice goes on from its stage
   pub goes-on : (question : Question) (stage : Stage) → Stands (Ask question stage)

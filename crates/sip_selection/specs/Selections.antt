@@ -1,8 +1,10 @@
 -- A choice and the answers that it was given.
-use Rattle.std.specs.Prelude.{ℕ, List, [], ◌∷◌, ◌++◌}
+use Rattle.std.specs.Prelude.{◌≡◌, ◌<◌, ◌≤◌, ℕ, List, [], ◌∷◌, ◌++◌, length, slice_index_or, take}
+use Rattle.std.specs.List.{All}
+use Rattle.dns_answers.specs.Records.{count_of}
 use Rattle.dns_answers.specs.Values.{AnswerValue}
 use Rattle.dns_message.specs.declared.question.Question.{Question}
-use Rattle.sip_selection.specs.Choice.{Resolution, locate}
+use Rattle.sip_selection.specs.Choice.{Resolution, locate, need}
 use Rattle.sip_selection.specs.Known.{Given}
 use Rattle.sip_selection.specs.declared.caps.Caps.{Caps}
 use Rattle.sip_selection.specs.declared.request.Request.{Request}
@@ -24,3 +26,10 @@ given_too it question answer =
 -- where the request goes now
 abbrev pub now_of : SelectionValue → Resolution
 now_of it = locate it.request it.caps it.words it.given
+
+-- These answers were asked for one by one: each is to the question that was needed with the answers before it, and
+-- has at most 32 records.
+pub record AreAskedOneByOne (request : Request) (caps : Caps) (words : List ℕ) (given : List Given) : Type 0 where
+  pub few : All (λ it. count_of it.answer.records ≤ 32) given
+  pub needed : (k : ℕ) (it : Given) → k < length given
+      → locate request caps words (take k given) ≡ need (slice_index_or given k it).question

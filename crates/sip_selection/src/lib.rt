@@ -41,7 +41,8 @@
 //! request goes over TLS alone (`secure_requests_go_over_tls`), each target has an address that was
 //! answered or written (`targets_are_answered`), and where a request goes stays so when further
 //! answers are given (`resolutions_are_final`). There are at most 521 questions
-//! (`questions_are_few`) and 16,384 targets (`targets_are_few`).
+//! (`questions_are_few`) and 16,384 targets (`targets_are_few`); of a selection as it stands,
+//! `Selection::answers_are_few` tells both.
 //!
 //! Each `give` goes on from where the choice stopped. It takes memory for the answer, for the targets
 //! that it leads to and for the next question, and keeps what was found before.

@@ -1,16 +1,17 @@
 //! The choice of one request, question by question (RFC 3263 4, 5).
-ghost use Rattle.std.specs.Prelude.{◌≡◌, ◌≢◌, ◌↔◌, IfOk, OnErr, OnOk};
+ghost use Rattle.std.specs.Prelude.{◌≡◌, ◌≢◌, ◌↔◌, ◌≤◌, List, length, IfOk, OnErr, OnOk};
 ghost use Rattle.std.specs.Arc.{arc_value};
 ghost use Rattle.dns_answers.specs.Records.{kind_of};
-ghost use Rattle.sip_selection.specs.Choice.{need};
+ghost use Rattle.sip_selection.specs.Choice.{need, targets};
 ghost use Rattle.sip_selection.specs.Nexts.{next_of};
 ghost use Rattle.sip_selection.specs.Selections.{begun, given_too, now_of};
 ghost use Rattle.sip_selection.specs.Stages.{Comes, StageFits, stage_left};
 ghost use Rattle.sip_selection.specs.declared.selection.GiveRefusal.TheVariants as refusals;
+ghost use Rattle.sip_selection.specs.declared.target.Target.{Target};
 
 use crate::caps::Caps;
 use crate::choice::{begin, resume};
-use crate::choice_laws::numeric_targets_ask_nothing;
+use crate::choice_laws::{numeric_targets_ask_nothing, questions_are_few, targets_are_few};
 use crate::known::Known;
 use crate::reason::Reason;
 use crate::request::Request;
@@ -80,7 +81,7 @@ pub struct Selection {
 impl Model for Selection {
     ghost use Rattle.sip_selection.specs.Choice.{chosen};
     ghost use Rattle.sip_selection.specs.Requests.{is_secure, target_of};
-    ghost use Rattle.sip_selection.specs.Selections.{SelectionValue};
+    ghost use Rattle.sip_selection.specs.Selections.{AreAskedOneByOne, SelectionValue};
     ghost use Rattle.sip_selection.specs.Stages.{ComesTo, name_of};
 
     ghost Value = { SelectionValue };
@@ -88,7 +89,8 @@ impl Model for Selection {
     ghost view = { λ it. record { request = it.request; caps = it.caps; words = it.words.0; given = it.known } };
 
     ghost invariant = { λ it. ComesTo (is_secure it.request) it.caps it.words.0 (name_of (target_of it.request))
-        it.known (chosen it.request it.caps it.words.0) it.turn it.targets.items };
+        it.known (chosen it.request it.caps it.words.0) it.turn it.targets.items
+        × AreAskedOneByOne it.request it.caps it.words.0 it.known };
 }
 
 /// Goes on from a stage with one answer more, and adds the targets that are found.
@@ -140,6 +142,17 @@ impl Selection {
             Turn::Found if self.targets.is_empty() => Next::Refused(Reason::NoAddress),
             Turn::Found => Next::Targets(self.targets.as_slice()),
         }
+    }
+
+    /// At most 521 answers were given, and there are at most 16,384 targets. A call does nothing: its contract tells its
+    /// caller so.
+    pub fn answers_are_few(&self)
+        ensures few { length self.now.given ≤ 521 }
+        ensures few_targets { (found : List Target) → now_of self.now ≡ targets found → length found ≤ 16384 }
+    {
+        questions_are_few();
+        targets_are_few();
+        self.caps.transports_are_few();
     }
 
     /// Takes the answer to the question that is asked. After a refusal the choice is as before.
