@@ -1,5 +1,5 @@
 //! The answers that were given (RFC 3263 4), and the question that comes first where one lacks.
-ghost use Rattle.std.specs.Prelude.{◌≡◌, ◌∷◌, ◌++◌, [], List, MatchResult, OnOk, OnErr, Err};
+ghost use Rattle.std.specs.Prelude.{◌≡◌, ◌<◌, ◌∷◌, ◌++◌, [], List, length, IfErr, MatchResult, OnOk, OnErr, Err};
 ghost use Rattle.std.specs.Arc.{arc_value};
 ghost use Rattle.sip_selection.specs.Known.{Given, answer_to};
 ghost use Rattle.sip_selection.specs.Views.{StopsAt};
@@ -72,16 +72,17 @@ impl Known {
         }
     }
 
-    /// Adds the answer to a question that had none.
-    pub(crate) fn push(&mut self, question: Question, answer: Arc<Answer>) -> Result<(), AllocError>
+    /// Adds the answer to a question that had none, or gives the question back.
+    pub(crate) fn push(&mut self, question: Question, answer: Arc<Answer>) -> Result<(), Question>
         requires { answer_to self.old question ≡ Err question }
         ensures pushed { OnOk result (self.new
             ≡ self.old ++ record { question = question; answer = arc_value answer } ∷ []) }
         ensures unchanged { OnErr result (self.new ≡ self.old) }
+        ensures given_back { IfErr result (λ it. it ≡ question) }
     {
         match self.answers.insert(question, answer) {
             Ok(_) => Ok(()),
-            Err(_) => Err(AllocError),
+            Err(failed) => Err(failed.value.0),
         }
     }
 
@@ -94,10 +95,15 @@ impl Known {
         Some(())
     }
 
-    /// Takes the last one away.
-    pub(crate) fn pop(&mut self)
-        ensures { (others : List Given) (last : Given) → self.old ≡ others ++ last ∷ [] → self.new ≡ others }
+    /// Takes the last one away, and gives its question.
+    pub(crate) fn pop(&mut self) -> Question
+        requires { 0 < length self.old }
+        ensures { (others : List Given) (last : Given) → self.old ≡ others ++ last ∷ []
+            → (self.new ≡ others) × (result ≡ last.question) }
     {
-        let _ = self.answers.pop();
+        match self.answers.pop() {
+            Some((question, _)) => question,
+            None => unreachable!(),
+        }
     }
 }

@@ -1,5 +1,5 @@
 //! The choice of one request, question by question (RFC 3263 4, 5).
-ghost use Rattle.std.specs.Prelude.{◌≡◌, ◌≢◌, ◌↔◌, ◌≤◌, List, length, IfOk, OnErr, OnOk};
+ghost use Rattle.std.specs.Prelude.{◌≡◌, ◌≢◌, ◌↔◌, ◌≤◌, List, length, IfErr, IfOk, OnErr, OnOk};
 ghost use Rattle.std.specs.Arc.{arc_value};
 ghost use Rattle.dns_answers.specs.Records.{kind_of};
 ghost use Rattle.sip_selection.specs.Choice.{need, targets};
@@ -93,8 +93,24 @@ impl Model for Selection {
         × AreAskedOneByOne it.request it.caps it.words.0 it.known };
 }
 
+/// Goes on from a stage with one answer more, and adds the targets that are found, or gives the stage back where memory
+/// was refused.
+fn advance(targets: &mut Vec<Target>, basis: &Basis<'_>, stage: Stage) -> Result<Turn, Stage>
+    requires { StageFits stage }
+    ensures goes { IfOk result (λ turn. Comes basis.now
+        (stage_left basis.now.secure basis.now.caps.now basis.now.words.now.0 basis.now.name.now stage targets.old.items)
+        turn targets.new.items) }
+    ensures unchanged { OnErr result (targets.new.items ≡ targets.old.items) }
+    ensures given_back { IfErr result (λ it. it ≡ stage) }
+{
+    match go_on(targets, basis, &stage) {
+        Ok(turn) => Ok(turn),
+        Err(AllocError) => Err(stage),
+    }
+}
+
 /// Goes on from a stage with one answer more, and adds the targets that are found.
-fn advance(targets: &mut Vec<Target>, basis: &Basis<'_>, stage: &Stage) -> Result<Turn, AllocError>
+fn go_on(targets: &mut Vec<Target>, basis: &Basis<'_>, stage: &Stage) -> Result<Turn, AllocError>
     requires { StageFits stage.now }
     ensures goes { IfOk result (λ turn. Comes basis.now
         (stage_left basis.now.secure basis.now.caps.now basis.now.words.now.0 basis.now.name.now stage.now targets.old.items)
@@ -170,8 +186,7 @@ impl Selection {
     {
         same_questions_are_equal();
         numeric_targets_ask_nothing();
-        let (Host::Domain(name), Turn::Ask(asked, stage)) = (self.request.target(), &self.turn)
-        else {
+        let (Host::Domain(name), Turn::Ask(asked, _)) = (self.request.target(), &self.turn) else {
             return Err(GiveRefusal::NotAsked);
         };
         if asked != question {
@@ -180,7 +195,11 @@ impl Selection {
         if answer.records().kind() != question.kind {
             return Err(GiveRefusal::WrongKind);
         }
-        self.known.push(question.try_clone()?, answer)?;
+        let (asked, stage) = self.turn.take_ask();
+        if let Err(asked) = self.known.push(asked, answer) {
+            self.turn = Turn::Ask(asked, stage);
+            return Err(GiveRefusal::Memory);
+        }
         let basis = Basis {
             alloc,
             secure: self.request.is_secure(),
@@ -194,8 +213,8 @@ impl Selection {
                 self.turn = turn;
                 Ok(())
             }
-            Err(AllocError) => {
-                self.known.pop();
+            Err(stage) => {
+                self.turn = Turn::Ask(self.known.pop(), stage);
                 Err(GiveRefusal::Memory)
             }
         }

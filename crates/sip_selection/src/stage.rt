@@ -1,6 +1,7 @@
 //! How far a choice has come (RFC 3263 4.1, 4.2).
 ghost use Rattle.std.specs.Prelude.{◌≡◌, ◌<◌};
 ghost use Rattle.sip_selection.specs.Stages as spec;
+ghost use Rattle.sip_selection.specs.declared.stage.Turn.TheVariants as turn;
 
 use crate::caps::Caps;
 use crate::known::Known;
@@ -12,6 +13,7 @@ use dns_name::Name;
 use sip_uri::Transport;
 use srv_choice::{Places, SrvOutcome, Words};
 use std::alloc::Global;
+use std::mem;
 use std::sync::Arc;
 
 /// What the choice for a domain goes by, with the answers so far.
@@ -143,4 +145,18 @@ pub(crate) enum Turn {
     Found,
     /// There is no target.
     Refused(Reason),
+}
+
+impl Turn {
+    /// Takes out the question that is asked, and its stage.
+    pub(crate) fn take_ask(&mut self) -> (Question, Stage)
+        requires { (question : Question) × (stage : Stage) × (self.old ≡ turn.Ask question stage) }
+        ensures taken { self.old ≡ turn.Ask result.0 result.1 }
+        ensures left { self.new ≡ turn.Found }
+    {
+        match mem::replace(self, Turn::Found) {
+            Turn::Ask(question, stage) => (question, stage),
+            Turn::Found | Turn::Refused(_) => unreachable!(),
+        }
+    }
 }
