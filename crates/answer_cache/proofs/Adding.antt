@@ -1,10 +1,10 @@
 -- A store is added behind the others.
-use Rattle.std.proofs.Common.{◌≡◌, ◌≢◌, ℕ, ◌+◌, ◌<◌, ◌≤◌, ◌==◌, Bool, true, false, List, [], ◌∷◌, ◌++◌, length, Option, Some, None, get_or, set, replicate, refl, sym, ◌∙◌, arith, rules}
+use Rattle.std.proofs.Common.{◌≡◌, ◌≢◌, ℕ, ◌+◌, ◌<◌, ◌≤◌, ◌==◌, Bool, true, false, List, [], ◌∷◌, ◌++◌, length, Option, Some, None, get_or, set, replicate, refl, sym, ap, ◌∙◌, arith, rules}
 use Rattle.std.proofs.lemmas.List.{map-append, length-append, append_assoc, append-nil, get_or-replicate, length-set, get_or-set_same, get_or-set_other}
 use Rattle.std.proofs.lemmas.List.Elements.{filter-append, All-nil, All-push}
 use Rattle.answer_cache.specs.Chains.{IsChain, none, some, IsGroup, IsKept, no_group, store_in, stores_in}
 use Rattle.answer_cache.specs.Groups.{group_of}
-use Rattle.answer_cache.specs.Histories.{Store, IsHistory, IsSound, in_group}
+use Rattle.answer_cache.specs.Histories.{Store, IsHistory, IsSound, in_group, mine}
 use Rattle.answer_cache.specs.declared.store_list.Entry.{Entry}
 use Rattle.answer_cache.specs.declared.store_list.Group.{Group}
 
@@ -121,3 +121,8 @@ kept-none = record {
     count = rw (get_or-replicate 64 number no_group no_group below) refl;
   };
 }
+
+-- all stores are of the one seat
+pub own-all : (entries : List Entry) → mine (stores_in entries) 0 ≡ stores_in entries
+own-all [] = refl
+own-all (entry ∷ entries) = ap (λ l. store_in entry ∷ l) (own-all entries)

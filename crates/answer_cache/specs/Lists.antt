@@ -1,7 +1,7 @@
 -- What a list of stores takes, where no other seat is there.
 use Rattle.std.specs.Prelude.{◌≡◌, ◌<◌, List, [], ◌∷◌, ◌++◌}
-use Rattle.answer_cache.specs.Histories.{Store, IsFull, mine}
-use Rattle.answer_cache.specs.Seats.{Offer, SeatView, store_of}
+use Rattle.answer_cache.specs.Histories.{Store, IsFull}
+use Rattle.answer_cache.specs.Seats.{Offer, SeatView, IsSeat, store_of}
 use Rattle.answer_cache.specs.declared.refusal.StoreRefusal.{StoreRefusal}
 use Rattle.answer_cache.specs.declared.refusal.StoreRefusal.TheVariants.{Lifeless, GenerationFull, Contended, Memory}
 
@@ -9,9 +9,14 @@ use Rattle.answer_cache.specs.declared.refusal.StoreRefusal.TheVariants.{Lifeles
 abbrev pub own_store : Offer → Store
 own_store offer = record { seat = 0; question = offer.question; answer = offer.answer; moment = offer.moment }
 
--- what the seat sees
+-- what the seat sees: all stores are its own
 abbrev pub seat_at : List Store → List Offer → SeatView
-seat_at history offered = record { number = 0; seen = history; own = mine history 0; offered = offered }
+seat_at history offered = record { number = 0; seen = history; own = history; offered = offered }
+
+-- what holds of it: what it has seen is what it stored
+pub record IsListSeat (seat : SeatView) : Type 0 where
+  pub is : IsSeat seat
+  pub own : seat.own ≡ seat.seen
 
 abbrev pub offered_too : SeatView → Offer → SeatView
 offered_too seat offer = record seat { offered = seat.offered ++ offer ∷ [] }

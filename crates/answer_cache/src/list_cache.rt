@@ -4,8 +4,8 @@ ghost use Rattle.std.specs.Arc.{arc_value};
 ghost use Rattle.std.specs.Option.{option_map};
 ghost use Rattle.dns_answers.specs.Records.{kind_of};
 ghost use Rattle.answer_cache.specs.Histories.{IsHistory, cached};
-ghost use Rattle.answer_cache.specs.Lists.{Refuses, Takes, offered_too, seat_at, stored_too};
-ghost use Rattle.answer_cache.specs.Seats.{IsSeat, offer_of};
+ghost use Rattle.answer_cache.specs.Lists.{IsListSeat, Refuses, Takes, offered_too, seat_at, stored_too};
+ghost use Rattle.answer_cache.specs.Seats.{offer_of};
 
 use crate::book::AnswerBook;
 use crate::offers::Offers;
@@ -42,7 +42,7 @@ impl ListCache {
     #[must_use]
     pub fn new(alloc: Global) -> (ListCache, ListSeat)
         ensures seat { result.1 ≡ seat_at [] [] }
-        ensures is { IsSeat result.1 }
+        ensures is { IsListSeat result.1 }
     {
         let seat = ListSeat {
             stores: StoreList::new(alloc),
@@ -56,7 +56,7 @@ impl ListCache {
 impl ListSeat {
     /// What holds of each seat.
     fn is_seat(&self)
-        ensures { IsSeat self.now }
+        ensures { IsListSeat self.now }
     {
         self.stores.is_history();
     }
@@ -65,13 +65,13 @@ impl ListSeat {
 impl AnswerBook for ListCache {
     type Seat = ListSeat;
 
-    ghost use Rattle.answer_cache.specs.Seats.{IsSeat};
+    ghost use Rattle.answer_cache.specs.Lists.{IsListSeat};
 
-    ghost belongs = { λ book at. IsSeat at };
+    ghost belongs = { λ book at. IsListSeat at };
 
     ghost seat = { λ at. at };
 
-    ghost holds = { λ book at it. it };
+    ghost holds = { λ book at it. it.is };
 
     fn lookup(
         &self,
@@ -94,7 +94,7 @@ impl AnswerBook for ListCache {
         now: Moment,
     ) -> Result<(), StoreRefusal>
         requires kind { kind_of (arc_value answer.now).records ≡ question.now.kind }
-        ensures is { IsSeat at.new }
+        ensures is { IsListSeat at.new }
         ensures stored { OnOk result (at.new ≡ stored_too at.old (offer_of question.now (arc_value answer.now) now)) }
         ensures takes { OnOk result (Takes at.old.seen (offer_of question.now (arc_value answer.now) now)) }
         ensures unchanged { OnErr result (at.new ≡ offered_too at.old (offer_of question.now (arc_value answer.now) now)) }

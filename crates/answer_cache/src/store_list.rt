@@ -6,7 +6,7 @@ ghost use Rattle.std.specs.Option.{option_map};
 ghost use Rattle.dns_answers.specs.Records.{kind_of};
 ghost use Rattle.answer_cache.specs.Chains.{store_in};
 ghost use Rattle.answer_cache.specs.Groups.{group_of};
-ghost use Rattle.answer_cache.specs.Histories.{IsHistory, cached, stores_of};
+ghost use Rattle.answer_cache.specs.Histories.{IsHistory, cached, mine, stores_of};
 ghost use Rattle.answer_cache.specs.Lists.{Refuses, Takes, own_store};
 ghost use Rattle.answer_cache.specs.Seats.{offer_of};
 
@@ -81,7 +81,8 @@ impl StoreList {
 
     /// What holds of each list.
     pub(crate) fn is_history(&self)
-        ensures { IsHistory self.now }
+        ensures history { IsHistory self.now }
+        ensures own { mine self.now 0 ≡ self.now }
     {
         let _ = &self.entries;
     }

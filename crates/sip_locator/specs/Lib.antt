@@ -1,0 +1,4 @@
+pub mod Gains
+pub mod Refusals
+pub mod Replies
+pub mod Readings

@@ -1,0 +1,26 @@
+//! Whether an answer was stored.
+ghost use Rattle.std.specs.Prelude.{◌≡◌, MatchResult};
+ghost use Rattle.sip_locator.specs.declared.kept.Kept.TheVariants as kept;
+
+use answer_cache::StoreRefusal;
+
+/// Whether the book stored an answer. The answer counts for its locator either way.
+#[derive(Clone, Copy, Debug, PartialEq, Eq)]
+pub enum Kept {
+    /// It is stored.
+    Yes,
+    /// It is not, for this reason.
+    No(StoreRefusal),
+}
+
+impl Kept {
+    /// What became of a store.
+    pub(crate) fn of(stored: Result<(), StoreRefusal>) -> Kept
+        ensures { MatchResult stored (λ _. result ≡ Kept.Yes) (λ refusal. result ≡ Kept.No refusal) }
+    {
+        match stored {
+            Ok(()) => Kept::Yes,
+            Err(refusal) => Kept::No(refusal),
+        }
+    }
+}

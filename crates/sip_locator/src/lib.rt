@@ -1,0 +1,11 @@
+//! Where a SIP request goes (RFC 3263 4, 5), over answers that a book shares.
+#![tactic(auto)]
+
+mod kept;
+mod locator;
+mod read;
+mod refusal;
+
+pub use kept::Kept;
+pub use locator::Locator;
+pub use refusal::LocatorRefusal;

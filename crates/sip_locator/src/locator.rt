@@ -1,0 +1,162 @@
+//! The choice of one request, over answers that a book shares.
+ghost use Rattle.std.specs.Prelude.{◌≡◌, ◌≤◌, IfErr, IfOk, OnErr, OnOk, length};
+ghost use Rattle.std.specs.Arc.{arc_value};
+ghost use Rattle.dns_answers.specs.Records.{kind_of};
+ghost use Rattle.answer_cache.specs.Seats.{GoesOn, StoresNothing};
+ghost use Rattle.sip_selection.specs.Choice.{need};
+ghost use Rattle.sip_selection.specs.Nexts.{next_of};
+ghost use Rattle.sip_selection.specs.Selections.{begun, given_too, now_of};
+ghost use Rattle.sip_locator.specs.Gains.{GainsFor, Lacks, LookedUp, Steps};
+ghost use Rattle.sip_locator.specs.Replies.{Answers, IsTaken, Refuses};
+ghost use Rattle.dns_message.specs.declared.question.Question as question;
+
+use crate::kept::Kept;
+use crate::read::read_answer;
+use crate::refusal::LocatorRefusal;
+use answer_cache::AnswerBook;
+use dns_answers::{Answer, Moment};
+use dns_message::Question;
+use sip_selection::{Caps, GiveRefusal, Next, Request, Selection};
+use srv_choice::Words;
+use std::alloc::{AllocError, Global};
+use std::marker::{Model, PhantomData};
+use std::sync::{Arc, Wait};
+
+/// One round more than there can be answers.
+const ROUND_LIMIT: usize = 522;
+
+/// The choice of where one request goes, which looks its questions up in a book.
+#[derive(Drop)]
+pub struct Locator<B> {
+    alloc: Global,
+    selection: Selection,
+    book: PhantomData<B>,
+}
+
+impl<B> Model for Locator<B> {
+    ghost use Rattle.sip_selection.specs.Selections.{SelectionValue};
+
+    ghost Value = { SelectionValue };
+
+    ghost view = { λ it. it.selection };
+}
+
+impl<B: AnswerBook> Locator<B> {
+    ghost use Rattle.std.specs.Borrow.{sem};
+    ghost use Rattle.std.specs.Io.BufRead.{Rests};
+    ghost use Rattle.sip_locator.specs.contracts.locator.Locator.{the_row};
+
+    /// The choice of a request, which has used no answer.
+    pub fn new(
+        alloc: Global,
+        request: Request,
+        caps: Caps,
+        words: Words,
+    ) -> Result<Locator<B>, AllocError>
+        ensures { IfOk result (λ it. it ≡ begun request caps words.0) }
+    {
+        Ok(Locator {
+            alloc,
+            selection: Selection::new(alloc, request, caps, words)?,
+            book: PhantomData,
+        })
+    }
+
+    /// Looks up the question that is asked, and gives its answer, where there is one.
+    fn look_up(&mut self, book: &B, at: &mut B::Seat, now: Moment) -> Result<bool, AllocError>
+        requires { B.belongs book.now at.old }
+        ensures stays { B.belongs book.now at.new }
+        ensures goes_on { GoesOn (B.seat at.old) (B.seat at.new) }
+        ensures stores_nothing { StoresNothing (B.seat at.old) (B.seat at.new) }
+        ensures found { IfOk result (λ found. LookedUp self.old self.new (B.seat at.new).seen now found) }
+        ensures unchanged { OnErr result (self.new ≡ self.old) }
+    {
+        let Next::Ask(question) = self.selection.next() else {
+            return Ok(false);
+        };
+        let Some(answer) = book.lookup(at, question, now)? else {
+            return Ok(false);
+        };
+        let question = question.try_clone()?;
+        match self.selection.give(self.alloc, &question, answer) {
+            Ok(()) => Ok(true),
+            Err(_) => Err(AllocError),
+        }
+    }
+
+    /// Looks up one question after the other, until one is not answered or none is asked.
+    fn look_all_up(&mut self, book: &B, at: &mut B::Seat, now: Moment) -> Result<(), AllocError>
+        requires { B.belongs book.now at.old }
+        ensures stays { B.belongs book.now at.new }
+        ensures goes_on { GoesOn (B.seat at.old) (B.seat at.new) }
+        ensures stores_nothing { StoresNothing (B.seat at.old) (B.seat at.new) }
+        ensures gains { GainsFor self.old self.new (B.seat at.old).seen (B.seat at.new).seen now }
+        ensures lacks { OnOk result ((question : question.Question) → now_of self.new ≡ need question
+            → Lacks (B.seat at.old).seen (B.seat at.new).seen now question) }
+    {
+        for _round in 0..ROUND_LIMIT {
+            if !self.look_up(book, at, now)? {
+                return Ok(());
+            }
+        }
+        self.selection.answers_are_few();
+        Ok(())
+    }
+
+    /// Looks up each question that is asked, until the book has no answer to one, and gives what is next then. Where an
+    /// answer was taken, or memory was refused after some were, those stay used. A book is asked for at most 521 answers.
+    pub fn step(&mut self, book: &B, at: &mut B::Seat, now: Moment) -> Result<Next<'_>, AllocError>
+        requires { B.belongs book.now at.old }
+        ensures stays { B.belongs book.now at.new }
+        ensures goes_on { GoesOn (B.seat at.old) (B.seat at.new) }
+        ensures stores_nothing { StoresNothing (B.seat at.old) (B.seat at.new) }
+        ensures* steps { sem 𝓛 (Rests (the_row B.row) self.entry
+            (λ ended. Steps self.old ended (B.seat at.old).seen (B.seat at.new).seen now result)) }
+    {
+        self.look_all_up(book, at, now)?;
+        Ok(self.selection.next())
+    }
+
+    /// Takes the octets of a reply to the question that is asked: its answer is used for this request, and then stored
+    /// in the book. Where the book does not store it, it stays used. After a refusal all is as before.
+    pub fn reply<R: Wait>(
+        &mut self,
+        rt: &R,
+        book: &B,
+        at: &mut B::Seat,
+        now: Moment,
+        octets: &[u8],
+    ) -> Result<Kept, LocatorRefusal>
+        requires { B.belongs book.now at.old }
+        ensures stays { B.belongs book.now at.new }
+        ensures goes_on { GoesOn (B.seat at.old) (B.seat at.new) }
+        ensures taken { IfOk result (IsTaken self.old self.new (B.seat at.old) (B.seat at.new) octets.now now) }
+        ensures refused { IfErr result (Refuses (now_of self.old) octets.now) }
+        ensures unchanged { OnErr result ((self.new ≡ self.old) × (at.new ≡ at.old)) }
+    {
+        let (question, answer) = self.take(octets)?;
+        Ok(Kept::of(book.store(rt, at, &question, &answer, now)))
+    }
+
+    /// Takes the answer of a reply.
+    fn take(&mut self, octets: &[u8]) -> Result<(Question, Arc<Answer>), LocatorRefusal>
+        ensures taken { IfOk result (λ taken. (now_of self.old ≡ need taken.0)
+            × Answers taken.0 octets.now (arc_value taken.1)
+            × (self.new ≡ given_too self.old taken.0 (arc_value taken.1))) }
+        ensures kind { IfOk result (λ taken. kind_of (arc_value taken.1).records ≡ taken.0.kind) }
+        ensures refused { IfErr result (Refuses (now_of self.old) octets.now) }
+        ensures unchanged { OnErr result (self.new ≡ self.old) }
+    {
+        let Next::Ask(question) = self.selection.next() else {
+            return Err(LocatorRefusal::NothingAsked);
+        };
+        let answer = read_answer(self.alloc, question, octets)?;
+        let answer = Arc::new(self.alloc, answer)?;
+        let given = Arc::try_clone(&answer)?;
+        let question = question.try_clone()?;
+        match self.selection.give(self.alloc, &question, given) {
+            Ok(()) => Ok((question, answer)),
+            Err(_) => Err(LocatorRefusal::Memory),
+        }
+    }
+}
