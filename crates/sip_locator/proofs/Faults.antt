@@ -1,5 +1,5 @@
 -- Why octets have no answer to a question.
-use Rattle.std.proofs.Common.{◌≡◌, ◌≢◌, ◌⊎◌, ℕ, ◌<◌, ◌≤◌, List, length, take, Some, refl, inl, inr}
+use Rattle.std.proofs.Common.{◌≡◌, ◌≢◌, ◌⊎◌, ℕ, ◌<◌, ◌≤◌, List, length, take, Some, None, refl, sym, ◌∙◌, arith, inl, inr}
 use Rattle.std.proofs.lemmas.Bool.{cases_lt}
 use Rattle.dns_answers.specs.Replies.{reply_refusal}
 use Rattle.dns_answers.specs.declared.refusal.ReplyRefusal.{ReplyRefusal}
@@ -12,7 +12,12 @@ use Rattle.dns_message.specs.declared.refusal.MessageRefusal.TheVariants as mess
 use Rattle.dns_message.specs.declared.refusal.Part.{Part}
 use Rattle.sip_locator.specs.Readings.{NoAnswer}
 use Rattle.sip_locator.specs.Refusals.{of_message, of_reply}
-use Rattle.sip_locator.specs.Replies.{Begins}
+use Rattle.dns_answers.specs.Answers.{answer}
+use Rattle.dns_answers.specs.Values.{AnswerValue}
+use Rattle.sip_selection.specs.Choice.{Resolution, need}
+use Rattle.sip_locator.specs.Replies.{Answers, Begins, Refuses}
+use Rattle.sip_locator.specs.declared.refusal.LocatorRefusal.{LocatorRefusal}
+use Rattle.sip_locator.specs.declared.refusal.LocatorRefusal.TheVariants as locator
 
 within : (octets : List ℕ) (refusal : MessageRefusal) → refusal ≢ message.TooLong → (65535 < length octets → refusal ≡ message.TooLong)
     → length octets ≤ 65535
@@ -52,3 +57,28 @@ no-reply question octets it begins reply.NotReply (inl e) = absurd cc
 no-reply question octets it begins reply.OtherQuestion (inl e) = absurd cc
 no-reply question octets it begins reply.Truncated (inl e) = absurd cc
 no-reply question octets it begins (reply.ServerFault code) (inl e) = absurd cc
+
+-- ---- the message decides
+
+module _ (one : (bytes : List ℕ) (end end' : ℕ) (message message' : Message) → Spells (take end bytes) message
+    → Spells (take end' bytes) message' → message ≡ message') (question : Question) (octets : List ℕ) (it : Message) (begins : Begins octets it) where
+  same : (other : Message) → Begins octets other → other ≡ it
+  same other there = one octets there.end begins.end other it there.spelled begins.spelled
+
+  pub taken-is : (found : AnswerValue) → Answers question octets found → (reply_refusal question it ≡ None) × (found ≡ answer question it)
+  taken-is found answers =
+      let is = same answers.it answers.begins in
+      (rw is at answers.taken, rw is at answers.is)
+
+  pub refused-is : (resolution : Resolution) (refusal : LocatorRefusal) → resolution ≡ need question → Refuses resolution octets refusal
+      → (refusal ≡ locator.Memory) ⊎ ((fault : ReplyRefusal) × (refusal ≡ locator.Reply fault) × (reply_refusal question it ≡ Some fault))
+  refused-is resolution locator.NothingAsked asked refuses = absurd (refuses question asked)
+  refused-is resolution (locator.Message message.TooLong) asked refuses =
+      let long = refuses.1 in let short = begins.short in absurd (omega arith)
+  refused-is resolution (locator.Message (message.Malformed part)) asked refuses = absurd (refuses.1.2 it begins)
+  refused-is resolution (locator.Message message.Memory) asked refuses = absurd refuses.1
+  refused-is resolution (locator.Reply fault) asked refuses =
+      let is = same refuses.2.it refuses.2.begins in
+      let same-question : refuses.0 ≡ question = let both = sym refuses.1 ∙ asked in cc in
+      inr (fault, refl, rw (is, same-question) at refuses.2.fault)
+  refused-is resolution locator.Memory asked refuses = inl refl

@@ -1,14 +1,13 @@
 -- The answers that a locator gains from a book.
-use Rattle.std.specs.Prelude.{◌≡◌, ⊤, ℕ, Bool, true, false, List, [], ◌∷◌, ◌++◌, Some, None, Result, Ok, Err}
-use mathlib.Core.List.{IsPrefix}
-use Rattle.dns_message.specs.declared.question.Question.{Question}
-use Rattle.dns_answers.specs.Values.{AnswerValue}
-use Rattle.sip_selection.specs.Choice.{Resolution, need}
-use Rattle.sip_selection.specs.Known.{Given}
-use Rattle.sip_selection.specs.Nexts.{next_of}
-use Rattle.sip_selection.specs.declared.selection.Next.{Next}
+use Rattle.std.specs.Prelude.{◌≡◌, ℕ, Bool, true, false, List, Some, None, Result, Ok, Err}
 use Rattle.std.specs.declared.alloc.AllocError.{AllocError}
+use mathlib.Core.List.{IsPrefix}
+use Rattle.dns_answers.specs.Values.{AnswerValue}
+use Rattle.dns_message.specs.declared.question.Question.{Question}
+use Rattle.sip_selection.specs.Choice.{Resolution, need}
+use Rattle.sip_selection.specs.Nexts.{next_of}
 use Rattle.sip_selection.specs.Selections.{SelectionValue, given_too, now_of}
+use Rattle.sip_selection.specs.declared.selection.Next.{Next}
 use Rattle.answer_cache.specs.Histories.{Store, cached}
 
 -- a history between two others: the first one goes on to it, and it goes on to the last one
@@ -16,23 +15,21 @@ pub record IsBetween (first last history : List Store) : Type 0 where
   pub after : IsPrefix first history
   pub before : IsPrefix history last
 
--- Each answer is what a history between these two held of its question, and each of these histories goes on to the
--- next one.
-abbrev pub Cached : List Store → List Store → ℕ → List Given → Type 0
-Cached first last now [] = ⊤
-Cached first last now (it ∷ others) =
-    (history : List Store) × IsBetween first last history × (cached history it.question now ≡ Some it.answer)
-    × Cached history last now others
+-- the question that was needed was answered from a history, and this answer counts now
+pub record IsAnswered (old new : SelectionValue) (history : List Store) (now : ℕ) : Type 0 where
+  pub question : Question
+  pub answer : AnswerValue
+  pub asked : now_of old ≡ need question
+  pub found : cached history question now ≡ Some answer
+  pub is : new ≡ given_too old question answer
 
--- there are these answers more, and each was cached
-pub record Gains (first last : List Store) (now : ℕ) (old new : List Given) : Type 0 where
-  pub more : List Given
-  pub is : new ≡ old ++ more
-  pub each : Cached first last now more
-
--- the same request, with answers more that were cached
-abbrev pub GainsFor : SelectionValue → SelectionValue → List Store → List Store → ℕ → Type 0
-GainsFor old new first last now = (new ≡ record old { given = new.given }) × Gains first last now old.given new.given
+-- One question after the other was answered, each from a history between these two, which goes on to the history of
+-- the next one.
+pub data Gains (last : List Store) (now : ℕ) : List Store → SelectionValue → SelectionValue → Type 0 where
+  nothing : {first : List Store} {old new : SelectionValue} → new ≡ old → Gains last now first old new
+  one : {first : List Store} {old new : SelectionValue} (history : List Store) (middle : SelectionValue)
+      → IsBetween first last history → IsAnswered old middle history now → Gains last now history middle new
+      → Gains last now first old new
 
 -- a history between these two held no answer to the question
 pub record Lacks (first last : List Store) (now : ℕ) (question : Question) : Type 0 where
@@ -42,15 +39,7 @@ pub record Lacks (first last : List Store) (now : ℕ) (question : Question) : T
 
 -- ---- one look-up
 
--- the question that was asked was answered from a history
-pub record IsAnswered (old new : SelectionValue) (history : List Store) (now : ℕ) : Type 0 where
-  pub question : Question
-  pub answer : AnswerValue
-  pub asked : now_of old ≡ need question
-  pub found : cached history question now ≡ Some answer
-  pub is : new ≡ given_too old question answer
-
--- a question was answered, or there is none that a history answers
+-- the question that is needed was answered, or the history has no answer to it
 abbrev pub LookedUp : SelectionValue → SelectionValue → List Store → ℕ → Bool → Type 0
 LookedUp old new history now true = IsAnswered old new history now
 LookedUp old new history now false =
@@ -60,11 +49,11 @@ LookedUp old new history now false =
 
 -- With the answers gained this is what is next, and where that is a question, the book lacked its answer.
 pub record IsNext (old new : SelectionValue) (first last : List Store) (now : ℕ) (resolution : Resolution) : Type 0 where
-  pub gains : GainsFor old new first last now
-  pub next : resolution ≡ now_of new
+  pub gains : Gains last now first old new
+  pub is : resolution ≡ now_of new
   pub lacks : (question : Question) → resolution ≡ need question → Lacks first last now question
 
 -- the same of what a step gives; where memory was refused, the answers gained stay
 abbrev pub Steps : SelectionValue → SelectionValue → List Store → List Store → ℕ → Result Next AllocError → Type 0
 Steps old new first last now (Ok next) = IsNext old new first last now (next_of next)
-Steps old new first last now (Err refusal) = GainsFor old new first last now
+Steps old new first last now (Err refusal) = Gains last now first old new

@@ -2,10 +2,12 @@
 #![tactic(auto)]
 
 mod kept;
+mod laws;
 mod locator;
 mod read;
 mod refusal;
 
 pub use kept::Kept;
+pub use laws::messages_decide;
 pub use locator::Locator;
 pub use refusal::LocatorRefusal;

@@ -6,7 +6,7 @@ ghost use Rattle.answer_cache.specs.Seats.{GoesOn, StoresNothing};
 ghost use Rattle.sip_selection.specs.Choice.{need};
 ghost use Rattle.sip_selection.specs.Nexts.{next_of};
 ghost use Rattle.sip_selection.specs.Selections.{begun, given_too, now_of};
-ghost use Rattle.sip_locator.specs.Gains.{GainsFor, Lacks, LookedUp, Steps};
+ghost use Rattle.sip_locator.specs.Gains.{Gains, Lacks, LookedUp, Steps};
 ghost use Rattle.sip_locator.specs.Replies.{Answers, IsTaken, Refuses};
 ghost use Rattle.dns_message.specs.declared.question.Question as question;
 
@@ -16,13 +16,13 @@ use crate::refusal::LocatorRefusal;
 use answer_cache::AnswerBook;
 use dns_answers::{Answer, Moment};
 use dns_message::Question;
-use sip_selection::{Caps, GiveRefusal, Next, Request, Selection};
+use sip_selection::{Caps, Next, Request, Selection};
 use srv_choice::Words;
 use std::alloc::{AllocError, Global};
 use std::marker::{Model, PhantomData};
 use std::sync::{Arc, Wait};
 
-/// One round more than there can be answers.
+/// One more than the answers that a locator can use.
 const ROUND_LIMIT: usize = 522;
 
 /// The choice of where one request goes, which looks its questions up in a book.
@@ -62,6 +62,13 @@ impl<B: AnswerBook> Locator<B> {
         })
     }
 
+    /// At most 521 answers are used. A call does nothing: its contract tells its caller so.
+    pub fn answers_are_few(&self)
+        ensures { length self.now.given ≤ 521 }
+    {
+        self.selection.answers_are_few();
+    }
+
     /// Looks up the question that is asked, and gives its answer, where there is one.
     fn look_up(&mut self, book: &B, at: &mut B::Seat, now: Moment) -> Result<bool, AllocError>
         requires { B.belongs book.now at.old }
@@ -90,7 +97,7 @@ impl<B: AnswerBook> Locator<B> {
         ensures stays { B.belongs book.now at.new }
         ensures goes_on { GoesOn (B.seat at.old) (B.seat at.new) }
         ensures stores_nothing { StoresNothing (B.seat at.old) (B.seat at.new) }
-        ensures gains { GainsFor self.old self.new (B.seat at.old).seen (B.seat at.new).seen now }
+        ensures gains { Gains (B.seat at.new).seen now (B.seat at.old).seen self.old self.new }
         ensures lacks { OnOk result ((question : question.Question) → now_of self.new ≡ need question
             → Lacks (B.seat at.old).seen (B.seat at.new).seen now question) }
     {
@@ -103,8 +110,8 @@ impl<B: AnswerBook> Locator<B> {
         Ok(())
     }
 
-    /// Looks up each question that is asked, until the book has no answer to one, and gives what is next then. Where an
-    /// answer was taken, or memory was refused after some were, those stay used. A book is asked for at most 521 answers.
+    /// Looks up each question that is asked, until the book has no answer to one, and gives what is next then. Where
+    /// memory is refused, the answers found before it stay used, and `step` can be called again.
     pub fn step(&mut self, book: &B, at: &mut B::Seat, now: Moment) -> Result<Next<'_>, AllocError>
         requires { B.belongs book.now at.old }
         ensures stays { B.belongs book.now at.new }
