@@ -1,4 +1,5 @@
-mod Faults
 mod Talks
 mod Resolutions
 mod Colons
+mod Books
+mod Takings

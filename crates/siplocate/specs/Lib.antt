@@ -7,3 +7,4 @@ pub mod Words
 pub mod Draws
 pub mod Talks
 pub mod Takings
+pub mod Books

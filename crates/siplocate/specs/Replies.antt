@@ -8,6 +8,9 @@ use Rattle.dns_message.specs.declared.question.Question.{Question}
 use Rattle.dns_answers.specs.Replies.{reply_refusal}
 use Rattle.sip_selection.specs.Choice.{Resolution, need}
 use Rattle.sip_selection.specs.Known.{Given}
+use Rattle.dns_message.specs.declared.refusal.MessageRefusal.TheVariants as message
+use Rattle.sip_locator.specs.declared.refusal.LocatorRefusal.{LocatorRefusal}
+use Rattle.sip_locator.specs.declared.refusal.LocatorRefusal.TheVariants as locator
 use Rattle.siplocate.specs.Talks.{goes, talk}
 use Rattle.sip_selection.specs.declared.caps.Families.{Families}
 use Rattle.siplocate.specs.declared.reply.BadReply.{BadReply}
@@ -25,6 +28,15 @@ pub record ReplyLine (line : List ℕ) (message : Message) : Type 0 where
   pub decoded : decode_of (digits line) ≡ Ok octets
   pub short : length octets ≤ 65535
   pub spelled : Spells (take end octets) message
+
+-- what is told of octets that the locator refused
+abbrev pub of_locator : LocatorRefusal → BadReply
+of_locator locator.NothingAsked = NothingAsked
+of_locator (locator.Message message.TooLong) = TooLong
+of_locator (locator.Message (message.Malformed part)) = Malformed
+of_locator (locator.Message message.Memory) = Memory
+of_locator (locator.Reply refusal) = NoAnswer refusal
+of_locator locator.Memory = Memory
 
 -- ---- what is wrong with a line
 

@@ -1,14 +1,30 @@
--- An answer that a choice takes from a line.
+-- An answer that a talk takes from a line.
 use Rattle.std.specs.Prelude.{◌≡◌, ℕ, List, Some}
+use Rattle.dns_answers.specs.Values.{AnswerValue}
 use Rattle.dns_message.specs.declared.message.Message.{Message}
+use Rattle.dns_message.specs.declared.question.Question.{Question}
+use Rattle.sip_locator.specs.Replies.{Answers, Refuses}
+use Rattle.sip_locator.specs.declared.refusal.LocatorRefusal.{LocatorRefusal}
+use Rattle.sip_selection.specs.Choice.{need}
 use Rattle.sip_selection.specs.Known.{Given}
 use Rattle.sip_selection.specs.Selections.{SelectionValue, given_too, now_of}
-use Rattle.siplocate.specs.Replies.{ReplyLine}
+use Rattle.siplocate.specs.Replies.{ReplyLine, of_locator}
 use Rattle.siplocate.specs.Talks.{told}
-use Rattle.siplocate.specs.declared.reply.Answered.{Answered}
+use Rattle.siplocate.specs.declared.reply.BadReply.{BadReply}
 
-abbrev pub given_by : Answered → Given
-given_by answered = record { question = answered.question; answer = answered.answer }
+-- the octets answer what is needed, and their answer is given
+pub record IsGiven (old new : SelectionValue) (octets : List ℕ) : Type 0 where
+  pub question : Question
+  pub found : AnswerValue
+  pub asked : now_of old ≡ need question
+  pub answers : Answers question octets found
+  pub is : new ≡ given_too old question found
+
+-- the locator refuses the octets
+pub record IsRefusedAs (old : SelectionValue) (octets : List ℕ) (reply : BadReply) : Type 0 where
+  pub refusal : LocatorRefusal
+  pub refuses : Refuses (now_of old) octets refusal
+  pub is : reply ≡ of_locator refusal
 
 -- the line is a reply to what is needed, and its answer is given
 pub record IsTaken (old new : SelectionValue) (line : List ℕ) : Type 0 where

@@ -8,6 +8,7 @@ use crate::one::one_text;
 use sip_selection::Families;
 use std::alloc::{AllocError, Global};
 use std::io::{self, Write};
+use std::sync::Wait;
 
 /// The status where memory, input or output failed.
 const FAULT_STATUS: u8 = 5;
@@ -35,23 +36,23 @@ pub enum Told {
 }
 
 /// What is told of the request in a text.
-fn tell_one(alloc: Global, families: Families, text: &str) -> Told
+fn tell_one<R: Wait>(rt: &R, alloc: Global, families: Families, text: &str) -> Told
     ensures told { spec.TellsText families text.now result }
     ensures range { spec.status result ≤ 5 }
 {
-    match one_text(alloc, families, text) {
+    match one_text(rt, alloc, families, text) {
         Ok((printed, status)) => Told::Text(printed, status),
         Err(AllocError) => Told::NoMemory,
     }
 }
 
 /// What is told for a job.
-pub fn tell(alloc: Global, job: &Job) -> Told
+pub fn tell<R: Wait>(rt: &R, alloc: Global, job: &Job) -> Told
     ensures told { spec.Tells job.now result }
     ensures range { spec.status result ≤ 5 }
 {
     match job {
-        Job::One(families, Ok(text)) => tell_one(alloc, *families, text),
+        Job::One(families, Ok(text)) => tell_one(rt, alloc, *families, text),
         Job::One(_, Err(InputRefusal::Input)) => Told::NoInput,
         Job::One(_, Err(InputRefusal::Memory)) => Told::NoMemory,
         Job::Usage => Told::Usage,

@@ -11,6 +11,7 @@ mod one;
 mod output;
 mod reply;
 mod request;
+mod talk;
 #[cfg(test)]
 mod tests;
 
@@ -21,6 +22,7 @@ use std::alloc::AllocError;
 use std::io::ErrorKind;
 use std::process::ExitCode;
 use std::rt::Env;
+use std::sync::Wait;
 use std::{env, io};
 
 /// What the program is asked to do where its words cannot be had: they are no text, but for want of
@@ -58,11 +60,11 @@ fn read_job<R: Env + Input + AllocGlobal>(rt: &R) -> Result<Job, AllocError> {
 }
 
 /// Does what the program is asked to do, and gives its status.
-fn run<R: Env + Input + Print + AllocGlobal>(rt: &R) -> u8
+fn run<R: Env + Input + Print + Wait + AllocGlobal>(rt: &R) -> u8
     ensures { result ≤ 5 }
 {
     let told = match read_job(rt) {
-        Ok(job) => tell(rt.alloc(), &job),
+        Ok(job) => tell(rt, rt.alloc(), &job),
         Err(AllocError) => Told::NoMemory,
     };
     report(&mut io::writer(rt), &told)

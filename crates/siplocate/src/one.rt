@@ -1,5 +1,5 @@
 //! One request, from its text to what is printed.
-ghost use Rattle.std.specs.Prelude.{◌≡◌, ◌≤◌, ◌⊎◌, ℕ, List, [], Some, IfOk, IfErr, MatchResult};
+ghost use Rattle.std.specs.Prelude.{◌≡◌, ◌≤◌, ◌⊎◌, ℕ, List, Some, IfOk, IfErr, MatchResult};
 ghost use Rattle.std.specs.List.{AllZip};
 ghost use Rattle.std.specs.String.{string_bytes};
 ghost use Rattle.dns_message.specs.declared.message.Message as message;
@@ -13,13 +13,14 @@ ghost use Rattle.siplocate.specs.Refusals.{of_request, of_reply, RefusedAs};
 ghost use Rattle.siplocate.specs.declared.one.OneRefusal.TheVariants as refusals;
 ghost use Rattle.siplocate.specs.Words as words;
 
-use crate::draw::draw_words;
-use crate::output::{bad_reply, bad_request, shown, status_of};
-use crate::reply::{BadReply, take_reply};
+use crate::output::{bad_reply, bad_request};
+use crate::reply::BadReply;
 use crate::request::read_request;
-use sip_selection::{Caps, Families, Request, Selection};
-use sip_uri::{Transport, UriRefusal};
+use crate::talk::Talk;
+use sip_selection::{Families, Request};
+use sip_uri::UriRefusal;
 use std::alloc::{AllocError, Global};
+use std::sync::Wait;
 
 /// The status of what is no request, or has a reply that is none.
 const BAD_STATUS: u8 = 3;
@@ -72,31 +73,14 @@ fn first_line(text: &str) -> &str
     text.lines().next().unwrap_or("")
 }
 
-/// The choice of a request, over the program's transports and random words.
-fn selection_of(
-    alloc: Global,
-    families: Families,
-    request: Request,
-) -> Result<Selection, AllocError>
-    ensures { IfOk result (λ it. it ≡ spec.selected families request []) }
-{
-    let transports = [
-        Transport::Udp,
-        Transport::Tcp,
-        Transport::Tls,
-        Transport::Sctp,
-    ];
-    let caps = Caps::new(&transports, families).unwrap();
-    Selection::new(alloc, request, caps, draw_words([0; 32], 1))
-}
-
-/// The choice of a request, with the replies in the lines after the first one.
-fn talk(
+/// The talk of a request, with the replies in the lines after the first one.
+fn talk<R: Wait>(
+    rt: &R,
     alloc: Global,
     families: Families,
     request: Request,
     text: &str,
-) -> Result<Selection, BadReply>
+) -> Result<Talk, BadReply>
     ensures found { IfOk result (λ it. (messages : List message.Message) × (given : List known.Given)
         × AllZip ReplyLine (other_lines text.now) messages
         × (spec.talk families request messages ≡ Some given)
@@ -109,26 +93,36 @@ fn talk(
     ensures bad { IfErr result (λ reply. (reply ≡ BadReply.Memory)
         ⊎ FailsAt families request (other_lines text.now) reply) }
 {
-    let mut selection = selection_of(alloc, families, request)?;
+    let mut talk = Talk::new(alloc, families, request)?;
     for line in text.lines().skip(1) {
-        take_reply(alloc, &mut selection, line)?;
+        talk.take(rt, alloc, line)?;
     }
-    Ok(selection)
+    Ok(talk)
 }
 
-/// The choice of the request in the first line of a text, with the replies in the others.
-fn located(alloc: Global, families: Families, text: &str) -> Result<Selection, OneRefusal>
+/// The talk of the request in the first line of a text, with the replies in the others.
+fn located<R: Wait>(
+    rt: &R,
+    alloc: Global,
+    families: Families,
+    text: &str,
+) -> Result<Talk, OneRefusal>
     ensures found { IfOk result (λ it. LocatesTo families text.now (now_of it)) }
     ensures read { (resolution : choice.Resolution) → LocatesTo families text.now resolution
         → MatchResult result (λ it. now_of it ≡ resolution) (λ refusal. refusal ≡ OneRefusal.Memory) }
     ensures bad { IfErr result (λ refusal. RefusedAs refusal families text.now) }
 {
     let request = read_request(alloc, first_line(text))?;
-    Ok(talk(alloc, families, request, text)?)
+    Ok(talk(rt, alloc, families, request, text)?)
 }
 
 /// What the program prints for a request with replies, and its status.
-pub fn one_text(alloc: Global, families: Families, text: &str) -> Result<(String, u8), AllocError>
+pub fn one_text<R: Wait>(
+    rt: &R,
+    alloc: Global,
+    families: Families,
+    text: &str,
+) -> Result<(String, u8), AllocError>
     ensures status { IfOk result (λ told. told.1 ≤ 5) }
     // What becomes of the request is printed.
     ensures located { (resolution : choice.Resolution) → LocatesTo families text.now resolution
@@ -140,11 +134,8 @@ pub fn one_text(alloc: Global, families: Families, text: &str) -> Result<(String
         ⊎ ((resolution : choice.Resolution) × LocatesTo families text.now resolution
         × (string_bytes told.0 ≡ words.shown resolution) × (told.1 ≡ words.status_of resolution))) }
 {
-    match located(alloc, families, text) {
-        Ok(selection) => {
-            let next = selection.next();
-            Ok((shown(alloc, next)?, status_of(next)))
-        }
+    match located(rt, alloc, families, text) {
+        Ok(talk) => talk.told(alloc),
         Err(OneRefusal::Memory) => Err(AllocError),
         Err(OneRefusal::Request(refusal)) => Ok((bad_request(alloc, refusal)?, BAD_STATUS)),
         Err(OneRefusal::Reply(reply)) => Ok((bad_reply(alloc, reply)?, BAD_STATUS)),

@@ -355,7 +355,7 @@ fn text_of(alloc: Global, lines: &[&str]) -> Result<String, AllocError> {
 fn rows(rt: HostRuntime) -> Result<(), Fail> {
     for row in &ROWS {
         let text = text_of(rt.alloc(), row.lines)?;
-        let (printed, status) = one_text(rt.alloc(), Families::V4, &text)?;
+        let (printed, status) = one_text(&rt, rt.alloc(), Families::V4, &text)?;
         assert_eq!(rt; printed.as_str(), row.printed, "{text}");
         assert_eq!(rt; status, row.status, "{text}");
     }
@@ -364,9 +364,9 @@ fn rows(rt: HostRuntime) -> Result<(), Fail> {
 
 #[test]
 fn without_line_ends(rt: HostRuntime) -> Result<(), Fail> {
-    let (printed, status) = one_text(rt.alloc(), Families::V4, "")?;
+    let (printed, status) = one_text(&rt, rt.alloc(), Families::V4, "")?;
     assert_eq!(rt; (printed.as_str(), status), ("bad request BadScheme\n", 3));
-    let (printed, status) = one_text(rt.alloc(), Families::V4, "sip:192.0.2.7")?;
+    let (printed, status) = one_text(&rt, rt.alloc(), Families::V4, "sip:192.0.2.7")?;
     assert_eq!(rt; (printed.as_str(), status), ("udp 192.0.2.7 5060\n", 0));
     Ok(())
 }
@@ -387,7 +387,7 @@ fn long_requests(rt: HostRuntime) -> Result<(), Fail> {
         (1009, "bad request TooLong\n"),
     ] {
         let text = long_request(rt.alloc(), letters)?;
-        let (printed, _) = one_text(rt.alloc(), Families::V4, &text)?;
+        let (printed, _) = one_text(&rt, rt.alloc(), Families::V4, &text)?;
         assert_eq!(rt; printed.as_str(), line);
     }
     Ok(())
@@ -400,7 +400,7 @@ fn other_families(rt: HostRuntime) -> Result<(), Fail> {
         (Families::V4ThenV6, "ask A a.example.\n"),
         (Families::V6ThenV4, "ask AAAA a.example.\n"),
     ] {
-        let (printed, status) = one_text(rt.alloc(), families, "sip:a.example:5070\n")?;
+        let (printed, status) = one_text(&rt, rt.alloc(), families, "sip:a.example:5070\n")?;
         assert_eq!(rt; (printed.as_str(), status), (line, 1));
     }
     Ok(())
