@@ -1,4 +1,34 @@
-//! Answers that seats share, and the one history of what was stored.
+//! A book of DNS answers that seats share, and the one history of what was stored.
+//!
+//! A resolver asks DNS servers so that a SIP request finds its next hop (RFC 3263). The answers may be kept for as long
+//! as they live. This crate keeps them: a book is asked before a server is, and each new answer is stored in it.
+//!
+//! A book has one history: the list of all stores, the oldest first. It only grows, and what was stored stays until the
+//! book is dropped. Each user of a book has a seat at it, and a thread uses its own seat. A seat sees a history, and
+//! after each call it sees the same history or a longer one.
+//!
+//! `lookup` answers from the last store of the question. It gives the answer while that lives: from the moment of the
+//! store on, for as many seconds as the life of the answer says. When the life has ended, it finds nothing. An older
+//! store of the question does not come back.
+//!
+//! `store` adds an answer behind all others, and its life begins at the moment that the caller gives. It refuses an
+//! answer of life 0, because that may not be kept. It also refuses an answer when the group of its question is full.
+//! `group` puts each question, by its name and type, into one of 64 groups, and a group has at most 64 stores. So a
+//! lookup looks through 64 stores at most, and a book never has more than 4096. When a group is full, its user begins a
+//! new book.
+//!
+//! `AnswerBook` is the trait of all books. Its `store` takes a runtime that may wait, for books that threads share.
+//! `ListCache` is the book of one thread, and has one seat. It never waits.
+//!
+//! ```text
+//! let (book, mut seat) = ListCache::new(alloc);
+//! book.store(&rt, &mut seat, &question, &answer, Moment::new(100)?)?;     // its life is 10
+//! book.lookup(&mut seat, &question, Moment::new(109)?)?;                  // Some(answer)
+//! book.lookup(&mut seat, &question, Moment::new(110)?)?;                  // None
+//! ```
+//!
+//! Read `specs/Histories.antt` first: it says what a store and a history are, and `cached` is what a lookup answers.
+//! Then read `specs/Seats.antt`: it says what a seat sees, how each call changes that, and why a store is refused.
 #![tactic(auto)]
 
 mod book;
@@ -12,3 +42,8 @@ pub use book::AnswerBook;
 pub use groups::group;
 pub use list_cache::{ListCache, ListSeat};
 pub use refusal::StoreRefusal;
+
+#[cfg(test)]
+mod refusals;
+#[cfg(test)]
+mod tests;
