@@ -12,19 +12,21 @@
 //! store of the question does not come back.
 //!
 //! `store` adds an answer behind all others, and its life begins at the moment that the caller gives. It refuses an
-//! answer of life 0, because that may not be kept. It also refuses an answer when the group of its question is full.
-//! `group` puts each question, by its name and type, into one of 64 groups, and a group has at most 64 stores. So a
-//! lookup looks through 64 stores at most, and a book never has more than 4096. When a group is full, its user begins a
-//! new book.
+//! answer of life 0, because that may not be kept. It also refuses an answer when the group of its question is full, and
+//! when there is no memory. `StoreRefusal` says which it was, and nothing was stored then.
 //!
-//! `AnswerBook` is the trait of all books. Its `store` takes a runtime that may wait, for books that threads share.
-//! `ListCache` is the book of one thread, and has one seat. It never waits.
+//! `group` puts each question, by its name and type, into one of 64 groups, and a group has at most 64 stores. So a
+//! lookup looks through 64 stores at most, and a book never has more than 4096. Stores do not make room for others: when
+//! groups are full, the user of a book begins a new one.
+//!
+//! `AnswerBook` is the trait of all books. Its `store` takes a runtime that may wait, for books that other threads
+//! share. `ListCache` is the book of one thread, and has one seat. It never waits.
 //!
 //! ```text
 //! let (book, mut seat) = ListCache::new(alloc);
-//! book.store(&rt, &mut seat, &question, &answer, Moment::new(100)?)?;     // its life is 10
-//! book.lookup(&mut seat, &question, Moment::new(109)?)?;                  // Some(answer)
-//! book.lookup(&mut seat, &question, Moment::new(110)?)?;                  // None
+//! book.store(&rt, &mut seat, &question, &answer, at_100)?;    // at second 100, an answer of life 10
+//! book.lookup(&mut seat, &question, at_109)?;                 // Some(answer)
+//! book.lookup(&mut seat, &question, at_110)?;                 // None
 //! ```
 //!
 //! Read `specs/Histories.antt` first: it says what a store and a history are, and `cached` is what a lookup answers.
