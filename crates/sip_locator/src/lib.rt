@@ -11,3 +11,8 @@ pub use kept::Kept;
 pub use laws::messages_decide;
 pub use locator::Locator;
 pub use refusal::LocatorRefusal;
+
+#[cfg(test)]
+mod refusals;
+#[cfg(test)]
+mod tests;
