@@ -1,5 +1,5 @@
 //! The book of one thread.
-ghost use Rattle.std.specs.Prelude.{◌≡◌, ◌∷◌, ◌++◌, [], IfErr, IfOk, OnErr, OnOk};
+ghost use Rattle.std.specs.Prelude.{◌≡◌, ◌≢◌, None, ◌∷◌, ◌++◌, [], IfErr, IfOk, OnErr, OnOk};
 ghost use Rattle.std.specs.Arc.{arc_value};
 ghost use Rattle.std.specs.Option.{option_map};
 ghost use Rattle.dns_answers.specs.Records.{kind_of};
@@ -81,6 +81,8 @@ impl AnswerBook for ListCache {
     ) -> Result<Option<Arc<Answer>>, AllocError>
         ensures leaves { at.new ≡ at.old }
         ensures found { IfOk result (λ found. option_map arc_value found ≡ cached at.old.seen question.now now) }
+        // Memory is wanted only where there is an answer to give.
+        ensures wanted { OnErr result (cached at.old.seen question.now now ≢ None) }
     {
         at.stores.lookup(question, now)
     }

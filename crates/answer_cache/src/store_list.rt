@@ -1,5 +1,5 @@
 //! Stores in the order of time, found by the groups of their questions.
-ghost use Rattle.std.specs.Prelude.{◌≡◌, ◌↔◌, ◌+◌, ◌<◌, ◌∷◌, ◌++◌, [], IfErr, IfOk, IsTrue, OnErr, OnOk, None, Some};
+ghost use Rattle.std.specs.Prelude.{◌≡◌, ◌≢◌, ◌↔◌, ◌+◌, ◌<◌, ◌∷◌, ◌++◌, [], IfErr, IfOk, IsTrue, OnErr, OnOk, None, Some};
 ghost use Rattle.std.specs.Arc.{arc_value};
 ghost use Rattle.std.specs.List.{last_or};
 ghost use Rattle.std.specs.Option.{option_map};
@@ -110,7 +110,8 @@ impl StoreList {
         question: &Question,
         now: Moment,
     ) -> Result<Option<Arc<Answer>>, AllocError>
-        ensures { IfOk result (λ found. option_map arc_value found ≡ cached self.now question.now now) }
+        ensures found { IfOk result (λ found. option_map arc_value found ≡ cached self.now question.now now) }
+        ensures wanted { OnErr result (cached self.now question.now now ≢ None) }
     {
         match self.last_of(question) {
             Some(entry) if entry.lives_at(now) => Ok(Some(Arc::try_clone(&entry.answer)?)),
