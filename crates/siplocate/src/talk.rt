@@ -14,7 +14,6 @@ use crate::output::{shown, status_of};
 use crate::reply::{BadReply, octets_of};
 use answer_cache::{ListCache, ListSeat};
 use dns_answers::Moment;
-use dns_message::same_questions_are_equal;
 use sip_locator::{Locator, messages_decide};
 use sip_selection::{Caps, Families, Request, questions_are_missing};
 use sip_uri::Transport;
@@ -98,7 +97,6 @@ impl Talk {
         ensures given { OnOk result (IsGiven self.old self.new octets.now) }
         ensures refused { IfErr result (IsRefusedAs self.old octets.now) }
     {
-        same_questions_are_equal();
         self.locator
             .reply(rt, &self.book, &mut self.seat, moment(), octets)?;
         Ok(())
