@@ -1,60 +1,42 @@
 //! Where memory is refused: the call then says so, or has its answer all the same, and done again it has it.
-use crate::tests::{Gives, REPLY, begun, question, told};
+ghost use Rattle.answer_cache.specs.Lists.{IsListSeat};
+
+use crate::tests::{Desk, Gives, REPLY, open_desk, told};
 use crate::*;
-use answer_cache::{ListCache, StoreRefusal};
+use answer_cache::StoreRefusal;
 use dns_answers::Moment;
-use dns_message::Question;
-use std::alloc::{AllocError, Global};
 use std::sync::Wait;
 
-/// Two locators of the request, the question that they ask, and a moment.
-#[derive(Drop)]
-struct Desk {
-    first: Locator<ListCache>,
-    second: Locator<ListCache>,
-    question: Question,
-    now: Moment,
-}
-
-/// What the first locator makes of the reply, and what both then give over one book. Each call is done again where
-/// memory is refused.
-fn outcome(rt: &impl Wait, alloc: Global, desk: &mut Desk) -> Option<(Kept, Gives, Gives)> {
-    let now = desk.now;
-    let (book, mut seat) = ListCache::new(alloc);
-    let kept = match desk.first.reply(rt, &book, &mut seat, now, &REPLY) {
-        Err(LocatorRefusal::Memory) => desk.first.reply(rt, &book, &mut seat, now, &REPLY),
+/// What becomes of the reply, and what both locators then give, where memory is refused at most once: a call that it was
+/// refused to is done again.
+fn outcome(rt: &impl Wait, desk: &mut Desk) -> Option<(Kept, Gives, Gives)>
+    requires { IsListSeat desk.old.seat }
+{
+    let Desk {
+        first,
+        second,
+        book,
+        seat,
+        question,
+    } = desk;
+    let now = Moment::new(100)?;
+    let kept = match first.reply(rt, book, seat, now, &REPLY) {
+        Err(LocatorRefusal::Memory) => first.reply(rt, book, seat, now, &REPLY),
         other => other,
     };
-    let first = match desk.first.step(&book, &mut seat, now) {
-        Ok(next) => told(next, &desk.question),
-        Err(AllocError) => told(desk.first.step(&book, &mut seat, now).ok()?, &desk.question),
-    };
-    let second = match desk.second.step(&book, &mut seat, now) {
-        Ok(next) => told(next, &desk.question),
-        Err(AllocError) => told(
-            desk.second.step(&book, &mut seat, now).ok()?,
-            &desk.question,
-        ),
-    };
-    Some((kept.ok()?, first, second))
+    let _ = first.step(book, seat, now).is_ok();
+    let given = told(first.step(book, seat, now).ok()?, question);
+    let _ = second.step(book, seat, now).is_ok();
+    let other = told(second.step(book, seat, now).ok()?, question);
+    Some((kept.ok()?, given, other))
 }
 
 #[test]
 fn locator_refused(rt: HostRuntime) {
-    if let Some(first) = begun(rt.alloc())
-        && let Some(second) = begun(rt.alloc())
-        && let Some(question) = question(rt.alloc())
-        && let Some(now) = Moment::new(100)
-    {
-        let mut desk = Desk {
-            first,
-            second,
-            question,
-            now,
-        };
+    if let Some(mut desk) = open_desk(rt.alloc()) {
         assert!(rt;
             matches!(
-                outcome(&rt, rt.alloc(), &mut desk),
+                outcome(&rt, &mut desk),
                 Some(
                     (Kept::Yes, Gives::Goes, Gives::Goes)
                         | (Kept::No(StoreRefusal::Memory), Gives::Goes, Gives::Asks)

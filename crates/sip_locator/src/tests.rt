@@ -1,6 +1,9 @@
 //! Replies to one question, as tables, and what two locators then have of one book.
+ghost use Rattle.std.specs.Prelude.{IfSome};
+ghost use Rattle.answer_cache.specs.Lists.{IsListSeat};
+
 use crate::*;
-use answer_cache::{ListCache, StoreRefusal};
+use answer_cache::{ListCache, ListSeat, StoreRefusal};
 use dns_answers::Moment;
 use dns_message::{Kind, MessageRefusal, Question};
 use dns_name::Name;
@@ -42,14 +45,14 @@ pub(crate) enum Gives {
 }
 
 /// The choice of a request to port 5070 of a.example, over UDP and IPv4 alone, where there is memory for it.
-pub(crate) fn begun(alloc: Global) -> Option<Locator<ListCache>> {
+fn begun(alloc: Global) -> Option<Locator<ListCache>> {
     let request = Request::Uri(read_uri(alloc, "sip:a.example:5070").ok()?);
     let caps = Caps::new(&[Udp], Families::V4)?;
     Locator::new(alloc, request, caps, Words([0; WORD_COUNT])).ok()
 }
 
 /// The question A of a.example., where there is memory for its name.
-pub(crate) fn question(alloc: Global) -> Option<Question> {
+fn question(alloc: Global) -> Option<Question> {
     let name = Name::from_text(alloc, "a.example.").ok()?;
     Some(Question {
         name,
@@ -66,26 +69,76 @@ pub(crate) fn told(next: Next<'_>, question: &Question) -> Gives {
     }
 }
 
-/// What becomes of a reply cut to this length, and what a step gives then.
-fn cut_to(rt: &impl Wait, alloc: Global, len: usize) -> Option<(LocatorRefusal, Gives)> {
-    let question = question(alloc)?;
-    let mut locator = begun(alloc)?;
-    let (book, mut seat) = ListCache::new(alloc);
-    let now = Moment::new(100)?;
-    let refusal = locator
-        .reply(rt, &book, &mut seat, now, REPLY.get(..len)?)
-        .err()?;
-    let next = locator.step(&book, &mut seat, now).ok()?;
-    Some((refusal, told(next, &question)))
+/// Two locators of the request over one book, and the question that they ask.
+#[derive(Drop)]
+pub(crate) struct Desk {
+    pub first: Locator<ListCache>,
+    pub second: Locator<ListCache>,
+    pub book: ListCache,
+    pub seat: ListSeat,
+    pub question: Question,
 }
 
-/// Whether a reply cut to this length is not read, and its question is asked again.
-fn is_asked_again(rt: &impl Wait, alloc: Global, len: usize) -> bool {
+/// Such locators, where there is memory for them.
+pub(crate) fn open_desk(alloc: Global) -> Option<Desk>
+    ensures { IfSome result (λ desk. IsListSeat desk.seat) }
+{
+    let question = question(alloc)?;
+    let first = begun(alloc)?;
+    let second = begun(alloc)?;
+    let (book, seat) = ListCache::new(alloc);
+    Some(Desk {
+        first,
+        second,
+        book,
+        seat,
+        question,
+    })
+}
+
+/// What becomes of a reply at the moment 100, what the first locator gives then, what becomes of the same reply again,
+/// and what the second locator gives at a later moment.
+type Outcome = (
+    Result<Kept, LocatorRefusal>,
+    Gives,
+    Result<Kept, LocatorRefusal>,
+    Gives,
+);
+
+/// This of a desk, unless memory is refused.
+fn talk(rt: &impl Wait, desk: &mut Desk, octets: &[u8], later: u64) -> Option<Outcome>
+    requires { IsListSeat desk.old.seat }
+{
+    let Desk {
+        first,
+        second,
+        book,
+        seat,
+        question,
+    } = desk;
+    let now = Moment::new(100)?;
+    let later = Moment::new(later)?;
+    let taken = first.reply(rt, book, seat, now, octets);
+    let given = told(first.step(book, seat, now).ok()?, question);
+    let again = first.reply(rt, book, seat, now, octets);
+    let other = told(second.step(book, seat, later).ok()?, question);
+    Some((taken, given, again, other))
+}
+
+/// The same of a new desk.
+fn outcome(rt: &impl Wait, alloc: Global, octets: &[u8], later: u64) -> Option<Outcome> {
+    talk(rt, &mut open_desk(alloc)?, octets, later)
+}
+
+/// Whether these octets are not read, and the question is asked again.
+fn is_asked_again(rt: &impl Wait, alloc: Global, octets: &[u8]) -> bool {
     matches!(
-        cut_to(rt, alloc, len),
+        outcome(rt, alloc, octets, 100),
         Some((
-            LocatorRefusal::Message(MessageRefusal::Malformed(_)),
-            Gives::Asks
+            Err(LocatorRefusal::Message(MessageRefusal::Malformed(_))),
+            Gives::Asks,
+            Err(LocatorRefusal::Message(MessageRefusal::Malformed(_))),
+            Gives::Asks,
         ))
     )
 }
@@ -93,86 +146,34 @@ fn is_asked_again(rt: &impl Wait, alloc: Global, len: usize) -> bool {
 #[test]
 fn replies_cut_short(rt: HostRuntime) {
     for len in 0..REPLY.len() {
-        assert!(rt; is_asked_again(&rt, rt.alloc(), len), "{len}");
+        assert!(rt; is_asked_again(&rt, rt.alloc(), &REPLY[..len]), "{len}");
     }
 }
 
-/// A reply that comes at the moment 100, whether its answer is stored, and what the first step of a second locator over
-/// the same book gives at a later moment.
-struct Row {
-    octets: &'static [u8],
-    kept: Kept,
-    later: u64,
-    second: Gives,
-}
-
-const ROWS: [Row; 4] = [
-    Row {
-        octets: &LIFELESS,
-        kept: Kept::No(StoreRefusal::Lifeless),
-        later: 100,
-        second: Gives::Asks,
-    },
-    Row {
-        octets: &REPLY,
-        kept: Kept::Yes,
-        later: 100,
-        second: Gives::Goes,
-    },
-    Row {
-        octets: &REPLY,
-        kept: Kept::Yes,
-        later: 399,
-        second: Gives::Goes,
-    },
-    Row {
-        octets: &REPLY,
-        kept: Kept::Yes,
-        later: 400,
-        second: Gives::Asks,
-    },
+/// A reply, whether its answer is stored, and what the second locator gives at a later moment.
+const ROWS: [(&[u8], Kept, u64, Gives); 4] = [
+    (
+        &LIFELESS,
+        Kept::No(StoreRefusal::Lifeless),
+        100,
+        Gives::Asks,
+    ),
+    (&REPLY, Kept::Yes, 100, Gives::Goes),
+    (&REPLY, Kept::Yes, 399, Gives::Goes),
+    (&REPLY, Kept::Yes, 400, Gives::Asks),
 ];
-
-/// What became of a store, and what the steps of the two locators gave.
-type Outcome = (Kept, Gives, Gives);
-
-/// What a row comes to, where there is memory for it.
-fn outcome(rt: &impl Wait, alloc: Global, row: &Row) -> Option<Outcome> {
-    let question = question(alloc)?;
-    let mut first = begun(alloc)?;
-    let mut second = begun(alloc)?;
-    let (book, mut seat) = ListCache::new(alloc);
-    let now = Moment::new(100)?;
-    let later = Moment::new(row.later)?;
-    let kept = first.reply(rt, &book, &mut seat, now, row.octets).ok()?;
-    let next = first.step(&book, &mut seat, now).ok()?;
-    let other = second.step(&book, &mut seat, later).ok()?;
-    Some((kept, told(next, &question), told(other, &question)))
-}
 
 #[test]
 fn answers_shared(rt: HostRuntime) {
-    for row in &ROWS {
+    for (octets, kept, later, other) in ROWS {
         assert_eq!(rt;
-            outcome(&rt, rt.alloc(), row),
-            Some((row.kept, Gives::Goes, row.second))
+            outcome(&rt, rt.alloc(), octets, later),
+            Some((
+                Ok(kept),
+                Gives::Goes,
+                Err(LocatorRefusal::NothingAsked),
+                other
+            ))
         );
     }
-}
-
-/// What becomes of a second reply, when the targets are there.
-fn second_reply(rt: &impl Wait, alloc: Global) -> Option<LocatorRefusal> {
-    let mut locator = begun(alloc)?;
-    let (book, mut seat) = ListCache::new(alloc);
-    let now = Moment::new(100)?;
-    locator.reply(rt, &book, &mut seat, now, &REPLY).ok()?;
-    locator.reply(rt, &book, &mut seat, now, &REPLY).err()
-}
-
-#[test]
-fn nothing_asked(rt: HostRuntime) {
-    assert_eq!(rt;
-        second_reply(&rt, rt.alloc()),
-        Some(LocatorRefusal::NothingAsked)
-    );
 }
