@@ -1,0 +1,4 @@
+pub mod Ids
+pub mod Pending
+pub mod Kept
+pub mod Lends

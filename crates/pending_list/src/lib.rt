@@ -1,0 +1,37 @@
+//! A list of items that wait for their deadlines, as questions do that were sent and have no reply yet.
+//!
+//! The entries stand by deadline, and of one deadline in the order in which they got it. An entry is known by its id, which
+//! no other entry of the list ever has. A deadline is a number, and a list knows no clock: who has it says what time it is.
+//!
+//! A list has a limit. It makes the room for so many entries when it is made, and its calls but `insert` take no memory and
+//! always answer.
+//!
+//! ```text
+//! let mut list = PendingList::new(alloc, 3, 0)?;
+//! let x = list.insert(5, "x")?;
+//! let y = list.insert(5, "y")?;                     // x, y
+//! list.insert(3, "z")?;                             // z, x, y
+//! list.move_to(x, 9);                               // z, y, x
+//! list.pop_due(4);                                  // z, whose deadline is over at 4
+//! list.remove(x);                                   // x
+//! ```
+//!
+//! Read `specs/Pending.antt` first: `placed` says where an entry is put, and `moved` what another deadline does.
+#![tactic(auto)]
+
+mod entry;
+mod id;
+mod list;
+mod places;
+mod refusal;
+mod walk;
+
+pub use id::PendingId;
+pub use list::PendingList;
+pub use refusal::InsertRefusal;
+pub use walk::Walk;
+
+#[cfg(test)]
+mod refusals;
+#[cfg(test)]
+mod tests;
