@@ -1,7 +1,8 @@
 -- Why octets have no answer to a question.
-use Rattle.std.proofs.Common.{◌≡◌, ◌≢◌, ◌⊎◌, ℕ, ◌<◌, ◌≤◌, List, length, take, Some, None, refl, sym, ◌∙◌, arith, inl, inr}
+use Rattle.std.specs.Prelude.{◌==◌, ◌&&◌, ◌||◌, not, if◌then◌else◌}
+use Rattle.std.proofs.Common.{◌≡◌, ◌≢◌, ◌⊎◌, ℕ, ◌<◌, ◌≤◌, Bool, true, false, List, length, take, Option, Some, None, refl, sym, ap, ◌∙◌, arith, inl, inr}
 use Rattle.std.proofs.lemmas.Bool.{cases_lt}
-use Rattle.dns_answers.specs.Replies.{reply_refusal}
+use Rattle.dns_answers.specs.Replies.{asks_this_alone, reply_refusal}
 use Rattle.dns_answers.specs.declared.refusal.ReplyRefusal.{ReplyRefusal}
 use Rattle.dns_answers.specs.declared.refusal.ReplyRefusal.TheVariants as reply
 use Rattle.dns_message.specs.Messages.{RefusedWhere, Spells}
@@ -44,19 +45,44 @@ pub no-message : (question : Question) (octets : List ℕ) (refusal : MessageRef
 no-message question octets message.TooLong stands none long = stands
 no-message question octets (message.Malformed part) stands none long =
     (within octets (message.Malformed part) (λ e. absurd cc) long, stands, none part refl)
-no-message question octets message.Memory stands none long = within octets message.Memory (λ e. absurd cc) long
+no-message question octets message.Memory stands none long = (within octets message.Memory (λ e. absurd cc) long, inl stands)
+
+-- want of memory is no fault of a message
+no-verdict : (other-kind other-question cut fine : Bool) (code : ℕ)
+    → (if other-kind then Some reply.NotReply else
+    (if other-question then Some reply.OtherQuestion else
+    (if cut then Some reply.Truncated else
+    (if fine then None else Some (reply.ServerFault code))))) ≡ Some reply.Memory → ⊥
+no-verdict true other-question cut fine code e = cc
+no-verdict false true cut fine code e = cc
+no-verdict false false true fine code e = cc
+no-verdict false false false true code e = cc
+no-verdict false false false false code e = cc
+
+never-memory : (question : Question) (it : Message) → reply_refusal question it ≡ Some reply.Memory → ⊥
+never-memory question it e =
+    no-verdict (not (it.header.reply && it.header.opcode == 0)) (not (asks_this_alone question it.questions)) it.header.truncated
+    (it.header.rcode == 0 || it.header.rcode == 3) it.header.rcode e
+
+-- so where each fault would be want of memory, there is none
+none-by : (question : Question) (it : Message) (fault : Option ReplyRefusal) → reply_refusal question it ≡ fault
+    → ((other : ReplyRefusal) → reply_refusal question it ≡ Some other → other ≡ reply.Memory) → reply_refusal question it ≡ None
+none-by question it None is only = is
+none-by question it (Some other) is only = absurd (never-memory question it (is ∙ ap Some (only other is)))
 
 pub no-reply : (question : Question) (octets : List ℕ) (it : Message) → Begins octets it → (refusal : ReplyRefusal)
+    → ((other : ReplyRefusal) → reply_refusal question it ≡ Some other → other ≡ refusal)
     → (refusal ≡ reply.Memory) ⊎ (reply_refusal question it ≡ Some refusal) → NoAnswer question octets (of_reply refusal)
-no-reply question octets it begins reply.Memory said = begins.short
-no-reply question octets it begins reply.NotReply (inr is) = record { it = it; begins = begins; fault = is; named = λ e. absurd cc }
-no-reply question octets it begins reply.OtherQuestion (inr is) = record { it = it; begins = begins; fault = is; named = λ e. absurd cc }
-no-reply question octets it begins reply.Truncated (inr is) = record { it = it; begins = begins; fault = is; named = λ e. absurd cc }
-no-reply question octets it begins (reply.ServerFault code) (inr is) = record { it = it; begins = begins; fault = is; named = λ e. absurd cc }
-no-reply question octets it begins reply.NotReply (inl e) = absurd cc
-no-reply question octets it begins reply.OtherQuestion (inl e) = absurd cc
-no-reply question octets it begins reply.Truncated (inl e) = absurd cc
-no-reply question octets it begins (reply.ServerFault code) (inl e) = absurd cc
+no-reply question octets it begins reply.Memory only said =
+    (begins.short, inr (it, begins, none-by question it (reply_refusal question it) refl only))
+no-reply question octets it begins reply.NotReply only (inr is) = record { it = it; begins = begins; fault = is; named = λ e. absurd cc }
+no-reply question octets it begins reply.OtherQuestion only (inr is) = record { it = it; begins = begins; fault = is; named = λ e. absurd cc }
+no-reply question octets it begins reply.Truncated only (inr is) = record { it = it; begins = begins; fault = is; named = λ e. absurd cc }
+no-reply question octets it begins (reply.ServerFault code) only (inr is) = record { it = it; begins = begins; fault = is; named = λ e. absurd cc }
+no-reply question octets it begins reply.NotReply only (inl e) = absurd cc
+no-reply question octets it begins reply.OtherQuestion only (inl e) = absurd cc
+no-reply question octets it begins reply.Truncated only (inl e) = absurd cc
+no-reply question octets it begins (reply.ServerFault code) only (inl e) = absurd cc
 
 -- ---- the message decides
 

@@ -1,11 +1,12 @@
 -- What the octets of a reply say to the question that is asked.
-use Rattle.std.specs.Prelude.{◌≡◌, ◌≢◌, ℕ, ◌<◌, ◌≤◌, List, [], ◌∷◌, ◌++◌, length, take, Some, None}
+use Rattle.std.specs.Prelude.{◌≡◌, ◌≢◌, ◌⊎◌, ℕ, ◌<◌, ◌≤◌, List, [], ◌∷◌, ◌++◌, length, take, Some, None}
 use Rattle.dns_answers.specs.Answers.{answer}
 use Rattle.dns_answers.specs.Replies.{reply_refusal}
 use Rattle.dns_answers.specs.Values.{AnswerValue}
 use Rattle.dns_answers.specs.declared.refusal.ReplyRefusal.{ReplyRefusal}
 use Rattle.dns_answers.specs.declared.refusal.ReplyRefusal.TheVariants as reply
 use Rattle.dns_message.specs.Messages.{FailsIn, Spells}
+use Rattle.dns_message.specs.Places.{NamedAt}
 use Rattle.dns_message.specs.declared.message.Message.{Message}
 use Rattle.dns_message.specs.declared.question.Question.{Question}
 use Rattle.dns_message.specs.declared.refusal.MessageRefusal.{MessageRefusal}
@@ -30,6 +31,11 @@ pub record Answers (question : Question) (octets : List ℕ) (found : AnswerValu
   pub begins : Begins octets it
   pub taken : reply_refusal question it ≡ None
   pub is : found ≡ answer question it
+
+-- Memory is taken for octets only here: to read a name after the header, or for the answer of a message without a fault.
+abbrev pub MayAnswer : Question → List ℕ → Type 0
+MayAnswer question octets =
+    NamedAt octets 12 ⊎ ((it : Message) × Begins octets it × (reply_refusal question it ≡ None))
 
 -- ---- refusals
 
@@ -57,8 +63,8 @@ Refuses resolution octets locator.NothingAsked = (question : Question) → resol
 Refuses resolution octets (locator.Message refusal) = IsAsking resolution × MessageFault octets refusal
 Refuses resolution octets (locator.Reply refusal) =
     (question : Question) × (resolution ≡ need question) × AnswerFault question octets refusal
--- memory is wanted only where something is asked
-Refuses resolution octets locator.Memory = IsAsking resolution × (length octets ≤ 65535)
+Refuses resolution octets locator.Memory =
+    (question : Question) × (resolution ≡ need question) × (length octets ≤ 65535) × MayAnswer question octets
 
 -- ---- a reply that is taken
 

@@ -161,9 +161,9 @@ impl<B: AnswerBook> Locator<B> {
         let answer = Arc::new(self.alloc, answer)?;
         let given = Arc::try_clone(&answer)?;
         let question = question.try_clone()?;
-        match self.selection.give(self.alloc, &question, given) {
-            Ok(()) => Ok((question, answer)),
-            Err(_) => Err(LocatorRefusal::Memory),
+        if self.selection.give(self.alloc, &question, given).is_err() {
+            return Err(LocatorRefusal::Memory);
         }
+        Ok((question, answer))
     }
 }
