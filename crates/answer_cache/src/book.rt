@@ -24,42 +24,42 @@ pub trait AnswerBook {
     ghost belongs: { Self → Self.Seat → Type 0 };
 
     // Its number, the history that it has seen, its own stores, and what its stores were handed.
-    ghost seat: { Self.Seat → SeatView };
+    ghost shown: { Self.Seat → SeatView };
 
     /// The answer of the last store of the question, while it lives: from the moment of its store on, for as many
     /// seconds as its life is. An older store does not come back when the last one has expired.
     fn lookup(
         &self,
-        at: &mut Self::Seat,
+        seat: &mut Self::Seat,
         question: &Question,
         now: Moment,
     ) -> Result<Option<Arc<Answer>>, AllocError>
-        requires { belongs self.now at.old }
-        ensures stays { belongs self.now at.new }
-        ensures goes_on { GoesOn (seat at.old) (seat at.new) }
-        ensures stores_nothing { StoresNothing (seat at.old) (seat at.new) }
-        ensures found { IfOk result (λ found. option_map arc_value found ≡ cached (seat at.new).seen question.now now) };
+        requires { belongs self.now seat.old }
+        ensures stays { belongs self.now seat.new }
+        ensures goes_on { GoesOn (shown seat.old) (shown seat.new) }
+        ensures stores_nothing { StoresNothing (shown seat.old) (shown seat.new) }
+        ensures found { IfOk result (λ found. option_map arc_value found ≡ cached (shown seat.new).seen question.now now) };
 
     /// Stores an answer, whose life begins now.
     fn store<R: Wait>(
         &self,
         rt: &R,
-        at: &mut Self::Seat,
+        seat: &mut Self::Seat,
         question: &Question,
         answer: &Arc<Answer>,
         now: Moment,
     ) -> Result<(), StoreRefusal>
-        requires made_here { belongs self.now at.old }
+        requires made_here { belongs self.now seat.old }
         requires kind { kind_of (arc_value answer.now).records ≡ question.now.kind }
-        ensures stays { belongs self.now at.new }
-        ensures goes_on { GoesOn (seat at.old) (seat at.new) }
-        ensures offered { (seat at.new).offered
-            ≡ (seat at.old).offered ++ offer_of question.now (arc_value answer.now) now ∷ [] }
+        ensures stays { belongs self.now seat.new }
+        ensures goes_on { GoesOn (shown seat.old) (shown seat.new) }
+        ensures offered { (shown seat.new).offered
+            ≡ (shown seat.old).offered ++ offer_of question.now (arc_value answer.now) now ∷ [] }
         ensures stored { OnOk result
-            (IsStored (seat at.old) (seat at.new) (offer_of question.now (arc_value answer.now) now)) }
+            (IsStored (shown seat.old) (shown seat.new) (offer_of question.now (arc_value answer.now) now)) }
         ensures refused { IfErr result
-            (IsRefused (seat at.old) (seat at.new) (offer_of question.now (arc_value answer.now) now)) };
+            (IsRefused (shown seat.old) (shown seat.new) (offer_of question.now (arc_value answer.now) now)) };
 
     // What holds of each seat of the book.
-    ghost holds: { (book : Self) (at : Self.Seat) → belongs book at → IsSeat (seat at) };
+    ghost holds: { (book : Self) (seat : Self.Seat) → belongs book seat → IsSeat (shown seat) };
 }

@@ -67,44 +67,44 @@ impl AnswerBook for ListCache {
 
     ghost use Rattle.answer_cache.specs.Lists.{IsListSeat};
 
-    ghost belongs = { λ book at. IsListSeat at };
+    ghost belongs = { λ book seat. IsListSeat seat };
 
-    ghost seat = { λ at. at };
+    ghost shown = { λ seat. seat };
 
-    ghost holds = { λ book at it. it.is };
+    ghost holds = { λ book seat it. it.is };
 
     fn lookup(
         &self,
-        at: &mut ListSeat,
+        seat: &mut ListSeat,
         question: &Question,
         now: Moment,
     ) -> Result<Option<Arc<Answer>>, AllocError>
-        ensures leaves { at.new ≡ at.old }
-        ensures found { IfOk result (λ found. option_map arc_value found ≡ cached at.old.seen question.now now) }
+        ensures leaves { seat.new ≡ seat.old }
+        ensures found { IfOk result (λ found. option_map arc_value found ≡ cached seat.old.seen question.now now) }
         // Memory is wanted only where there is an answer to give.
-        ensures wanted { OnErr result (cached at.old.seen question.now now ≢ None) }
+        ensures wanted { OnErr result (cached seat.old.seen question.now now ≢ None) }
     {
-        at.stores.lookup(question, now)
+        seat.stores.lookup(question, now)
     }
 
     fn store<R: Wait>(
         &self,
         _rt: &R,
-        at: &mut ListSeat,
+        seat: &mut ListSeat,
         question: &Question,
         answer: &Arc<Answer>,
         now: Moment,
     ) -> Result<(), StoreRefusal>
         requires kind { kind_of (arc_value answer.now).records ≡ question.now.kind }
-        ensures is { IsListSeat at.new }
-        ensures stored { OnOk result (at.new ≡ stored_too at.old (offer_of question.now (arc_value answer.now) now)) }
-        ensures takes { OnOk result (Takes at.old.seen (offer_of question.now (arc_value answer.now) now)) }
-        ensures unchanged { OnErr result (at.new ≡ offered_too at.old (offer_of question.now (arc_value answer.now) now)) }
-        ensures refused { IfErr result (Refuses at.old.seen (offer_of question.now (arc_value answer.now) now)) }
+        ensures is { IsListSeat seat.new }
+        ensures stored { OnOk result (seat.new ≡ stored_too seat.old (offer_of question.now (arc_value answer.now) now)) }
+        ensures takes { OnOk result (Takes seat.old.seen (offer_of question.now (arc_value answer.now) now)) }
+        ensures unchanged { OnErr result (seat.new ≡ offered_too seat.old (offer_of question.now (arc_value answer.now) now)) }
+        ensures refused { IfErr result (Refuses seat.old.seen (offer_of question.now (arc_value answer.now) now)) }
     {
-        at.offers = at.offers.with(question, answer, now);
-        let stored = at.stores.add(question, answer, now);
-        at.is_seat();
+        seat.offers = seat.offers.with(question, answer, now);
+        let stored = seat.stores.add(question, answer, now);
+        seat.is_seat();
         stored
     }
 }

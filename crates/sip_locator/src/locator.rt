@@ -70,18 +70,18 @@ impl<B: AnswerBook> Locator<B> {
     }
 
     /// Looks up the question that is asked, and gives its answer, where there is one.
-    fn look_up(&mut self, book: &B, at: &mut B::Seat, now: Moment) -> Result<bool, AllocError>
-        requires { B.belongs book.now at.old }
-        ensures stays { B.belongs book.now at.new }
-        ensures goes_on { GoesOn (B.seat at.old) (B.seat at.new) }
-        ensures stores_nothing { StoresNothing (B.seat at.old) (B.seat at.new) }
-        ensures found { IfOk result (λ found. LookedUp self.old self.new (B.seat at.new).seen now found) }
+    fn look_up(&mut self, book: &B, seat: &mut B::Seat, now: Moment) -> Result<bool, AllocError>
+        requires { B.belongs book.now seat.old }
+        ensures stays { B.belongs book.now seat.new }
+        ensures goes_on { GoesOn (B.shown seat.old) (B.shown seat.new) }
+        ensures stores_nothing { StoresNothing (B.shown seat.old) (B.shown seat.new) }
+        ensures found { IfOk result (λ found. LookedUp self.old self.new (B.shown seat.new).seen now found) }
         ensures unchanged { OnErr result (self.new ≡ self.old) }
     {
         let Next::Ask(question) = self.selection.next() else {
             return Ok(false);
         };
-        let Some(answer) = book.lookup(at, question, now)? else {
+        let Some(answer) = book.lookup(seat, question, now)? else {
             return Ok(false);
         };
         let question = question.try_clone()?;
@@ -92,17 +92,17 @@ impl<B: AnswerBook> Locator<B> {
     }
 
     /// Looks up one question after the other, until one is not answered or none is asked.
-    fn look_all_up(&mut self, book: &B, at: &mut B::Seat, now: Moment) -> Result<(), AllocError>
-        requires { B.belongs book.now at.old }
-        ensures stays { B.belongs book.now at.new }
-        ensures goes_on { GoesOn (B.seat at.old) (B.seat at.new) }
-        ensures stores_nothing { StoresNothing (B.seat at.old) (B.seat at.new) }
-        ensures gains { Gains (B.seat at.new).seen now (B.seat at.old).seen self.old self.new }
+    fn look_all_up(&mut self, book: &B, seat: &mut B::Seat, now: Moment) -> Result<(), AllocError>
+        requires { B.belongs book.now seat.old }
+        ensures stays { B.belongs book.now seat.new }
+        ensures goes_on { GoesOn (B.shown seat.old) (B.shown seat.new) }
+        ensures stores_nothing { StoresNothing (B.shown seat.old) (B.shown seat.new) }
+        ensures gains { Gains (B.shown seat.new).seen now (B.shown seat.old).seen self.old self.new }
         ensures lacks { OnOk result ((question : question.Question) → now_of self.new ≡ need question
-            → Lacks (B.seat at.old).seen (B.seat at.new).seen now question) }
+            → Lacks (B.shown seat.old).seen (B.shown seat.new).seen now question) }
     {
         for _round in 0..ROUND_LIMIT {
-            if !self.look_up(book, at, now)? {
+            if !self.look_up(book, seat, now)? {
                 return Ok(());
             }
         }
@@ -112,15 +112,20 @@ impl<B: AnswerBook> Locator<B> {
 
     /// Looks up each question that is asked, until the book has no answer to one, and gives what is next then. Where
     /// memory is refused, the answers found before it stay used, and `step` can be called again.
-    pub fn step(&mut self, book: &B, at: &mut B::Seat, now: Moment) -> Result<Next<'_>, AllocError>
-        requires { B.belongs book.now at.old }
-        ensures stays { B.belongs book.now at.new }
-        ensures goes_on { GoesOn (B.seat at.old) (B.seat at.new) }
-        ensures stores_nothing { StoresNothing (B.seat at.old) (B.seat at.new) }
+    pub fn step(
+        &mut self,
+        book: &B,
+        seat: &mut B::Seat,
+        now: Moment,
+    ) -> Result<Next<'_>, AllocError>
+        requires { B.belongs book.now seat.old }
+        ensures stays { B.belongs book.now seat.new }
+        ensures goes_on { GoesOn (B.shown seat.old) (B.shown seat.new) }
+        ensures stores_nothing { StoresNothing (B.shown seat.old) (B.shown seat.new) }
         ensures* steps { sem 𝓛 (Rests (the_row B.row) self.entry
-            (λ ended. Steps self.old ended (B.seat at.old).seen (B.seat at.new).seen now result)) }
+            (λ ended. Steps self.old ended (B.shown seat.old).seen (B.shown seat.new).seen now result)) }
     {
-        self.look_all_up(book, at, now)?;
+        self.look_all_up(book, seat, now)?;
         Ok(self.selection.next())
     }
 
@@ -130,19 +135,19 @@ impl<B: AnswerBook> Locator<B> {
         &mut self,
         rt: &R,
         book: &B,
-        at: &mut B::Seat,
+        seat: &mut B::Seat,
         now: Moment,
         octets: &[u8],
     ) -> Result<Kept, LocatorRefusal>
-        requires { B.belongs book.now at.old }
-        ensures stays { B.belongs book.now at.new }
-        ensures goes_on { GoesOn (B.seat at.old) (B.seat at.new) }
-        ensures taken { IfOk result (IsTaken self.old self.new (B.seat at.old) (B.seat at.new) octets.now now) }
+        requires { B.belongs book.now seat.old }
+        ensures stays { B.belongs book.now seat.new }
+        ensures goes_on { GoesOn (B.shown seat.old) (B.shown seat.new) }
+        ensures taken { IfOk result (IsTaken self.old self.new (B.shown seat.old) (B.shown seat.new) octets.now now) }
         ensures refused { IfErr result (Refuses (now_of self.old) octets.now) }
-        ensures unchanged { OnErr result ((self.new ≡ self.old) × (at.new ≡ at.old)) }
+        ensures unchanged { OnErr result ((self.new ≡ self.old) × (seat.new ≡ seat.old)) }
     {
         let (question, answer) = self.take(octets)?;
-        Ok(Kept::of(book.store(rt, at, &question, &answer, now)))
+        Ok(Kept::of(book.store(rt, seat, &question, &answer, now)))
     }
 
     /// Takes the answer of a reply.

@@ -2,7 +2,7 @@ use Rattle.sip_locator.proofs.Gaining.{begins, stays, gains-one, lacks}
 use Rattle.sip_locator.proofs.locator.Locator.look_all_up.Goals as goal
 
 pub loop-round-init : goal.loop-round-init
-loop-round-init g c = (c.requires, begins c.args.self.now (g.B.AnswerBook.seat c.args.at.now) c.args.now)
+loop-round-init g c = (c.requires, begins c.args.self.now (g.B.AnswerBook.shown c.args.seat.now) c.args.now)
 
 pub returns-in_err-look_up-clause-gains : goal.returns-in_err-look_up-clause-gains
 returns-in_err-look_up-clause-gains g c =

@@ -3,5 +3,5 @@ use Rattle.sip_locator.proofs.locator.Locator.look_all_up.Given as goal
 
 abbrev pub invariant-loop-round : goal.invariant-loop-round
 invariant-loop-round g l =
-    g.B.AnswerBook.belongs l.book l.at
-    × Progress l.fn.self l.self (g.B.AnswerBook.seat l.fn.at) (g.B.AnswerBook.seat l.at) l.now l._round
+    g.B.AnswerBook.belongs l.book l.seat
+    × Progress l.fn.self l.self (g.B.AnswerBook.shown l.fn.seat) (g.B.AnswerBook.shown l.seat) l.now l._round
