@@ -95,10 +95,6 @@ MessageAt-other within local octets other limit a end same le x =
       additional = AllAt-other (RecordAt octets) (RecordAt other) limit records_on move x.additional le;
     }
 
-pub MessageAt-goes_on : WithinEnd → (octets : List ℕ) (a : Message) (end : ℕ) → MessageAt octets a end → 12 ≤ end
-MessageAt-goes_on within octets a end x =
-    omega (arith, AllAt-goes_on (QuestionAt octets) (question_goes_on within octets) x.questions, AllAt-goes_on (RecordAt octets) (record_goes_on within octets) x.answers, AllAt-goes_on (RecordAt octets) (record_goes_on within octets) x.authority, AllAt-goes_on (RecordAt octets) (record_goes_on within octets) x.additional)
-
 pub MessageAt-within : WithinEnd → (octets : List ℕ) (a : Message) (end : ℕ) → MessageAt octets a end → end ≤ length octets
 MessageAt-within within octets a end x =
     let le0 = AllAt-within (QuestionAt octets) (length octets) (question_within octets) x.questions (omega (arith, x.additional_count.within)) in

@@ -46,7 +46,7 @@ module _ (basis : Basis) where
 module _ (caps : Caps) (words : List ℕ) (name : List (List ℕ)) (all : List Given) where
   -- behind the last way
   pub walk-ended : (ways : List Way) (fallback : Result Transport Reason) (walk : Walk) (found : List Target) → length ways ≤ walk.way
-      → walk_left caps words name all ways fallback walk found ≡ ended caps words name all fallback walk found []
+      → walk_left caps words name all ways fallback walk found ≡ ended caps name all fallback walk found []
   walk-ended ways fallback walk found past = rw (drop_all walk.way ways past) refl
 
 -- with nothing in front

@@ -27,8 +27,8 @@ module _ (caps : Caps) (words : List ℕ) (name : List (List ℕ)) (all : List G
   -- ---- one offer more
 
   listed-by : (walk : Walk) (found targets : List Target) (places : List ℕ) (next : ℕ) (others : List Offer) (any : Bool) → walk.is_listed ≡ any
-      → ended caps words name all fallback walk found (listed targets next ∷ others)
-      ≡ ended caps words name all fallback (behind walk (Listed places next)) (found ++ targets) others
+      → ended caps name all fallback walk found (listed targets next ∷ others)
+      ≡ ended caps name all fallback (behind walk (Listed places next)) (found ++ targets) others
   listed-by walk found targets places next others true e =
       rw e (ap (λ (l : List Target). Ok (Ok l)) (sym (append_assoc found targets (flat_map offered_targets others))))
   listed-by walk found targets places next others false e =
@@ -42,9 +42,9 @@ module _ (caps : Caps) (words : List ℕ) (name : List (List ℕ)) (all : List G
         → offer_left caps words name all ways fallback walk found (Ok (listed targets next))
         ≡ walk_left caps words name all ways fallback (behind walk (Listed places next)) (found ++ targets)
     listed-left places next targets =
-        after-made (ended caps words name all fallback walk found) (λ others. listed targets next ∷ others) (rest next)
-        ∙ after-each (λ others. ended caps words name all fallback walk found (listed targets next ∷ others))
-        (ended caps words name all fallback (behind walk (Listed places next)) (found ++ targets))
+        after-made (ended caps name all fallback walk found) (λ others. listed targets next ∷ others) (rest next)
+        ∙ after-each (λ others. ended caps name all fallback walk found (listed targets next ∷ others))
+        (ended caps name all fallback (behind walk (Listed places next)) (found ++ targets))
         (λ others. listed-by walk found targets places next others walk.is_listed refl) (rest next)
 
     -- ---- what SRV records offer
@@ -71,7 +71,7 @@ module _ (caps : Caps) (words : List ℕ) (name : List (List ℕ)) (all : List G
     pub way-left : (way : Way) → drop walk.way ways ≡ way ∷ drop (walk.way + 1) ways
         → walk_left caps words name all ways fallback walk found
         ≡ offer_left caps words name all ways fallback walk found (offer_along all (kinds_of (families_of caps)) words way walk.word)
-    way-left way there = rw there (after-after (ended caps words name all fallback walk found)
+    way-left way there = rw there (after-after (ended caps name all fallback walk found)
         (λ offer. made (λ others. offer ∷ others) (rest (next_word walk.word offer))) (offer_along all (kinds_of (families_of caps)) words way walk.word))
 
     pub named-left : (way : Way) (owner : List (List ℕ)) → way.name ≡ Some owner → drop walk.way ways ≡ way ∷ drop (walk.way + 1) ways

@@ -106,7 +106,7 @@ module _ (caps : Caps) (all : List Given) where
 
 -- ---- services
 
-module _ (caps : Caps) (words : List ℕ) (name : List (List ℕ)) (all : List Given) where
+module _ (caps : Caps) (name : List (List ℕ)) (all : List Given) where
   -- where all ways are done
   abbrev pub ended : Result Transport Reason → Walk → List Target → List Offer → Needing Settled
   ended fallback walk found offers =
@@ -114,14 +114,15 @@ module _ (caps : Caps) (words : List ℕ) (name : List (List ℕ)) (all : List G
       (if walk.is_denied || list_any is_denied offers then Ok (Err NotOffered)
       else made (in_front found) (to_domain caps all name fallback))
 
+module _ (caps : Caps) (words : List ℕ) (name : List (List ℕ)) (all : List Given) where
   abbrev pub walk_left : List Way → Result Transport Reason → Walk → List Target → Needing Settled
   walk_left ways fallback walk found =
-      after (ended fallback walk found) (offers_along all (kinds_of (families_of caps)) words (drop walk.way ways) walk.word)
+      after (ended caps name all fallback walk found) (offers_along all (kinds_of (families_of caps)) words (drop walk.way ways) walk.word)
 
   -- where the next way offers this
   abbrev pub offer_left : List Way → Result Transport Reason → Walk → List Target → Needing Offer → Needing Settled
   offer_left ways fallback walk found offer =
-      after (λ offer. after (ended fallback walk found) (made (λ others. offer ∷ others)
+      after (λ offer. after (ended caps name all fallback walk found) (made (λ others. offer ∷ others)
       (offers_along all (kinds_of (families_of caps)) words (drop (walk.way + 1) ways) (next_word walk.word offer)))) offer
 
   -- where the addresses of the servers of a service come first

@@ -54,7 +54,7 @@ fn ended(
     walk: Walk,
 ) -> Result<Turn, AllocError>
     ensures { IfOk result (λ turn. left_of.Goes basis.now
-        (λ found all. left_of.ended basis.now.caps.now basis.now.words.now.0 basis.now.name.now all fallback walk found [])
+        (λ found all. left_of.ended basis.now.caps.now basis.now.name.now all fallback walk found [])
         turn targets.old.items targets.new.items) }
 {
     if walk.is_listed {

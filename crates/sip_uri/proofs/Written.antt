@@ -1,7 +1,7 @@
 -- The text that is written for an address is a text of it.
 use Rattle.std.proofs.Common.{◌≡◌, ℕ, zero, suc, ◌+◌, ◌*◌, ◌/◌, ◌%◌, ◌<◌, ◌≤◌, true, List, [], ◌∷◌, ◌++◌, length, nat_lt, refl, ap, inl, inr, arith}
 use Rattle.std.specs.List.{AllByRecursion, list_all, join_with_byte}
-use Rattle.std.specs.Char.{is_ascii_digit, is_ascii_hexdigit, digit_value}
+use Rattle.std.specs.Char.{is_ascii_hexdigit, digit_value}
 use Rattle.std.proofs.lemmas.Bool.{cases_Bool}
 use Rattle.std.proofs.lemmas.Bool.Decides.{nat_tests}
 use Rattle.std.proofs.lemmas.Str.{digit_value-digit_char}
@@ -12,9 +12,6 @@ use Rattle.sip_uri.specs.Numbers.{hexadecimal}
 use Rattle.sip_uri.specs.Shown.{decimal_text, hexadecimal_character, two_digits, hexadecimal_text, ipv4_text, groups_text, address_text}
 
 -- ---- four numbers
-
-decimal_digit : (digit : ℕ) → digit < 10 → is_ascii_digit (48 + digit) ≡ true
-decimal_digit digit low = grind (arith, nat_tests)
 
 decimal_written : (number : ℕ) → number < 256 → NumberText (decimal_text number) number
 decimal_written number low =

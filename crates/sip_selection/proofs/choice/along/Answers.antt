@@ -14,7 +14,7 @@ returns-in-Walk c =
     let walks = rw (c.deref-2.ensures.value, c.deref.ensures, c.in-Walk.is) at c.in_ok-walk.ensures.left in
     let past = rw (c.deref-2.ensures.value, c.deref.ensures, c.in-Walk.is) at c.in_ok-walk.ensures.all in
     ok-each _ _ (λ turn goes. goes-then b
-    (λ found all. ended b.caps.now b.words.now.0 b.name.now all lead.fallback walk found [])
+    (λ found all. ended b.caps.now b.name.now all lead.fallback walk found [])
     (λ found all. spot_left b.caps.now b.words.now.0 b.name.now all lead.ways.items lead.fallback a.spot.now found)
     turn a.targets.now.items c.push_from.new.targets.items c.ended.new.targets.items
     (λ front all extends. (walks lead.fallback front).0 all extends
