@@ -1,5 +1,6 @@
 -- A store is added behind the others.
 use Rattle.std.proofs.Common.{◌≡◌, ◌≢◌, ℕ, ◌+◌, ◌<◌, ◌≤◌, ◌==◌, Bool, true, false, List, [], ◌∷◌, ◌++◌, length, Option, Some, None, get_or, set, replicate, refl, sym, ap, ◌∙◌, arith, rules}
+use Rattle.std.proofs.lemmas.Bool.{eqb-true, eqb-false, eq-eqb, ne_eqb}
 use Rattle.std.proofs.lemmas.List.{map-append, length-append, append_assoc, append-nil, get_or-replicate, length-set, get_or-set_same, get_or-set_other}
 use Rattle.std.proofs.lemmas.List.Elements.{filter-append, All-nil, All-push}
 use Rattle.answer_cache.specs.Chains.{IsChain, none, some, IsGroup, IsKept, no_group, store_in, stores_in}
@@ -8,26 +9,14 @@ use Rattle.answer_cache.specs.Histories.{Store, IsHistory, IsSound, in_group, mi
 use Rattle.answer_cache.specs.declared.store_list.Entry.{Entry}
 use Rattle.answer_cache.specs.declared.store_list.Group.{Group}
 
-is-number : (n m : ℕ) → (n == m) ≡ true → n ≡ m
-is-number n m e = search rules
-
-not-number : (n m : ℕ) → (n == m) ≡ false → n ≢ m
-not-number n m e = search rules
-
-same-number : (n : ℕ) → (n == n) ≡ true
-same-number n = search rules
-
-other-number : (n m : ℕ) → n ≢ m → (n == m) ≡ false
-other-number n m other = search rules
-
 module _ (stores : List Store) (store : Store) where
   -- the group of a store has it behind the others, and no other group has
   pub one-more : (number : ℕ) → group_of store.question ≡ number → in_group number (stores ++ store ∷ []) ≡ in_group number stores ++ store ∷ []
-  one-more number is = rw (filter-append (λ it. group_of it.question == number) stores (store ∷ []), is, same-number number) refl
+  one-more number is = rw (filter-append (λ it. group_of it.question == number) stores (store ∷ []), is, eq-eqb number number refl) refl
 
   pub no-more : (number : ℕ) → group_of store.question ≢ number → in_group number (stores ++ store ∷ []) ≡ in_group number stores
   no-more number other =
-      rw (filter-append (λ it. group_of it.question == number) stores (store ∷ []), other-number (group_of store.question) number other) (append-nil (in_group number stores))
+      rw (filter-append (λ it. group_of it.question == number) stores (store ∷ []), ne_eqb (group_of store.question) number other) (append-nil (in_group number stores))
 
 module _ (entries : List Entry) (entry : Entry) where
   stores-more : stores_in (entries ++ entry ∷ []) ≡ stores_in entries ++ store_in entry ∷ []
@@ -62,12 +51,12 @@ module _ (entries : List Entry) (entry : Entry) where
       → length (in_group (group_of entry.question) (stores_in entries)) < 64 → length (in_group number (stores_in entries)) ≤ 64
       → length (in_group number (stores_in entries ++ store_in entry ∷ [])) ≤ 64
   few-by number true is room few =
-      let same = is-number (group_of entry.question) number is in
+      let same = eqb-true (group_of entry.question) number is in
       let more = length-append (in_group number (stores_in entries)) (store_in entry ∷ []) in
       let room' = rw same at room in
       rw (one-more (stores_in entries) (store_in entry) number same, more) omega arith
   few-by number false is room few =
-      let other = not-number (group_of entry.question) number is in
+      let other = eqb-false (group_of entry.question) number is in
       rw (no-more (stores_in entries) (store_in entry) number other) few
 
   history-more : IsSound (store_in entry) → length (in_group (group_of entry.question) (stores_in entries)) < 64
@@ -83,12 +72,12 @@ module _ (entries : List Entry) (entry : Entry) where
       → IsGroup number (entries ++ entry ∷ []) (get_or (set groups (group_of entry.question)
       (record { last = Some (length entries); count = (get_or groups (group_of entry.question) no_group).count + 1 })) number no_group)
   each-by groups number true is size below before each =
-      let same = is-number (group_of entry.question) number is in
+      let same = eqb-true (group_of entry.question) number is in
       let there = each (group_of entry.question) (rw same below) in
       let within : group_of entry.question < length groups = rw (size, same) below in
       rw (← same, get_or-set_same groups (group_of entry.question) _ no_group within) (group-grows (get_or groups (group_of entry.question) no_group) before there)
   each-by groups number false is size below before each =
-      let other = not-number (group_of entry.question) number is in
+      let other = eqb-false (group_of entry.question) number is in
       rw (get_or-set_other groups (group_of entry.question) number _ no_group (λ e. other (sym e))) (group-stays number (get_or groups number no_group) other (each number below))
 
   kept-by : (groups : List Group) → group_of entry.question < 64

@@ -1,6 +1,7 @@
 -- A list of stores is searched along the chain of a group.
-use Rattle.std.proofs.Common.{◌≡◌, ◌↔◌, ℕ, ◌+◌, ◌<◌, ◌≤◌, ◌==◌, Bool, true, false, IsTrue, List, [], ◌∷◌, ◌++◌, length, Option, Some, None, get_or, refl, sym, ap, ◌∙◌, arith, rules}
+use Rattle.std.proofs.Common.{◌≡◌, ◌↔◌, ℕ, ◌+◌, ◌<◌, ◌≤◌, ◌==◌, Bool, true, false, IsTrue, List, [], ◌∷◌, ◌++◌, length, Option, Some, None, get_or, refl, sym, ap, ◌∙◌, arith}
 use Rattle.std.specs.List.{last_or}
+use Rattle.std.proofs.lemmas.Bool.{eq-eqb}
 use Rattle.std.proofs.lemmas.List.{map-append, length-append, nil_from_length, append_assoc, append-nil}
 use Rattle.std.proofs.lemmas.List.Elements.{filter-append}
 use Rattle.std.proofs.Math.Seq.{get_or-append_seam}
@@ -37,15 +38,12 @@ last-append : {X : Type 0} (o : Option X) (xs : List X) (x : X) → last_or o (x
 last-append o [] x = refl
 last-append o (y ∷ xs) x = last-append (Some y) xs x
 
-same-group : (n : ℕ) → (n == n) ≡ true
-same-group n = search rules
-
 -- the entries of a group in front of one of it, behind which there are none
 module _ (front back : List Entry) (entry : Entry) where
   pub group-there : (group : ℕ) → group_of entry.question ≡ group → in_group group (stores_in back) ≡ []
       → in_group group (stores_in (front ++ entry ∷ back)) ≡ in_group group (stores_in front) ++ store_in entry ∷ []
   group-there group here alone =
-      rw (map-append store_in front (entry ∷ back), filter-append (λ store. group_of store.question == group) (stores_in front) (stores_in (entry ∷ back)), here, same-group group, alone) refl
+      rw (map-append store_in front (entry ∷ back), filter-append (λ store. group_of store.question == group) (stores_in front) (stores_in (entry ∷ back)), here, eq-eqb group group refl, alone) refl
 
 module _ (same : (question other : Question) → IsTrue (same_question question other) ↔ (question ≡ other)) where
   none-by : (question : Question) (store : Store) (stores : List Store)
@@ -57,7 +55,7 @@ module _ (same : (question other : Question) → IsTrue (same_question question 
       let e' : store ∷ in_group (group_of question) stores ≡ [] = rw g at e in absurd cc
   none-by question store stores false g true a more e =
       let is : store.question ≡ question = (same store.question question).0 a in
-      let g' : true ≡ false = sym (same-group (group_of question)) ∙ rw is at g in absurd cc
+      let g' : true ≡ false = sym (eq-eqb (group_of question) (group_of question) refl) ∙ rw is at g in absurd cc
   none-by question store stores false g false a more e = rw a (more (rw g at e))
 
   none-stored : (question : Question) (stores : List Store)

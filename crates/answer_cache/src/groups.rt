@@ -1,6 +1,6 @@
 //! The group of a question.
 ghost use Rattle.std.specs.Prelude.{◌≡◌, ◌<◌};
-ghost use Rattle.answer_cache.specs.Groups.{group_of, hash_more, hash_of, hashed_of};
+ghost use Rattle.answer_cache.specs.Groups.{group_of, hash_more};
 
 use dns_message::Question;
 

@@ -5,7 +5,6 @@ ghost use Rattle.std.specs.List.{last_or};
 ghost use Rattle.std.specs.Option.{option_map};
 ghost use Rattle.dns_answers.specs.Records.{kind_of};
 ghost use Rattle.answer_cache.specs.Chains.{store_in};
-ghost use Rattle.answer_cache.specs.Groups.{group_of};
 ghost use Rattle.answer_cache.specs.Histories.{IsHistory, cached, mine, stores_of};
 ghost use Rattle.answer_cache.specs.Lists.{Refuses, Takes, own_store};
 ghost use Rattle.answer_cache.specs.Seats.{offer_of};
