@@ -46,7 +46,7 @@ module _ (old new : SelectionValue) (line octets : List ℕ) (decoded : Digits l
   begins : (it : Message) → ReplyLine line it → Begins octets it
   begins it reply =
       let same = same-octets line reply.octets octets reply.decoded decoded in
-      record { short = rw same at reply.short; end = reply.end; spelled = rw same at reply.spelled }
+      rw same at reply.begins
 
   module _ (decides : (question : Question) (octets : List ℕ) (it : Message) (found : AnswerValue) → Begins octets it
       → Answers question octets found → (reply_refusal question it ≡ None) × (found ≡ answer question it)) where
@@ -58,13 +58,7 @@ module _ (old new : SelectionValue) (line octets : List ℕ) (decoded : Digits l
 
     taken-is : IsGiven old new octets → IsTaken old new line
     taken-is given =
-        let reply : ReplyLine line given.answers.it = record {
-          octets = octets;
-          end = given.answers.begins.end;
-          decoded = decoded;
-          short = given.answers.begins.short;
-          spelled = given.answers.begins.spelled;
-        } in
+        let reply : ReplyLine line given.answers.it = record { octets = octets; decoded = decoded; begins = given.answers.begins } in
         record {
           message = given.answers.it;
           more = record { question = given.question; answer = given.found };
@@ -102,13 +96,13 @@ module _ (old new : SelectionValue) (line octets : List ℕ) (decoded : Digits l
   bad-by locator.NothingAsked refuses = (octets, decoded, refuses)
   bad-by (locator.Message message.TooLong) refuses = (octets, decoded, refuses.0, refuses.1)
   bad-by (locator.Message (message.Malformed part)) refuses =
-      (octets, decoded, refuses.0, refuses.1.0, λ end it spelled. refuses.1.2 it (record { short = refuses.1.0; end = end; spelled = spelled }))
+      (octets, decoded, refuses.0, refuses.1.0, refuses.1.2)
   bad-by (locator.Message message.Memory) refuses = tt
   bad-by (locator.Reply fault) refuses = (
     refuses.0,
     refuses.2.it,
     refuses.1,
-    record { octets = octets; end = refuses.2.begins.end; decoded = decoded; short = refuses.2.begins.short; spelled = refuses.2.begins.spelled },
+    record { octets = octets; decoded = decoded; begins = refuses.2.begins },
     refuses.2.fault,
   )
   bad-by locator.Memory refuses = tt

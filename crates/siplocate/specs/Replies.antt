@@ -1,14 +1,14 @@
 -- Replies in hexadecimal digits, and what is wrong with a line that is none.
-use Rattle.std.specs.Prelude.{◌≡◌, ◌≢◌, ⊤, ℕ, ◌<◌, ◌≤◌, ◌==◌, not, List, ◌∷◌, ◌++◌, length, take, Some, Ok}
+use Rattle.std.specs.Prelude.{◌≡◌, ◌≢◌, ⊤, ℕ, ◌<◌, ◌≤◌, ◌==◌, not, List, ◌∷◌, ◌++◌, length, Some, Ok}
 use Rattle.std.specs.List.{AllZip, filter}
 use Rattle.hex.specs.Hex.{decode_of}
-use Rattle.dns_message.specs.Messages.{Spells}
 use Rattle.dns_message.specs.declared.message.Message.{Message}
 use Rattle.dns_message.specs.declared.question.Question.{Question}
 use Rattle.dns_answers.specs.Replies.{reply_refusal}
 use Rattle.sip_selection.specs.Choice.{Resolution, need}
 use Rattle.sip_selection.specs.Known.{Given}
 use Rattle.dns_message.specs.declared.refusal.MessageRefusal.TheVariants as message
+use Rattle.sip_locator.specs.Replies.{Begins, IsAsking}
 use Rattle.sip_locator.specs.declared.refusal.LocatorRefusal.{LocatorRefusal}
 use Rattle.sip_locator.specs.declared.refusal.LocatorRefusal.TheVariants as locator
 use Rattle.siplocate.specs.Talks.{goes, talk}
@@ -21,13 +21,15 @@ use Rattle.sip_selection.specs.declared.request.Request.{Request}
 abbrev pub digits : List ℕ → List ℕ
 digits line = filter (λ octet. not (octet == 32)) line
 
--- a line of digits, in pairs, of octets in front of which a message stands
+-- the digits of a line, in pairs, spell these octets
+abbrev pub Digits : List ℕ → List ℕ → Type 0
+Digits line octets = decode_of (digits line) ≡ Ok octets
+
+-- a line of digits of octets in front of which a message stands
 pub record ReplyLine (line : List ℕ) (message : Message) : Type 0 where
   pub octets : List ℕ
-  pub end : ℕ
-  pub decoded : decode_of (digits line) ≡ Ok octets
-  pub short : length octets ≤ 65535
-  pub spelled : Spells (take end octets) message
+  pub decoded : Digits line octets
+  pub begins : Begins octets message
 
 -- what is told of octets that the locator refused
 abbrev pub of_locator : LocatorRefusal → BadReply
@@ -40,13 +42,6 @@ of_locator locator.Memory = Memory
 
 -- ---- what is wrong with a line
 
--- the digits of a line spell these octets
-abbrev pub Digits : List ℕ → List ℕ → Type 0
-Digits line octets = decode_of (digits line) ≡ Ok octets
-
-abbrev pub IsAsking : Resolution → Type 0
-IsAsking resolution = (question : Question) × (resolution ≡ need question)
-
 -- The fault of a line while this is what is known of a request. The checks come in this order, and each
 -- fault says that those before it found none: the digits, that something is asked, how many octets
 -- there are, that they begin with a message, that it answers the question.
@@ -58,7 +53,7 @@ IsFault TooLong resolution line =
     (octets : List ℕ) × Digits line octets × IsAsking resolution × (65535 < length octets)
 IsFault Malformed resolution line =
     (octets : List ℕ) × Digits line octets × IsAsking resolution × (length octets ≤ 65535)
-    × ((end : ℕ) (message : Message) → Spells (take end octets) message → ⊥)
+    × ((message : Message) → Begins octets message → ⊥)
 IsFault (NoAnswer refusal) resolution line =
     (question : Question) × (message : Message) × (resolution ≡ need question) × ReplyLine line message
     × (reply_refusal question message ≡ Some refusal)
