@@ -6,7 +6,6 @@ ghost use Rattle.sip_selection.specs.Choice.{need, targets};
 ghost use Rattle.sip_selection.specs.Nexts.{next_of};
 ghost use Rattle.sip_selection.specs.Selections.{begun, given_too, now_of};
 ghost use Rattle.sip_selection.specs.Stages.{Comes, StageFits, stage_left};
-ghost use Rattle.sip_selection.specs.declared.selection.GiveRefusal.TheVariants as refusals;
 ghost use Rattle.sip_selection.specs.declared.target.Target.{Target};
 
 use crate::caps::Caps;
@@ -21,7 +20,7 @@ use dns_answers::Answer;
 use dns_message::{Question, same_questions_are_equal};
 use sip_uri::Host;
 use srv_choice::Words;
-use std::alloc::{AllocError, AllocFailed, Global};
+use std::alloc::{AllocError, Global};
 use std::marker::Model;
 use std::sync::Arc;
 use thiserror::Error;
@@ -49,22 +48,6 @@ pub enum GiveRefusal {
     /// Memory was refused.
     #[error("out of memory")]
     Memory,
-}
-
-impl From<AllocError> for GiveRefusal {
-    ghost from_gives = { λ _ refusal. refusal ≡ refusals.Memory };
-
-    fn from(_: AllocError) -> GiveRefusal {
-        GiveRefusal::Memory
-    }
-}
-
-impl<T: Drop> From<AllocFailed<T>> for GiveRefusal {
-    ghost from_gives = { λ _ refusal. refusal ≡ refusals.Memory };
-
-    fn from(_: AllocFailed<T>) -> GiveRefusal {
-        GiveRefusal::Memory
-    }
 }
 
 /// The choice of where one request goes, which asks for one answer at a time.

@@ -7,7 +7,7 @@ use dns_answers::ReplyRefusal;
 use dns_message::MessageRefusal;
 use hex::FromHexError;
 use sip_locator::LocatorRefusal;
-use std::alloc::{AllocError, AllocFailed, Global};
+use std::alloc::{AllocError, Global};
 
 /// Why a line was not taken as a reply, in the order of the checks.
 #[derive(Clone, Copy, Debug, PartialEq, Eq)]
@@ -30,14 +30,6 @@ impl From<AllocError> for BadReply {
     ghost from_gives = { λ _ reply. reply ≡ bad.Memory };
 
     fn from(_: AllocError) -> BadReply {
-        BadReply::Memory
-    }
-}
-
-impl<T: Drop> From<AllocFailed<T>> for BadReply {
-    ghost from_gives = { λ _ reply. reply ≡ bad.Memory };
-
-    fn from(_: AllocFailed<T>) -> BadReply {
         BadReply::Memory
     }
 }
