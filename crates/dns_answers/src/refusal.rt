@@ -4,7 +4,7 @@ ghost use Rattle.dns_answers.specs.Replies as spec;
 ghost use Rattle.dns_answers.specs.declared.refusal.ReplyRefusal.TheVariants as refusals;
 
 use dns_message::{Asked, CLASS_IN, Message, Question};
-use std::alloc::{AllocError, AllocFailed};
+use std::alloc::AllocError;
 use thiserror::Error;
 
 /// Why a message gives no answer to a question, in the order of the checks.
@@ -31,14 +31,6 @@ impl From<AllocError> for ReplyRefusal {
     ghost from_gives = { λ _ refusal. refusal ≡ refusals.Memory };
 
     fn from(_: AllocError) -> ReplyRefusal {
-        ReplyRefusal::Memory
-    }
-}
-
-impl<T: Drop> From<AllocFailed<T>> for ReplyRefusal {
-    ghost from_gives = { λ _ refusal. refusal ≡ refusals.Memory };
-
-    fn from(_: AllocFailed<T>) -> ReplyRefusal {
         ReplyRefusal::Memory
     }
 }
