@@ -1,5 +1,5 @@
 //! The header of a message (RFC 1035 4.1.1).
-ghost use Rattle.std.specs.Prelude.{◌≡◌, ◌<◌, length, MatchOption};
+ghost use Rattle.std.specs.Prelude.{◌<◌, length, MatchOption};
 ghost use Rattle.dns_message.specs.Headers.{HeaderAt, CountsAt};
 
 use crate::number::u16_at;

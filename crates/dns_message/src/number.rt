@@ -1,5 +1,5 @@
 //! Numbers in messages, the highest octet first (RFC 1035 2.3.2).
-ghost use Rattle.std.specs.Prelude.{◌≡◌, ◌+◌, ◌<◌, length, MatchOption};
+ghost use Rattle.std.specs.Prelude.{◌+◌, ◌<◌, length, MatchOption};
 ghost use Rattle.std.specs.Int.{w16, w32};
 ghost use Rattle.dns_message.specs.Places.{NumberAt};
 

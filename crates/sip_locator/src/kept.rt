@@ -1,6 +1,5 @@
 //! Whether an answer was stored.
 ghost use Rattle.std.specs.Prelude.{◌≡◌, MatchResult};
-ghost use Rattle.sip_locator.specs.declared.kept.Kept.TheVariants as kept;
 
 use answer_cache::StoreRefusal;
 

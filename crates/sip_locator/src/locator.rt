@@ -4,7 +4,6 @@ ghost use Rattle.std.specs.Arc.{arc_value};
 ghost use Rattle.dns_answers.specs.Records.{kind_of};
 ghost use Rattle.answer_cache.specs.Seats.{GoesOn, StoresNothing};
 ghost use Rattle.sip_selection.specs.Choice.{need};
-ghost use Rattle.sip_selection.specs.Nexts.{next_of};
 ghost use Rattle.sip_selection.specs.Selections.{begun, given_too, now_of};
 ghost use Rattle.sip_locator.specs.Gains.{Gains, Lacks, LookedUp, Steps};
 ghost use Rattle.sip_locator.specs.Replies.{Answers, IsTaken, Refuses};

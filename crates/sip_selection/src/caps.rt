@@ -1,5 +1,5 @@
 //! What the caller can do.
-ghost use Rattle.std.specs.Prelude.{◌≡◌, ◌↔◌, ◌≤◌, length, IsSome, IfSome, IsTrue};
+ghost use Rattle.std.specs.Prelude.{◌≡◌, ◌↔◌, ◌≤◌, length, IsSome, IfSome};
 ghost use Rattle.std.specs.List.{list_any};
 ghost use Rattle.sip_uri.specs.Same.{same_transport};
 ghost use Rattle.sip_selection.specs.Callers.{AreOffered, are_distinct, caps_of, families_of, holds, kinds_of, offers, transports_of};

@@ -16,12 +16,12 @@ use Rattle.sip_uri.specs.Readers.Texts.{decimal_within}
 use Rattle.sip_uri.specs.Uris.{IsSomeRun, SchemeText, UserText, nobody, alone, with_password, PortNumber, PortText}
 use Rattle.sip_uri.specs.Readers.Hosts.{host_in_front}
 use Rattle.sip_uri.specs.Readers.Params.{is_same}
-use Rattle.sip_uri.specs.Readers.Uris.{is_password, is_userinfo, is_header_value, is_header, is_secure, both, behind_scheme, without_user, behind_user, from_one, port_number, port_of, place_of, check_headers}
+use Rattle.sip_uri.specs.Readers.Uris.{is_password, is_userinfo, is_secure, both, behind_scheme, without_user, behind_user, from_one, port_number, port_of, place_of}
 use Rattle.sip_uri.specs.Readers.Uris as reader
 use Rattle.sip_uri.specs.declared.host.Host.{Host}
 use Rattle.sip_uri.specs.declared.refusal.UriRefusal.{UriRefusal}
 use Rattle.sip_uri.specs.declared.refusal.UriRefusal.TheVariants.{BadScheme, BadUser, BadHost, BadPort}
-use Rattle.sip_uri.proofs.Cutting.{lacks, back, joined, cut_back, at_first, parts-joined}
+use Rattle.sip_uri.proofs.Cutting.{lacks, back, joined, cut_back, at_first}
 use Rattle.sip_uri.proofs.Cutting as cutting
 use Rattle.sip_uri.proofs.Lists.{steps_of, all_weaker, all-append, same_Ok}
 use Rattle.sip_uri.proofs.RunTexts.{run_read, run_again, some_read, some_again, run_lacks}

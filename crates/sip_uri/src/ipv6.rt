@@ -1,5 +1,5 @@
 //! IPv6 addresses as texts (RFC 3261 25.1, RFC 4291 2.2).
-ghost use Rattle.std.specs.Prelude.{◌≡◌, ◌<◌, ◌+◌, ◌++◌, ◌⊎◌, ℕ, List, [], length, None, Some, MatchOption};
+ghost use Rattle.std.specs.Prelude.{◌≡◌, ◌<◌, ◌+◌, ◌++◌, ℕ, List, length, None, Some, MatchOption};
 ghost use Rattle.std.specs.Option.{option_map};
 ghost use Rattle.sip_uri.specs.Readers.Parts.{parted};
 ghost use Rattle.sip_uri.specs.Readers.Texts as spec;

@@ -3,7 +3,6 @@ use Rattle.sip_uri.specs.Readers.Parts.{before, behind}
 use Rattle.sip_uri.specs.Readers.Params.{is_same, name_of}
 use Rattle.sip_uri.proofs.ParamSteps.{stands_here, stands_nowhere, stands_further}
 use Rattle.sip_uri.proofs.params.stands_before.Goals as goal
-use Rattle.sip_uri.proofs.params.stands_before.Goals.{In-Some, In-None}
 
 pub returns-then-is_same : goal.returns-then-is_same
 returns-then-is_same c =
