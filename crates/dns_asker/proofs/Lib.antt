@@ -1,0 +1,3 @@
+pub mod ZoneLookups
+pub mod ZonePaths
+pub mod ZoneHeaders

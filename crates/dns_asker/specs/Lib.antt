@@ -1,0 +1,3 @@
+pub mod Zones
+pub mod ZoneReplies
+pub mod ZoneViews

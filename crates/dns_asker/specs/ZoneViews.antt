@@ -1,0 +1,13 @@
+-- How what the code keeps is seen in the definitions.
+use Rattle.std.specs.Prelude.{ℕ, List}
+use Rattle.std.specs.declared.vec.Vec.{Vec}
+use Rattle.dns_asker.specs.Zones.{Owned, ZoneAlias}
+use Rattle.dns_asker.specs.declared.zone.ZoneEntry.{ZoneEntry}
+use Rattle.dns_asker.specs.declared.zone.Alias.{Alias}
+
+-- an entry of the map
+abbrev pub owned_of : {Z : Type 0} → List (List ℕ) × Vec ZoneEntry Z → Owned
+owned_of entry = record { owner = entry.0; entries = entry.1.items }
+
+abbrev pub alias_value : Alias → ZoneAlias
+alias_value alias = record { ttl = alias.ttl; target = alias.target.now }
