@@ -1,5 +1,7 @@
 -- What a zone has for a name, as its map has it.
-use Rattle.std.proofs.Common.{◌≡◌, ℕ, Bool, true, false, List, [], ◌∷◌, map, Option, refl}
+use Rattle.std.proofs.Common.{◌≡◌, ◌↔◌, ℕ, Bool, true, false, cond, IsTrue, List, [], ◌∷◌, ◌++◌, map, Option, Some, None, refl, sym, ap, ◌∙◌}
+use Rattle.std.proofs.lemmas.List.{append-nil}
+use Rattle.std.specs.Prelude.{if◌then◌else◌}
 use Rattle.std.specs.Cmp.{IsEquivalence, nat_eq_equiv}
 use Rattle.std.specs.Cmp.Lexicographic.{lists_equiv}
 use Rattle.std.specs.Map.{lookup}
@@ -31,3 +33,23 @@ module _ {Z : Type 0} where
       → entries_at (map owned_of entries) name ≡ items_of (lookup (same_name name) entries)
   entries-found name [] = refl
   entries-found name (entry ∷ entries) = found-by name entry entries (same_name name entry.0) refl (entries-found name entries)
+
+  -- where a new look-up finds what is behind the old one at this owner, and all else as before, the zone has one entry more
+  grown-by : (owner name : List (List ℕ)) (old new : Owners Z) (after : Vec ZoneEntry Z) (entry : ZoneEntry) (test : Bool)
+      → same_name owner name ≡ test → (IsTrue (same_name owner name) → owner ≡ name)
+      → after.items ≡ items_of (lookup (same_name owner) old) ++ entry ∷ []
+      → lookup (same_name name) new ≡ cond (same_name owner name) (Some after) (lookup (same_name name) old)
+      → items_of (lookup (same_name name) new) ≡ items_of (lookup (same_name name) old) ++ (if same_name owner name then entry ∷ [] else [])
+  grown-by owner name old new after entry true e same grown is =
+      let here : owner ≡ name = same e in
+      rw (is, e) (rw here at grown)
+  grown-by owner name old new after entry false e same grown is = rw (is, e) (sym (append-nil _))
+
+  pub entries-grown : (owner : List (List ℕ)) (old new : Owners Z) (after : Vec ZoneEntry Z) (entry : ZoneEntry)
+      → ((name : List (List ℕ)) → IsTrue (same_name owner name) ↔ (owner ≡ name))
+      → after.items ≡ items_of (lookup (same_name owner) old) ++ entry ∷ []
+      → ((name : List (List ℕ)) → lookup (same_name name) new ≡ cond (same_name owner name) (Some after) (lookup (same_name name) old))
+      → (name : List (List ℕ)) → entries_at (map owned_of new) name ≡ entries_at (map owned_of old) name ++ (if same_name owner name then entry ∷ [] else [])
+  entries-grown owner old new after entry same grown is name =
+      let all = grown-by owner name old new after entry (same_name owner name) refl (same name).0 grown (is name) in
+      rw (entries-found name new, entries-found name old) all

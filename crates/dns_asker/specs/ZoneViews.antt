@@ -1,5 +1,6 @@
 -- How what the code keeps is seen in the definitions.
-use Rattle.std.specs.Prelude.{ℕ, List}
+use Rattle.std.specs.Prelude.{ℕ, List, map}
+use Rattle.std.specs.Borrow.{Bor}
 use Rattle.std.specs.declared.vec.Vec.{Vec}
 use Rattle.dns_asker.specs.Zones.{Owned, ZoneAlias}
 use Rattle.dns_asker.specs.declared.zone.ZoneEntry.{ZoneEntry}
@@ -11,3 +12,7 @@ owned_of entry = record { owner = entry.0; entries = entry.1.items }
 
 abbrev pub alias_value : Alias → ZoneAlias
 alias_value alias = record { ttl = alias.ttl; target = alias.target.now }
+
+-- the octets of texts
+abbrev pub texts : List (Bor (List ℕ)) → List (List ℕ)
+texts fields = map (λ (field : Bor (List ℕ)). field.now) fields

@@ -3,6 +3,10 @@
 
 mod zone;
 mod zone_datagram;
+mod zone_field;
+mod zone_rdata;
+mod zone_refusal;
 mod zone_reply;
 
 pub use zone::{Zone, ZoneEntry};
+pub use zone_refusal::ZoneRefusal;

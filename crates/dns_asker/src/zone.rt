@@ -1,12 +1,13 @@
 //! The records of a zone, by their owners (RFC 1034 3.6).
-ghost use Rattle.std.specs.Prelude.{◌≡◌, []};
+ghost use Rattle.std.specs.Prelude.{◌≡◌, ◌++◌, ◌∷◌, [], ℕ, List, OnOk, if◌then◌else◌};
 ghost use Rattle.std.specs.Option.{option_map};
+ghost use Rattle.dns_name.specs.Labels.{same_name};
 ghost use Rattle.dns_asker.specs.Zones as spec;
 ghost use Rattle.dns_asker.specs.Zones.{entries_at};
 ghost use Rattle.dns_asker.specs.ZoneViews.{alias_value};
 
 use dns_message::Rdata;
-use dns_name::Name;
+use dns_name::{Name, same_names_are_equal};
 use indexmap::IndexMap;
 use std::alloc::{AllocError, Global};
 use std::marker::Model;
@@ -76,6 +77,27 @@ impl Zone {
         Zone {
             owners: IndexMap::new(alloc),
         }
+    }
+
+    /// Adds what a record says of an owner, behind its others.
+    pub(crate) fn add(
+        &mut self,
+        alloc: Global,
+        owner: Name,
+        entry: ZoneEntry,
+    ) -> Result<(), AllocError>
+        ensures { OnOk result ((name : List (List ℕ)) → entries_at self.new name
+            ≡ entries_at self.old name ++ (if same_name owner name then entry ∷ [] else [])) }
+    {
+        same_names_are_equal();
+        if let Some(entries) = self.owners.get_mut(&owner) {
+            entries.push(entry)?;
+            return Ok(());
+        }
+        let mut entries = Vec::new(alloc);
+        entries.push(entry)?;
+        self.owners.insert(owner, entries)?;
+        Ok(())
     }
 
     /// What it has for a name, in the order of the zone.
