@@ -5,3 +5,4 @@ pub mod ZoneDigits
 pub mod ZoneFields
 pub mod ZoneTexts
 pub mod ZoneKinds
+pub mod ZoneSaid

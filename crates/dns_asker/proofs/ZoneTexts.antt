@@ -1,6 +1,7 @@
 -- Texts by their places.
-use Rattle.std.proofs.Common.{◌≡◌, ℕ, zero, suc, ◌<◌, List, [], ◌∷◌, length, get_or, refl, sym, ap, subst, ◌∙◌, arith}
+use Rattle.std.proofs.Common.{◌≡◌, ℕ, zero, suc, ◌<◌, List, [], ◌∷◌, length, get_or, false, true≢false, refl, sym, ap, subst, ◌∙◌, arith}
 use Rattle.std.specs.Borrow.{Bor}
+use Rattle.std.specs.Prelude.{◌==◌}
 use Rattle.dns_asker.specs.ZoneLines.{OneField}
 use Rattle.dns_asker.specs.ZoneViews.{texts}
 
@@ -35,3 +36,8 @@ six_texts (a ∷ b ∷ c ∷ d ∷ []) six = absurd (omega arith)
 six_texts (a ∷ b ∷ c ∷ d ∷ e ∷ []) six = absurd (omega arith)
 six_texts (a ∷ b ∷ c ∷ d ∷ e ∷ f ∷ []) six = refl
 six_texts (a ∷ b ∷ c ∷ d ∷ e ∷ f ∷ g ∷ others) six = absurd (omega arith)
+
+-- where there are fields, there are texts
+pub some_texts : (fields : List (Bor (List ℕ))) → false ≡ (length fields == 0) → texts fields ≡ [] → ⊥
+some_texts [] some none = true≢false (sym some)
+some_texts (field ∷ fields) some none = absurd cc

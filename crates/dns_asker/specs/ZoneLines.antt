@@ -1,5 +1,5 @@
 -- The lines of a zone's text, and the records that they say (RFC 1035 5.1, in a form of its own).
-use Rattle.std.specs.Prelude.{◌≡◌, ◌≢◌, ℕ, ◌≤◌, ◌<◌, ◌==◌, nat_le, nat_lt, Bool, ◌&&◌, ◌||◌, not, true, false, List, [], ◌∷◌, ◌++◌, length, codes, slice_index, Option, Some, None, if◌then◌else◌}
+use Rattle.std.specs.Prelude.{◌≡◌, ℕ, ◌+◌, ◌==◌, ◌⊎◌, nat_le, nat_lt, Bool, ◌&&◌, ◌||◌, not, true, false, List, [], ◌∷◌, ◌++◌, length, codes, Option, Some, None, if◌then◌else◌}
 use Rattle.std.specs.Char.{is_ascii_digit}
 use Rattle.std.specs.List.{filter, list_all, slice_split}
 use Rattle.std.specs.Str.{bytes_eq}
@@ -8,6 +8,7 @@ use Rattle.dns_message.specs.declared.rdata.Rdata.{Rdata}
 use Rattle.dns_message.specs.declared.rdata.Rdata.TheVariants.{Addr4, Addr6, Srv, Naptr, Cname, Soa, Other}
 use Rattle.dns_message.specs.declared.resource.Record.{Record}
 use Rattle.dns_message.specs.declared.srv.SrvRecord.{SrvRecord}
+use Rattle.dns_name.specs.Labels.{same_name}
 use Rattle.dns_name.specs.Texts.{TextOf}
 use Rattle.sip_uri.specs.Addresses.{AddressText}
 use Rattle.sip_uri.specs.Numbers.{decimal}
@@ -97,3 +98,37 @@ pub record RecordFields (fields : List (List ℕ)) (entry : Record) : Type 0 whe
   pub owner_is : TextOf entry.owner owner
   pub ttl_is : number_of 4294967295 ttl ≡ Some entry.ttl
   pub rdata_is : DataFields kind others entry.rdata
+
+-- ---- lines
+
+-- it begins with `#`
+abbrev pub is_comment : List ℕ → Bool
+is_comment [] = false
+is_comment (first ∷ others) = first == 35
+
+-- the record that a line says; a comment says none, and neither does an empty line, or one of blanks alone
+abbrev pub LineSays : List ℕ → Option Record → Type 0
+LineSays line None = (is_comment line ≡ true) ⊎ (fields_of line ≡ [])
+LineSays line (Some entry) = (is_comment line ≡ false) × RecordFields (fields_of line) entry
+
+-- the records that lines say, in their order
+abbrev pub LinesSay : List (List ℕ) → List Record → Type 0
+LinesSay [] records = records ≡ []
+LinesSay (line ∷ lines) records =
+    (LineSays line None × LinesSay lines records)
+    ⊎ ((entry : Record) × (others : List Record) × (records ≡ entry ∷ others) × LineSays line (Some entry) × LinesSay lines others)
+
+-- the line of this number, from 1, is the first that neither says a record nor may say none
+pub record IsFirstBad (lines : List (List ℕ)) (number : ℕ) : Type 0 where
+  pub front : List (List ℕ)
+  pub line : List ℕ
+  pub back : List (List ℕ)
+  pub stands : lines ≡ front ++ line ∷ back
+  pub number_is : number ≡ length front + 1
+  pub records : List Record
+  pub good : LinesSay front records
+  pub bad : (said : Option Record) → LineSays line said → ⊥
+
+-- for each name the zone has those of the records that are about it, in their order
+abbrev pub Holds : List Owned → List Record → Type 0
+Holds zone records = (name : List (List ℕ)) → records_at zone name ≡ filter (λ (entry : Record). same_name entry.owner name) records

@@ -4,6 +4,7 @@
 mod zone;
 mod zone_datagram;
 mod zone_field;
+mod zone_line;
 mod zone_rdata;
 mod zone_refusal;
 mod zone_reply;

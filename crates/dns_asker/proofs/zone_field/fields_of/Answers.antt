@@ -1,9 +1,8 @@
-use Rattle.std.proofs.Common.{◌≡◌, ◌<◌, ◌∷◌, ◌++◌, [], length, get_or, lit<, not, refl, sym, ap, ◌∙◌, arith, rules}
+use Rattle.std.proofs.Common.{◌≡◌, ◌<◌, ◌∷◌, ◌++◌, [], length, get_or, lit<, not, sym, ap, ◌∙◌, rules}
 use borrow.Author.Tests.{eqb-true}
 use Rattle.std.proofs.lemmas.Iterator.Splits.{YieldsList-from_str_split}
 use Rattle.std.proofs.lemmas.Iterator.Consumers.{YieldsList-turn, YieldsList-end}
 use Rattle.std.proofs.lemmas.List.{length_push}
-use Rattle.dns_asker.specs.ZoneViews.{texts}
 use Rattle.dns_asker.proofs.ZoneFields.{all_passed, overflows, parts, skips, takes, texts-push, length-texts}
 use Rattle.dns_asker.proofs.zone_field.fields_of.Goals as goal
 use Rattle.dns_asker.proofs.zone_field.fields_of.Goals.{In-Some, In-None}

@@ -1,4 +1,4 @@
-use Rattle.std.proofs.Common.{ℕ, List, refl, sym, arith}
+use Rattle.std.proofs.Common.{ℕ, List, arith}
 use Rattle.sip_uri.specs.Addresses.{AddressText}
 use Rattle.sip_uri.specs.declared.numeric.Address.TheVariants.{V4}
 use Rattle.dns_asker.proofs.ZoneTexts.{one_is, one_text}

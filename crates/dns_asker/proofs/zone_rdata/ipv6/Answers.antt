@@ -1,7 +1,7 @@
-use Rattle.std.proofs.Common.{ℕ, List, refl, sym, arith}
+use Rattle.std.proofs.Common.{ℕ, List}
 use Rattle.sip_uri.specs.Addresses.{AddressText}
 use Rattle.sip_uri.specs.declared.numeric.Address.TheVariants.{V6}
-use Rattle.dns_asker.proofs.ZoneTexts.{one_is, one_text}
+use Rattle.dns_asker.proofs.ZoneTexts.{one_is}
 use Rattle.dns_asker.proofs.zone_rdata.ipv6.Goals as goal
 
 pub returns-in-Some-V6-clause-read : goal.returns-in-Some-V6-clause-read

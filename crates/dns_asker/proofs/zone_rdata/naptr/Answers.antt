@@ -1,9 +1,7 @@
-use Rattle.std.proofs.Common.{◌≡◌, ◌<◌, ℕ, List, [], get_or, length, Some, refl, sym, ap, ◌∙◌, arith}
-use Rattle.std.specs.Borrow.{Bor}
+use Rattle.std.proofs.Common.{◌≡◌, ℕ, List, [], get_or, Some, refl, sym, ap, ◌∙◌, arith}
 use Rattle.std.proofs.lemmas.Result.{err_from_is_err_and}
 use Rattle.dns_message.specs.declared.naptr.NaptrRecord.{NaptrRecord}
 use Rattle.dns_asker.specs.ZoneLines.{number_of, string_of}
-use Rattle.dns_asker.specs.ZoneViews.{texts}
 use Rattle.dns_asker.proofs.ZoneTexts.{text_at, six_texts}
 use Rattle.dns_asker.proofs.zone_rdata.naptr.Goals as goal
 

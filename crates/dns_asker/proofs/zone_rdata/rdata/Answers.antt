@@ -1,7 +1,6 @@
-use Rattle.std.proofs.Common.{ap, refl}
+use Rattle.std.proofs.Common.{ap}
 use Rattle.std.proofs.lemmas.Result.{err_from_is_err_and}
 use Rattle.dns_message.specs.declared.rdata.Rdata.TheVariants.{Cname, Srv, Naptr}
-use Rattle.dns_asker.specs.ZoneLines.{DataFields}
 use Rattle.dns_asker.specs.ZoneViews.{texts}
 use Rattle.dns_asker.proofs.ZoneKinds.{a_data, aaaa_data, cname_data, srv_data, naptr_data}
 use Rattle.dns_asker.proofs.zone_rdata.rdata.Goals as goal

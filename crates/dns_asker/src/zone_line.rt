@@ -1,0 +1,56 @@
+//! A line of a zone.
+ghost use Rattle.std.specs.Prelude.{◌≡◌, Option, IfErr, IfOk, MatchResult};
+ghost use Rattle.dns_asker.specs.ZoneLines as spec;
+ghost use Rattle.dns_asker.specs.ZoneViews.{texts};
+ghost use Rattle.dns_message.specs.declared.resource.Record as resource;
+
+use crate::zone_field::{fields_of, number_of_32_bits};
+use crate::zone_rdata::rdata;
+use crate::zone_refusal::LineRefusal;
+use dns_message::Record;
+use dns_name::Name;
+use std::alloc::Global;
+
+/// The record of an owner, a TTL, a type and data.
+fn record_of(alloc: Global, fields: &[&str]) -> Result<Record, LineRefusal>
+    ensures found { IfOk result (spec.RecordFields (texts fields.now)) }
+    ensures read { (entry : resource.Record) → spec.RecordFields (texts fields.now) entry
+        → MatchResult result (λ it. it ≡ entry) (λ refusal. refusal ≡ LineRefusal.Memory) }
+{
+    let [owner, ttl, kind, others @ ..] = fields else {
+        return Err(LineRefusal::Bad);
+    };
+    Ok(Record {
+        owner: Name::from_text(alloc, owner)?,
+        ttl: number_of_32_bits(ttl)?,
+        rdata: rdata(alloc, kind, others)?,
+    })
+}
+
+/// Whether a line is a comment.
+fn is_comment(line: &[u8]) -> bool
+    ensures { result ≡ spec.is_comment line.now }
+{
+    match line {
+        [first, ..] => *first == b'#',
+        [] => false,
+    }
+}
+
+/// The record that a line says, if it is not empty and no comment.
+pub(crate) fn line_record(alloc: Global, line: &str) -> Result<Option<Record>, LineRefusal>
+    ensures found { IfOk result (spec.LineSays line.now) }
+    ensures read { (said : Option resource.Record) → spec.LineSays line.now said
+        → MatchResult result (λ it. it ≡ said) (λ refusal. refusal ≡ LineRefusal.Memory) }
+{
+    if is_comment(line.as_bytes()) {
+        return Ok(None);
+    }
+    let Some(fields) = fields_of(line) else {
+        return Err(LineRefusal::Bad);
+    };
+    if fields.is_empty() {
+        return Ok(None);
+    }
+    Ok(Some(record_of(alloc, fields.as_slice())?))
+}
