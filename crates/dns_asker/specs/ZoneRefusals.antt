@@ -1,9 +1,20 @@
--- The refusal of a line, from that of a name.
+-- The refusal of a line, from that of a name, and what is so of lines that are refused.
+use Rattle.std.specs.Prelude.{ℕ, ◌<◌, List, length, ⊤}
+use Rattle.dns_message.specs.declared.resource.Record.{Record}
 use Rattle.dns_name.specs.declared.refusal.NameRefusal.{NameRefusal}
 use Rattle.dns_name.specs.declared.refusal.NameRefusal.TheVariants as name
+use Rattle.dns_asker.specs.ZoneLines.{IsFirstBad, LinesSay}
 use Rattle.dns_asker.specs.declared.zone_refusal.LineRefusal.{LineRefusal}
 use Rattle.dns_asker.specs.declared.zone_refusal.LineRefusal.TheVariants as line
+use Rattle.dns_asker.specs.declared.zone_refusal.ZoneRefusal.{ZoneRefusal}
+use Rattle.dns_asker.specs.declared.zone_refusal.ZoneRefusal.TheVariants as zone
 
 abbrev pub line_of_name : NameRefusal → LineRefusal
 line_of_name name.Memory = line.Memory
 line_of_name _ = line.Bad
+
+-- what is so of lines that are refused
+abbrev pub RefusedFor : ZoneRefusal → List (List ℕ) → Type 0
+RefusedFor (zone.BadLine number) lines = IsFirstBad lines number
+RefusedFor zone.TooMany lines = (records : List Record) × LinesSay lines records × (4096 < length records)
+RefusedFor zone.Memory lines = ⊤

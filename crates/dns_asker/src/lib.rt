@@ -8,6 +8,7 @@ mod zone_line;
 mod zone_rdata;
 mod zone_refusal;
 mod zone_reply;
+mod zone_text;
 
 pub use zone::{Zone, ZoneEntry};
 pub use zone_refusal::ZoneRefusal;

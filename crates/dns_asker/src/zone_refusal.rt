@@ -2,6 +2,7 @@
 ghost use Rattle.std.specs.Prelude.{◌≡◌};
 ghost use Rattle.dns_asker.specs.ZoneRefusals.{line_of_name};
 ghost use Rattle.dns_asker.specs.declared.zone_refusal.LineRefusal.TheVariants as lines;
+ghost use Rattle.dns_asker.specs.declared.zone_refusal.ZoneRefusal.TheVariants as zones;
 
 use dns_name::NameRefusal;
 use std::alloc::{AllocError, AllocFailed};
@@ -19,6 +20,14 @@ pub enum ZoneRefusal {
     /// Memory was refused.
     #[error("out of memory")]
     Memory,
+}
+
+impl From<AllocError> for ZoneRefusal {
+    ghost from_gives = { λ _ refusal. refusal ≡ zones.Memory };
+
+    fn from(_: AllocError) -> ZoneRefusal {
+        ZoneRefusal::Memory
+    }
 }
 
 /// Why a line was not read.
