@@ -1,4 +1,4 @@
-use Rattle.std.proofs.Common.{◌≡◌, List, [], length, sym, ap, ◌∙◌, Some, refl, arith}
+use Rattle.std.proofs.Common.{sym, ap, ◌∙◌, Some}
 use Rattle.std.proofs.lemmas.Result.{err_from_is_err_and}
 use Rattle.dns_asker.specs.ZoneLines.{is_comment}
 use Rattle.dns_asker.specs.ZoneViews.{texts}

@@ -1,11 +1,11 @@
-use Rattle.std.proofs.Common.{◌≡◌, ◌<◌, ◌≤◌, ◌+◌, ℕ, List, ◌∷◌, ◌++◌, [], length, get_or, Option, Some, None, refl, sym, ap, ◌∙◌, arith, rules}
+use Rattle.std.proofs.Common.{◌≡◌, ◌<◌, length, get_or, Option, ap, ◌∙◌, arith, rules}
 use Rattle.std.specs.Str.Lines.{lines}
 use Rattle.std.proofs.lemmas.Iterator.Splits.{YieldsList-from_lines}
 use Rattle.std.proofs.lemmas.Iterator.Consumers.{YieldsList-from_enumerate, YieldsList-turn, YieldsList-end}
 use Rattle.std.proofs.lemmas.List.{length_push}
 use Rattle.std.proofs.lemmas.List.FromFn.{length-enumerate_from}
 use Rattle.dns_message.specs.declared.resource.Record.{Record}
-use Rattle.dns_asker.specs.ZoneLines.{Holds, LineSays}
+use Rattle.dns_asker.specs.ZoneLines.{LineSays}
 use Rattle.dns_asker.proofs.ZoneSaid.{all_said, are_all, numbered, passes, says_nothing, stops, takes}
 use Rattle.dns_asker.proofs.zone.Zone.read.Goals as goal
 use Rattle.dns_asker.proofs.zone.Zone.read.Goals.{In-Some, In-None, In-Err-Bad}
