@@ -1,4 +1,15 @@
-//! A small authoritative DNS server for loopback.
+//! A small authoritative DNS server for loopback (RFC 1034 4.3.2): its zone is read from a text, and replies to
+//! datagrams.
+//!
+//! A zone follows its own aliases, and replies to queries for records of types A, AAAA, SRV and NAPTR in class IN; what it
+//! gives is a whole message, or a part of one with TC set. Octets that are no query get no reply.
+//!
+//! ```text
+//! let zone = Zone::read(alloc, "a.example. 60 CNAME b.example.\nb.example. 300 A 192.0.2.7")?;
+//! if let Some(reply) = zone.answer_datagram(alloc, octets)? {
+//!     socket.send_to(&reply, peer)?;
+//! }
+//! ```
 #![tactic(auto)]
 
 mod zone;
@@ -12,3 +23,6 @@ mod zone_text;
 
 pub use zone::{Zone, ZoneEntry};
 pub use zone_refusal::ZoneRefusal;
+
+#[cfg(test)]
+mod zone_tests;

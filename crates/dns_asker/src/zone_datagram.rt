@@ -35,7 +35,11 @@ impl Zone {
     /// lead, in the order of the zone (RFC 1034 3.6.2). RCODE is 3 where that name has no records in the zone, and else 0. A
     /// question for another type than A, AAAA, SRV and NAPTR is answered without records. A reply of more than 512 octets is
     /// cut to its question, with TC set (RFC 1035 4.2.1).
-    pub fn answer_datagram(&self, alloc: Global, octets: &[u8]) -> Result<Option<Vec<u8>>, AllocError>
+    pub fn answer_datagram(
+        &self,
+        alloc: Global,
+        octets: &[u8],
+    ) -> Result<Option<Vec<u8>>, AllocError>
         // Nothing is replied exactly where no query is in front, unless memory is refused.
         ensures silent { result ≡ Ok None → IsSilent octets.now }
         ensures quiet { IsSilent octets.now → IfOk result (λ it. it ≡ None) }

@@ -52,8 +52,8 @@ returns-clause-read c = λ rule is.
     let regexp_at = text_at fields 4 ∙ ap (λ (l : List (List ℕ)). get_or l 4 []) is.are in
     let replacement_at = text_at fields 5 ∙ ap (λ (l : List (List ℕ)). get_or l 5 []) is.are in
     same_rule _ rule (same_some (sym c.in_ok-number_of_16_bits.ensures ∙ ap (number_of 65535) order_at ∙ is.order_is))
-        (same_some (sym c.in_ok-number_of_16_bits-2.ensures ∙ ap (number_of 65535) preference_at ∙ is.preference_is))
-        (same_some (sym c.in_ok-char_string.ensures.found ∙ ap string_of flags_at ∙ is.flags_are))
-        (same_some (sym c.in_ok-char_string-2.ensures.found ∙ ap string_of services_at ∙ is.services_are))
-        (same_some (sym c.in_ok-char_string-3.ensures.found ∙ ap string_of regexp_at ∙ is.regexp_is))
-        (c.in_ok-from_text.ensures.read rule.replacement (rw replacement_at is.replacement_is))
+    (same_some (sym c.in_ok-number_of_16_bits-2.ensures ∙ ap (number_of 65535) preference_at ∙ is.preference_is))
+    (same_some (sym c.in_ok-char_string.ensures.found ∙ ap string_of flags_at ∙ is.flags_are))
+    (same_some (sym c.in_ok-char_string-2.ensures.found ∙ ap string_of services_at ∙ is.services_are))
+    (same_some (sym c.in_ok-char_string-3.ensures.found ∙ ap string_of regexp_at ∙ is.regexp_is))
+    (c.in_ok-from_text.ensures.read rule.replacement (rw replacement_at is.replacement_is))

@@ -34,11 +34,14 @@ returns-clause-reply c =
     let reply = reply_to c.args.self.now query in
     let headed = reply_headed c.args.self.now query in
     let keeps = fitted-keeps reply in
-    let written = replies (goal.at.returns-clause-reply c).In_ok-write_reply in
-    (query, is_query (goal.at.returns-clause-reply c).In-Some, record {
-      short = written.short;
-      reply = _;
-      spelled = written.spells;
-      replies = keeps.0 ∙ ap (λ (header : Header). header.reply) headed.header;
-      same_id = keeps.1 ∙ ap (λ (header : Header). header.id) headed.header;
-    })
+    let written = replies (goal.at.returns-clause-reply c).In_ok-write_reply in (
+      query,
+      is_query (goal.at.returns-clause-reply c).In-Some,
+      record {
+        short = written.short;
+        reply = _;
+        spelled = written.spells;
+        replies = keeps.0 ∙ ap (λ (header : Header). header.reply) headed.header;
+        same_id = keeps.1 ∙ ap (λ (header : Header). header.id) headed.header;
+      },
+    )

@@ -1,0 +1,35 @@
+//! Where memory is refused: the call then says so, or has its answer all the same.
+use crate::*;
+use std::alloc::AllocError;
+
+/// An alias, and a record of each other type where it leads.
+const ZONE: &str =
+    "a.example. 60 CNAME b.example.\nb.example. 300 A 192.0.2.7\nb.example. 300 AAAA ::7\n\
+    b.example. 300 SRV 1 2 3 c.example.\nb.example. 300 NAPTR 1 2 s SIPS+D2T - c.example.";
+
+#[test]
+fn read_refused(rt: HostRuntime) {
+    match Zone::read(rt.alloc(), ZONE) {
+        Ok(_) => {}
+        Err(refusal) => assert_eq!(rt; refusal, ZoneRefusal::Memory),
+    }
+}
+
+/// A type, and how many octets a reply of its records has.
+const LENGTHS: [(u8, usize); 6] = [(1, 84), (28, 96), (33, 97), (35, 107), (5, 27), (16, 27)];
+
+#[test]
+fn answer_refused(rt: HostRuntime) {
+    let Ok(zone) = Zone::read(rt.alloc(), ZONE) else {
+        return;
+    };
+    for (code, length) in LENGTHS {
+        let mut query =
+            *b"\x12\x34\x01\x00\x00\x01\x00\x00\x00\x00\x00\x00\x01a\x07example\x00\x00\x00\x00\x01";
+        query[24] = code;
+        match zone.answer_datagram(rt.alloc(), &query) {
+            Ok(reply) => assert_eq!(rt; reply.map(|reply| reply.len()), Some(length), "{code}"),
+            Err(refusal) => assert_eq!(rt; refusal, AllocError, "{code}"),
+        }
+    }
+}
