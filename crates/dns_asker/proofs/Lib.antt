@@ -6,3 +6,4 @@ pub mod ZoneFields
 pub mod ZoneTexts
 pub mod ZoneKinds
 pub mod ZoneSaid
+pub mod ZoneAliases

@@ -1,10 +1,10 @@
 -- The records of a zone, and where its aliases lead (RFC 1034 3.6, 3.6.2).
-use Rattle.std.specs.Prelude.{ℕ, zero, suc, List, [], map, Option, slice_get}
-use Rattle.std.specs.List.{filter_map, find}
+use Rattle.std.specs.Prelude.{◌≡◌, ◌≤◌, ◌⊎◌, length, ℕ, zero, suc, List, [], ◌∷◌, map, Option, slice_get}
+use Rattle.std.specs.List.{All, filter_map, find}
 use Rattle.std.specs.Option.{option_map, option_map_or}
 use Rattle.dns_message.specs.declared.rdata.Rdata.TheVariants.{Cname}
 use Rattle.dns_message.specs.declared.resource.Record.{Record}
-use Rattle.dns_answers.specs.Chains.{Chain, behind, canonical_in, ends_at}
+use Rattle.dns_answers.specs.Chains.{Chain, IsFirstAlias, IsNoAlias, behind, canonical_in, ends_at}
 use Rattle.dns_name.specs.Labels.{same_name}
 use Rattle.dns_asker.specs.declared.zone.ZoneEntry.{ZoneEntry}
 
@@ -56,3 +56,17 @@ path_within (suc more) zone name =
 -- at most eight of them
 abbrev pub path : List Owned → List (List ℕ) → Chain
 path zone name = path_within 8 zone name
+
+-- ---- the same as a relation (RFC 1034 3.6.2)
+
+-- from the first name these CNAME records of the zone lead to the other one, each the first of its name
+pub data Follows (zone : List Owned) : List (List ℕ) → List Record → List (List ℕ) → Type 0 where
+  stays : {name last : List (List ℕ)} → last ≡ name → Follows zone name [] last
+  leads : {name last : List (List ℕ)} {entry : Record} {others : List Record} (target : List (List ℕ))
+      → IsFirstAlias (records_at zone name) name entry target → Follows zone target others last → Follows zone name (entry ∷ others) last
+
+-- These lead from the name to one that has no CNAME, or there are as many as the limit says.
+pub record IsPath (limit : ℕ) (zone : List Owned) (name : List (List ℕ)) (found : Chain) : Type 0 where
+  pub follows : Follows zone name found.links found.last
+  pub short : length found.links ≤ limit
+  pub ends : All (IsNoAlias found.last) (records_at zone found.last) ⊎ (length found.links ≡ limit)

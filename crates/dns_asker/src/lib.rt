@@ -15,6 +15,7 @@
 mod zone;
 mod zone_datagram;
 mod zone_field;
+mod zone_laws;
 mod zone_line;
 mod zone_rdata;
 mod zone_refusal;
@@ -22,6 +23,7 @@ mod zone_reply;
 mod zone_text;
 
 pub use zone::{Zone, ZoneEntry};
+pub use zone_laws::zone_follows_aliases;
 pub use zone_refusal::ZoneRefusal;
 
 #[cfg(test)]
