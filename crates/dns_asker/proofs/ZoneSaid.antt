@@ -1,5 +1,5 @@
 -- What lines say, one after the other.
-use Rattle.std.proofs.Common.{◌≡◌, ℕ, ◌<◌, ◌≤◌, ◌+◌, false, List, [], ◌∷◌, ◌++◌, length, min, take, drop, get_or, Option, Some, None, inl, inr, refl, sym, ap, subst, ◌∙◌, append_assoc, arith, true≢false}
+use Rattle.std.proofs.Common.{◌≡◌, ℕ, suc, ◌<◌, ◌≤◌, ◌+◌, false, List, [], ◌∷◌, ◌++◌, length, min, take, drop, get_or, Option, Some, None, inl, inr, refl, sym, ap, subst, ◌∙◌, append_assoc, arith, true≢false}
 use Rattle.std.specs.List.{enumerate_from}
 use Rattle.std.proofs.lemmas.List.FromFn.{get_or-enumerate_from, length-enumerate_from}
 use Rattle.std.proofs.lemmas.List.{append-nil, drop_all, drop_more, length_push, length-take-le, take-append-drop, take_all, take_more}
@@ -129,3 +129,48 @@ numbered all count at line within is =
     let within' : count < length all = omega (arith, within, length-enumerate_from 0 all) in
     let there : ◌≡◌ {A = ℕ × List ℕ} (at, line) (0 + count, get_or all count line) = is ∙ get_or-enumerate_from 0 all count (at, line) within' in
     (omega (arith, ap (λ (p : ℕ × List ℕ). p.0) there), within', ap (λ (p : ℕ × List ℕ). p.1) there)
+
+-- ---- the first bad line
+
+-- the first line says something, and so do the others
+parts_say : (line : List ℕ) (others : List (List ℕ)) (records : List Record) → LinesSay (line ∷ others) records
+    → ((said : Option Record) × LineSays line said) × ((rest : List Record) × LinesSay others rest)
+parts_say line others records (inl says) = ((None, says.0), (records, says.1))
+parts_say line others records (inr says) = ((Some says.0, says.3), (says.1, says.4))
+
+-- and so does a line behind others
+line_says : (front back : List (List ℕ)) (line : List ℕ) (records : List Record) → LinesSay (front ++ line ∷ back) records → (said : Option Record) × LineSays line said
+line_says [] back line records says = (parts_say line back records says).0
+line_says (first ∷ front) back line records says =
+    let rest = (parts_say first (front ++ line ∷ back) records says).1 in
+    line_says front back line rest.0 rest.1
+
+-- where lines say records, none is bad
+pub none_bad : (all : List (List ℕ)) (records : List Record) (number : ℕ) → LinesSay all records → IsFirstBad all number → ⊥
+none_bad all records number says is =
+    let said = line_says is.front is.back is.line records (rw is.stands at says) in
+    is.bad said.0 said.1
+
+same_place : (front other : List (List ℕ)) (line line' : List ℕ) (back back' : List (List ℕ)) (records records' : List Record)
+    → front ++ line ∷ back ≡ other ++ line' ∷ back' → LinesSay front records → LinesSay other records'
+    → ((said : Option Record) → LineSays line said → ⊥) → ((said : Option Record) → LineSays line' said → ⊥) → length front ≡ length other
+same_place [] [] line line' back back' records records' e says says' bad bad' = refl
+same_place [] (first ∷ other) line line' back back' records records' e says says' bad bad' =
+    let said = (parts_say first other records' says').0 in
+    let same : line ≡ first = cc in
+    absurd (bad said.0 (subst (λ (l : List ℕ). LineSays l said.0) (sym same) said.1))
+same_place (first ∷ front) [] line line' back back' records records' e says says' bad bad' =
+    let said = (parts_say first front records says).0 in
+    let same : first ≡ line' = cc in
+    absurd (bad' said.0 (subst (λ (l : List ℕ). LineSays l said.0) same said.1))
+same_place (first ∷ front) (first' ∷ other) line line' back back' records records' e says says' bad bad' =
+    let rest = (parts_say first front records says).1 in
+    let rest' = (parts_say first' other records' says').1 in
+    let tails : front ++ line ∷ back ≡ other ++ line' ∷ back' = cc in
+    ap suc (same_place front other line line' back back' rest.0 rest'.0 tails rest.1 rest'.1 bad bad')
+
+-- there is one first bad line
+pub one_first_bad : (all : List (List ℕ)) (number number' : ℕ) → IsFirstBad all number → IsFirstBad all number' → number ≡ number'
+one_first_bad all number number' is is' =
+    let same = same_place is.front is'.front is.line is'.line is.back is'.back is.records is'.records (sym is.stands ∙ is'.stands) is.good is'.good is.bad is'.bad in
+    omega (arith, same, is.number_is, is'.number_is)

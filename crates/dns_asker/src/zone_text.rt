@@ -1,8 +1,8 @@
 //! A zone, from its text.
-ghost use Rattle.std.specs.Prelude.{◌≡◌, ◌<◌, ◌≤◌, ◌+◌, ◌++◌, ◌∷◌, [], ◌⊎◌, min, length, List, IfErr, IfOk, MatchResult, OnOk};
+ghost use Rattle.std.specs.Prelude.{◌≡◌, ◌<◌, ◌≤◌, ◌+◌, ◌++◌, ◌∷◌, [], ◌⊎◌, min, ℕ, length, List, IfErr, IfOk, MatchResult, OnOk};
 ghost use Rattle.std.specs.Str.Lines.{lines};
 ghost use Rattle.dns_message.specs.declared.resource.Record as resource;
-ghost use Rattle.dns_asker.specs.ZoneLines.{Holds, LinesSay};
+ghost use Rattle.dns_asker.specs.ZoneLines.{Holds, IsFirstBad, LinesSay};
 ghost use Rattle.dns_asker.specs.ZoneRefusals.{RefusedFor};
 
 use crate::zone::{Zone, ZoneEntry};
@@ -67,6 +67,8 @@ impl Zone {
             → MatchResult result (λ zone. Holds zone records) (λ refusal. refusal ≡ ZoneRefusal.Memory) }
         ensures too_many { (records : List resource.Record) → LinesSay (lines text.now) records → 4096 < length records
             → MatchResult result (λ _. ⊥) (λ refusal. (refusal ≡ ZoneRefusal.TooMany) ⊎ (refusal ≡ ZoneRefusal.Memory)) }
+        ensures bad { (number : ℕ) → IsFirstBad (lines text.now) number
+            → MatchResult result (λ _. ⊥) (λ refusal. (refusal ≡ ZoneRefusal.BadLine number) ⊎ (refusal ≡ ZoneRefusal.Memory)) }
         // Each refusal tells what is so of the lines.
         ensures refused { IfErr result (λ refusal. RefusedFor refusal (lines text.now)) }
     {

@@ -1,12 +1,13 @@
-use Rattle.std.proofs.Common.{◌≡◌, ◌<◌, length, get_or, Option, ap, ◌∙◌, arith, rules}
+use Rattle.std.proofs.Common.{◌≡◌, ◌<◌, ◌+◌, ℕ, length, get_or, Option, inl, ap, ◌∙◌, arith, rules}
 use Rattle.std.specs.Str.Lines.{lines}
 use Rattle.std.proofs.lemmas.Iterator.Splits.{YieldsList-from_lines}
 use Rattle.std.proofs.lemmas.Iterator.Consumers.{YieldsList-from_enumerate, YieldsList-turn, YieldsList-end}
 use Rattle.std.proofs.lemmas.List.{length_push}
 use Rattle.std.proofs.lemmas.List.FromFn.{length-enumerate_from}
 use Rattle.dns_message.specs.declared.resource.Record.{Record}
+use Rattle.dns_asker.specs.declared.zone_refusal.ZoneRefusal.TheVariants.{BadLine}
 use Rattle.dns_asker.specs.ZoneLines.{LineSays}
-use Rattle.dns_asker.proofs.ZoneSaid.{all_said, are_all, numbered, passes, says_nothing, stops, takes}
+use Rattle.dns_asker.proofs.ZoneSaid.{all_said, are_all, none_bad, numbered, one_first_bad, passes, says_nothing, stops, takes}
 use Rattle.dns_asker.proofs.zone.Zone.read.Goals as goal
 use Rattle.dns_asker.proofs.zone.Zone.read.Goals.{In-Some, In-None, In-Err-Bad}
 
@@ -101,3 +102,24 @@ returns-clause-too_many c = λ records says many.
     let whole = all_turns (goal.at.returns-clause-too_many c).In-None in
     let same = are_all (lines c.args.text.now) (length l.yielded) l.draft.count l.draft.zone drafting whole records says in
     absurd (omega (arith, drafting.counted, many, ap length same))
+
+pub returns-in-Err-Bad-clause-bad : goal.returns-in-Err-Bad-clause-bad
+returns-in-Err-Bad-clause-bad c = λ number is.
+    let l = c.loop-at in
+    let this = turn (goal.at.returns-in-Err-Bad-clause-bad c).In-Some in
+    let here = stops (lines c.args.text.now) (length l.yielded) c.in-Some.line.now this.1 this.2 l.draft.count l.draft.zone l.invariant.drafting (never (goal.at.returns-in-Err-Bad-clause-bad c).In-Err-Bad) in
+    inl (ap BadLine (ap (λ (at : ℕ). at + 1) this.0 ∙ one_first_bad (lines c.args.text.now) (length l.yielded + 1) number here is))
+
+pub returns-then-draft-gt-RECORD_LIMIT-clause-bad : goal.returns-then-draft-gt-RECORD_LIMIT-clause-bad
+returns-then-draft-gt-RECORD_LIMIT-clause-bad c = λ number is.
+    let l = c.loop-at in
+    let drafting = l.invariant.drafting in
+    let whole = all_turns (goal.at.returns-then-draft-gt-RECORD_LIMIT-clause-bad c).In-None in
+    absurd (none_bad (lines c.args.text.now) drafting.records number (all_said (lines c.args.text.now) (length l.yielded) l.draft.count l.draft.zone drafting whole) is)
+
+pub returns-clause-bad : goal.returns-clause-bad
+returns-clause-bad c = λ number is.
+    let l = c.loop-at in
+    let drafting = l.invariant.drafting in
+    let whole = all_turns (goal.at.returns-clause-bad c).In-None in
+    absurd (none_bad (lines c.args.text.now) drafting.records number (all_said (lines c.args.text.now) (length l.yielded) l.draft.count l.draft.zone drafting whole) is)
