@@ -7,3 +7,5 @@ pub mod ZoneTexts
 pub mod ZoneKinds
 pub mod ZoneSaid
 pub mod ZoneAliases
+pub mod ZoneLengths
+pub mod ZoneAnswers

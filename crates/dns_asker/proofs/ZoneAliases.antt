@@ -1,12 +1,12 @@
 -- The aliases of a zone, link by link.
-use Rattle.std.proofs.Common.{◌≡◌, ◌⊎◌, ℕ, zero, suc, ◌+◌, ◌≤◌, List, [], ◌∷◌, ◌++◌, length, map, Option, Some, None, inl, inr, refl, sym, ap, subst, ◌∙◌, arith}
+use Rattle.std.proofs.Common.{◌≡◌, ◌⊎◌, ℕ, zero, suc, ◌≤◌, List, [], ◌∷◌, ◌++◌, length, map, Option, Some, None, inl, inr, refl, sym, ap, subst, ◌∙◌, arith}
 use Rattle.std.specs.List.{All}
 use Rattle.std.proofs.lemmas.List.Elements.{All-cons, All-head, All-nil, All-tail}
-use Rattle.dns_answers.specs.Chains.{Chain, IsFirstAlias, IsNoAlias, behind, canonical_in}
+use Rattle.dns_answers.specs.Chains.{IsFirstAlias, IsNoAlias, behind, canonical_in}
 use Rattle.dns_message.specs.declared.rdata.Rdata.{Rdata}
 use Rattle.dns_message.specs.declared.rdata.Rdata.TheVariants.{Addr4, Addr6, Srv, Naptr, Cname, Soa, Other}
 use Rattle.dns_message.specs.declared.resource.Record.{Record}
-use Rattle.dns_asker.specs.Zones.{Follows, IsPath, Owned, ZoneAlias, alias_in, entries_at, first_alias, link_of, path_within, record_of, records_at}
+use Rattle.dns_asker.specs.Zones.{Follows, IsPath, Owned, ZoneAlias, entries_at, first_alias, link_of, path, path_within, record_of, records_at}
 use Rattle.dns_asker.specs.declared.zone.ZoneEntry.{ZoneEntry}
 
 canonical_is : (rdata : Rdata) (target : List (List ℕ)) → canonical_in rdata ≡ Some target → rdata ≡ Cname target
@@ -77,7 +77,7 @@ module _ (name : List (List ℕ)) where
   no_first [] never = refl
   no_first (entry ∷ entries) never =
       rw (canonical_none entry (canonical_in entry.rdata) refl (All-head (IsNoAlias name) (record_of name entry) (map (record_of name) entries) never))
-          (no_first entries (All-tail (IsNoAlias name) (record_of name entry) (map (record_of name) entries) never))
+      (no_first entries (All-tail (IsNoAlias name) (record_of name entry) (map (record_of name) entries) never))
 
   some_first : (entry : ZoneEntry) (entries : List ZoneEntry) (target : List (List ℕ)) → canonical_in entry.rdata ≡ Some target
       → first_alias (entry ∷ entries) ≡ Some (record { ttl = entry.ttl; target = target })
@@ -124,6 +124,9 @@ module _ (zone : List Owned) where
   path_is zero name = record { follows = Follows.stays refl; short = omega arith; ends = inr refl }
   path_is (suc more) name = path_by more name (first_alias (entries_at zone name)) refl (path_is more)
 
+  pub path_few : (name : List (List ℕ)) → length (path zone name).links ≤ 8
+  path_few name = (path_is 8 name).short
+
   pub is_path : (limit : ℕ) (name : List (List ℕ)) (links : List Record) (last : List (List ℕ)) → Follows zone name links last → length links ≤ limit
       → All (IsNoAlias last) (records_at zone last) ⊎ (length links ≡ limit) → path_within limit zone name ≡ record { links = links; last = last }
   unfolding path_within
@@ -137,7 +140,7 @@ module _ (zone : List Owned) where
       let k = is_first name (entries_at zone name) entry target first in
       let there = is_path more target others last rest (omega arith) (shorter ends) in
       rw k.1 (ap (λ (name' : List (List ℕ)). behind (link_of name k.0) (path_within more zone name')) k.2
-          ∙ ap (behind (link_of name k.0)) there ∙ ap (λ (link : Record). record { links = link ∷ others; last = last }) k.3)
+      ∙ ap (behind (link_of name k.0)) there ∙ ap (λ (link : Record). record { links = link ∷ others; last = last }) k.3)
     where
       shorter : {P : Type 0} {n : ℕ} → P ⊎ (suc n ≡ suc more) → P ⊎ (n ≡ more)
       shorter (inl p) = inl p

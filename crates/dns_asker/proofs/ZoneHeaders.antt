@@ -6,6 +6,8 @@ use Rattle.dns_message.specs.declared.header.Header.{Header}
 use Rattle.dns_message.specs.declared.message.Message.{Message}
 use Rattle.dns_message.specs.declared.question.Asked.{Asked}
 use Rattle.dns_asker.specs.Zones.{Owned, entries_at, path}
+use Rattle.dns_asker.specs.ZoneViews.{bounded}
+use Rattle.dns_asker.proofs.ZoneLengths.{fitted-bounded}
 use Rattle.dns_asker.specs.ZoneReplies.{Replies, is_taken, name_rcode, rcode, reply_about, reply_header, reply_to}
 use Rattle.dns_asker.specs.declared.zone.ZoneEntry.{ZoneEntry}
 
@@ -43,10 +45,8 @@ pub fitted-keeps : (message : Message) → ((fitted message).header.reply ≡ me
 fitted-keeps message = fitted_by message (nat_le (length (plain message)) 512) refl
 
 -- what is written of the reply is the reply
-pub reply_is : (zone : List Owned) (query reply : Message) (octets : List ℕ) → reply ≡ reply_to zone query
+pub reply_is : (zone : List Owned) (query reply : Message) (octets : List ℕ) → reply ≡ bounded (reply_to zone query)
     → octets ≡ plain (fitted reply) → Spells octets (fitted reply) → length octets ≤ 512 → Replies zone query octets
-reply_is zone query reply octets is written spells short = record {
-  written = written ∙ ap (λ (it : Message). plain (fitted it)) is;
-  spells = subst (λ (it : Message). Spells octets (fitted it)) is spells;
-  short = short;
-}
+reply_is zone query reply octets is written spells short =
+    let same : fitted reply ≡ fitted (reply_to zone query) = ap fitted is ∙ fitted-bounded (reply_to zone query) in
+    record { written = written ∙ ap plain same; spells = subst (Spells octets) same spells; short = short }

@@ -1,5 +1,6 @@
 -- How what the code keeps is seen in the definitions.
-use Rattle.std.specs.Prelude.{ℕ, List, map}
+use Rattle.std.specs.Prelude.{ℕ, List, map, take}
+use Rattle.dns_message.specs.declared.message.Message.{Message}
 use Rattle.std.specs.Borrow.{Bor}
 use Rattle.std.specs.declared.vec.Vec.{Vec}
 use Rattle.dns_asker.specs.Zones.{Owned, ZoneAlias}
@@ -16,3 +17,7 @@ alias_value alias = record { ttl = alias.ttl; target = alias.target.now }
 -- the octets of texts
 abbrev pub texts : List (Bor (List ℕ)) → List (List ℕ)
 texts fields = map (λ (field : Bor (List ℕ)). field.now) fields
+
+-- a message with the first 46 of its answers: more never fit into a datagram
+abbrev pub bounded : Message → Message
+bounded message = record message { answers = take 46 message.answers }

@@ -1,8 +1,9 @@
 //! What is replied from a zone (RFC 1034 3.6.2, 4.3.2, RFC 1035 4.1.1).
-ghost use Rattle.std.specs.Prelude.{◌≡◌, ◌++◌, IfOk, OnOk, map};
+ghost use Rattle.std.specs.Prelude.{◌≡◌, ◌≤◌, ◌++◌, IfOk, OnOk, length, map, take};
 ghost use Rattle.std.specs.List.{filter};
 ghost use Rattle.dns_asker.specs.Zones as zones;
 ghost use Rattle.dns_asker.specs.ZoneReplies as spec;
+ghost use Rattle.dns_asker.specs.ZoneViews.{bounded};
 
 use crate::zone::{Zone, ZoneEntry};
 use dns_message::{Asked, CLASS_IN, Header, Message, Rdata, Record, Section};
@@ -11,6 +12,9 @@ use std::alloc::{AllocError, Global};
 
 /// The most CNAME records that are followed.
 const LINK_LIMIT: u8 = 8;
+
+/// So many records never fit into a datagram, since each has 11 octets at least (RFC 1035 4.1.3, 4.2.1).
+const ANSWER_LIMIT: usize = 46;
 
 /// RCODE of a name that does not exist (RFC 1035 4.1.1).
 const NAME_ERROR: u8 = 3;
@@ -25,7 +29,7 @@ fn path<'a>(
     start: &'a Name,
 ) -> Result<(Vec<Record>, &'a Name), AllocError>
     ensures { IfOk result (λ found. (found.0.items ≡ (zones.path zone.now start.now).links)
-        × (found.1.now ≡ (zones.path zone.now start.now).last)) }
+        × (found.1.now ≡ (zones.path zone.now start.now).last) × (length found.0.items ≤ 8)) }
 {
     let mut links = Vec::new(alloc);
     let mut name = start;
@@ -50,17 +54,21 @@ fn is_answered(code: u16) -> bool
     matches!(code, 1 | 28 | 33 | 35)
 }
 
-/// Adds the records of a type that an owner has.
+/// Adds the records of a type that an owner has, until there are 46.
 fn push_records(
     records: &mut Vec<Record>,
     owner: &Name,
     entries: &[ZoneEntry],
     code: u16,
 ) -> Result<(), AllocError>
+    requires { length records.old.items ≤ 46 }
     ensures { OnOk result (records.new.items
-        ≡ records.old.items ++ filter (spec.is_of code) (map (zones.record_of owner.now) entries.now)) }
+        ≡ take 46 (records.old.items ++ filter (spec.is_of code) (map (zones.record_of owner.now) entries.now))) }
 {
     for entry in entries {
+        if records.len() == ANSWER_LIMIT {
+            return Ok(());
+        }
         if entry.rdata.code() == code {
             records.push(Record {
                 owner: owner.try_clone()?,
@@ -79,10 +87,10 @@ fn name_rcode(entries: &[ZoneEntry]) -> u8
     if entries.is_empty() { NAME_ERROR } else { 0 }
 }
 
-/// RCODE and the records that answer a question in class IN.
+/// RCODE and the records that answer a question in class IN, the first 46.
 fn found(zone: &Zone, alloc: Global, asked: &Asked) -> Result<(u8, Vec<Record>), AllocError>
     ensures { IfOk result (λ found. (found.0 ≡ spec.rcode zone.now asked.now)
-        × (found.1.items ≡ spec.answers zone.now asked.now)) }
+        × (found.1.items ≡ take 46 (spec.answers zone.now asked.now))) }
 {
     let (mut records, last) = path(zone, alloc, &asked.name)?;
     let entries = zone.entries_at(last);
@@ -120,9 +128,9 @@ fn reply_of(
     }
 }
 
-/// The reply to a query.
+/// The reply to a query, with at most 46 records.
 pub(crate) fn reply_to(zone: &Zone, alloc: Global, query: Message) -> Result<Message, AllocError>
-    ensures { IfOk result (λ reply. reply ≡ spec.reply_to zone.now query) }
+    ensures { IfOk result (λ reply. reply ≡ bounded (spec.reply_to zone.now query)) }
 {
     let header = query.header;
     let questions = query.questions;

@@ -1,5 +1,6 @@
 use Rattle.std.proofs.Common.{◌≡◌, arith}
 use Rattle.dns_asker.specs.ZoneViews.{alias_value}
+use Rattle.dns_asker.proofs.ZoneAliases.{path_few}
 use Rattle.dns_asker.proofs.ZonePaths.{begun, follows, full, stops}
 use Rattle.dns_asker.proofs.zone_reply.path.Goals as goal
 
@@ -9,7 +10,8 @@ loop-init c = rw c.new-links.ensures.items (begun c.args.zone.now c.args.start.n
 pub returns-in_default : goal.returns-in_default
 returns-in_default c =
     let l = c.loop in
-    stops c.args.zone.now c.args.start.now l.links.items l.name.now l.counter l.invariant c.in_default.ensures
+    let both = stops c.args.zone.now c.args.start.now l.links.items l.name.now l.counter l.invariant c.in_default.ensures in
+    (both.0, both.1, rw both.0 (path_few c.args.zone.now c.args.start.now))
 
 pub loop-preserved : goal.loop-preserved
 loop-preserved c =
@@ -21,4 +23,5 @@ pub returns : goal.returns
 returns c =
     let l = c.loop in
     let all : l.counter ≡ 8 = omega arith in
-    full c.args.zone.now c.args.start.now l.links.items l.name.now (rw all at l.invariant)
+    let both = full c.args.zone.now c.args.start.now l.links.items l.name.now (rw all at l.invariant) in
+    (both.0, both.1, rw both.0 (path_few c.args.zone.now c.args.start.now))

@@ -28,6 +28,10 @@ returns-clause-replied c = λ query is.
     let same = c.one_message_in_front.ensures c.args.octets.now here.end is.end c.in-Some.query query here.spelled is.spelled in
     rw (← same) (replies (goal.at.returns-clause-replied c).In_ok-write_reply)
 
+pub returns-clause-found : goal.returns-clause-found
+returns-clause-found c =
+    (c.in-Some.query, is_query (goal.at.returns-clause-found c).In-Some, replies (goal.at.returns-clause-found c).In_ok-write_reply)
+
 pub returns-clause-reply : goal.returns-clause-reply
 returns-clause-reply c =
     let query = c.in-Some.query in
