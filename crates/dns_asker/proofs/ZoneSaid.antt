@@ -1,10 +1,12 @@
 -- What lines say, one after the other.
 use Rattle.std.proofs.Common.{◌≡◌, ℕ, suc, ◌<◌, ◌≤◌, ◌+◌, false, List, [], ◌∷◌, ◌++◌, length, min, take, drop, get_or, Option, Some, None, inl, inr, refl, sym, ap, subst, ◌∙◌, append_assoc, arith, true≢false}
+use Rattle.std.specs.Prelude.{Contains}
+use Rattle.std.proofs.lemmas.List.Elements.{Contains-get_or}
 use Rattle.std.specs.List.{enumerate_from}
 use Rattle.std.proofs.lemmas.List.FromFn.{get_or-enumerate_from, length-enumerate_from}
 use Rattle.std.proofs.lemmas.List.{append-nil, drop_all, drop_more, length_push, length-take-le, take-append-drop, take_all, take_more}
 use Rattle.dns_message.specs.declared.resource.Record.{Record}
-use Rattle.dns_asker.specs.ZoneLines.{Holds, IsFirstBad, LineSays, LinesSay, RecordFields, fields_of, is_comment}
+use Rattle.dns_asker.specs.ZoneLines.{Holds, IsEntryLine, IsFirstBad, LineSays, LinesSay, RecordFields, fields_of, is_comment}
 use Rattle.dns_asker.specs.Zones.{Owned}
 
 -- a line with fields that is no comment says a record
@@ -13,6 +15,15 @@ pub line_said : (line : List ℕ) (fields : List (List ℕ)) → is_comment line
 line_said line fields plain are some None (inl comment) = absurd (true≢false (sym comment ∙ plain))
 line_said line fields plain are some None (inr empty) = absurd (some (sym are ∙ empty))
 line_said line fields plain are some (Some entry) is = (entry, refl, subst (λ (f : List (List ℕ)). RecordFields f entry) are is.1)
+
+-- a line that says a record is to say one
+pub says_entry : (line : List ℕ) (entry : Record) → LineSays line (Some entry) → IsEntryLine line
+says_entry line entry says = record { plain = says.0; some = λ none. let no = sym says.1.are ∙ none in absurd cc }
+
+-- such a line among others
+pub among : (all : List (List ℕ)) (count : ℕ) (line : List ℕ) → count < length all → line ≡ get_or all count line → IsEntryLine line
+    → (line' : List ℕ) × Contains all line' × IsEntryLine line'
+among all count line within is entry = (line, subst (Contains all) (sym is) (Contains-get_or all count line within), entry)
 
 -- ---- lines that were read up to a place
 

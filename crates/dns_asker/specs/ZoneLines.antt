@@ -132,3 +132,8 @@ pub record IsFirstBad (lines : List (List ℕ)) (number : ℕ) : Type 0 where
 -- for each name the zone has those of the records that are about it, in their order
 abbrev pub Holds : List Owned → List Record → Type 0
 Holds zone records = (name : List (List ℕ)) → records_at zone name ≡ filter (λ (entry : Record). same_name entry.owner name) records
+
+-- a line that is to say a record: no comment, and with fields
+pub record IsEntryLine (line : List ℕ) : Type 0 where
+  pub plain : is_comment line ≡ false
+  pub some : fields_of line ≡ [] → ⊥

@@ -1,9 +1,9 @@
 -- The refusal of a line, from that of a name, and what is so of lines that are refused.
-use Rattle.std.specs.Prelude.{ℕ, ◌<◌, List, length, ⊤}
+use Rattle.std.specs.Prelude.{ℕ, ◌<◌, List, length, Contains}
 use Rattle.dns_message.specs.declared.resource.Record.{Record}
 use Rattle.dns_name.specs.declared.refusal.NameRefusal.{NameRefusal}
 use Rattle.dns_name.specs.declared.refusal.NameRefusal.TheVariants as name
-use Rattle.dns_asker.specs.ZoneLines.{IsFirstBad, LinesSay}
+use Rattle.dns_asker.specs.ZoneLines.{IsEntryLine, IsFirstBad, LinesSay}
 use Rattle.dns_asker.specs.declared.zone_refusal.LineRefusal.{LineRefusal}
 use Rattle.dns_asker.specs.declared.zone_refusal.LineRefusal.TheVariants as line
 use Rattle.dns_asker.specs.declared.zone_refusal.ZoneRefusal.{ZoneRefusal}
@@ -17,4 +17,5 @@ line_of_name _ = line.Bad
 abbrev pub RefusedFor : ZoneRefusal → List (List ℕ) → Type 0
 RefusedFor (zone.BadLine number) lines = IsFirstBad lines number
 RefusedFor zone.TooMany lines = (records : List Record) × LinesSay lines records × (4096 < length records)
-RefusedFor zone.Memory lines = ⊤
+-- memory is wanted for records alone
+RefusedFor zone.Memory lines = (line : List ℕ) × Contains lines line × IsEntryLine line

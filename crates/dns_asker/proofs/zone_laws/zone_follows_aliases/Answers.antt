@@ -1,4 +1,4 @@
-use Rattle.std.proofs.Common.{sym, subst}
+use Rattle.std.proofs.Common.{subst}
 use Rattle.dns_asker.specs.Zones.{IsPath}
 use Rattle.dns_asker.proofs.ZoneAliases.{is_path, path_is}
 use Rattle.dns_asker.proofs.zone_laws.zone_follows_aliases.Goals as goal

@@ -18,3 +18,11 @@ returns-clause-read c = λ said is.
     let k = line_said c.args.line.now (texts c.as_slice.result.now) (sym (c.if-is_comment.ensures ∙ ap is_comment c.as_bytes.ensures.value)) (sym c.in-Some.ensures ∙ ap texts (sym c.as_slice.ensures.value))
     (λ none. some_texts c.in-Some.fields.items c.if-is_empty.ensures (ap texts (sym c.as_slice.ensures.value) ∙ none)) said is in
     ap Some (c.in_ok-record_of.ensures.read k.0 k.2) ∙ sym k.1
+
+pub returns-in_err-record_of-clause-memory : goal.returns-in_err-record_of-clause-memory
+returns-in_err-record_of-clause-memory c =
+    let r = err_from_is_err_and c.from_residual.result c.from_residual.ensures.1 in
+    rw r.1 (λ memory. record {
+      plain = sym (c.if-is_comment.ensures ∙ ap is_comment c.as_bytes.ensures.value);
+      some = λ none. some_texts c.in-Some.fields.items c.if-is_empty.ensures (c.in-Some.ensures ∙ none);
+    })

@@ -3,11 +3,12 @@ use Rattle.std.specs.Str.Lines.{lines}
 use Rattle.std.proofs.lemmas.Iterator.Splits.{YieldsList-from_lines}
 use Rattle.std.proofs.lemmas.Iterator.Consumers.{YieldsList-from_enumerate, YieldsList-turn, YieldsList-end}
 use Rattle.std.proofs.lemmas.List.{length_push}
+use Rattle.std.proofs.lemmas.Result.{err_from_is_err_and}
 use Rattle.std.proofs.lemmas.List.FromFn.{length-enumerate_from}
 use Rattle.dns_message.specs.declared.resource.Record.{Record}
 use Rattle.dns_asker.specs.declared.zone_refusal.ZoneRefusal.TheVariants.{BadLine}
 use Rattle.dns_asker.specs.ZoneLines.{LineSays}
-use Rattle.dns_asker.proofs.ZoneSaid.{all_said, are_all, none_bad, numbered, one_first_bad, passes, says_nothing, stops, takes}
+use Rattle.dns_asker.proofs.ZoneSaid.{all_said, among, are_all, none_bad, numbered, one_first_bad, passes, says_entry, says_nothing, stops, takes}
 use Rattle.dns_asker.proofs.zone.Zone.read.Goals as goal
 use Rattle.dns_asker.proofs.zone.Zone.read.Goals.{In-Some, In-None, In-Err-Bad}
 
@@ -123,3 +124,17 @@ returns-clause-bad c = λ number is.
     let drafting = l.invariant.drafting in
     let whole = all_turns (goal.at.returns-clause-bad c).In-None in
     absurd (none_bad (lines c.args.text.now) drafting.records number (all_said (lines c.args.text.now) (length l.yielded) l.draft.count l.draft.zone drafting whole) is)
+
+pub returns-in-Err-Memory-clause-refused : goal.returns-in-Err-Memory-clause-refused
+returns-in-Err-Memory-clause-refused c =
+    let l = c.loop-at in
+    let this = turn (goal.at.returns-in-Err-Memory-clause-refused c).In-Some in
+    among (lines c.args.text.now) (length l.yielded) c.in-Some.line.now this.1 this.2 (c.in-Err-Memory.ensures.memory c.in-Err-Memory.field-0-is)
+
+pub returns-in_err-add-in-Ok-Some-clause-refused : goal.returns-in_err-add-in-Ok-Some-clause-refused
+returns-in_err-add-in-Ok-Some-clause-refused c =
+    let l = c.loop-at in
+    let this = turn (goal.at.returns-in_err-add-in-Ok-Some-clause-refused c).In-Some in
+    let said = rw c.in-Ok-Some.field-0-is at c.in-Ok-Some.ensures.found in
+    let r = err_from_is_err_and c.from_residual.result c.from_residual.ensures.1 in
+    rw (r.1, r.2) (among (lines c.args.text.now) (length l.yielded) c.in-Some.line.now this.1 this.2 (says_entry c.in-Some.line.now c.in-Ok-Some.entry said))
