@@ -1,3 +1,7 @@
+pub mod Listing
+pub mod Resending
+pub mod Dues
+pub mod Reading
 pub mod ZoneLookups
 pub mod ZonePaths
 pub mod ZoneHeaders
@@ -9,3 +13,4 @@ pub mod ZoneSaid
 pub mod ZoneAliases
 pub mod ZoneLengths
 pub mod ZoneAnswers
+pub mod Rounds

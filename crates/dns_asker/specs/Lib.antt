@@ -1,5 +1,13 @@
+pub mod Datagrams
+pub mod Tickets
+pub mod Events
+pub mod Kept
+pub mod TicketLists
+pub mod Listed
 pub mod Zones
 pub mod ZoneReplies
 pub mod ZoneLines
 pub mod ZoneRefusals
 pub mod ZoneViews
+pub mod Wires
+pub mod Servers

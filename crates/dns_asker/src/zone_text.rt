@@ -57,7 +57,8 @@ impl Zone {
     /// one, or 1 to 255 octets from 33 to 126. Names are those of `Name::from_text`, addresses those of `address_from_text`.
     /// The class is IN. A line that begins with `#` is passed over, and so is one without fields.
     ///
-    /// A bad line is told also where there are too many records, the first one of the text.
+    /// Where lines are bad the first one is told, also where there are too many records. Memory is asked for lines that are to
+    /// say a record, and no others.
     pub fn read(alloc: Global, text: &str) -> Result<Zone, ZoneRefusal>
         // The zone that is read has the records that the lines say, and no others.
         ensures found { IfOk result (λ zone. (records : List resource.Record)

@@ -8,3 +8,4 @@ pub mod Draws
 pub mod Talks
 pub mod Takings
 pub mod Books
+pub mod Datagrams

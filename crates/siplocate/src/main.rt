@@ -14,6 +14,7 @@ mod request;
 mod talk;
 #[cfg(test)]
 mod tests;
+mod udp;
 
 use arguments::{Command, arguments};
 use input::input_text;

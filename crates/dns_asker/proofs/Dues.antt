@@ -1,0 +1,46 @@
+-- What a moment asks for, seen as tickets.
+use Rattle.std.proofs.Common.{◌≡◌, ℕ, ◌+◌, ◌<◌, map, Some, None, refl, sym, ap, ◌∙◌}
+use Rattle.std.proofs.lemmas.List.Elements.{All-map}
+use Rattle.pending_list.specs.Pending.{Pending}
+use Rattle.pending_list.specs.declared.entry.Entry.{Entry}
+use Rattle.dns_asker.proofs.Listing.{mapped-placed}
+use Rattle.dns_asker.specs.Events.{Dues}
+use Rattle.dns_asker.specs.Listed.{IsOverdue, ToldBy, asking_of, resent, ticket_in}
+use Rattle.dns_asker.specs.TicketLists.{TicketList}
+use Rattle.dns_asker.specs.Tickets.{Sent, Ticket}
+use Rattle.dns_asker.specs.declared.due.Due.{Due}
+use Rattle.dns_asker.specs.declared.due.Due.TheVariants.{Resend, GaveUp}
+use Rattle.dns_asker.specs.declared.tickets.Overdue.{Overdue}
+use Rattle.dns_asker.specs.declared.tickets.Overdue.TheVariants.{Again, Over}
+
+pub none-is : (old : Pending Sent) (new : TicketList) (now : ℕ) → IsOverdue old new now None → Dues (asking_of old) (asking_of new.list) now None
+none-is old new now it = (ap asking_of it.0, All-map (λ (it : Ticket). now < it.deadline) ticket_in old.entries it.1)
+
+pub due-is : (old : Pending Sent) (new : TicketList) (now : ℕ) (overdue : Overdue) (due : Due) → IsOverdue old new now (Some overdue)
+    → ToldBy new overdue due → Dues (asking_of old) (asking_of new.list) now (Some due)
+due-is old new now (Again at) (Resend id octets) it told =
+    let same : told.0 ≡ resent (now + 1) it.0.entry = let both : Some told.0 ≡ Some (resent (now + 1) it.0.entry) = sym told.1 ∙ it.3 in cc in
+    record {
+      ticket = ticket_in it.0.entry;
+      others = map ticket_in it.0.others;
+      first = ap (map ticket_in) it.0.first;
+      over = it.0.over;
+      more = it.1;
+      id_is = told.2 ∙ ap (λ (entry : Entry Sent). entry.item.id) same;
+      octets_are = rw same at told.3;
+      left = ap asking_of it.2 ∙ (rw (mapped-placed (resent (now + 1) it.0.entry) it.0.others) refl);
+    }
+due-is old new now (Again at) (GaveUp id question) it told = absurd told
+due-is old new now Over (Resend id octets) it told = absurd told
+due-is old new now Over (GaveUp id question) it told =
+    let same : told.0 ≡ it.0.entry.item = let both : Some told.0 ≡ Some it.0.entry.item = sym told.1 ∙ it.2 in cc in
+    record {
+      ticket = ticket_in it.0.entry;
+      others = map ticket_in it.0.others;
+      first = ap (map ticket_in) it.0.first;
+      over = it.0.over;
+      enough = it.1;
+      id_is = told.2 ∙ ap (λ (sent : Sent). sent.id) same;
+      question_is = told.3 ∙ ap (λ (sent : Sent). sent.question) same;
+      left = ap asking_of it.3;
+    }

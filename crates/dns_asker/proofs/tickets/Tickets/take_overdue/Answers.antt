@@ -1,0 +1,64 @@
+use Rattle.std.proofs.Common.{◌≡◌, refl, ap, ◌∙◌, arith}
+use Rattle.pending_list.specs.Pending.{without}
+use Rattle.pending_list.specs.declared.entry.Entry.{Entry}
+use Rattle.dns_asker.proofs.Listing.{leader-found, leads, listed-resent, listed-rest, not-more, same-first}
+use Rattle.dns_asker.specs.Tickets.{Sent}
+use Rattle.dns_asker.proofs.tickets.Tickets.take_overdue.Goals as goal
+
+pub returns-then-deadline-get : goal.returns-then-deadline-get
+returns-then-deadline-get c =
+    let now = c.get.ensures.seconds in
+    let late = c.if-deadline-get.true in
+    rw (← c.self.view_is) (refl, λ k d small. let least = c.in_ok-at.ensures.least k d small in omega (arith, now, late, least))
+
+pub invariant_of-self : goal.invariant_of-self
+invariant_of-self c =
+    let it = leads c.self.inside.list.entries c.in_ok-at.at c.in_ok-at.deadline c.in_ok-at.ensures.first in
+    let found = leader-found c.self.inside.list.entries c.in_ok-at.at c.in_ok-at.deadline c.stands_in_order.ensures.found it in
+    let more = (c.may_be_sent_again.ensures it.entry found).0 c.if-may_be_sent_again.true in
+    let sent = (c.send_again.ensures it.entry found).0 in
+    let rest : without it.entry.id c.self.inside.list.entries ≡ it.others = c.stands_in_order.ensures.first it.entry it.others it.whole in
+    let others : without c.in_ok-at.at c.self.inside.list.entries ≡ it.others = ap (λ id. without id c.self.inside.list.entries) it.at_is ∙ rest in
+    rw (sent, others) (listed-resent c.self.inside.list c.self.invariant it.entry it.others it.whole _ more)
+
+pub returns-then-may_be_sent_again : goal.returns-then-may_be_sent_again
+returns-then-may_be_sent_again c =
+    let it = leads c.self.inside.list.entries c.in_ok-at.at c.in_ok-at.deadline c.in_ok-at.ensures.first in
+    let found = leader-found c.self.inside.list.entries c.in_ok-at.at c.in_ok-at.deadline c.stands_in_order.ensures.found it in
+    let more = (c.may_be_sent_again.ensures it.entry found).0 c.if-may_be_sent_again.true in
+    let sent = c.send_again.ensures it.entry found in
+    let rest : without it.entry.id c.self.inside.list.entries ≡ it.others = c.stands_in_order.ensures.first it.entry it.others it.whole in
+    let others : without c.in_ok-at.at c.self.inside.list.entries ≡ it.others = ap (λ id. without id c.self.inside.list.entries) it.at_is ∙ rest in
+    let now = c.get.ensures.seconds in
+    let over = c.if-deadline-get.false in
+    let same = it.deadline_is in
+    let again = c.get-then-may_be_sent_again.ensures.seconds in
+    rw (← c.self.view_is) (
+      record { entry = it.entry; others = it.others; first = it.whole; over = omega (arith, now, over, same) },
+      more,
+      (sent.0 ∙ (rw (others, again) refl)),
+      (sent.1 ∙ (rw again refl)),
+    )
+
+pub invariant_of-self-2 : goal.invariant_of-self-2
+invariant_of-self-2 c =
+    rw c.in_ok-ticket.ensures.left
+    (listed-rest c.self.inside.list c.self.invariant (record { id = c.in_ok-ticket.field-0-0; deadline = c.in_ok-ticket.field-0-1; item = c.in_ok-ticket.ticket })
+    c.pop_due.new.self.entries c.in_ok-ticket.ensures.taken)
+
+pub returns : goal.returns
+returns c =
+    let it = leads c.self.inside.list.entries c.in_ok-at.at c.in_ok-at.deadline c.in_ok-at.ensures.first in
+    let found = leader-found c.self.inside.list.entries c.in_ok-at.at c.in_ok-at.deadline c.stands_in_order.ensures.found it in
+    let enough = not-more it.entry.item.sends _ (c.may_be_sent_again.ensures it.entry found) c.if-may_be_sent_again.false in
+    let first : Entry Sent = record { id = c.in_ok-ticket.field-0-0; deadline = c.in_ok-ticket.field-0-1; item = c.in_ok-ticket.ticket } in
+    let same = same-first c.self.inside.list.entries first it.entry c.pop_due.new.self.entries it.others c.in_ok-ticket.ensures.taken it.whole in
+    let sends = ap (λ (entry : Entry Sent). entry.item.sends) same.0 in
+    let now = c.get-2.ensures.seconds in
+    let over = c.in_ok-ticket.ensures.due in
+    rw (← c.self.view_is) (
+      record { entry = first; others = c.pop_due.new.self.entries; first = c.in_ok-ticket.ensures.taken; over = omega (arith, now, over) },
+      omega (arith, sends, enough),
+      refl,
+      c.in_ok-ticket.ensures.left,
+    )

@@ -1,0 +1,95 @@
+-- The tickets in an asker's list. No public clause cites this module.
+use Rattle.std.specs.Prelude.{◌≡◌, ℕ, ◌+◌, ◌-◌, ◌^◌, ◌==◌, ◌<◌, ◌≤◌, Bool, List, ◌∷◌, Option, Some, None, IsSome, Result, Ok, Err, length, map}
+use Rattle.std.specs.List.{All, filter, find}
+use Rattle.dns_message.specs.Written.{plain, query_of}
+use Rattle.pending_list.specs.Ids.{Id}
+use Rattle.pending_list.specs.Pending.{Pending, entry_of, placed}
+use Rattle.pending_list.specs.declared.entry.Entry.{Entry}
+use Rattle.dns_asker.specs.Events.{sent_again}
+use Rattle.dns_asker.specs.TicketLists.{TicketList}
+use Rattle.dns_asker.specs.Tickets.{Asking, IsSent, Sent, Ticket}
+use Rattle.dns_asker.specs.declared.due.Due.{Due}
+use Rattle.dns_asker.specs.declared.due.Due.TheVariants.{Resend, GaveUp}
+use Rattle.dns_asker.specs.declared.refusal.AskRefusal.{AskRefusal}
+use Rattle.dns_asker.specs.declared.refusal.AskRefusal.TheVariants.{IdTaken, Full, Spent, Memory}
+use Rattle.dns_asker.specs.declared.tickets.Overdue.{Overdue}
+use Rattle.dns_asker.specs.declared.tickets.Overdue.TheVariants.{Again, Over}
+
+abbrev pub ticket_in : Entry Sent → Ticket
+ticket_in entry = record { sent = entry.item; deadline = entry.deadline }
+
+abbrev pub asking_of : Pending Sent → Asking
+asking_of list = record { tickets = map ticket_in list.entries; limit = list.limit; serial = list.serial }
+
+abbrev pub is_of : ℕ → Entry Sent → Bool
+is_of id entry = entry.item.id == id
+
+-- the first entry of an id stands at this place
+pub record Finds (entries : List (Entry Sent)) (id : ℕ) (at : Id) : Type 0 where
+  pub entry : Entry Sent
+  pub first : find (is_of id) entries ≡ Some entry
+  pub there : entry_of at entries ≡ Some entry
+
+-- it was sent once more, and has another deadline
+abbrev pub resent : ℕ → Entry Sent → Entry Sent
+resent deadline entry = record entry { deadline = deadline; item = sent_again entry.item }
+
+-- at most one of each id, each sent once to three times
+pub record IsListed (list : Pending Sent) : Type 0 where
+  pub single : (id : ℕ) → length (filter (is_of id) list.entries) ≤ 1
+  pub sent : All (λ it. IsSent it.item) list.entries
+
+-- ---- what is done with the tickets in the list
+
+-- why none is opened under an id
+abbrev pub CannotOpen : Pending Sent → ℕ → AskRefusal → Type 0
+CannotOpen list id IdTaken = IsSome (find (is_of id) list.entries)
+CannotOpen list id Full = (find (is_of id) list.entries ≡ None) × (length list.entries ≡ list.limit)
+CannotOpen list id Spent =
+    (find (is_of id) list.entries ≡ None) × (length list.entries < list.limit) × (list.serial ≡ 2 ^ 64 - 1)
+CannotOpen list id Memory =
+    (find (is_of id) list.entries ≡ None) × (length list.entries < list.limit) × (list.serial < 2 ^ 64 - 1)
+
+-- what opening a ticket leaves and gives
+abbrev pub Opens : Pending Sent → Pending Sent → Sent → ℕ → Result Id AskRefusal → Type 0
+Opens old new sent now (Ok at) =
+    (new ≡ record old {
+      entries = placed (record { id = at; deadline = now + 1; item = sent }) old.entries;
+      serial = old.serial + 1;
+    })
+    × (entry_of at new.entries ≡ Some (record { id = at; deadline = now + 1; item = sent }))
+    × (find (is_of sent.id) old.entries ≡ None) × (length old.entries < old.limit) × (old.serial < 2 ^ 64 - 1)
+Opens old new sent now (Err refusal) = (new ≡ old) × CannotOpen old sent.id refusal
+
+-- the first entry, and the others
+pub record IsFirst (entries : List (Entry Sent)) (now : ℕ) : Type 0 where
+  pub entry : Entry Sent
+  pub others : List (Entry Sent)
+  pub first : entries ≡ entry ∷ others
+  pub over : entry.deadline ≤ now
+
+-- what a moment leaves of the list, and asks for
+abbrev pub IsOverdue : Pending Sent → TicketList → ℕ → Option Overdue → Type 0
+IsOverdue old new now None = (new.list ≡ old) × All (λ it. now < it.deadline) old.entries
+IsOverdue old new now (Some (Again at)) =
+    (first : IsFirst old.entries now) × (first.entry.item.sends < 3)
+    × (new.list ≡ record old { entries = placed (resent (now + 1) first.entry) first.others })
+    × (entry_of at new.list.entries ≡ Some (resent (now + 1) first.entry))
+IsOverdue old new now (Some Over) =
+    (first : IsFirst old.entries now) × (3 ≤ first.entry.item.sends) × (new.given_up ≡ Some first.entry.item)
+    × (new.list ≡ record old { entries = first.others })
+
+-- what is overdue is in the list, or was given up
+abbrev pub IsThere : TicketList → Overdue → Type 0
+IsThere it (Again at) = IsSome (entry_of at it.list.entries)
+IsThere it Over = IsSome it.given_up
+
+-- what is told of it
+abbrev pub ToldBy : TicketList → Overdue → Due → Type 0
+ToldBy it (Again at) (Resend id octets) =
+    (entry : Entry Sent) × (entry_of at it.list.entries ≡ Some entry) × (id ≡ entry.item.id)
+    × (octets.now ≡ plain (query_of entry.item.id entry.item.question))
+ToldBy it Over (GaveUp id question) =
+    (sent : Sent) × (it.given_up ≡ Some sent) × (id ≡ sent.id) × (question.now ≡ sent.question)
+ToldBy it (Again at) (GaveUp id question) = ⊥
+ToldBy it Over (Resend id octets) = ⊥

@@ -1,0 +1,9 @@
+-- How an asker keeps its tickets. No public clause cites this module.
+use Rattle.std.specs.Prelude.{Option}
+use Rattle.pending_list.specs.Pending.{Pending}
+use Rattle.dns_asker.specs.Tickets.{Sent}
+
+-- the tickets in their list, and the last one that was given up
+pub record TicketList : Type 0 where
+  pub list : Pending Sent
+  pub given_up : Option Sent

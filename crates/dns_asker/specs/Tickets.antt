@@ -1,0 +1,50 @@
+-- The questions that were sent and have no reply yet.
+use Rattle.std.specs.Prelude.{ℕ, ◌<◌, ◌≤◌, ◌==◌, nat_le, Bool, not, List, ◌∷◌, ◌++◌, length, Option}
+use Rattle.std.specs.List.{All, AllPairs, filter, find}
+use Rattle.dns_message.specs.declared.question.Question.{Question}
+
+-- a question that was sent: its id, and how often it was
+pub record Sent : Type 0 where
+  pub id : ℕ
+  pub question : Question
+  pub sends : ℕ
+
+-- it waits for its reply until this moment
+pub record Ticket : Type 0 where
+  pub sent : Sent
+  pub deadline : ℕ
+
+-- the tickets, how many may be open at once, and the number of the next one
+pub record Asking : Type 0 where
+  pub tickets : List Ticket
+  pub limit : ℕ
+  pub serial : ℕ
+
+abbrev pub has_id : ℕ → Ticket → Bool
+has_id id ticket = ticket.sent.id == id
+
+-- the ticket of an id
+abbrev pub ticket_of : ℕ → List Ticket → Option Ticket
+ticket_of id tickets = find (has_id id) tickets
+
+-- the tickets of the other ids
+abbrev pub without : ℕ → List Ticket → List Ticket
+without id tickets = filter (λ it. not (has_id id it)) tickets
+
+-- the tickets with one more: it stands behind all whose deadlines are not greater, in front of the others
+abbrev pub waiting_too : Ticket → List Ticket → List Ticket
+waiting_too ticket tickets =
+    filter (λ it. nat_le it.deadline ticket.deadline) tickets
+    ++ ticket ∷ filter (λ it. not (nat_le it.deadline ticket.deadline)) tickets
+
+-- it was sent once, twice or three times
+pub record IsSent (sent : Sent) : Type 0 where
+  pub some : 0 < sent.sends
+  pub few : sent.sends ≤ 3
+
+-- The tickets are always so: by deadline, at most one of each id, and no more than the limit.
+pub record IsAsking (asking : Asking) : Type 0 where
+  pub in_order : AllPairs (λ ticket later. ticket.deadline ≤ later.deadline) asking.tickets
+  pub single : (id : ℕ) → length (filter (has_id id) asking.tickets) ≤ 1
+  pub sent : All (λ ticket. IsSent ticket.sent) asking.tickets
+  pub few : length asking.tickets ≤ asking.limit

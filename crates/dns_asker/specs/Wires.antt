@@ -1,0 +1,29 @@
+-- What a wire does.
+use Rattle.std.specs.Prelude.{ℕ, ◌≤◌, List, take, Option, Some, None, Result, Ok, Err}
+
+-- a datagram of so many octets stands in front of the buffer, and it is one that the wire may give
+pub record IsGiven (gives : List ℕ → Type 0) (count : ℕ) (buffer : List ℕ) : Type 0 where
+  pub fits : count ≤ 4096
+  pub octets : gives (take count buffer)
+
+-- what a call of a wire did
+pub data Event (Peer : Type 0) : Type 0 where
+  -- it failed
+  fault : Event Peer
+  -- it received nothing
+  nothing : Event Peer
+  -- it received this datagram from this peer
+  received : List ℕ → Peer → Event Peer
+  -- it sent this datagram to this peer
+  sent : List ℕ → Peer → Event Peer
+
+-- what a receive did
+abbrev pub receipt : {Peer E : Type 0} → Result (Option (ℕ × Peer)) E → List ℕ → Event Peer
+receipt (Err _) buffer = fault
+receipt (Ok None) buffer = nothing
+receipt (Ok (Some (count, peer))) buffer = received (take count buffer) peer
+
+-- what a send did
+abbrev pub dispatch : {Peer E : Type 0} → Result Unit E → List ℕ → Peer → Event Peer
+dispatch (Err _) octets peer = fault
+dispatch (Ok _) octets peer = sent octets peer

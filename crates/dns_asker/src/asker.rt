@@ -1,0 +1,119 @@
+//! The questions that were sent, from the first time until the wait for a reply ends.
+ghost use Rattle.std.specs.Prelude.{◌≡◌, ◌≤◌, [], None, IfErr, IfOk, OnErr};
+ghost use Rattle.dns_answers.specs.Replies.{reply_refusal};
+ghost use Rattle.dns_asker.specs.Events.{Asks, Dues, EndsBy, IsNoReply, MayWant, Means, left_by};
+ghost use Rattle.dns_asker.specs.Tickets.{IsAsking};
+
+use crate::datagram::message_in;
+use crate::due::Due;
+use crate::incoming::{Ending, Incoming, Why};
+use crate::refusal::AskRefusal;
+use crate::tickets::Tickets;
+use dns_answers::{Moment, ReplyRefusal, answer_of};
+use dns_message::{Message, Question};
+use std::alloc::{AllocError, Global};
+use std::marker::Model;
+
+/// The questions that wait for their replies, each known by the id of its messages.
+#[derive(Drop)]
+pub struct Asker {
+    alloc: Global,
+    tickets: Tickets,
+}
+
+impl Model for Asker {
+    ghost use Rattle.dns_asker.specs.Tickets.{Asking};
+    ghost use Rattle.dns_asker.specs.Listed.{asking_of};
+
+    ghost Value = { Asking };
+
+    ghost view = { λ it. asking_of it.tickets.list };
+}
+
+impl Asker {
+    ghost use Rattle.std.specs.Borrow.{sem};
+    ghost use Rattle.std.specs.Io.BufRead.{Rests};
+    ghost use Rattle.dns_asker.specs.contracts.asker.Asker.{the_row};
+
+    /// Nothing is asked. At most so many questions wait at once; the tickets are numbered from the serial on.
+    pub fn new(alloc: Global, limit: usize, serial: u64) -> Result<Asker, AllocError>
+        requires some { 1 ≤ limit }
+        requires few { limit ≤ 256 }
+        ensures { IfOk result (λ it. it ≡ record { tickets = []; limit = limit; serial = serial }) }
+    {
+        Ok(Asker {
+            alloc,
+            tickets: Tickets::new(alloc, limit, serial)?,
+        })
+    }
+
+    /// A law: the tickets stand by deadline, each of an id of its own, sent once to three times, and they are no more than
+    /// the limit. A call does nothing: its contract tells its caller so.
+    pub fn stands_in_order(&self)
+        ensures { IsAsking self.now }
+    {
+        self.tickets.stands_in_order();
+    }
+
+    /// Asks a question under an id that is not open, and gives the octets to send for it.
+    pub fn ask(&mut self, question: Question, id: u16, now: Moment) -> Result<&[u8], AskRefusal>
+        ensures* asks { sem 𝓛 (Rests the_row self.entry (λ ended. Asks self.old ended id question now result)) }
+    {
+        match self.tickets.open(self.alloc, question, id, now) {
+            Ok(at) => Ok(self.tickets.octets_at(at)),
+            Err(refusal) => Err(refusal),
+        }
+    }
+
+    /// Takes octets that came in.
+    pub fn incoming(&mut self, octets: &[u8]) -> Result<Incoming, AllocError>
+        ensures means { IfOk result (λ it. Means self.old octets.now it) }
+        ensures left { IfOk result (λ it. self.new ≡ left_by it self.old) }
+        ensures unchanged { OnErr result (self.new ≡ self.old) }
+        ensures wanted { OnErr result (MayWant self.old octets.now) }
+    {
+        let Some(message) = message_in(self.alloc, octets)? else {
+            return Ok(Incoming::Ignored(Why::NotSpelled));
+        };
+        let Some(at) = self.tickets.place_of(message.header.id) else {
+            return Ok(Incoming::Ignored(Why::UnknownId));
+        };
+        let ending = match ending_of(self.alloc, self.tickets.question_at(at), &message)? {
+            Ok(ending) => ending,
+            Err(why) => return Ok(Incoming::Ignored(why)),
+        };
+        let (id, question) = self.tickets.close(at);
+        Ok(Incoming::Ended(id, question, ending))
+    }
+
+    /// What is to be done at a moment about the first question whose reply did not come in time. There may be more of them:
+    /// it is called again until it gives nothing. Takes no memory.
+    #[must_use]
+    pub fn due(&mut self, now: Moment) -> Option<Due<'_>>
+        ensures* dues { sem 𝓛 (Rests the_row self.entry (λ ended. Dues self.old ended now result)) }
+    {
+        match self.tickets.take_overdue(now) {
+            Some(overdue) => Some(self.tickets.due_of(overdue)),
+            None => None,
+        }
+    }
+}
+
+/// How the wait for a reply to a question ends by a message, or why the message is no reply to it.
+fn ending_of(
+    alloc: Global,
+    question: &Question,
+    message: &Message,
+) -> Result<Result<Ending, Why>, AllocError>
+    ensures ends { IfOk result (λ it. IfOk it (EndsBy question.now message.now)) }
+    ensures ignored { IfOk result (λ it. IfErr it (IsNoReply question.now message.now)) }
+    ensures wanted { OnErr result (reply_refusal question.now message.now ≡ None) }
+{
+    match answer_of(alloc, question, message) {
+        Ok(answer) => Ok(Ok(Ending::Answered(answer))),
+        Err(ReplyRefusal::NotReply) => Ok(Err(Why::NotReply)),
+        Err(ReplyRefusal::OtherQuestion) => Ok(Err(Why::OtherQuestion)),
+        Err(ReplyRefusal::Memory) => Err(AllocError),
+        Err(fault) => Ok(Ok(Ending::Faulty(fault))),
+    }
+}

@@ -1,0 +1,11 @@
+//! What a moment asks for.
+use dns_message::Question;
+
+/// What is to be done about a question whose reply did not come in time.
+#[derive(Debug, Drop)]
+pub enum Due<'a> {
+    /// The octets of the question of this id are to be sent once more.
+    Resend(u16, &'a [u8]),
+    /// It was sent three times: the question of this id waits no longer.
+    GaveUp(u16, &'a Question),
+}

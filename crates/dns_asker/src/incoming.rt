@@ -1,0 +1,34 @@
+//! What octets that came in mean.
+use dns_answers::{Answer, ReplyRefusal};
+use dns_message::Question;
+
+/// What octets that came in mean for the questions that wait.
+#[derive(Debug, Drop)]
+pub enum Incoming {
+    /// The question of this id waits no longer.
+    Ended(u16, Question, Ending),
+    /// They are no reply to a question that waits. All stays as it was.
+    Ignored(Why),
+}
+
+/// How the wait for a reply ends.
+#[derive(Debug, Drop)]
+pub enum Ending {
+    /// The reply has this answer.
+    Answered(Answer),
+    /// The reply was cut (`Truncated`), or tells a fault of the server (`ServerFault`).
+    Faulty(ReplyRefusal),
+}
+
+/// Why octets are no reply to a question that waits, in the order in which it is asked.
+#[derive(Clone, Copy, Debug, PartialEq, Eq)]
+pub enum Why {
+    /// There are more than 65,535 octets, or no message stands in front of them.
+    NotSpelled,
+    /// No question of the message's id waits.
+    UnknownId,
+    /// The message is no reply to a standard query.
+    NotReply,
+    /// It does not repeat the question of this id alone.
+    OtherQuestion,
+}

@@ -1,0 +1,90 @@
+//! A question that was sent and has no reply yet.
+ghost use Rattle.std.specs.Prelude.{◌≡◌, ◌↔◌, ◌<◌, IfOk, IsTrue};
+ghost use Rattle.dns_message.specs.Written.{plain, query_of};
+ghost use Rattle.dns_asker.specs.Events.{sent_again};
+
+use dns_message::{Question, write_query};
+use std::alloc::{AllocError, Global};
+use std::marker::Model;
+
+/// How often a question is sent.
+const SEND_LIMIT: u8 = 3;
+
+/// A question that was sent, its octets, and how often it was.
+#[derive(Drop)]
+pub(crate) struct Ticket {
+    id: u16,
+    question: Question,
+    octets: Vec<u8>,
+    sends: u8,
+}
+
+impl Model for Ticket {
+    ghost use Rattle.dns_asker.specs.Tickets.{Sent};
+
+    ghost Value = { Sent };
+
+    ghost use Rattle.dns_asker.specs.Kept.{HasItsOctets};
+
+    ghost view = { λ it. record { id = it.id; question = it.question; sends = it.sends } };
+
+    ghost invariant = { λ it. HasItsOctets it };
+}
+
+impl Ticket {
+    /// A question that is sent for the first time.
+    pub(crate) fn new(alloc: Global, id: u16, question: Question) -> Result<Ticket, AllocError>
+        ensures { IfOk result (λ it. it ≡ record { id = id; question = question; sends = 1 }) }
+    {
+        let octets = write_query(alloc, id, &question)?;
+        Ok(Ticket {
+            id,
+            question,
+            octets,
+            sends: 1,
+        })
+    }
+
+    /// Its id.
+    pub(crate) fn id(&self) -> u16
+        ensures { result ≡ self.now.id }
+    {
+        self.id
+    }
+
+    /// The question.
+    pub(crate) fn question(&self) -> &Question
+        ensures { result.now ≡ self.now.question }
+    {
+        &self.question
+    }
+
+    /// The octets that are sent.
+    pub(crate) fn octets(&self) -> &[u8]
+        ensures { result.now ≡ plain (query_of self.now.id self.now.question) }
+    {
+        self.octets.as_slice()
+    }
+
+    /// Whether it may be sent once more: a question is sent three times.
+    pub(crate) fn may_be_sent_again(&self) -> bool
+        ensures { IsTrue result ↔ (self.now.sends < 3) }
+    {
+        self.sends < SEND_LIMIT
+    }
+
+    /// Counts one send more.
+    pub(crate) fn send_again(&mut self)
+        requires { self.old.sends < 3 }
+        ensures { self.new ≡ sent_again self.old }
+    {
+        self.sends += 1;
+    }
+
+    /// Its id and its question.
+    pub(crate) fn into_parts(self) -> (u16, Question)
+        ensures { result ≡ (self.id, self.question) }
+    {
+        (self.id, self.question)
+    }
+}

@@ -1,0 +1,205 @@
+//! The tickets of an asker in their list.
+ghost use Rattle.std.specs.Prelude.{◌≡◌, ◌↔◌, ◌<◌, ◌≤◌, [], Some, None, IsSome, IfOk, IsTrue, MatchOption};
+ghost use Rattle.std.specs.List.{find};
+ghost use Rattle.dns_message.specs.Written.{plain, query_of};
+ghost use Rattle.pending_list.specs.Pending.{entry_of, placed, without};
+ghost use Rattle.pending_list.specs.declared.entry.Entry.{Entry};
+ghost use Rattle.dns_asker.specs.Events.{closed};
+ghost use Rattle.dns_asker.specs.Listed.{Finds, IsOverdue, IsThere, Opens, ToldBy, asking_of, is_of, resent};
+ghost use Rattle.dns_asker.specs.Tickets.{IsAsking, Sent};
+
+use crate::due::Due;
+use crate::refusal::AskRefusal;
+use crate::ticket::Ticket;
+use dns_answers::Moment;
+use dns_message::Question;
+use pending_list::{InsertRefusal, PendingId, PendingList};
+use std::alloc::{AllocError, Global};
+use std::marker::Model;
+
+/// How long a reply is waited for, in seconds, before the question is sent once more or given up.
+const WAIT: u64 = 1;
+
+/// What is to be done about the first ticket, since no reply came in time.
+#[derive(Clone, Copy)]
+pub(crate) enum Overdue {
+    /// The question of the ticket at this place is sent once more.
+    Again(PendingId),
+    /// The question of the ticket that was closed last waits no longer.
+    Over,
+}
+
+/// The tickets by their deadlines, at most one of each id, and the last one that was given up, for who is told of it.
+#[derive(Drop)]
+pub(crate) struct Tickets {
+    list: PendingList<Ticket>,
+    given_up: Option<Ticket>,
+}
+
+impl Model for Tickets {
+    ghost use Rattle.dns_asker.specs.TicketLists.{TicketList};
+
+    ghost Value = { TicketList };
+
+    ghost use Rattle.dns_asker.specs.Listed.{IsListed};
+
+    ghost view = { λ it. record { list = it.list; given_up = it.given_up } };
+
+    ghost invariant = { λ it. IsListed it.list };
+}
+
+impl Tickets {
+    /// None; at most so many, numbered from the serial on.
+    pub(crate) fn new(alloc: Global, limit: usize, serial: u64) -> Result<Tickets, AllocError>
+        requires some { 1 ≤ limit }
+        requires few { limit ≤ 256 }
+        ensures { IfOk result (λ it. it.list ≡ record { entries = []; limit = limit; serial = serial }) }
+    {
+        Ok(Tickets {
+            list: PendingList::new(alloc, limit, serial)?,
+            given_up: None,
+        })
+    }
+
+    /// What holds of them.
+    pub(crate) fn stands_in_order(&self)
+        ensures { IsAsking (asking_of self.now.list) }
+    {
+        self.list.stands_in_order();
+    }
+
+    /// The place of the ticket of an id.
+    pub(crate) fn place_of(&self, id: u16) -> Option<PendingId>
+        ensures { MatchOption result (find (is_of id) self.now.list.entries ≡ None) (Finds self.now.list.entries id) }
+    {
+        self.list.stands_in_order();
+        for (at, _, ticket) in self.list.walk() {
+            if ticket.id() == id {
+                return Some(at);
+            }
+        }
+        None
+    }
+
+    /// The question of the ticket at a place.
+    pub(crate) fn question_at(&self, at: PendingId) -> &Question
+        requires { IsSome (entry_of at self.now.list.entries) }
+        ensures { (entry : Entry Sent) → entry_of at self.now.list.entries ≡ Some entry → result.now ≡ entry.item.question }
+    {
+        match self.list.get(at) {
+            Some(ticket) => ticket.question(),
+            None => unreachable!(),
+        }
+    }
+
+    /// Opens a ticket for a question that is sent now, and gives its place.
+    pub(crate) fn open(
+        &mut self,
+        alloc: Global,
+        question: Question,
+        id: u16,
+        now: Moment,
+    ) -> Result<PendingId, AskRefusal>
+        ensures { Opens self.old.list self.new.list (record { id = id; question = question; sends = 1 }) now result }
+    {
+        if self.place_of(id).is_some() {
+            return Err(AskRefusal::IdTaken);
+        }
+        match self.list.can_insert() {
+            Ok(()) => {}
+            Err(InsertRefusal::Full) => return Err(AskRefusal::Full),
+            Err(InsertRefusal::SerialSpent) => return Err(AskRefusal::Spent),
+            Err(InsertRefusal::Memory) => return Err(AskRefusal::Memory),
+        }
+        let Ok(ticket) = Ticket::new(alloc, id, question) else {
+            return Err(AskRefusal::Memory);
+        };
+        let Ok(at) = self.list.insert(now.get() + WAIT, ticket) else {
+            return Err(AskRefusal::Memory);
+        };
+        Ok(at)
+    }
+
+    /// The octets of the ticket at a place.
+    pub(crate) fn octets_at(&self, at: PendingId) -> &[u8]
+        requires { IsSome (entry_of at self.now.list.entries) }
+        ensures { (entry : Entry Sent) → entry_of at self.now.list.entries ≡ Some entry
+            → result.now ≡ plain (query_of entry.item.id entry.item.question) }
+    {
+        match self.list.get(at) {
+            Some(ticket) => ticket.octets(),
+            None => unreachable!(),
+        }
+    }
+
+    /// Closes the ticket at a place, and gives its id and its question.
+    pub(crate) fn close(&mut self, at: PendingId) -> (u16, Question)
+        requires { IsSome (entry_of at self.old.list.entries) }
+        ensures { (entry : Entry Sent) → entry_of at self.old.list.entries ≡ Some entry
+            → (result.0 ≡ entry.item.id) × (result.1 ≡ entry.item.question)
+            × (asking_of self.new.list ≡ closed entry.item.id (asking_of self.old.list)) }
+    {
+        match self.list.remove(at) {
+            Some(ticket) => ticket.into_parts(),
+            None => unreachable!(),
+        }
+    }
+
+    /// The first ticket whose deadline is over at a moment: it is sent once more, or closed.
+    pub(crate) fn take_overdue(&mut self, now: Moment) -> Option<Overdue>
+        ensures { IsOverdue self.old.list self.new now result }
+    {
+        let (at, deadline) = self.list.first()?;
+        if deadline > now.get() {
+            return None;
+        }
+        self.list.stands_in_order();
+        if may_be_sent_again(&self.list, at) {
+            send_again(&mut self.list, at, now.get() + WAIT);
+            return Some(Overdue::Again(at));
+        }
+        let (_, _, ticket) = self.list.pop_due(now.get())?;
+        self.given_up = Some(ticket);
+        Some(Overdue::Over)
+    }
+
+    /// What is told of it.
+    pub(crate) fn due_of(&self, overdue: Overdue) -> Due<'_>
+        requires { IsThere self.now overdue }
+        ensures { ToldBy self.now overdue result }
+    {
+        match overdue {
+            Overdue::Again(at) => match self.list.get(at) {
+                Some(ticket) => Due::Resend(ticket.id(), ticket.octets()),
+                None => unreachable!(),
+            },
+            Overdue::Over => match &self.given_up {
+                Some(ticket) => Due::GaveUp(ticket.id(), ticket.question()),
+                None => unreachable!(),
+            },
+        }
+    }
+}
+
+/// Whether the ticket at a place may be sent once more.
+fn may_be_sent_again(list: &PendingList<Ticket>, at: PendingId) -> bool
+    ensures { (entry : Entry Sent) → entry_of at list.now.entries ≡ Some entry → (IsTrue result ↔ (entry.item.sends < 3)) }
+{
+    match list.get(at) {
+        Some(ticket) => ticket.may_be_sent_again(),
+        None => false,
+    }
+}
+
+/// Counts one send more of the ticket at a place, and gives it another deadline.
+fn send_again(list: &mut PendingList<Ticket>, at: PendingId, deadline: u64)
+    requires { (entry : Entry Sent) → entry_of at list.old.entries ≡ Some entry → entry.item.sends < 3 }
+    ensures { (entry : Entry Sent) → entry_of at list.old.entries ≡ Some entry
+        → (list.new ≡ record list.old { entries = placed (resent deadline entry) (without at list.old.entries) })
+        × (entry_of at list.new.entries ≡ Some (resent deadline entry)) }
+{
+    if let Some(ticket) = list.get_mut(at) {
+        ticket.send_again();
+    }
+    list.move_to(at, deadline);
+}

@@ -1,0 +1,131 @@
+//! A question over UDP, to a server on another thread, and to the one that the environment names.
+use super::{UdpServerWire, UdpWire};
+use dns_answers::{Records, answer_of};
+use dns_asker::{DATAGRAM_LIMIT, PeerWire, Wire, Zone, serve};
+use dns_message::{Kind, Question, read_message};
+use dns_name::Name;
+use std::alloc::Global;
+use std::env::{self, VarError};
+use std::net::{Ipv4Addr, Net, SocketAddr};
+use std::rt::Env;
+use std::sync::Arc;
+use std::sync::atomic::{AtomicBool, Ordering};
+use std::test::Fail;
+use std::{io, thread};
+
+/// The query for the addresses of a.example.
+const QUERY: &[u8; 27] =
+    b"\x12\x34\x01\x00\x00\x01\x00\x00\x00\x00\x00\x00\x01a\x07example\x00\x00\x01\x00\x01";
+
+/// How often it is sent, at most, until a reply comes.
+const TRIES: u64 = 50;
+
+/// Names a DNS server that answers from the same zone, by its address and port.
+const SERVER: &str = "SIPLOCATE_TEST_SERVER";
+
+/// Whether octets are an authoritative reply to the query with the address 192.0.2.7, which lives for 300 seconds; if
+/// there is memory.
+fn is_right(alloc: Global, octets: &[u8]) -> Option<bool> {
+    let name = Name::from_text(alloc, "a.example").ok()?;
+    let question = Question {
+        name,
+        kind: Kind::A,
+    };
+    let message = read_message(alloc, octets).ok()?;
+    let answer = answer_of(alloc, &question, &message).ok()?;
+    let addresses = match answer.records() {
+        Records::V4(addresses) => addresses.as_slice(),
+        _ => return None,
+    };
+    Some(
+        message.header.id == 0x1234
+            && message.header.authoritative
+            && addresses == [[192, 0, 2, 7]].as_slice()
+            && answer.life() == 300,
+    )
+}
+
+/// Asks a server until a reply comes, and tells whether that is right.
+fn is_answered<R: Net + AllocGlobal>(rt: &R, server: SocketAddr) -> io::Result<bool> {
+    let mut wire = UdpWire::connect(rt, server)?;
+    let mut buffer = [0; DATAGRAM_LIMIT];
+    for _ in 0..TRIES {
+        if wire.failures() > TRIES {
+            break;
+        }
+        let _ = wire.send(QUERY);
+        if let Ok(Some(count)) = wire.receive(&mut buffer) {
+            return Ok(is_right(rt.alloc(), &buffer[..count]) == Some(true));
+        }
+    }
+    Ok(false)
+}
+
+/// The server that the environment names, if it does.
+fn named_server<R: Env + AllocGlobal>(rt: &R) -> Result<Option<SocketAddr>, Fail> {
+    match env::var(rt, SERVER) {
+        Ok(text) => match text.as_str().parse::<SocketAddr>() {
+            Ok(server) => Ok(Some(server)),
+            Err(_) => Err(Fail::new(format_args!("{text} is no address and port"))),
+        },
+        Err(VarError::NotPresent) => Ok(None),
+        Err(_) => Err(Fail::new(format_args!("{SERVER} could not be read"))),
+    }
+}
+
+#[test]
+fn answer_over_udp(rt: HostRuntime) -> Result<(), Fail> {
+    let Ok(zone) = Zone::read(rt.alloc(), "a.example. 300 A 192.0.2.7") else {
+        return Err(Fail::new(format_args!("the zone was not read")));
+    };
+    let mut wire = UdpServerWire::bind(&rt, SocketAddr::from((Ipv4Addr::LOCALHOST, 0)))?;
+    let own = wire.address()?;
+    let stop = Arc::new(rt.alloc(), AtomicBool::new(false))?;
+    let seen = Arc::try_clone(&stop)?;
+    let server = thread::spawn(&rt, move || serve(&rt, rt.alloc(), &mut wire, &zone, &seen))?;
+    let is_right = is_answered(&rt, own);
+    stop.store(true, Ordering::SeqCst);
+    assert!(rt; server.join(&rt) >= 1);
+    assert!(rt; is_right?);
+    if let Some(server) = named_server(&rt)? {
+        assert!(rt; is_answered(&rt, server)?, "{server}");
+    }
+    Ok(())
+}
+
+/// What a wire gives of datagrams that a sender repeats until something is given.
+fn first_given(
+    wire: &mut UdpWire,
+    sender: &mut UdpServerWire,
+    octets: &[u8],
+    client: SocketAddr,
+) -> Option<usize> {
+    let mut buffer = [0; DATAGRAM_LIMIT];
+    for _ in 0..3 {
+        if wire.failures() > TRIES || sender.failures() > TRIES {
+            break;
+        }
+        let _ = sender.send(octets, client);
+        if let Ok(Some(count)) = wire.receive(&mut buffer) {
+            return Some(count);
+        }
+    }
+    None
+}
+
+#[test]
+fn datagrams_of_the_server_alone(rt: HostRuntime) -> Result<(), Fail> {
+    let local = SocketAddr::from((Ipv4Addr::LOCALHOST, 0));
+    let mut server = UdpServerWire::bind(&rt, local)?;
+    let mut other = UdpServerWire::bind(&rt, local)?;
+    let mut wire = UdpWire::connect(&rt, server.address()?)?;
+    let client = wire.wire.address()?;
+    let given = first_given(&mut wire, &mut other, b"other", client);
+    assert_eq!(rt; given, None);
+    let long = [7; 5000];
+    for (octets, count) in [(b"".as_slice(), 0), (b"server", 6), (&long, DATAGRAM_LIMIT)] {
+        let given = first_given(&mut wire, &mut server, octets, client);
+        assert_eq!(rt; given, Some(count));
+    }
+    Ok(())
+}
