@@ -2,6 +2,7 @@ pub mod Listing
 pub mod Resending
 pub mod Dues
 pub mod Reading
+pub mod Orders
 pub mod ZoneLookups
 pub mod ZonePaths
 pub mod ZoneHeaders

@@ -74,7 +74,7 @@ module _ {X : Type 0} (p q : X → Bool) where
   both-by x xs false true is of both = rw (is, of) omega (arith, both)
   both-by x xs false false is of both = rw (is, of) both
 
-  both : (xs : List X) → length (filter q (filter p xs)) + length (filter q (filter (λ it. not (p it)) xs)) ≡ length (filter q xs)
+  pub both : (xs : List X) → length (filter q (filter p xs)) + length (filter q (filter (λ it. not (p it)) xs)) ≡ length (filter q xs)
   both [] = refl
   both (x ∷ xs) = both-by x xs (p x) (q x) refl refl (both xs)
 

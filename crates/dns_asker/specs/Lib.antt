@@ -1,6 +1,7 @@
 pub mod Datagrams
 pub mod Tickets
 pub mod Events
+pub mod Runs
 pub mod Kept
 pub mod TicketLists
 pub mod Listed

@@ -36,6 +36,7 @@
 #![tactic(auto)]
 
 mod asker;
+mod asker_laws;
 mod clock;
 mod datagram;
 mod due;
@@ -56,6 +57,7 @@ mod zone_reply;
 mod zone_text;
 
 pub use asker::Asker;
+pub use asker_laws::asking_stays_in_order;
 pub use clock::Clock;
 pub use due::Due;
 pub use incoming::{Ending, Incoming, Why};
