@@ -4,8 +4,8 @@ use Rattle.std.proofs.lemmas.Bool.{eqb-true, eqb-false, eq-eqb, ne_eqb}
 use Rattle.std.proofs.lemmas.List.{map-append, length-append, append_assoc, append-nil, get_or-replicate, length-set, get_or-set_same, get_or-set_other}
 use Rattle.std.proofs.lemmas.List.Elements.{filter-append, All-nil, All-push}
 use Rattle.answer_cache.specs.Chains.{IsChain, none, some, IsGroup, IsKept, no_group, store_in, stores_in}
-use Rattle.answer_cache.specs.Groups.{group_of}
-use Rattle.answer_cache.specs.Histories.{Store, IsHistory, IsSound, in_group, mine}
+use Rattle.answer_log.specs.Groups.{group_of}
+use Rattle.answer_log.specs.Histories.{Store, IsHistory, IsSound, in_group, mine}
 use Rattle.answer_cache.specs.declared.store_list.Entry.{Entry}
 use Rattle.answer_cache.specs.declared.store_list.Group.{Group}
 

@@ -3,7 +3,7 @@ ghost use Rattle.std.specs.Prelude.{◌≡◌, ◌∷◌, ◌++◌, [], IfErr, I
 ghost use Rattle.std.specs.Arc.{arc_value};
 ghost use Rattle.std.specs.Option.{option_map};
 ghost use Rattle.dns_answers.specs.Records.{kind_of};
-ghost use Rattle.answer_cache.specs.Histories.{cached};
+ghost use Rattle.answer_log.specs.Histories.{cached};
 ghost use Rattle.answer_cache.specs.Seats.{GoesOn, IsRefused, IsSeat, IsStored, SeatView, StoresNothing, offer_of};
 
 use crate::refusal::StoreRefusal;

@@ -3,7 +3,7 @@ ghost use Rattle.std.specs.Prelude.{◌≡◌, ◌≢◌, None, [], IfErr, IfOk,
 ghost use Rattle.std.specs.Arc.{arc_value};
 ghost use Rattle.std.specs.Option.{option_map};
 ghost use Rattle.dns_answers.specs.Records.{kind_of};
-ghost use Rattle.answer_cache.specs.Histories.{cached};
+ghost use Rattle.answer_log.specs.Histories.{cached};
 ghost use Rattle.answer_cache.specs.Lists.{IsListSeat, Refuses, Takes, offered_too, seat_at, stored_too};
 ghost use Rattle.answer_cache.specs.Seats.{offer_of};
 

@@ -5,7 +5,7 @@ ghost use Rattle.std.specs.List.{last_or};
 ghost use Rattle.std.specs.Option.{option_map};
 ghost use Rattle.dns_answers.specs.Records.{kind_of};
 ghost use Rattle.answer_cache.specs.Chains.{store_in};
-ghost use Rattle.answer_cache.specs.Histories.{IsHistory, cached, mine, stores_of};
+ghost use Rattle.answer_log.specs.Histories.{IsHistory, cached, mine, stores_of};
 ghost use Rattle.answer_cache.specs.Lists.{Refuses, Takes, own_store};
 ghost use Rattle.answer_cache.specs.Seats.{offer_of};
 
@@ -45,7 +45,7 @@ pub(crate) struct StoreList {
 
 impl Model for StoreList {
     ghost use Rattle.std.specs.Prelude.{List};
-    ghost use Rattle.answer_cache.specs.Histories.{Store};
+    ghost use Rattle.answer_log.specs.Histories.{Store};
     ghost use Rattle.answer_cache.specs.Chains.{IsKept, stores_in};
 
     ghost Value = { List Store };

@@ -1,6 +1,6 @@
 -- The book of a talk.
 use Rattle.std.specs.Prelude.{◌≡◌, List, [], None}
-use Rattle.answer_cache.specs.Histories.{stores_of}
+use Rattle.answer_log.specs.Histories.{stores_of}
 use Rattle.answer_cache.specs.Lists.{IsListSeat}
 use Rattle.answer_cache.specs.Seats.{SeatView}
 use Rattle.dns_message.specs.declared.question.Question.{Question}

@@ -1,11 +1,11 @@
 //! The group of a question.
 ghost use Rattle.std.specs.Prelude.{◌≡◌, ◌<◌};
-ghost use Rattle.answer_cache.specs.Groups.{group_of, hash_more};
+ghost use Rattle.answer_log.specs.Groups.{group_of, hash_more};
 
 use dns_message::Question;
 
 /// How many groups there are.
-pub(crate) const GROUP_COUNT: u8 = 64;
+pub const GROUP_COUNT: u8 = 64;
 
 /// The hash with one octet more (FNV-1a, 32 bits).
 fn hash_more(hash: u32, octet: u8) -> u32

@@ -5,14 +5,8 @@ use Rattle.dns_answers.specs.Records.{kind_of}
 use Rattle.dns_answers.specs.Values.{AnswerValue}
 use Rattle.dns_message.specs.Questions.{same_question}
 use Rattle.dns_message.specs.declared.question.Question.{Question}
-use Rattle.answer_cache.specs.Groups.{group_of}
-
--- a store: the number of its seat, the question, the answer, and the moment at which its life begins, in seconds
-pub record Store : Type 0 where
-  pub seat : ℕ
-  pub question : Question
-  pub answer : AnswerValue
-  pub moment : ℕ
+use Rattle.answer_log.specs.Groups.{group_of}
+use Rattle.answer_log.specs.declared.store.Store.{Store}
 
 -- the stores of a question
 abbrev pub stores_of : Question → List Store → List Store

@@ -1,0 +1,166 @@
+-- What stands in a log, and what follows when it grows.
+use Rattle.std.proofs.Common.{◌≡◌, ◌≢◌, ℕ, ◌+◌, ◌<◌, ◌⊎◌, inl, inr, true, false, List, [], ◌∷◌, ◌++◌, refl, ap, sym, ◌∙◌, subst, arith, append_assoc}
+use mathlib.Core.List.{IsPrefix}
+use Rattle.logbook.specs.Pages.{Cell, cell}
+use Rattle.answer_log.specs.declared.store.Store.{Store}
+use Rattle.answer_log.specs.declared.event.Event.{Event}
+use Rattle.answer_log.specs.declared.event.Event.TheVariants.{Asks, Named, Placed}
+use Rattle.answer_log.specs.Logs.{seat_of, history, top_from, top, Linked, Quiet, In, Unplaced, Once}
+
+pub history-append : (xs ys : List Event) → history (xs ++ ys) ≡ history xs ++ history ys
+history-append [] ys = refl
+history-append (Asks s t ∷ xs) ys = history-append xs ys
+history-append (Named n x l ∷ xs) ys = history-append xs ys
+history-append (Placed n x l ∷ xs) ys = ap (λ w. x ∷ w) (history-append xs ys)
+
+pub top-append : (p : ℕ) (xs ys : List Event) → top_from p (xs ++ ys) ≡ top_from (top_from p xs) ys
+top-append p [] ys = refl
+top-append p (Asks s t ∷ xs) ys = top-append p xs ys
+top-append p (Named n x l ∷ xs) ys = top-append p xs ys
+top-append p (Placed n x l ∷ xs) ys = top-append n xs ys
+
+pub linked-right : (cs : List Cell) (p : ℕ) (xs ys : List Event) → Linked cs p (xs ++ ys) → Linked cs (top_from p xs) ys
+linked-right cs p [] ys h = h
+linked-right cs p (Asks s t ∷ xs) ys h = linked-right cs p xs ys h
+linked-right cs p (Named n x l ∷ xs) ys h = linked-right cs p xs ys h
+linked-right cs p (Placed n x l ∷ xs) ys h = linked-right cs n xs ys h.2
+
+pub linked-append : (cs : List Cell) (p : ℕ) (xs ys : List Event) → Linked cs p xs → Linked cs (top_from p xs) ys → Linked cs p (xs ++ ys)
+linked-append cs p [] ys h r = r
+linked-append cs p (Asks s t ∷ xs) ys h r = linked-append cs p xs ys h r
+linked-append cs p (Named n x l ∷ xs) ys h r = linked-append cs p xs ys h r
+linked-append cs p (Placed n x l ∷ xs) ys h r = (h.0, h.1, linked-append cs n xs ys h.2 r)
+
+-- what is at home stays so
+abbrev pub Keeps : List Cell → List Cell → Type 0
+Keeps cs cs' = (l v : ℕ) → 1 < l → cell cs l ≡ (v, true) → cell cs' l ≡ (v, true)
+
+pub linked-map : (cs cs' : List Cell) (p : ℕ) (xs : List Event) → Keeps cs cs' → Linked cs p xs → Linked cs' p xs
+linked-map cs cs' p [] k h = tt
+linked-map cs cs' p (Asks s t ∷ xs) k h = linked-map cs cs' p xs k h
+linked-map cs cs' p (Named n x l ∷ xs) k h = linked-map cs cs' p xs k h
+linked-map cs cs' p (Placed n x l ∷ xs) k h = (h.0, k l p h.0 h.1, linked-map cs cs' n xs k h.2)
+
+-- no event of the seat is in a log that is quiet
+pub quiet-in : (s : ℕ) (xs : List Event) (e : Event) → Quiet s xs → In e xs → seat_of e ≢ s
+quiet-in s [] e h i = absurd i
+quiet-in s (x ∷ xs) e h i =
+    elim i [ inl p ↦ subst (λ (y : Event). seat_of y ≢ s) p h.0 | inr j ↦ quiet-in s xs e h.1 j ]
+
+pub in-left : (e : Event) (xs ys : List Event) → In e xs → In e (xs ++ ys)
+in-left e [] ys i = absurd i
+in-left e (x ∷ xs) ys i = elim i [ inl p ↦ inl p | inr j ↦ inr (in-left e xs ys j) ]
+
+in-right : (e : Event) (xs ys : List Event) → In e ys → In e (xs ++ ys)
+in-right e [] ys i = i
+in-right e (x ∷ xs) ys i = inr (in-right e xs ys i)
+
+pub in-here : (e : Event) (xs ys : List Event) → In e (xs ++ e ∷ ys)
+in-here e xs ys = in-right e xs (e ∷ ys) (inl refl)
+
+pub in-cases : (e : Event) (xs ys : List Event) → In e (xs ++ ys) → In e xs ⊎ In e ys
+in-cases e [] ys i = inr i
+in-cases e (x ∷ xs) ys i =
+    elim i [ inl p ↦ inl (inl p) | inr j ↦ elim (in-cases e xs ys j) [ inl a ↦ inl (inr a) | inr b ↦ inr b ] ]
+
+-- the node that was placed last
+pub record Last (log : List Event) (node : ℕ) : Type 0 where
+  pub before : List Event
+  pub store : Store
+  pub link : ℕ
+  pub after : List Event
+  pub split : log ≡ before ++ Placed node store link ∷ after
+  pub none : history after ≡ []
+
+-- nothing was placed, or there is a node placed last
+abbrev pub LastPlaced : ℕ → List Event → Type 0
+LastPlaced p log = ((top_from p log ≡ p) × (history log ≡ [])) ⊎ Last log (top_from p log)
+
+last-later : (e : Event) (p : ℕ) (xs : List Event) (node : ℕ) → Last xs node → Last (e ∷ xs) node
+last-later e p xs node h = record { before = e ∷ h.before; store = h.store; link = h.link; after = h.after; split = ap (λ w. e ∷ w) h.split; none = h.none }
+
+pub last_placed : (p : ℕ) (xs : List Event) → LastPlaced p xs
+last_placed p [] = inl (refl, refl)
+last_placed p (Asks s t ∷ xs) = elim (last_placed p xs) [ inl h ↦ inl h | inr h ↦ inr (last-later (Asks s t) p xs (top_from p xs) h) ]
+last_placed p (Named n x l ∷ xs) = elim (last_placed p xs) [ inl h ↦ inl h | inr h ↦ inr (last-later (Named n x l) p xs (top_from p xs) h) ]
+last_placed p (Placed n x l ∷ xs) = elim (last_placed n xs) [
+  | inl h ↦ inr (record { before = []; store = x; link = l; after = xs; split = ap (λ (k : ℕ). Placed k x l ∷ xs) (sym h.0); none = h.1 })
+  | inr h ↦ inr (last-later (Placed n x l) p xs (top_from n xs) h)
+]
+
+abbrev pub prefix_trans : {A : Type 0} (xs ys zs : List A) → IsPrefix xs ys → IsPrefix ys zs → IsPrefix xs zs
+prefix_trans xs ys zs p q = (p.0 ++ q.0, sym (append_assoc xs p.0 q.0) ∙ (ap (λ w. w ++ q.0) p.1 ∙ q.1))
+
+unplaced-right : (n : ℕ) (xs ys : List Event) → Unplaced n (xs ++ ys) → Unplaced n ys
+unplaced-right n [] ys h = h
+unplaced-right n (Asks s t ∷ xs) ys h = unplaced-right n xs ys h
+unplaced-right n (Named m x l ∷ xs) ys h = unplaced-right n xs ys h
+unplaced-right n (Placed m x l ∷ xs) ys h = unplaced-right n xs ys h.1
+
+unplaced-append : (n : ℕ) (xs ys : List Event) → Unplaced n xs → Unplaced n ys → Unplaced n (xs ++ ys)
+unplaced-append n [] ys h r = r
+unplaced-append n (Asks s t ∷ xs) ys h r = unplaced-append n xs ys h r
+unplaced-append n (Named m x l ∷ xs) ys h r = unplaced-append n xs ys h r
+unplaced-append n (Placed m x l ∷ xs) ys h r = (h.0, unplaced-append n xs ys h.1 r)
+
+pub unplaced-of : (n : ℕ) (xs : List Event) → ((x : Store) (l : ℕ) → In (Placed n x l) xs → ⊥) → Unplaced n xs
+unplaced-of n [] h = tt
+unplaced-of n (Asks s t ∷ xs) h = unplaced-of n xs (λ x l i. h x l (inr i))
+unplaced-of n (Named m y k ∷ xs) h = unplaced-of n xs (λ x l i. h x l (inr i))
+unplaced-of n (Placed m y k ∷ xs) h = (
+  λ p. h y k (inl (ap (λ (j : ℕ). Placed j y k) p)),
+  unplaced-of n xs (λ x l i. h x l (inr i)),
+)
+
+once-right : (xs ys : List Event) → Once (xs ++ ys) → Once ys
+once-right [] ys h = h
+once-right (Asks s t ∷ xs) ys h = once-right xs ys h
+once-right (Named m x l ∷ xs) ys h = once-right xs ys h
+once-right (Placed m x l ∷ xs) ys h = once-right xs ys h.1
+
+pub once-named : (xs : List Event) (n : ℕ) (x : Store) (l : ℕ) → Once xs → Once (xs ++ Named n x l ∷ [])
+once-named [] n x l h = tt
+once-named (Asks s t ∷ xs) n x l h = once-named xs n x l h
+once-named (Named m y k ∷ xs) n x l h = once-named xs n x l h
+once-named (Placed m y k ∷ xs) n x l h = (unplaced-append m xs (Named n x l ∷ []) h.0 tt, once-named xs n x l h.1)
+
+pub once-placed : (xs : List Event) (n : ℕ) (x : Store) (l : ℕ) → Unplaced n xs → Once xs → Once (xs ++ Placed n x l ∷ [])
+once-placed [] n x l u h = (tt, tt)
+once-placed (Asks s t ∷ xs) n x l u h = once-placed xs n x l u h
+once-placed (Named m y k ∷ xs) n x l u h = once-placed xs n x l u h
+once-placed (Placed m y k ∷ xs) n x l u h = (
+  unplaced-append m xs (Placed n x l ∷ []) h.0 ((λ p. u.0 (sym p)), tt),
+  once-placed xs n x l u.1 h.1,
+)
+
+-- where the last node is the same, nothing was placed since
+pub same-top : (v r log : List Event) → v ++ r ≡ log → Once log → ((n : ℕ) (x : Store) (l : ℕ) → In (Placed n x l) log → n ≢ 0) → top log ≡ top v → history r ≡ []
+same-top v r log p once some same =
+    let L : List Event → Type 0 = λ w. Once w in
+    elim (last_placed (top v) r) [
+      | inl h ↦ h.1
+      | inr h ↦
+          (let m : ℕ = top_from (top v) r in
+          let n : m ≡ top v = sym (top-append 0 v r) ∙ (ap top p ∙ same) in
+          let all : log ≡ (v ++ h.before) ++ Placed m h.store h.link ∷ h.after = sym p ∙ (ap (λ w. v ++ w) h.split ∙ sym (append_assoc v h.before (Placed m h.store h.link ∷ h.after))) in
+          let I : List Event → Type 0 = λ w. In (Placed m h.store h.link) w in
+          elim (last_placed 0 v) [
+            | inl k ↦ absurd (some m h.store h.link (subst I (sym all) (in-here (Placed m h.store h.link) (v ++ h.before) h.after)) (n ∙ k.0))
+            | inr k ↦
+                (let whole : log ≡ k.before ++ Placed (top v) k.store k.link ∷ (k.after ++ r) = sym p ∙ (ap (λ w. w ++ r) k.split ∙ append_assoc k.before (Placed (top v) k.store k.link ∷ k.after) r) in
+                let o = once-right k.before (Placed (top v) k.store k.link ∷ (k.after ++ r)) (subst L whole once) in
+                let U : List Event → Type 0 = λ w. Unplaced (top v) w in
+                let u = unplaced-right (top v) h.before (Placed m h.store h.link ∷ h.after) (subst U h.split (unplaced-right (top v) k.after r o.0)) in
+                absurd (u.0 n))
+          ])
+    ]
+
+pub in-linked : (cs : List Cell) (p : ℕ) (xs : List Event) (n : ℕ) (x : Store) (l : ℕ) → Linked cs p xs → In (Placed n x l) xs → (cell cs l).1 ≡ true
+in-linked cs p [] n x l h i = absurd i
+in-linked cs p (Asks s r ∷ xs) n x l h i = elim i [ inl q ↦ absurd (cc (q)) | inr j ↦ in-linked cs p xs n x l h j ]
+in-linked cs p (Named m y k ∷ xs) n x l h i = elim i [ inl q ↦ absurd (cc (q)) | inr j ↦ in-linked cs p xs n x l h j ]
+in-linked cs p (Placed m y k ∷ xs) n x l h i =
+    elim i [
+      | inl q ↦ (let e : k ≡ l = cc (q) in ap (λ j. (cell cs j).1) (sym e) ∙ ap (λ (c : Cell). c.1) h.1)
+      | inr j ↦ in-linked cs m xs n x l h.2 j
+    ]

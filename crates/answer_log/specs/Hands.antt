@@ -1,0 +1,59 @@
+-- What a seat has at the log, and how that goes on.
+use Rattle.std.specs.Prelude.{◌≡◌, ◌≢◌, ℕ, ◌+◌, List, [], ◌∷◌, ◌++◌}
+use mathlib.Core.List.{IsPrefix}
+use Rattle.logbook.specs.Pages.{Book, Named as Word}
+use Rattle.answer_log.specs.Counts.{count}
+use Rattle.answer_log.specs.Histories.{IsHistory, mine}
+use Rattle.answer_log.specs.Logs.{history, In}
+use Rattle.answer_log.specs.Rules.{word_at}
+use Rattle.answer_log.specs.Steps.{Fits, NamesBelow}
+use Rattle.answer_log.specs.declared.event.Event.{Event}
+use Rattle.answer_log.specs.declared.event.Event.TheVariants.{Named, Placed}
+use Rattle.answer_log.specs.declared.hand.Hand.{Hand}
+use Rattle.answer_log.specs.declared.hand.Hands.{Hands}
+use Rattle.answer_log.specs.declared.store.Store.{Store}
+
+-- the seat has the count of its events in what it has seen, and its nodes stand below the next place
+pub record IsHand (hand : Hand) : Type 0 where
+  pub fits : Fits hand.tally hand.book.names hand.number
+  pub counted : count hand.number hand.book.log ≡ hand.tally.count
+  pub names : NamesBelow hand.number hand.places hand.book.log
+
+-- a seat that has seen nothing
+pub record IsNew (hand : Hand) (new_book : Book) (seat : ℕ) : Type 0 where
+  pub is : IsHand hand
+  pub book : hand.book.book ≡ new_book
+  pub number : hand.number ≡ seat
+  pub places : hand.places ≡ 0
+  pub log : hand.book.log ≡ []
+
+-- what is left for the seats from the next one on
+pub record AreHands (hands : Hands) : Type 0 where
+  pub tallies : hands.tallies.name ∷ [] ≡ hands.seen.names
+  pub next : hands.tallies.next ≡ hands.next
+  pub left : hands.tallies.left + hands.next ≡ 64
+  pub log : hands.seen.log ≡ []
+
+-- more was seen, and no store of the seat's own
+pub record SeesMore (seat : ℕ) (before after : List Event) : Type 0 where
+  pub later : IsPrefix before after
+  pub own : mine (history after) seat ≡ mine (history before) seat
+
+-- the history ends with the store, and till then no store of the seat's own was new
+pub record EndsWith (store : Store) (before after : List Store) : Type 0 where
+  pub front : List Store
+  pub last : after ≡ front ++ store ∷ []
+  pub later : IsPrefix before front
+  pub own : mine front store.seat ≡ mine before store.seat
+
+-- the log names the node so
+pub record IsNamed (book : Book) (log : List Event) (node : ℕ) (store : Store) (word : Word) : Type 0 where
+  pub link : word ≡ word_at book word.key
+  pub named : In (Named node store word.key) log
+
+-- what holds of each log that was seen
+pub record IsLog (log : List Event) : Type 0 where
+  pub history : IsHistory (history log)
+  -- 0 is the number of no node
+  pub nodes : (before after : List Event) (node : ℕ) (store : Store) (link : ℕ)
+      → log ≡ before ++ Placed node store link ∷ after → node ≢ 0

@@ -1,0 +1,7 @@
+pub mod Groups
+pub mod Histories
+pub mod Logs
+pub mod Counts
+pub mod Rules
+pub mod Steps
+pub mod Hands

@@ -1,0 +1,58 @@
+-- The log: whose each event is, the history that was placed, and the cells that fit it.
+use Rattle.std.specs.Prelude.{◌≡◌, ◌≢◌, ℕ, ◌<◌, ◌⊎◌, true, List, [], ◌∷◌, ◌++◌}
+use Rattle.logbook.specs.Pages.{Cell, cell}
+use Rattle.answer_log.specs.declared.event.Event.{Event}
+use Rattle.answer_log.specs.declared.event.Event.TheVariants.{Asks, Named, Placed}
+use Rattle.answer_log.specs.declared.store.Store.{Store}
+
+abbrev pub seat_of : Event → ℕ
+seat_of (Asks seat count) = seat
+seat_of (Named node store link) = store.seat
+seat_of (Placed node store link) = store.seat
+
+-- the stores that were placed, the oldest first
+abbrev pub history : List Event → List Store
+history [] = []
+history (Asks seat count ∷ log) = history log
+history (Named node store link ∷ log) = history log
+history (Placed node store link ∷ log) = store ∷ history log
+
+-- the node that was placed last; the one given where none was
+abbrev pub top_from : ℕ → List Event → ℕ
+top_from last [] = last
+top_from last (Asks seat count ∷ log) = top_from last log
+top_from last (Named node store link ∷ log) = top_from last log
+top_from last (Placed node store link ∷ log) = top_from node log
+
+-- nodes are numbered from 1, so 0 says that there is none
+abbrev pub top : List Event → ℕ
+top log = top_from 0 log
+
+-- The link of each placed node is at home, and holds the node that was placed before it. Cells 0 and 1 are no links.
+abbrev pub Linked : List Cell → ℕ → List Event → Type 0
+Linked cells last [] = Unit {0}
+Linked cells last (Asks seat count ∷ log) = Linked cells last log
+Linked cells last (Named node store link ∷ log) = Linked cells last log
+Linked cells last (Placed node store link ∷ log) = (1 < link) × (cell cells link ≡ (last, true)) × Linked cells node log
+
+-- no event is of the seat
+abbrev pub Quiet : ℕ → List Event → Type 0
+Quiet seat [] = Unit {0}
+Quiet seat (event ∷ log) = (seat_of event ≢ seat) × Quiet seat log
+
+abbrev pub In : Event → List Event → Type 0
+In event [] = ⊥
+In event (first ∷ log) = (first ≡ event) ⊎ In event log
+
+abbrev pub Unplaced : ℕ → List Event → Type 0
+Unplaced node [] = Unit {0}
+Unplaced node (Asks seat count ∷ log) = Unplaced node log
+Unplaced node (Named other store link ∷ log) = Unplaced node log
+Unplaced node (Placed other store link ∷ log) = (other ≢ node) × Unplaced node log
+
+-- each node is placed at most once
+abbrev pub Once : List Event → Type 0
+Once [] = Unit {0}
+Once (Asks seat count ∷ log) = Once log
+Once (Named node store link ∷ log) = Once log
+Once (Placed node store link ∷ log) = Unplaced node log × Once log

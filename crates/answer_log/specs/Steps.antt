@@ -1,0 +1,106 @@
+-- What each step of the log says.
+use Rattle.std.specs.Prelude.{◌≡◌, ◌≢◌, ℕ, ◌+◌, ◌<◌, ◌==◌, ◌⊎◌, true, List, [], ◌∷◌, ◌++◌, MatchBool, Some}
+use Rattle.std.specs.Arc.{arc_value}
+use Rattle.dns_answers.specs.Values.{AnswerValue}
+use Rattle.dns_message.specs.declared.question.Question.{Question}
+use Rattle.logbook.specs.Pages.{Step, View, nib, may_make}
+use mathlib.Core.List.{IsPrefix}
+use Rattle.answer_log.specs.Counts.{count}
+use Rattle.answer_log.specs.Histories.{IsFull}
+use Rattle.answer_log.specs.Logs.{seat_of, history, top, In}
+use Rattle.answer_log.specs.Rules.{node_at}
+use Rattle.answer_log.specs.declared.event.Counted.{Counted}
+use Rattle.answer_log.specs.declared.event.Event.{Event}
+use Rattle.answer_log.specs.declared.event.Event.TheVariants.{Asks, Named, Placed}
+use Rattle.answer_log.specs.declared.store.Store.{Store}
+use Rattle.answer_log.specs.declared.store.Draft.{Draft}
+use Rattle.answer_log.specs.declared.tally.Tally.{Tally}
+
+abbrev pub store_by : ℕ → Question → AnswerValue → ℕ → Store
+store_by seat question answer moment = record { seat = seat; question = question; answer = answer; moment = moment }
+
+abbrev pub store_of : Draft → Store
+store_of draft = store_by draft.seat draft.question.now (arc_value draft.answer.now) draft.moment
+
+-- the link is that of a placed node
+abbrev pub IsPlaced : List Event → ℕ → Type 0
+IsPlaced log link = (before : List Event) × (after : List Event) × (node : ℕ) × (store : Store)
+    × (log ≡ before ++ Placed node store link ∷ after)
+
+-- the nodes of the seat stand at places below this one
+abbrev pub NamesBelow : ℕ → ℕ → List Event → Type 0
+NamesBelow seat place log =
+    (node : ℕ) (store : Store) (link : ℕ) → In (Named node store link) log → store.seat ≡ seat → node < node_at seat place
+
+-- once the head led to this node, and the group of the question was not full then
+pub record HadRoom (log : List Event) (node : ℕ) (question : Question) : Type 0 where
+  pub seen : List Event
+  pub later : IsPrefix seen log
+  pub top : top seen ≡ node
+  pub room : IsFull (history seen) question → ⊥
+
+-- the tally is that of the seat, in the log of these names
+abbrev pub Fits : Tally → List ℕ → ℕ → Type 0
+Fits tally names seat = (tally.held ≡ true) × (tally.name ∷ [] ≡ names) × (tally.seat ≡ seat) × (seat < 64)
+
+-- the tally is as it was but for its count
+abbrev pub Stays : Tally → Tally → Type 0
+Stays old new = (new.held ≡ true) × (new.name ≡ old.name) × (new.seat ≡ old.seat)
+
+-- the tally stays, and its count is this one
+abbrev pub Same : Tally → Tally → ℕ → Type 0
+Same old new number = Stays old new × (new.count ≡ old.count) × (number ≡ old.count)
+
+-- The log is what was seen, what came since, and then the event. Till then the log had as many events of its seat as the
+-- tally says.
+abbrev pub Adds : Event → Tally → List Event → List Event → Type 0
+Adds event tally before after = (more : List Event) × (after ≡ (before ++ more) ++ event ∷ [])
+    × (count (seat_of event) (before ++ more) ≡ tally.count)
+
+-- a step says what it counted
+abbrev pub Says : View Event Counted → (Counted → Type 0) → Type 0
+Says after P = (counted : Counted) × (after.1.1 ≡ Some counted) × P counted
+
+-- the count is as it was
+abbrev pub Kept : ℕ → List Event → Counted → Type 0
+Kept seat log counted = (counted.before ≡ count seat log) × (counted.after ≡ counted.before)
+
+-- an event was added, and the count of its seat has risen
+abbrev pub Rose : Event → List Event → List Event → Counted → Type 0
+Rose event before after counted = (counted.after ≡ counted.before + 1)
+    × ((more : List Event) × (after ≡ (before ++ more) ++ event ∷ []) × (counted.before ≡ count (seat_of event) (before ++ more)))
+
+-- the head leads to the node placed last
+abbrev pub Looks : Step Event → View Event Counted → ℕ → View Event Counted → Type 0
+Looks s v found w = (found ≡ top w.0) × Says w (Kept (seat_of s.ask) w.0)
+
+-- the link of a placed node leads to the one placed before it
+abbrev pub Follows : Step Event → View Event Counted → ℕ → View Event Counted → Type 0
+Follows s v found w =
+    (before after : List Event) (node : ℕ) (store : Store) → v.0 ≡ before ++ Placed node store s.key ∷ after → found ≡ top before
+
+abbrev pub linked_to : Event → ℕ → Event
+linked_to (Asks seat count) link = Asks seat count
+linked_to (Named node store _) link = Named node store link
+linked_to (Placed node store _) link = Placed node store link
+
+abbrev pub node_of : Event → ℕ
+node_of (Asks seat count) = 0
+node_of (Named node store link) = node
+node_of (Placed node store link) = node
+
+-- a node of some seat is named already
+abbrev pub IsTaken : ℕ → List Event → Type 0
+IsTaken node log = (store : Store) × (link : ℕ) × In (Named node store link) log × (store.seat < 64)
+    × ((place : ℕ) × (node ≡ node_at store.seat place))
+
+-- A cell is made. The node was new and is named with that cell as its link, or it was named already and nothing is added.
+abbrev pub Claims : Step Event → View Event Counted → ℕ → View Event Counted → Type 0
+Claims s v found w = (link : ℕ) × (1 < link) × (w.1.0 ≡ nib may_make link 0)
+    × Says w (λ counted. Rose (linked_to s.ask link) v.0 w.0 counted
+    ⊎ (Kept (seat_of s.ask) w.0 counted × IsTaken (node_of s.ask) w.0))
+
+-- The head was the one expected, and the node is placed; or it was another, which is the last one, and nothing is added.
+abbrev pub Tries : Step Event → View Event Counted → ℕ → View Event Counted → Type 0
+Tries s v found w = Says w (λ counted. MatchBool (found == s.old) (Rose (linked_to s.ask v.1.0.key) v.0 w.0 counted)
+    ((found ≡ top w.0) × (w.1.0 ≡ v.1.0) × Kept (seat_of s.ask) w.0 counted))

@@ -1,0 +1,44 @@
+//! What a seat has at the log.
+ghost use Rattle.std.specs.Prelude.{◌≡◌, ◌+◌, ◌-◌, ◌<◌, ◌∷◌, []};
+ghost use Rattle.answer_log.specs.Hands.{AreHands, IsNew};
+
+use crate::steps::Book;
+use crate::tally::{Tallies, Tally};
+
+/// What a seat has at the log: its number, the place of its next node, its count, and what it has seen.
+#[derive(Drop)]
+pub struct Hand {
+    pub number: u64,
+    pub places: u64,
+    pub tally: Tally,
+    pub book: Book,
+}
+
+/// What the seats of a new log are given, one after the other.
+#[derive(Drop)]
+pub struct Hands {
+    pub next: u64,
+    pub tallies: Tallies,
+    pub seen: Book,
+}
+
+impl Hands {
+    /// What the next seat is given.
+    pub fn deal(&mut self) -> Hand
+        requires seats { self.old.next < 64 }
+        requires hands { AreHands self.old }
+        ensures hands { AreHands self.new }
+        ensures next { self.new.next ≡ self.old.next + 1 }
+        ensures book { self.new.seen.book ≡ self.old.seen.book }
+        ensures hand { IsNew result self.old.seen.book self.old.next }
+    {
+        let number = self.next;
+        self.next += 1;
+        Hand {
+            number,
+            places: 0,
+            tally: self.tallies.take(),
+            book: self.seen.again(),
+        }
+    }
+}

@@ -1,0 +1,205 @@
+//! The log that seats share.
+ghost use Rattle.std.specs.Prelude.{◌≡◌, ◌+◌, ◌<◌, ◌≤◌, ◌^◌, ◌⊎◌, List, MatchBool, length};
+ghost use mathlib.Core.List.{IsPrefix};
+ghost use Rattle.std.specs.Arc.{arc_value};
+ghost use Rattle.logbook.specs.Pages.{may_write};
+ghost use Rattle.answer_log.specs.Hands.{AreHands, EndsWith, IsHand, IsLog, IsNamed, SeesMore};
+ghost use Rattle.answer_log.specs.Histories.{IsSound};
+ghost use Rattle.answer_log.specs.Logs.{history, top};
+ghost use Rattle.answer_log.specs.Rules.{node_at};
+ghost use Rattle.answer_log.specs.Steps.{HadRoom, store_by, store_of};
+ghost use Rattle.answer_log.specs.declared.event.Event.{Event as Noted};
+
+use crate::event::Event;
+use crate::hand::{Hand, Hands};
+use crate::steps::{Book, Pen, Word, claim_node, place, top_node};
+use crate::store::Draft;
+use crate::tally::Tallies;
+use dns_answers::{Answer, Moment};
+use dns_message::Question;
+use logbook::Opening;
+use std::marker::Model;
+use std::sync::Arc;
+
+/// The log of a new book is empty.
+struct Blank;
+
+impl Opening<(), Event> for Blank {
+    ghost use Rattle.std.specs.Prelude.{[]};
+
+    ghost log = { λ n x. [] };
+}
+
+/// The log: its head, which leads to the node placed last, and a word that holds 0.
+#[derive(Drop)]
+pub struct Log {
+    head: Word,
+    idle: Word,
+}
+
+impl Model for Log {
+    ghost use Rattle.std.specs.Prelude.{◌≡◌};
+    ghost use Rattle.logbook.specs.Pages.{Book, book_coded};
+    ghost use Rattle.answer_log.specs.Rules.{word_at};
+
+    ghost Value = { Book };
+
+    ghost coded = { book_coded };
+
+    ghost view = { λ log. log.head.book };
+
+    ghost invariant = { λ log. (log.head ≡ word_at log.head.book 0) × (log.idle ≡ word_at log.head.book 1) };
+}
+
+/// A node that was named, its link, and what writes the link.
+#[derive(Drop)]
+pub struct Claimed {
+    pub node: u64,
+    pub link: Word,
+    pub pen: Pen,
+}
+
+impl Log {
+    /// Opens a log for up to 64 seats.
+    pub fn open() -> (Log, Hands)
+        ensures book { result.0 ≡ result.1.seen.book }
+        ensures first { result.1.next ≡ 0 }
+        ensures hands { AreHands result.1 }
+    {
+        let (start, tallies) = Tallies::open();
+        let (seen, mut pens) = Book::open_row::<(), Blank>(&(), start, 2);
+        let mut pen = pens.take();
+        let head = Word::tracked(0, &mut pen);
+        let mut pen = pens.take();
+        let idle = Word::tracked(0, &mut pen);
+        let hands = Hands {
+            next: 0,
+            tallies,
+            seen,
+        };
+        (Log { head, idle }, hands)
+    }
+
+    /// The node placed last, 0 where there is none: one load of the head.
+    pub fn look(&self, hand: &mut Hand) -> u64
+        requires book { hand.old.book.book ≡ self.now }
+        requires hand { IsHand hand.old }
+        ensures hand { IsHand hand.new }
+        ensures number { hand.new.number ≡ hand.old.number }
+        ensures book { hand.new.book.book ≡ self.now }
+        ensures seen { SeesMore hand.old.number hand.old.book.log hand.new.book.log }
+        ensures top { result ≡ top hand.new.book.log }
+    {
+        top_node(&self.head, &mut hand.book, &mut hand.tally, hand.number)
+    }
+
+    /// Sees what was told, and what came since: one load of the head.
+    pub fn learn(&self, hand: &mut Hand, told: &Book)
+        requires book { hand.old.book.book ≡ self.now }
+        requires told { told.now.book ≡ self.now }
+        requires hand { IsHand hand.old }
+        ensures hand { IsHand hand.new }
+        ensures number { hand.new.number ≡ hand.old.number }
+        ensures book { hand.new.book.book ≡ self.now }
+        ensures seen { SeesMore hand.old.number hand.old.book.log hand.new.book.log }
+        ensures later { IsPrefix told.now.log hand.new.book.log }
+    {
+        hand.book.learn(told);
+        let _node = top_node(&self.head, &mut hand.book, &mut hand.tally, hand.number);
+    }
+
+    /// Names the node of a place for a store: one exchange on the idle word.
+    pub fn claim(
+        &self,
+        hand: &mut Hand,
+        place: u64,
+        question: &Question,
+        answer: &Arc<Answer>,
+        moment: Moment,
+    ) -> Claimed
+        requires book { hand.old.book.book ≡ self.now }
+        requires hand { IsHand hand.old }
+        requires place { (hand.old.places ≤ place) × (place < 2 ^ 32) }
+        ensures hand { IsHand hand.new }
+        ensures number { hand.new.number ≡ hand.old.number }
+        ensures book { hand.new.book.book ≡ self.now }
+        ensures places { hand.new.places ≡ place + 1 }
+        ensures seen { SeesMore hand.old.number hand.old.book.log hand.new.book.log }
+        ensures node { result.node ≡ node_at hand.old.number place }
+        ensures named { IsNamed self.now hand.new.book.log result.node
+            (store_by hand.old.number question.now (arc_value answer.now) moment) result.link }
+        ensures pen { (result.pen.book ≡ self.now) × (result.pen.nib.right ≡ may_write)
+            × (result.pen.nib.key ≡ result.link.key) × (1 < result.link.key) }
+    {
+        let node = 1 + hand.number + 64 * place;
+        let draft = Draft {
+            node,
+            seat: hand.number,
+            question,
+            answer,
+            moment,
+        };
+        let mut pen = claim_node(&self.idle, &mut hand.book, &mut hand.tally, place, &draft);
+        hand.places = place + 1;
+        let link = Word::tracked(0, &mut pen);
+        Claimed { node, link, pen }
+    }
+
+    /// Tries to place a node before the node `old`, which its link holds: one exchange of the head.
+    pub fn place(
+        &self,
+        hand: &mut Hand,
+        pen: &mut Pen,
+        old: u64,
+        draft: &Draft<'_>,
+        link: &Word,
+    ) -> bool
+        requires book { hand.old.book.book ≡ self.now }
+        requires hand { IsHand hand.old }
+        requires seat { draft.now.seat ≡ hand.old.number }
+        requires room { HadRoom hand.old.book.log old draft.now.question.now }
+        requires sound { IsSound (store_of draft.now) }
+        requires named { IsNamed self.now hand.old.book.log draft.now.node (store_of draft.now) link.now }
+        requires pen { (pen.old.book ≡ self.now) × (pen.old.nib.right ≡ may_write) × (pen.old.nib.key ≡ link.now.key)
+            × (pen.old.nib.value ≡ old) × (1 < link.now.key) }
+        ensures hand { IsHand hand.new }
+        ensures number { hand.new.number ≡ hand.old.number }
+        ensures book { hand.new.book.book ≡ self.now }
+        ensures placed { MatchBool result
+            (EndsWith (store_of draft.now) (history hand.old.book.log) (history hand.new.book.log))
+            (SeesMore hand.old.number hand.old.book.log hand.new.book.log) }
+        // Other stores came in between.
+        ensures lost { MatchBool result (Unit {0})
+            ((seen : List Noted) → IsPrefix seen hand.old.book.log → top seen ≡ old
+            → length (history seen) < length (history hand.new.book.log)) }
+        ensures pen { MatchBool result (Unit {0})
+            ((pen.new.book ≡ self.now) × (pen.new.nib.right ≡ may_write) × (pen.new.nib.key ≡ link.now.key)) }
+    {
+        place(
+            &self.head,
+            &mut hand.book,
+            &mut hand.tally,
+            pen,
+            old,
+            draft,
+            link,
+        )
+    }
+}
+
+/// A law: each log that was seen keeps the rule.
+pub fn log_keeps_its_rule(book: &Book)
+    ensures { IsLog book.now.log }
+{
+    let mut probe = book.again();
+    probe.learn(book);
+}
+
+/// A law: of two logs that were seen of one book, one goes on with the other.
+pub fn logs_are_of_one_history(one: &Book, other: &Book)
+    requires { one.now.book ≡ other.now.book }
+    ensures { IsPrefix one.now.log other.now.log ⊎ IsPrefix other.now.log one.now.log }
+{
+    let mut probe = one.again();
+    probe.learn(other);
+}
