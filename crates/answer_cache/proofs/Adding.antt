@@ -5,7 +5,8 @@ use Rattle.std.proofs.lemmas.List.{map-append, length-append, append_assoc, appe
 use Rattle.std.proofs.lemmas.List.Elements.{filter-append, All-nil, All-push}
 use Rattle.answer_cache.specs.Chains.{IsChain, none, some, IsGroup, IsKept, no_group, store_in, stores_in}
 use Rattle.answer_log.specs.Groups.{group_of}
-use Rattle.answer_log.specs.Histories.{Store, IsHistory, IsSound, in_group, mine}
+use Rattle.answer_log.specs.Histories.{IsHistory, IsSound, in_group, mine}
+use Rattle.answer_log.specs.declared.store.Store.{Store}
 use Rattle.answer_cache.specs.declared.store_list.Entry.{Entry}
 use Rattle.answer_cache.specs.declared.store_list.Group.{Group}
 

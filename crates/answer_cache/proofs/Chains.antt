@@ -9,7 +9,8 @@ use Rattle.dns_message.specs.Questions.{same_question}
 use Rattle.dns_message.specs.declared.question.Question.{Question}
 use Rattle.answer_cache.specs.Chains.{IsChain, none, some, IsGroup, store_in, stores_in}
 use Rattle.answer_log.specs.Groups.{group_of}
-use Rattle.answer_log.specs.Histories.{Store, in_group, stores_of}
+use Rattle.answer_log.specs.Histories.{in_group, stores_of}
+use Rattle.answer_log.specs.declared.store.Store.{Store}
 use Rattle.answer_cache.specs.declared.store_list.Entry.{Entry}
 use Rattle.answer_cache.specs.declared.store_list.Group.{Group}
 

@@ -3,7 +3,8 @@
 use Rattle.std.specs.Prelude.{◌≡◌, ℕ, ◌<◌, List, [], ◌∷◌, ◌++◌, length, map, Option, Some, None, slice_index_or}
 use Rattle.std.specs.Arc.{arc_value}
 use Rattle.answer_log.specs.Groups.{group_of}
-use Rattle.answer_log.specs.Histories.{Store, in_group, IsHistory}
+use Rattle.answer_log.specs.Histories.{in_group, IsHistory}
+use Rattle.answer_log.specs.declared.store.Store.{Store}
 use Rattle.answer_cache.specs.declared.store_list.Entry.{Entry}
 use Rattle.answer_cache.specs.declared.store_list.Group.{Group}
 

@@ -1,5 +1,5 @@
-pub mod Groups
-pub mod Histories
 pub mod Seats
 pub mod Chains
 pub mod Lists
+pub mod Nodes
+pub mod Shared

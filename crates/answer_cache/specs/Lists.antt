@@ -1,6 +1,7 @@
 -- What a list of stores takes, where no other seat is there.
 use Rattle.std.specs.Prelude.{◌≡◌, ◌<◌, List, [], ◌∷◌, ◌++◌}
-use Rattle.answer_log.specs.Histories.{Store, IsFull}
+use Rattle.answer_log.specs.Histories.{IsFull}
+use Rattle.answer_log.specs.declared.store.Store.{Store}
 use Rattle.answer_cache.specs.Seats.{Offer, SeatView, IsSeat, store_of}
 use Rattle.answer_cache.specs.declared.refusal.StoreRefusal.{StoreRefusal}
 use Rattle.answer_cache.specs.declared.refusal.StoreRefusal.TheVariants.{Lifeless, GenerationFull, Contended, Memory}

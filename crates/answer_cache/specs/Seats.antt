@@ -3,7 +3,8 @@ use Rattle.std.specs.Prelude.{◌≡◌, ℕ, ◌+◌, ◌<◌, ◌≤◌, List,
 use mathlib.Core.List.{IsPrefix}
 use Rattle.dns_answers.specs.Values.{AnswerValue}
 use Rattle.dns_message.specs.declared.question.Question.{Question}
-use Rattle.answer_log.specs.Histories.{Store, IsFull, IsHistory, mine}
+use Rattle.answer_log.specs.Histories.{IsFull, IsHistory, mine}
+use Rattle.answer_log.specs.declared.store.Store.{Store}
 use Rattle.answer_cache.specs.declared.refusal.StoreRefusal.{StoreRefusal}
 use Rattle.answer_cache.specs.declared.refusal.StoreRefusal.TheVariants.{Lifeless, GenerationFull, Contended, Memory}
 
@@ -15,6 +16,13 @@ pub record Offer : Type 0 where
 
 abbrev pub offer_of : Question → AnswerValue → ℕ → Offer
 offer_of question answer moment = record { question = question; answer = answer; moment = moment }
+
+-- what contracts note of a seat: what its stores were handed, how many links its calls went along, and how many times
+-- they tried to place a node
+pub record Noted : Type 0 where
+  pub offered : List Offer
+  pub links : ℕ
+  pub tries : ℕ
 
 -- its number, the history that it has seen, its own stores, and what its stores were handed
 pub record SeatView : Type 0 where

@@ -34,16 +34,24 @@
 #![tactic(auto)]
 
 mod book;
-mod groups;
+mod cache_refusal;
 mod list_cache;
-mod offers;
+mod node;
+mod notes;
 mod refusal;
+mod rival;
+mod seat;
+mod shared_cache;
 mod store_list;
 
+pub use answer_log::group;
 pub use book::AnswerBook;
-pub use groups::group;
+pub use cache_refusal::CacheRefusal;
 pub use list_cache::{ListCache, ListSeat};
 pub use refusal::StoreRefusal;
+pub use rival::Rival;
+pub use seat::{Notice, Seat, notices_tell_one_history, seats_see_one_history};
+pub use shared_cache::SharedCache;
 
 #[cfg(test)]
 mod refusals;

@@ -8,7 +8,7 @@ ghost use Rattle.answer_cache.specs.Lists.{IsListSeat, Refuses, Takes, offered_t
 ghost use Rattle.answer_cache.specs.Seats.{offer_of};
 
 use crate::book::AnswerBook;
-use crate::offers::Offers;
+use crate::notes::Notes;
 use crate::refusal::StoreRefusal;
 use crate::store_list::StoreList;
 use dns_answers::{Answer, Moment};
@@ -25,7 +25,7 @@ pub struct ListCache(());
 #[derive(Drop)]
 pub struct ListSeat {
     stores: StoreList,
-    offers: Offers,
+    notes: Notes,
 }
 
 impl Model for ListSeat {
@@ -34,7 +34,7 @@ impl Model for ListSeat {
 
     ghost Value = { SeatView };
 
-    ghost view = { λ it. seat_at it.stores it.offers.list };
+    ghost view = { λ it. seat_at it.stores it.notes.noted.offered };
 }
 
 impl ListCache {
@@ -46,7 +46,7 @@ impl ListCache {
     {
         let seat = ListSeat {
             stores: StoreList::new(alloc),
-            offers: Offers::none(),
+            notes: Notes::none(),
         };
         seat.is_seat();
         (ListCache(()), seat)
@@ -102,7 +102,7 @@ impl AnswerBook for ListCache {
         ensures unchanged { OnErr result (seat.new ≡ offered_too seat.old (offer_of question.now (arc_value answer.now) now)) }
         ensures refused { IfErr result (Refuses seat.old.seen (offer_of question.now (arc_value answer.now) now)) }
     {
-        seat.offers = seat.offers.with(question, answer, now);
+        seat.notes = seat.notes.with(question, answer, now);
         let stored = seat.stores.add(question, answer, now);
         seat.is_seat();
         stored

@@ -9,8 +9,8 @@ ghost use Rattle.answer_log.specs.Histories.{IsHistory, cached, mine, stores_of}
 ghost use Rattle.answer_cache.specs.Lists.{Refuses, Takes, own_store};
 ghost use Rattle.answer_cache.specs.Seats.{offer_of};
 
-use crate::groups::{GROUP_COUNT, group};
 use crate::refusal::StoreRefusal;
+use answer_log::{GROUP_COUNT, group};
 use dns_answers::{Answer, Moment};
 use dns_message::{Question, same_questions_are_equal};
 use std::alloc::{AllocError, Global};
@@ -45,7 +45,7 @@ pub(crate) struct StoreList {
 
 impl Model for StoreList {
     ghost use Rattle.std.specs.Prelude.{List};
-    ghost use Rattle.answer_log.specs.Histories.{Store};
+    ghost use Rattle.answer_log.specs.declared.store.Store.{Store};
     ghost use Rattle.answer_cache.specs.Chains.{IsKept, stores_in};
 
     ghost Value = { List Store };

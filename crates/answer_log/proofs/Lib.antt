@@ -1,7 +1,13 @@
 pub mod Cells
 pub mod Logs
 pub mod Growing
+pub mod Sizes
+pub mod Prefixes
 pub mod Counting
 pub mod Trades
 pub mod Claiming
 pub mod Moving
+pub mod Fronts
+pub mod Handling
+pub mod Openings
+pub mod Following

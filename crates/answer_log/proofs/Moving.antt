@@ -92,7 +92,7 @@ follow_moves v l r placed cs log kept pre away =
       ),
     )
 
-some-name : (cs : List Cell) (log : List Event) → IsKept cs log → (n : ℕ) (x : Store) (l : ℕ) → In (Placed n x l) log → n ≢ 0
+pub some-name : (cs : List Cell) (log : List Event) → IsKept cs log → (n : ℕ) (x : Store) (l : ℕ) → In (Placed n x l) log → n ≢ 0
 some-name cs log kept n x l i none =
     let m = kept.named n x l (kept.twins n x l i) in
     let num : n ≡ node_at x.seat m.1.0 = m.1.1 in

@@ -1,5 +1,5 @@
 -- What a seat has at the log, and how that goes on.
-use Rattle.std.specs.Prelude.{◌≡◌, ◌≢◌, ℕ, ◌+◌, List, [], ◌∷◌, ◌++◌}
+use Rattle.std.specs.Prelude.{◌≡◌, ◌≢◌, ℕ, ◌+◌, ◌≤◌, List, [], ◌∷◌, ◌++◌, length}
 use mathlib.Core.List.{IsPrefix}
 use Rattle.logbook.specs.Pages.{Book, Named as Word}
 use Rattle.answer_log.specs.Counts.{count}
@@ -53,7 +53,9 @@ pub record IsNamed (book : Book) (log : List Event) (node : ℕ) (store : Store)
 
 -- what holds of each log that was seen
 pub record IsLog (log : List Event) : Type 0 where
-  pub history : IsHistory (history log)
+  -- 64 groups of 64
+  pub size : length (history log) ≤ 4096
   -- 0 is the number of no node
   pub nodes : (before after : List Event) (node : ℕ) (store : Store) (link : ℕ)
       → log ≡ before ++ Placed node store link ∷ after → node ≢ 0
+  pub history : IsHistory (history log)

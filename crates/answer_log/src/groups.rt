@@ -1,6 +1,6 @@
 //! The group of a question.
 ghost use Rattle.std.specs.Prelude.{◌≡◌, ◌<◌};
-ghost use Rattle.answer_log.specs.Groups.{group_of, hash_more};
+ghost use Rattle.answer_log.specs.Groups.{group_of, hash_more, hash_of, hashed_of};
 
 use dns_message::Question;
 
@@ -14,12 +14,10 @@ fn hash_more(hash: u32, octet: u8) -> u32
     (hash ^ u32::from(octet)).wrapping_mul(16_777_619)
 }
 
-/// The group of a question, from 0 to 63: that of all questions whose name and type have the same hash, modulo 64.
-/// Stores of one group are kept together. Takes no memory.
+/// The hash of a question: that of the octets of its name, and of its type.
 #[must_use]
-pub fn group(question: &Question) -> u8
-    ensures group { result ≡ group_of question.now }
-    ensures below { result < 64 }
+pub fn hash(question: &Question) -> u32
+    ensures { result ≡ hash_of (hashed_of question.now) }
 {
     let [high, low] = question.kind.code().to_be_bytes();
     let hash = question
@@ -27,6 +25,15 @@ pub fn group(question: &Question) -> u8
         .wire()
         .iter()
         .fold(2_166_136_261, |hash: u32, octet| hash_more(hash, *octet));
-    let hash = hash_more(hash_more(hash, high), low);
-    (hash % u32::from(GROUP_COUNT)) as u8
+    hash_more(hash_more(hash, high), low)
+}
+
+/// The group of a question, from 0 to 63: that of all questions whose name and type have the same hash, modulo 64.
+/// Stores of one group are kept together. Takes no memory.
+#[must_use]
+pub fn group(question: &Question) -> u8
+    ensures group { result ≡ group_of question.now }
+    ensures below { result < 64 }
+{
+    (hash(question) % u32::from(GROUP_COUNT)) as u8
 }

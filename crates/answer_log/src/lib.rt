@@ -10,7 +10,7 @@ mod store;
 mod tally;
 
 pub use event::{Counted, Event};
-pub use groups::{GROUP_COUNT, group};
+pub use groups::{GROUP_COUNT, group, hash};
 pub use hand::{Hand, Hands};
 pub use log::{Claimed, Log, log_keeps_its_rule, logs_are_of_one_history};
 pub use steps::{Book, Pen, Word, node_before};

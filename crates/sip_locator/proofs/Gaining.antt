@@ -6,7 +6,8 @@ use Rattle.dns_message.specs.declared.question.Question.{Question}
 use Rattle.sip_selection.specs.Choice.{need}
 use Rattle.sip_selection.specs.Known.{Given}
 use Rattle.sip_selection.specs.Selections.{SelectionValue, now_of}
-use Rattle.answer_log.specs.Histories.{Store, cached}
+use Rattle.answer_log.specs.Histories.{cached}
+use Rattle.answer_log.specs.declared.store.Store.{Store}
 use Rattle.answer_cache.specs.Seats.{SeatView, GoesOn, StoresNothing}
 use Rattle.sip_locator.specs.Gains.{Gains, nothing, one, IsAnswered, Lacks}
 

@@ -8,7 +8,8 @@ use Rattle.sip_selection.specs.Choice.{Resolution, need}
 use Rattle.sip_selection.specs.Nexts.{next_of}
 use Rattle.sip_selection.specs.Selections.{SelectionValue, given_too, now_of}
 use Rattle.sip_selection.specs.declared.selection.Next.{Next}
-use Rattle.answer_log.specs.Histories.{Store, cached}
+use Rattle.answer_log.specs.Histories.{cached}
+use Rattle.answer_log.specs.declared.store.Store.{Store}
 
 -- a history between two others: the first one goes on to it, and it goes on to the last one
 pub record IsBetween (first last history : List Store) : Type 0 where

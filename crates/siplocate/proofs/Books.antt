@@ -2,7 +2,8 @@
 use Rattle.std.proofs.Common.{◌≡◌, ℕ, Bool, true, false, List, [], ◌∷◌, ◌++◌, Option, Some, None, Result, Ok, Err, find, option_map, refl, sym, ap, ◌∙◌}
 use Rattle.std.proofs.lemmas.List.Elements.{filter-append}
 use Rattle.std.specs.declared.alloc.AllocError.{AllocError}
-use Rattle.answer_log.specs.Histories.{Store, cached, stores_of}
+use Rattle.answer_log.specs.Histories.{cached, stores_of}
+use Rattle.answer_log.specs.declared.store.Store.{Store}
 use Rattle.answer_cache.specs.Lists.{IsListSeat}
 use Rattle.answer_cache.specs.Seats.{SeatView, StoresNothing, store_of, offer_of}
 use Rattle.dns_message.specs.Questions.{same_question}

@@ -1,4 +1,4 @@
--- `of` makes a value of no octets, whose offers are read off the argument.
+-- `of` makes a value of no octets, whose notes are read off the argument.
 use Rattle.std.proofs.Common.{◌≡◌, List, [], ◌∷◌, refl}
 use mir.Syntax.{a_type, dcons, dnil, named}
 use mir.Val.{Val, vptr, vstruct, vcons, vnil}
@@ -21,12 +21,12 @@ use denote.Signature.{types_at, plain}
 use denote.Steps.{nothing}
 use denote.Triple.Walked.{Stays, stay_dropped, walk_of, Goes-dropped}
 use Rattle.std.proofs.raw_atomic.Walks.{proved, leaves}
-use Rattle.answer_cache.specs.Seats.{Offer}
-use Rattle.answer_cache.specs.contracts.offers.Offers as Offers
-use Rattle.answer_cache.specs.contracts.offers.Offers.of.{ended, clauses}
-use Rattle.answer_cache.specs.contracts.offers.Offers.of.Key.{name as #self}
-use Rattle.answer_cache.proofs.offers.Offers.of.Statement.{statement}
-use Rattle.answer_cache.proofs.offers.Offers.of.Code as code
+use Rattle.answer_cache.specs.Seats.{Noted}
+use Rattle.answer_cache.specs.contracts.notes.Notes as Notes
+use Rattle.answer_cache.specs.contracts.notes.Notes.of.{ended, clauses}
+use Rattle.answer_cache.specs.contracts.notes.Notes.of.Key.{name as #self}
+use Rattle.answer_cache.proofs.notes.Notes.of.Statement.{statement}
+use Rattle.answer_cache.proofs.notes.Notes.of.Code as code
 
 abbrev token_val : Val
 token_val = vstruct (vcons (vstruct vnil) vnil)
@@ -38,11 +38,11 @@ of_spec 𝓤 𝓛 𝓜 𝓡 wired T Y L LY g d _ =
     let arg = RefOf (0 ∷ []) tt (plain (λ _. R)) (λ _. tt) in let hs : Stays En.signature.params En.kept = (stay_dropped arg yes, tt) in
     proved 𝓛 En hs c 𝓜 𝓡 (Goes-dropped 𝓛 3 arg yes (λ κs x f. refl), tt) (#self inst) fn (code.unfolded 𝓤 H 𝓜 𝓡 wired (T, (Y, tt)) d)
     (λ κs. (shr_vals, tt)) (λ κs. (shr_Tells (named 0) κs.0 R, tt)) (λ κs qs bounds a gh are.
-    let p : Val = vptr a.0.ref_ptr.0 a.0.ref_ptr.1 in let list : List Offer = g.offers a.0.now in let r : Offers.the_row.Denot = record { marker = record {}; list = list } in let F : Fml = Offers.the_row.own_val r (token_val ∷ []) in
+    let p : Val = vptr a.0.ref_ptr.0 a.0.ref_ptr.1 in let noted : Noted = g.notes a.0.now in let r : Notes.the_row.Denot = record { marker = record {}; noted = noted } in let F : Fml = Notes.the_row.own_val r (token_val ∷ []) in
     let y : (walk_of 𝓛 En hs c).Ghost = ((κs, qs, bounds, a, (p ∷ [], tt)), gh) in let Post : Val → SProp 𝓤 = (walk_of 𝓛 En hs c).post y in
     qed 𝓛 ((raw (denote.Triple.Entry.alive 𝓛 En.signature κs qs) ⊛ ‵ (owns (types_at En.signature.params κs) a y.0.4)) ∷ raw ((c κs a).requires gh) ∷ []) ∵ split ! $ keep ! (0 ∷ []) $
     enter ! 𝓣.C 𝓣.Λ fn (p ∷ []) Post $ alloc_all ! (λ l. pass_all ! refl ((tt, tt), tt) $
     sets ! (agg ! (no_more !)) refl (tt, tt) $ sets ! (agg ! (and_then ! (get ! refl) (no_more !))) refl (tt, (tt, tt)) $
-    use0 𝓛 (raw (fact 𝓤 (list ≡ list))) (fact_i 𝓤 (list ≡ list) (emp 𝓤) refl) $
+    use0 𝓛 (raw (fact 𝓤 (noted ≡ noted))) (fact_i 𝓤 (noted ≡ noted) (emp 𝓤) refl) $
     use0 𝓛 (‵ F) (makes_shadow 𝓛 F ((λ vss. (tt, ((λ uss. (tt, tt)), tt))), tt) (((vstruct vnil ∷ [], tt), (refl, ((tt, (refl, tt)), tt))), tt)) $ nothing ! $ nothing ! $ fjoin ! $
     returns ! (look_at ! 0 refl) $ free_all ! refl $ keep ! (3 ∷ 0 ∷ 1 ∷ 2 ∷ []) $ by ! (leaves 𝓛 En hs c y token_val r (tt, tt) (tt, tt))))

@@ -1,0 +1,99 @@
+-- What holds of the nodes of a shared cache, and of a walk along them.
+use Rattle.std.specs.Prelude.{◌≡◌, ℕ, ◌+◌, ◌*◌, ◌<◌, ◌≤◌, List, [], ◌∷◌, ◌++◌, length, Option, Some, None}
+use Rattle.std.specs.Arc.{arc_value}
+use Rattle.std.specs.List.{last_or}
+use mathlib.Core.List.{IsPrefix}
+use Rattle.dns_answers.specs.Values.{AnswerValue}
+use Rattle.logbook.specs.Pages.{Book, Nib, may_write}
+use Rattle.dns_message.specs.declared.question.Question.{Question}
+use Rattle.answer_log.specs.Groups.{hash_of, hashed_of}
+use Rattle.answer_log.specs.Hands.{IsHand, IsNamed, SeesMore}
+use Rattle.answer_log.specs.Histories.{IsFull, living, stores_of}
+use Rattle.answer_log.specs.Logs.{history, top}
+use Rattle.answer_log.specs.Steps.{store_by}
+use Rattle.answer_log.specs.declared.event.Event.{Event}
+use Rattle.answer_log.specs.declared.hand.Hand.{Hand}
+use Rattle.answer_log.specs.declared.store.Store.{Store}
+use Rattle.answer_cache.specs.Seats.{Noted}
+use Rattle.answer_cache.specs.declared.node.Node.{Node}
+use Rattle.answer_cache.specs.declared.refusal.StoreRefusal.{StoreRefusal}
+use Rattle.answer_cache.specs.declared.refusal.StoreRefusal.TheVariants.{Lifeless, GenerationFull, Contended, Memory}
+use Rattle.answer_cache.specs.declared.node.Walk.{Walk}
+
+-- what the nodes of a book are tagged with
+abbrev pub numbers_of : Book → List ℕ
+numbers_of book = book.number ∷ book.log_name ∷ book.cells_name ∷ []
+
+-- the store of a node, by the seat that made it
+abbrev pub store_in : ℕ → Node → Store
+store_in seat node = store_by seat node.question (arc_value node.answer) node.moment
+
+-- a node, as the log that its seat had seen names it
+pub record IsNode (book : Book) (it : Node) : Type 0 where
+  pub same : it.seen.book ≡ book
+  pub tagged : it.tag ≡ hash_of (hashed_of it.question)
+  pub seat : ℕ
+  pub named : IsNamed book it.seen.log it.node (store_in seat it) it.link
+
+abbrev pub IsShelved : List ℕ → Node → Type 0
+IsShelved tag it = (numbers_of it.seen.book ≡ tag) × IsNode it.seen.book it
+
+-- The nodes ahead of a walk are those that were placed up to some moment. These are their stores.
+pub record Ahead (walk : Walk) (left : List Store) : Type 0 where
+  pub front : List Event
+  pub back : List Event
+  pub split : walk.seen.log ≡ front ++ back
+  pub at : walk.next ≡ top front
+  pub stores : left ≡ history front
+
+-- what a walk meets: nothing where nothing is ahead, else the node of the last store ahead
+abbrev pub Meets : Book → Walk → List Store → Option Node → Type 0
+Meets book walk left None = left ≡ []
+Meets book walk left (Some node) = (rest : List Store) × (seat : ℕ)
+    × (node.tag ≡ hash_of (hashed_of node.question)) × (left ≡ rest ++ store_in seat node ∷ []) × Ahead walk rest
+
+-- the node of the last store of a question
+abbrev pub IsLastOf : Question → List Store → Option Node → Type 0
+IsLastOf question stores None = last_or None (stores_of question stores) ≡ None
+IsLastOf question stores (Some node) = (seat : ℕ) × (last_or None (stores_of question stores) ≡ Some (store_in seat node))
+
+-- the notes are those of before but for so many links and tries at most
+pub record Costs (old new : Noted) (links tries : ℕ) : Type 0 where
+  pub offered : new.offered ≡ old.offered
+  pub along : new.links ≤ old.links + links
+  pub tried : new.tries ≤ old.tries + tries
+
+-- the hand goes on at its book
+pub record Holds (book : Book) (old new : Hand) : Type 0 where
+  pub hand : IsHand new
+  pub number : new.number ≡ old.number
+  pub same : new.book.book ≡ book
+
+-- what is to be placed: the log names the node so, and the pen writes its link
+pub record IsReady (book : Book) (log : List Event) (seat : ℕ) (node : Node) (nib : Nib) : Type 0 where
+  pub named : IsNamed book log node.node (store_in seat node) node.link
+  pub right : nib.right ≡ may_write
+  pub its : nib.key ≡ node.link.key
+  pub above : 1 < node.link.key
+
+-- the node has this question and answer, from this moment on
+abbrev pub Says : Node → Question → AnswerValue → ℕ → Type 0
+Says node question answer moment = (node.question ≡ question) × (arc_value node.answer ≡ answer) × (node.moment ≡ moment)
+
+-- the answer of a node, while it lives
+abbrev pub living_in : ℕ → Node → Option AnswerValue
+living_in now node = living now (store_in 0 node)
+
+-- why a try does not begin
+abbrev pub WhyNoRoom : Question → List Store → StoreRefusal → Type 0
+WhyNoRoom question after Lifeless = ⊥
+WhyNoRoom question after GenerationFull = IsFull after question
+WhyNoRoom question after Contended = ⊥
+WhyNoRoom question after Memory = Unit {0}
+
+-- why no try placed the node
+abbrev pub WhyLost : Question → List Store → List Store → StoreRefusal → Type 0
+WhyLost question before after Lifeless = ⊥
+WhyLost question before after GenerationFull = IsFull after question
+WhyLost question before after Contended = length before + 16 ≤ length after
+WhyLost question before after Memory = Unit {0}

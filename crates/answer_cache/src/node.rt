@@ -1,0 +1,51 @@
+//! The nodes of a shared cache.
+ghost use Rattle.std.specs.Prelude.{◌≡◌};
+
+use answer_log::{Book, Word};
+use boxcar::Keeps;
+use boxcar::tag::Names;
+use dns_answers::{Answer, Moment};
+use dns_message::Question;
+use std::alloc::Global;
+use std::sync::Arc;
+
+/// A store with its number, the hash of its question, its link to the node placed before it, and what its seat had seen
+/// when it was named. It stays on its shelf as it is, but for the link until it is placed.
+#[derive(Drop)]
+pub struct Node {
+    pub node: u64,
+    pub tag: u32,
+    pub link: Word,
+    pub question: Question,
+    pub answer: Arc<Answer>,
+    pub moment: Moment,
+    pub seen: Book,
+}
+
+/// A walk from the node placed last to the first one: what it has seen, and the next node, 0 at the end.
+#[derive(Drop)]
+pub struct Walk {
+    pub seen: Book,
+    pub next: u64,
+}
+
+/// What holds of each node on a shelf.
+pub struct Shelved;
+
+impl Keeps<Node> for Shelved {
+    ghost use Rattle.answer_cache.specs.Nodes.{IsShelved};
+
+    ghost holds = { λ tag index node. IsShelved tag node };
+}
+
+/// The nodes of a seat, to which it alone adds.
+pub(crate) type Shelf = boxcar::Vec<Node, Global, Shelved>;
+
+/// The tag of a shelf has the numbers of the book.
+pub(crate) struct ByBook;
+
+impl Names<Book> for ByBook {
+    ghost use Rattle.answer_cache.specs.Nodes.{numbers_of};
+
+    ghost numbers = { λ seen. numbers_of seen.book };
+}

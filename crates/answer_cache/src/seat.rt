@@ -1,0 +1,88 @@
+//! The seats of a shared cache, and what they tell each other.
+ghost use Rattle.std.specs.Prelude.{◌≡◌, ◌⊎◌};
+ghost use mathlib.Core.List.{IsPrefix};
+
+use crate::notes::Notes;
+use answer_log::{Book, Hand, logs_are_of_one_history};
+use std::marker::Model;
+
+/// A seat at a `SharedCache`. One thread uses it at a time, and it may be sent to another.
+#[derive(Drop)]
+pub struct Seat {
+    pub(crate) hand: Hand,
+    pub(crate) notes: Notes,
+}
+
+impl Model for Seat {
+    ghost use Rattle.answer_log.specs.Hands.{IsHand};
+    ghost use Rattle.answer_cache.specs.Shared.{SharedView, view_of};
+
+    ghost Value = { SharedView };
+
+    ghost view = { λ it. view_of it.hand it.notes.noted };
+
+    ghost invariant = { λ it. IsHand it.hand };
+}
+
+impl Seat {
+    /// Its number, from 0.
+    #[must_use]
+    pub fn number(&self) -> usize
+        ensures { result ≡ self.now.seat.number }
+    {
+        self.hand.number as usize
+    }
+
+    /// What it has seen, for other seats to learn. Takes no memory.
+    #[must_use]
+    pub fn notice(&self) -> Notice
+        ensures { (result.cache ≡ self.now.cache) × (result.seen ≡ self.now.seat.seen) }
+    {
+        Notice {
+            seen: self.hand.book.again(),
+        }
+    }
+}
+
+/// What a seat had seen. It may be sent to other threads.
+#[derive(Drop)]
+pub struct Notice {
+    pub(crate) seen: Book,
+}
+
+impl Model for Notice {
+    ghost use Rattle.answer_log.specs.Logs.{history};
+    ghost use Rattle.answer_cache.specs.Shared.{Told};
+
+    ghost Value = { Told };
+
+    ghost view = { λ it. record { cache = it.seen.book; seen = history it.seen.log } };
+}
+
+impl Notice {
+    /// A copy. Takes no memory.
+    #[must_use]
+    pub fn again(&self) -> Notice
+        ensures { result ≡ self.now }
+    {
+        Notice {
+            seen: self.seen.again(),
+        }
+    }
+}
+
+/// A law: what two seats of a cache have seen is of one history.
+pub fn seats_see_one_history(one: &Seat, other: &Seat)
+    requires { one.now.cache ≡ other.now.cache }
+    ensures { IsPrefix one.now.seat.seen other.now.seat.seen ⊎ IsPrefix other.now.seat.seen one.now.seat.seen }
+{
+    logs_are_of_one_history(&one.hand.book, &other.hand.book);
+}
+
+/// A law: what two notices of a cache tell is of one history.
+pub fn notices_tell_one_history(one: &Notice, other: &Notice)
+    requires { one.now.cache ≡ other.now.cache }
+    ensures { IsPrefix one.now.seen other.now.seen ⊎ IsPrefix other.now.seen one.now.seen }
+{
+    logs_are_of_one_history(&one.seen, &other.seen);
+}

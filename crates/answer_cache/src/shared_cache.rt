@@ -1,0 +1,556 @@
+//! The cache that threads share.
+ghost use Rattle.std.specs.Prelude.{◌≡◌, ℕ, ◌+◌, ◌*◌, ◌<◌, ◌≤◌, ◌^◌, ◌++◌, ◌∷◌, [], List, Option, IfErr, IfOk, IfSome, IsTrue, None, MatchBool, MatchResult, OnOk, OnErr, ◌↔◌, length, map, option_and_then};
+ghost use mathlib.Core.List.{IsPrefix};
+ghost use Rattle.boxcar.specs.Table.{Shows};
+ghost use Rattle.logbook.specs.Pages.{may_write};
+ghost use Rattle.std.specs.Arc.{arc_value};
+ghost use Rattle.std.specs.List.{All, range_with_len};
+ghost use Rattle.std.specs.Option.{option_map};
+ghost use Rattle.answer_log.specs.Hands.{AreHands, EndsWith, IsHand, SeesMore};
+ghost use Rattle.answer_log.specs.Histories.{IsFull, IsSound, cached, in_group};
+ghost use Rattle.answer_log.specs.Logs.{history, top};
+ghost use Rattle.answer_log.specs.Steps.{HadRoom, store_by};
+ghost use Rattle.answer_log.specs.declared.store.Store.{Store};
+ghost use Rattle.dns_answers.specs.Records.{kind_of};
+ghost use Rattle.answer_cache.specs.Nodes.{Ahead, Costs, Holds, IsLastOf, IsNode, IsReady, Meets, Says, WhyLost, WhyNoRoom, living_in, numbers_of, store_in};
+ghost use Rattle.answer_cache.specs.Seats.{GoesOn, IsRefused, IsStored, StoresNothing, offer_of};
+ghost use Rattle.answer_cache.specs.Shared.{Belongs, Takes, Refuses, new_seat};
+ghost use Rattle.answer_log.specs.declared.event.Event.{Event as Noticed};
+
+use crate::book::AnswerBook;
+use crate::cache_refusal::CacheRefusal;
+use crate::node::{ByBook, Node, Shelf, Shelved, Walk};
+use crate::notes::Notes;
+use crate::refusal::StoreRefusal;
+use crate::rival::{NoRival, Rival};
+use crate::seat::{Notice, Seat};
+use answer_log::{
+    Book, Claimed, Draft, GROUP_COUNT, Hand, Hands, Log, Pen, group, hash, log_keeps_its_rule,
+    node_before,
+};
+use boxcar::Pushed;
+use boxcar::tag::Tag;
+use dns_answers::{Answer, Moment};
+use dns_message::{Question, same_questions_are_equal};
+use std::alloc::{AllocError, Global};
+use std::marker::Model;
+use std::sync::{Arc, Wait};
+
+/// How many stores there can be: 64 in each of 64 groups.
+const MOST_STORES: u16 = 4096;
+
+/// How many stores of one group there can be.
+const GROUP_LIMIT: u8 = 64;
+
+/// How many times a store is tried.
+const TRIES: u8 = 16;
+
+/// How many places a shelf has.
+const MOST_PLACES: u64 = 1 << 32;
+
+/// How many seats there can be.
+const MOST_SEATS: usize = 64;
+
+/// A book of answers that up to 64 seats share without a lock, each in a thread of its own.
+#[derive(Drop)]
+pub struct SharedCache {
+    log: Log,
+    shelves: Vec<Shelf>,
+}
+
+impl Model for SharedCache {
+    ghost use Rattle.std.specs.Prelude.{◌≡◌};
+    ghost use Rattle.std.specs.List.{All};
+    ghost use Rattle.logbook.specs.Pages.{Book, book_coded};
+    ghost use Rattle.answer_cache.specs.Nodes.{numbers_of};
+
+    ghost Value = { Book };
+
+    ghost coded = { book_coded };
+
+    ghost view = { λ it. it.log };
+
+    ghost invariant = { λ it. All (λ shelf. shelf.tag ≡ numbers_of it.log) it.shelves.items };
+}
+
+/// What is to be stored.
+#[derive(Clone, Copy)]
+struct Wanted<'a> {
+    question: &'a Question,
+    answer: &'a Arc<Answer>,
+    moment: Moment,
+}
+
+/// An empty shelf for each seat.
+fn empty_shelves(alloc: Global, seats: usize, seen: &Book) -> Result<Vec<Shelf>, AllocError>
+    ensures { IfOk result (λ shelves. All (λ shelf. shelf.tag ≡ numbers_of seen.now.book) shelves.items) }
+{
+    let mut shelves = Vec::new(alloc);
+    for _seat in 0..seats {
+        shelves.push(Shelf::with_rule(alloc, Tag::of::<Book, ByBook>(seen))?)?;
+    }
+    Ok(shelves)
+}
+
+/// The seats of a new log.
+fn new_seats(alloc: Global, seats: usize, hands: &mut Hands) -> Result<Vec<Seat>, AllocError>
+    requires count { seats ≤ 64 }
+    requires hands { AreHands hands.old }
+    requires first { hands.old.next ≡ 0 }
+    ensures { IfOk result (λ made. made.items ≡ map (new_seat hands.old.seen.book) (range_with_len 0 seats)) }
+{
+    let mut made = Vec::new(alloc);
+    for _seat in 0..seats {
+        made.push(Seat {
+            hand: hands.deal(),
+            notes: Notes::none(),
+        })?;
+    }
+    Ok(made)
+}
+
+impl SharedCache {
+    /// A cache in which nothing is stored, and its seats, numbered from 0.
+    ///
+    /// # Errors
+    /// `BadCount` outside 1 to 64 seats, and then `Memory`.
+    pub fn new(alloc: Global, seats: usize) -> Result<(SharedCache, Vec<Seat>), CacheRefusal>
+        ensures count { OnOk result ((0 < seats) × (seats ≤ 64)) }
+        ensures seats { IfOk result (λ made. made.1.items ≡ map (new_seat made.0) (range_with_len 0 seats)) }
+        ensures belong { IfOk result (λ made. All (Belongs made.0) made.1.items) }
+        ensures refused { IfErr result (Refuses seats) }
+    {
+        if seats == 0 || seats > MOST_SEATS {
+            return Err(CacheRefusal::BadCount);
+        }
+        let (log, mut hands) = Log::open();
+        let Ok(shelves) = empty_shelves(alloc, seats, &hands.seen) else {
+            return Err(CacheRefusal::Memory);
+        };
+        let Ok(made) = new_seats(alloc, seats, &mut hands) else {
+            return Err(CacheRefusal::Memory);
+        };
+        Ok((SharedCache { log, shelves }, made))
+    }
+
+    /// The node of a number.
+    fn node(&self, number: u64) -> Option<&Node>
+        ensures { IfSome result (λ node. (node.now.node ≡ number) × IsNode self.now node.now) }
+    {
+        let at = number.checked_sub(1)?;
+        let shelf = self.shelves.get((at % u64::from(GROUP_COUNT)) as usize)?;
+        let node = shelf.get((at / u64::from(GROUP_COUNT)) as usize)?;
+        if node.node == number {
+            Some(node)
+        } else {
+            None
+        }
+    }
+
+    /// A walk from the node placed last: one load of the head.
+    fn walk(&self, hand: &mut Hand) -> Walk
+        requires hand { IsHand hand.old }
+        requires book { hand.old.book.book ≡ self.now }
+        ensures holds { Holds self.now hand.old hand.new }
+        ensures seen { SeesMore hand.old.number hand.old.book.log hand.new.book.log }
+        ensures walk { (result.seen.book ≡ self.now) × (result.seen.log ≡ hand.new.book.log)
+            × (result.next ≡ top hand.new.book.log) }
+    {
+        let next = self.log.look(hand);
+        Walk {
+            seen: hand.book.again(),
+            next,
+        }
+    }
+
+    /// The next node of a walk: one load of its link.
+    fn step(&self, walk: &mut Walk, notes: &mut Notes) -> Result<Option<&Node>, AllocError>
+        requires book { walk.old.seen.book ≡ self.now }
+        requires ahead { (left : List Store) × Ahead walk.old left }
+        ensures book { walk.new.seen.book ≡ self.now }
+        ensures met { IfOk result (λ found. (left : List Store) → Ahead walk.old left
+            → Meets self.now walk.new left (option_map (λ node. node.now) found)) }
+        ensures costs { Costs notes.old.noted notes.new.noted 1 0 }
+        ensures free { IfOk result (λ found. found ≡ None → notes.new.noted.links ≡ notes.old.noted.links) }
+    {
+        log_keeps_its_rule(&walk.seen);
+        if walk.next == 0 {
+            return Ok(None);
+        }
+        let Some(node) = self.node(walk.next) else {
+            return Err(AllocError);
+        };
+        *notes = notes.with_link();
+        walk.next = node_before(&node.link, &node.seen, walk.next, &mut walk.seen);
+        Ok(Some(node))
+    }
+
+    /// The node of the last store of a question.
+    fn last_of(
+        &self,
+        walk: &mut Walk,
+        notes: &mut Notes,
+        question: &Question,
+    ) -> Result<Option<&Node>, AllocError>
+        requires book { walk.old.seen.book ≡ self.now }
+        requires start { walk.old.next ≡ top walk.old.seen.log }
+        ensures last { IfOk result (λ found. IsLastOf question.now (history walk.old.seen.log) (option_map (λ node. node.now) found)) }
+        ensures costs { Costs notes.old.noted notes.new.noted 4096 0 }
+    {
+        log_keeps_its_rule(&walk.seen);
+        same_questions_are_equal();
+        let tag = hash(question);
+        'links: for _link in 0..=MOST_STORES {
+            match self.step(walk, notes)? {
+                None => return Ok(None),
+                Some(node) if node.tag == tag && node.question == *question => {
+                    return Ok(Some(node));
+                }
+                Some(_) => {}
+            }
+        }
+        unreachable!()
+    }
+
+    /// Whether there are 64 stores of a group.
+    fn is_full(&self, walk: &mut Walk, notes: &mut Notes, group: u8) -> Result<bool, AllocError>
+        requires book { walk.old.seen.book ≡ self.now }
+        requires start { walk.old.next ≡ top walk.old.seen.log }
+        ensures full { IfOk result (λ full. IsTrue full ↔ (64 ≤ length (in_group group (history walk.old.seen.log)))) }
+        ensures costs { Costs notes.old.noted notes.new.noted 4096 0 }
+    {
+        log_keeps_its_rule(&walk.seen);
+        let mut count = 0;
+        'links: for _link in 0..=MOST_STORES {
+            let Some(node) = self.step(walk, notes)? else {
+                return Ok(false);
+            };
+            if node.tag % u32::from(GROUP_COUNT) == u32::from(group) {
+                count += 1;
+            }
+            if count == GROUP_LIMIT {
+                return Ok(true);
+            }
+        }
+        unreachable!()
+    }
+
+    /// The start of a try: the node placed last, where the group of the question is not full.
+    fn room(
+        &self,
+        hand: &mut Hand,
+        notes: &mut Notes,
+        question: &Question,
+    ) -> Result<u64, StoreRefusal>
+        requires hand { IsHand hand.old }
+        requires book { hand.old.book.book ≡ self.now }
+        ensures holds { Holds self.now hand.old hand.new }
+        ensures seen { SeesMore hand.old.number hand.old.book.log hand.new.book.log }
+        ensures places { hand.new.places ≡ hand.old.places }
+        ensures costs { Costs notes.old.noted notes.new.noted 4096 0 }
+        ensures room { IfOk result (λ old. (old ≡ top hand.new.book.log) × (IsFull (history hand.new.book.log) question.now → ⊥)) }
+        ensures full { IfErr result (WhyNoRoom question.now (history hand.new.book.log)) }
+    {
+        let mut walk = self.walk(hand);
+        let old = walk.next;
+        if self.is_full(&mut walk, notes, group(question))? {
+            return Err(StoreRefusal::GenerationFull);
+        }
+        Ok(old)
+    }
+
+    /// Names a node of this place, and puts it on the shelf, wherever it lands there.
+    fn shelve<R: Wait>(
+        &self,
+        rt: &R,
+        shelf: &Shelf,
+        hand: &mut Hand,
+        place: u64,
+        wanted: &Wanted<'_>,
+    ) -> Result<(Pushed<Node, Global, Shelved>, Pen), AllocError>
+        requires hand { IsHand hand.old }
+        requires book { hand.old.book.book ≡ self.now }
+        requires shelf { shelf.now.tag ≡ numbers_of self.now }
+        requires place { hand.old.places ≤ place }
+        ensures holds { Holds self.now hand.old hand.new }
+        ensures seen { SeesMore hand.old.number hand.old.book.log hand.new.book.log }
+        ensures shown { IfOk result (λ ready. Shows shelf.now ready.0) }
+        ensures ready { IfOk result (λ ready. (ready.1.book ≡ self.now)
+            × IsReady self.now hand.new.book.log hand.old.number ready.0.value ready.1.nib) }
+        ensures made { IfOk result (λ ready. Says ready.0.value wanted.now.question.now (arc_value wanted.now.answer.now) wanted.now.moment) }
+    {
+        if place >= MOST_PLACES {
+            return Err(AllocError);
+        }
+        let question = wanted.question.try_clone()?;
+        let answer = Arc::try_clone(wanted.answer)?;
+        shelf.reserve(1)?;
+        let Claimed { node, link, pen } = self
+            .log
+            .claim(hand, place, wanted.question, wanted.answer, wanted.moment);
+        let node = Node {
+            node,
+            tag: hash(wanted.question),
+            link,
+            question,
+            answer,
+            moment: wanted.moment,
+            seen: hand.book.again(),
+        };
+        match shelf.push_shown(rt, node) {
+            Ok(pushed) => Ok((pushed, pen)),
+            Err(_) => Err(AllocError),
+        }
+    }
+
+    /// A node on the shelf at the place that its number says. Where it lands elsewhere it is given up, and one more is
+    /// tried, at the place after that.
+    fn make_ready<R: Wait>(
+        &self,
+        rt: &R,
+        shelf: &Shelf,
+        hand: &mut Hand,
+        wanted: &Wanted<'_>,
+    ) -> Result<(Pushed<Node, Global, Shelved>, Pen), AllocError>
+        requires hand { IsHand hand.old }
+        requires book { hand.old.book.book ≡ self.now }
+        requires shelf { shelf.now.tag ≡ numbers_of self.now }
+        ensures holds { Holds self.now hand.old hand.new }
+        ensures seen { SeesMore hand.old.number hand.old.book.log hand.new.book.log }
+        ensures shown { IfOk result (λ ready. Shows shelf.now ready.0) }
+        ensures ready { IfOk result (λ ready. (ready.1.book ≡ self.now)
+            × IsReady self.now hand.new.book.log hand.old.number ready.0.value ready.1.nib) }
+        ensures made { IfOk result (λ ready. Says ready.0.value wanted.now.question.now (arc_value wanted.now.answer.now) wanted.now.moment) }
+    {
+        let place = hand.places;
+        let (pushed, pen) = self.shelve(rt, shelf, hand, place, wanted)?;
+        let landed = pushed.index() as u64;
+        if landed == place {
+            return Ok((pushed, pen));
+        }
+        let place = hand.places.max(landed.saturating_add(1));
+        let (pushed, pen) = self.shelve(rt, shelf, hand, place, wanted)?;
+        if pushed.index() as u64 == place {
+            Ok((pushed, pen))
+        } else {
+            Err(AllocError)
+        }
+    }
+
+    /// One try to place a node before the node `old`.
+    fn attempt<V: Rival>(
+        &self,
+        hand: &mut Hand,
+        notes: &mut Notes,
+        node: &Node,
+        pen: &mut Pen,
+        old: u64,
+        number: u8,
+        rival: &mut V,
+    ) -> bool
+        requires hand { IsHand hand.old }
+        requires book { (hand.old.book.book ≡ self.now) × (pen.old.book ≡ self.now) }
+        requires ready { IsReady self.now hand.old.book.log hand.old.number node.now pen.old.nib }
+        requires sound { IsSound (store_in hand.old.number node.now) }
+        requires room { HadRoom hand.old.book.log old node.now.question }
+        ensures holds { Holds self.now hand.old hand.new }
+        ensures costs { Costs notes.old.noted notes.new.noted 0 1 }
+        ensures placed { MatchBool result
+            (EndsWith (store_in hand.old.number node.now) (history hand.old.book.log) (history hand.new.book.log))
+            (SeesMore hand.old.number hand.old.book.log hand.new.book.log) }
+        ensures lost { MatchBool result (Unit {0})
+            ((seen : List Noticed) → IsPrefix seen hand.old.book.log → top seen ≡ old
+            → length (history seen) < length (history hand.new.book.log)) }
+        ensures again { MatchBool result (Unit {0})
+            ((pen.new.book ≡ self.now) × IsReady self.now hand.new.book.log hand.old.number node.now pen.new.nib) }
+    {
+        rival.between(number);
+        *notes = notes.with_try();
+        node.link.store(pen, old);
+        let draft = Draft {
+            node: node.node,
+            seat: hand.number,
+            question: &node.question,
+            answer: &node.answer,
+            moment: node.moment,
+        };
+        self.log.place(hand, pen, old, &draft, &node.link)
+    }
+
+    /// Up to sixteen tries to place a node. The first one knows the node placed last.
+    fn compete<V: Rival>(
+        &self,
+        hand: &mut Hand,
+        notes: &mut Notes,
+        node: &Node,
+        mut pen: Pen,
+        old: u64,
+        rival: &mut V,
+    ) -> Result<(), StoreRefusal>
+        requires hand { IsHand hand.old }
+        requires book { (hand.old.book.book ≡ self.now) × (pen.book ≡ self.now) }
+        requires ready { IsReady self.now hand.old.book.log hand.old.number node.now pen.nib }
+        requires sound { IsSound (store_in hand.old.number node.now) }
+        requires room { HadRoom hand.old.book.log old node.now.question }
+        ensures holds { Holds self.now hand.old hand.new }
+        ensures costs { Costs notes.old.noted notes.new.noted (15 * 4096) 16 }
+        ensures competed { MatchResult result
+            (λ _. EndsWith (store_in hand.old.number node.now) (history hand.old.book.log) (history hand.new.book.log))
+            (λ refusal. SeesMore hand.old.number hand.old.book.log hand.new.book.log
+            × WhyLost node.now.question (history hand.old.book.log) (history hand.new.book.log) refusal) }
+    {
+        if self.attempt(hand, notes, node, &mut pen, old, 1, rival) {
+            return Ok(());
+        }
+        'tries: for number in 2..=TRIES {
+            let old = self.room(hand, notes, &node.question)?;
+            if self.attempt(hand, notes, node, &mut pen, old, number, rival) {
+                return Ok(());
+            }
+        }
+        Err(StoreRefusal::Contended)
+    }
+
+    /// Stores what lives.
+    fn put<R: Wait, V: Rival>(
+        &self,
+        rt: &R,
+        hand: &mut Hand,
+        notes: &mut Notes,
+        wanted: &Wanted<'_>,
+        rival: &mut V,
+    ) -> Result<(), StoreRefusal>
+        requires hand { IsHand hand.old }
+        requires book { hand.old.book.book ≡ self.now }
+        requires sound { IsSound (store_by hand.old.number wanted.now.question.now (arc_value wanted.now.answer.now) wanted.now.moment) }
+        ensures holds { Holds self.now hand.old hand.new }
+        ensures costs { Costs notes.old.noted notes.new.noted (16 * 4096) 16 }
+        ensures put { MatchResult result
+            (λ _. EndsWith (store_by hand.old.number wanted.now.question.now (arc_value wanted.now.answer.now) wanted.now.moment) (history hand.old.book.log) (history hand.new.book.log))
+            (λ refusal. SeesMore hand.old.number hand.old.book.log hand.new.book.log
+            × WhyLost wanted.now.question.now (history hand.old.book.log) (history hand.new.book.log) refusal) }
+    {
+        let old = self.room(hand, notes, wanted.question)?;
+        let Some(shelf) = self.shelves.get(hand.number as usize) else {
+            return Err(StoreRefusal::Memory);
+        };
+        let (pushed, pen) = self.make_ready(rt, shelf, hand, wanted)?;
+        self.compete(hand, notes, shelf.value(&pushed), pen, old, rival)
+    }
+
+    /// As `store`, with something that comes between the load of the head and the exchange of each try. For tests.
+    pub fn store_against<R: Wait, V: Rival>(
+        &self,
+        rt: &R,
+        seat: &mut Seat,
+        question: &Question,
+        answer: &Arc<Answer>,
+        now: Moment,
+        rival: &mut V,
+    ) -> Result<(), StoreRefusal>
+        requires made_here { Belongs self.now seat.old }
+        requires kind { kind_of (arc_value answer.now).records ≡ question.now.kind }
+        ensures stays { Belongs self.now seat.new }
+        ensures goes_on { GoesOn seat.old.seat seat.new.seat }
+        ensures takes { Takes seat.old seat.new (16 * 4096) 16 }
+        ensures offered { seat.new.seat.offered
+            ≡ seat.old.seat.offered ++ offer_of question.now (arc_value answer.now) now ∷ [] }
+        ensures stored { OnOk result
+            (IsStored seat.old.seat seat.new.seat (offer_of question.now (arc_value answer.now) now)) }
+        ensures refused { IfErr result
+            (IsRefused seat.old.seat seat.new.seat (offer_of question.now (arc_value answer.now) now)) }
+    {
+        seat.notes = seat.notes.with(question, answer, now);
+        if answer.life() == 0 {
+            return Err(StoreRefusal::Lifeless);
+        }
+        let wanted = Wanted {
+            question,
+            answer,
+            moment: now,
+        };
+        let stored = self.put(rt, &mut seat.hand, &mut seat.notes, &wanted, rival);
+        log_keeps_its_rule(&seat.hand.book);
+        stored
+    }
+
+    /// Afterwards the seat has seen what the notice tells, and what came since: one load of the head. Takes no memory.
+    pub fn learn(&self, seat: &mut Seat, notice: &Notice)
+        requires made_here { Belongs self.now seat.old }
+        requires told_here { notice.now.cache ≡ self.now }
+        ensures stays { Belongs self.now seat.new }
+        ensures goes_on { GoesOn seat.old.seat seat.new.seat }
+        ensures stores_nothing { StoresNothing seat.old.seat seat.new.seat }
+        ensures takes { Takes seat.old seat.new 0 0 }
+        ensures told { IsPrefix notice.now.seen seat.new.seat.seen }
+    {
+        self.log.learn(&mut seat.hand, &notice.seen);
+        log_keeps_its_rule(&seat.hand.book);
+    }
+}
+
+/// The answer of a node, while it lives.
+fn answer_of(node: Option<&Node>, now: Moment) -> Result<Option<Arc<Answer>>, AllocError>
+    ensures answer { IfOk result (λ answer. option_map arc_value answer ≡ option_and_then (living_in now) (option_map (λ it. it.now) node)) }
+{
+    match node {
+        Some(node) if now.get() < node.moment.get() + u64::from(node.answer.life()) => {
+            Ok(Some(Arc::try_clone(&node.answer)?))
+        }
+        _ => Ok(None),
+    }
+}
+
+impl AnswerBook for SharedCache {
+    type Seat = Seat;
+
+    ghost use Rattle.answer_cache.specs.Shared.{Belongs};
+
+    ghost belongs = { λ cache seat. Belongs cache seat };
+
+    ghost shown = { λ seat. seat.seat };
+
+    ghost holds = { λ cache seat made. made.is };
+
+    fn lookup(
+        &self,
+        seat: &mut Seat,
+        question: &Question,
+        now: Moment,
+    ) -> Result<Option<Arc<Answer>>, AllocError>
+        requires made_here { Belongs self.now seat.old }
+        ensures stays { Belongs self.now seat.new }
+        ensures goes_on { GoesOn seat.old.seat seat.new.seat }
+        ensures stores_nothing { StoresNothing seat.old.seat seat.new.seat }
+        ensures takes { Takes seat.old seat.new 4096 0 }
+        ensures found { IfOk result (λ found. option_map arc_value found ≡ cached seat.new.seat.seen question.now now) }
+    {
+        let mut walk = self.walk(&mut seat.hand);
+        log_keeps_its_rule(&seat.hand.book);
+        let found = self.last_of(&mut walk, &mut seat.notes, question)?;
+        answer_of(found, now)
+    }
+
+    fn store<R: Wait>(
+        &self,
+        rt: &R,
+        seat: &mut Seat,
+        question: &Question,
+        answer: &Arc<Answer>,
+        now: Moment,
+    ) -> Result<(), StoreRefusal>
+        requires made_here { Belongs self.now seat.old }
+        requires kind { kind_of (arc_value answer.now).records ≡ question.now.kind }
+        ensures stays { Belongs self.now seat.new }
+        ensures goes_on { GoesOn seat.old.seat seat.new.seat }
+        ensures takes { Takes seat.old seat.new (16 * 4096) 16 }
+        ensures offered { seat.new.seat.offered
+            ≡ seat.old.seat.offered ++ offer_of question.now (arc_value answer.now) now ∷ [] }
+        ensures stored { OnOk result
+            (IsStored seat.old.seat seat.new.seat (offer_of question.now (arc_value answer.now) now)) }
+        ensures refused { IfErr result
+            (IsRefused seat.old.seat seat.new.seat (offer_of question.now (arc_value answer.now) now)) }
+    {
+        self.store_against(rt, seat, question, answer, now, &mut NoRival)
+    }
+}
