@@ -4,21 +4,22 @@ use Rattle.std.specs.Arc.{arc_value}
 use Rattle.std.specs.List.{last_or}
 use mathlib.Core.List.{IsPrefix}
 use Rattle.dns_answers.specs.Values.{AnswerValue}
+use Rattle.answer_log.specs.declared.event.Event.{Event}
 use Rattle.logbook.specs.Pages.{Book, Nib, may_write}
 use Rattle.dns_message.specs.declared.question.Question.{Question}
 use Rattle.answer_log.specs.Groups.{hash_of, hashed_of}
 use Rattle.answer_log.specs.Hands.{IsHand, IsNamed, SeesMore}
-use Rattle.answer_log.specs.Histories.{IsFull, living, stores_of}
-use Rattle.answer_log.specs.Logs.{history, top}
+use Rattle.answer_log.specs.Histories.{IsFull, stores_of}
+use Rattle.answer_log.specs.Logs.{history}
 use Rattle.answer_log.specs.Steps.{store_by}
-use Rattle.answer_log.specs.declared.event.Event.{Event}
+use Rattle.answer_log.specs.Walks.{Ahead}
 use Rattle.answer_log.specs.declared.hand.Hand.{Hand}
 use Rattle.answer_log.specs.declared.store.Store.{Store}
+use Rattle.answer_log.specs.declared.walk.Walk.{Walk}
 use Rattle.answer_cache.specs.Seats.{Noted}
 use Rattle.answer_cache.specs.declared.node.Node.{Node}
 use Rattle.answer_cache.specs.declared.refusal.StoreRefusal.{StoreRefusal}
 use Rattle.answer_cache.specs.declared.refusal.StoreRefusal.TheVariants.{Lifeless, GenerationFull, Contended, Memory}
-use Rattle.answer_cache.specs.declared.node.Walk.{Walk}
 
 -- what the nodes of a book are tagged with
 abbrev pub numbers_of : Book → List ℕ
@@ -37,14 +38,6 @@ pub record IsNode (book : Book) (it : Node) : Type 0 where
 
 abbrev pub IsShelved : List ℕ → Node → Type 0
 IsShelved tag it = (numbers_of it.seen.book ≡ tag) × IsNode it.seen.book it
-
--- The nodes ahead of a walk are those that were placed up to some moment. These are their stores.
-pub record Ahead (walk : Walk) (left : List Store) : Type 0 where
-  pub front : List Event
-  pub back : List Event
-  pub split : walk.seen.log ≡ front ++ back
-  pub at : walk.next ≡ top front
-  pub stores : left ≡ history front
 
 -- what a walk meets: nothing where nothing is ahead, else the node of the last store ahead
 abbrev pub Meets : Book → Walk → List Store → Option Node → Type 0
@@ -79,10 +72,6 @@ pub record IsReady (book : Book) (log : List Event) (seat : ℕ) (node : Node) (
 -- the node has this question and answer, from this moment on
 abbrev pub Says : Node → Question → AnswerValue → ℕ → Type 0
 Says node question answer moment = (node.question ≡ question) × (arc_value node.answer ≡ answer) × (node.moment ≡ moment)
-
--- the answer of a node, while it lives
-abbrev pub living_in : ℕ → Node → Option AnswerValue
-living_in now node = living now (store_in 0 node)
 
 -- why a try does not begin
 abbrev pub WhyNoRoom : Question → List Store → StoreRefusal → Type 0

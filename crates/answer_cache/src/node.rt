@@ -1,5 +1,6 @@
 //! The nodes of a shared cache.
-ghost use Rattle.std.specs.Prelude.{◌≡◌};
+ghost use Rattle.std.specs.Prelude.{◌↔◌, ◌+◌, ◌<◌, IsTrue};
+ghost use Rattle.std.specs.Arc.{arc_value};
 
 use answer_log::{Book, Word};
 use boxcar::Keeps;
@@ -22,11 +23,13 @@ pub struct Node {
     pub seen: Book,
 }
 
-/// A walk from the node placed last to the first one: what it has seen, and the next node, 0 at the end.
-#[derive(Drop)]
-pub struct Walk {
-    pub seen: Book,
-    pub next: u64,
+impl Node {
+    /// Whether its answer lives at a moment.
+    pub(crate) fn lives_at(&self, now: Moment) -> bool
+        ensures { IsTrue result ↔ (now < self.now.moment + (arc_value self.now.answer).life) }
+    {
+        now.get() < self.moment.get() + u64::from(self.answer.life())
+    }
 }
 
 /// What holds of each node on a shelf.

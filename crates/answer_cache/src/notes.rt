@@ -1,5 +1,5 @@
 //! What contracts note of a seat, and nothing at run time.
-ghost use Rattle.std.specs.Prelude.{◌≡◌, ◌∷◌, ◌++◌, []};
+ghost use Rattle.std.specs.Prelude.{◌≡◌, ◌+◌, ◌∷◌, ◌++◌, []};
 ghost use Rattle.std.specs.Arc.{arc_value};
 ghost use Rattle.answer_cache.specs.Seats.{Noted, offer_of};
 

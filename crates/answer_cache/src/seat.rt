@@ -3,7 +3,7 @@ ghost use Rattle.std.specs.Prelude.{◌≡◌, ◌⊎◌};
 ghost use mathlib.Core.List.{IsPrefix};
 
 use crate::notes::Notes;
-use answer_log::{Book, Hand, logs_are_of_one_history};
+use answer_log::{Book, Hand, histories_are_one};
 use std::marker::Model;
 
 /// A seat at a `SharedCache`. One thread uses it at a time, and it may be sent to another.
@@ -76,7 +76,7 @@ pub fn seats_see_one_history(one: &Seat, other: &Seat)
     requires { one.now.cache ≡ other.now.cache }
     ensures { IsPrefix one.now.seat.seen other.now.seat.seen ⊎ IsPrefix other.now.seat.seen one.now.seat.seen }
 {
-    logs_are_of_one_history(&one.hand.book, &other.hand.book);
+    histories_are_one(&one.hand.book, &other.hand.book);
 }
 
 /// A law: what two notices of a cache tell is of one history.
@@ -84,5 +84,5 @@ pub fn notices_tell_one_history(one: &Notice, other: &Notice)
     requires { one.now.cache ≡ other.now.cache }
     ensures { IsPrefix one.now.seen other.now.seen ⊎ IsPrefix other.now.seen one.now.seen }
 {
-    logs_are_of_one_history(&one.seen, &other.seen);
+    histories_are_one(&one.seen, &other.seen);
 }

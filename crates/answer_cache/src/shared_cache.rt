@@ -1,5 +1,5 @@
 //! The cache that threads share.
-ghost use Rattle.std.specs.Prelude.{◌≡◌, ℕ, ◌+◌, ◌*◌, ◌<◌, ◌≤◌, ◌^◌, ◌++◌, ◌∷◌, [], List, Option, IfErr, IfOk, IfSome, IsTrue, None, MatchBool, MatchResult, OnOk, OnErr, ◌↔◌, length, map, option_and_then};
+ghost use Rattle.std.specs.Prelude.{◌≡◌, ℕ, ◌+◌, ◌*◌, ◌<◌, ◌≤◌, ◌^◌, ◌++◌, ◌∷◌, [], List, Option, IfErr, IfOk, IfNone, IfSome, IsTrue, None, MatchBool, MatchResult, OnOk, OnErr, ◌↔◌, length, map};
 ghost use mathlib.Core.List.{IsPrefix};
 ghost use Rattle.boxcar.specs.Table.{Shows};
 ghost use Rattle.logbook.specs.Pages.{may_write};
@@ -12,21 +12,21 @@ ghost use Rattle.answer_log.specs.Logs.{history, top};
 ghost use Rattle.answer_log.specs.Steps.{HadRoom, store_by};
 ghost use Rattle.answer_log.specs.declared.store.Store.{Store};
 ghost use Rattle.dns_answers.specs.Records.{kind_of};
-ghost use Rattle.answer_cache.specs.Nodes.{Ahead, Costs, Holds, IsLastOf, IsNode, IsReady, Meets, Says, WhyLost, WhyNoRoom, living_in, numbers_of, store_in};
+ghost use Rattle.answer_cache.specs.Nodes.{Costs, Holds, IsLastOf, IsNode, IsReady, Meets, Says, WhyLost, WhyNoRoom, numbers_of, store_in};
 ghost use Rattle.answer_cache.specs.Seats.{GoesOn, IsRefused, IsStored, StoresNothing, offer_of};
 ghost use Rattle.answer_cache.specs.Shared.{Belongs, Takes, Refuses, new_seat};
+ghost use Rattle.answer_log.specs.Walks.{Ahead};
 ghost use Rattle.answer_log.specs.declared.event.Event.{Event as Noticed};
 
 use crate::book::AnswerBook;
 use crate::cache_refusal::CacheRefusal;
-use crate::node::{ByBook, Node, Shelf, Shelved, Walk};
+use crate::node::{ByBook, Node, Shelf, Shelved};
 use crate::notes::Notes;
 use crate::refusal::StoreRefusal;
 use crate::rival::{NoRival, Rival};
 use crate::seat::{Notice, Seat};
 use answer_log::{
-    Book, Claimed, Draft, GROUP_COUNT, Hand, Hands, Log, Pen, group, hash, log_keeps_its_rule,
-    node_before,
+    Book, Claimed, Draft, GROUP_COUNT, Hand, Hands, Log, Pen, Walk, group, hash, log_keeps_its_rule,
 };
 use boxcar::Pushed;
 use boxcar::tag::Tag;
@@ -147,22 +147,6 @@ impl SharedCache {
         }
     }
 
-    /// A walk from the node placed last: one load of the head.
-    fn walk(&self, hand: &mut Hand) -> Walk
-        requires hand { IsHand hand.old }
-        requires book { hand.old.book.book ≡ self.now }
-        ensures holds { Holds self.now hand.old hand.new }
-        ensures seen { SeesMore hand.old.number hand.old.book.log hand.new.book.log }
-        ensures walk { (result.seen.book ≡ self.now) × (result.seen.log ≡ hand.new.book.log)
-            × (result.next ≡ top hand.new.book.log) }
-    {
-        let next = self.log.look(hand);
-        Walk {
-            seen: hand.book.again(),
-            next,
-        }
-    }
-
     /// The next node of a walk: one load of its link.
     fn step(&self, walk: &mut Walk, notes: &mut Notes) -> Result<Option<&Node>, AllocError>
         requires book { walk.old.seen.book ≡ self.now }
@@ -170,18 +154,18 @@ impl SharedCache {
         ensures book { walk.new.seen.book ≡ self.now }
         ensures met { IfOk result (λ found. (left : List Store) → Ahead walk.old left
             → Meets self.now walk.new left (option_map (λ node. node.now) found)) }
-        ensures costs { Costs notes.old.noted notes.new.noted 1 0 }
-        ensures free { IfOk result (λ found. found ≡ None → notes.new.noted.links ≡ notes.old.noted.links) }
+        ensures link { Costs notes.old.noted notes.new.noted 1 0 }
+        ensures none { IfOk result (λ found. IfNone found (notes.new.noted ≡ notes.old.noted)) }
+        ensures failed { IfErr result (λ _. notes.new.noted ≡ notes.old.noted) }
     {
-        log_keeps_its_rule(&walk.seen);
-        if walk.next == 0 {
+        let Some(next) = walk.next() else {
             return Ok(None);
-        }
-        let Some(node) = self.node(walk.next) else {
+        };
+        let Some(node) = self.node(next) else {
             return Err(AllocError);
         };
         *notes = notes.with_link();
-        walk.next = node_before(&node.link, &node.seen, walk.next, &mut walk.seen);
+        walk.pass(&node.link, &node.seen);
         Ok(Some(node))
     }
 
@@ -193,14 +177,14 @@ impl SharedCache {
         question: &Question,
     ) -> Result<Option<&Node>, AllocError>
         requires book { walk.old.seen.book ≡ self.now }
-        requires start { walk.old.next ≡ top walk.old.seen.log }
+        requires ahead { Ahead walk.old (history walk.old.seen.log) }
         ensures last { IfOk result (λ found. IsLastOf question.now (history walk.old.seen.log) (option_map (λ node. node.now) found)) }
         ensures costs { Costs notes.old.noted notes.new.noted 4096 0 }
     {
         log_keeps_its_rule(&walk.seen);
         same_questions_are_equal();
         let tag = hash(question);
-        'links: for _link in 0..=MOST_STORES {
+        'links: for _link in 0..MOST_STORES + 1 {
             match self.step(walk, notes)? {
                 None => return Ok(None),
                 Some(node) if node.tag == tag && node.question == *question => {
@@ -215,13 +199,13 @@ impl SharedCache {
     /// Whether there are 64 stores of a group.
     fn is_full(&self, walk: &mut Walk, notes: &mut Notes, group: u8) -> Result<bool, AllocError>
         requires book { walk.old.seen.book ≡ self.now }
-        requires start { walk.old.next ≡ top walk.old.seen.log }
+        requires ahead { Ahead walk.old (history walk.old.seen.log) }
         ensures full { IfOk result (λ full. IsTrue full ↔ (64 ≤ length (in_group group (history walk.old.seen.log)))) }
         ensures costs { Costs notes.old.noted notes.new.noted 4096 0 }
     {
         log_keeps_its_rule(&walk.seen);
         let mut count = 0;
-        'links: for _link in 0..=MOST_STORES {
+        'links: for _link in 0..MOST_STORES + 1 {
             let Some(node) = self.step(walk, notes)? else {
                 return Ok(false);
             };
@@ -251,7 +235,7 @@ impl SharedCache {
         ensures room { IfOk result (λ old. (old ≡ top hand.new.book.log) × (IsFull (history hand.new.book.log) question.now → ⊥)) }
         ensures full { IfErr result (WhyNoRoom question.now (history hand.new.book.log)) }
     {
-        let mut walk = self.walk(hand);
+        let mut walk = self.log.walk(hand);
         let old = walk.next;
         if self.is_full(&mut walk, notes, group(question))? {
             return Err(StoreRefusal::GenerationFull);
@@ -489,18 +473,6 @@ impl SharedCache {
     }
 }
 
-/// The answer of a node, while it lives.
-fn answer_of(node: Option<&Node>, now: Moment) -> Result<Option<Arc<Answer>>, AllocError>
-    ensures answer { IfOk result (λ answer. option_map arc_value answer ≡ option_and_then (living_in now) (option_map (λ it. it.now) node)) }
-{
-    match node {
-        Some(node) if now.get() < node.moment.get() + u64::from(node.answer.life()) => {
-            Ok(Some(Arc::try_clone(&node.answer)?))
-        }
-        _ => Ok(None),
-    }
-}
-
 impl AnswerBook for SharedCache {
     type Seat = Seat;
 
@@ -525,10 +497,12 @@ impl AnswerBook for SharedCache {
         ensures takes { Takes seat.old seat.new 4096 0 }
         ensures found { IfOk result (λ found. option_map arc_value found ≡ cached seat.new.seat.seen question.now now) }
     {
-        let mut walk = self.walk(&mut seat.hand);
+        let mut walk = self.log.walk(&mut seat.hand);
         log_keeps_its_rule(&seat.hand.book);
-        let found = self.last_of(&mut walk, &mut seat.notes, question)?;
-        answer_of(found, now)
+        match self.last_of(&mut walk, &mut seat.notes, question)? {
+            Some(node) if node.lives_at(now) => Ok(Some(Arc::try_clone(&node.answer)?)),
+            _ => Ok(None),
+        }
     }
 
     fn store<R: Wait>(

@@ -48,4 +48,3 @@ keeps-trans a b c h k l v some e = k l v some (h l v some e)
 
 pub keeps-adds : (cs : List Cell) → Keeps cs (cs ++ (0, false) ∷ [])
 keeps-adds cs l v some e = cell-adds cs l ∙ e
-

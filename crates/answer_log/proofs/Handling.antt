@@ -64,7 +64,7 @@ hand_on h k more hand number places names same grown =
     }
 
 pub hand_sees : (h : Hand) (new : List Event) → IsHand h → IsPrefix h.book.log new → count h.number new ≡ h.tally.count → SeesMore h.number h.book.log new
-hand_sees h new hand p same = record { later = p; own = own-more h.number h.book.log p.0 new p.1 (hand_quiet h p.0 new hand p.1 same) }
+hand_sees h new hand p same = record { later = p; stores = history-prefix h.book.log new p; own = own-more h.number h.book.log p.0 new p.1 (hand_quiet h p.0 new hand p.1 same) }
 
 -- till the event nothing of the seat had come
 adds_quiet : (h : Hand) (e : Event) (new : List Event) → IsHand h → (a : Adds e h.tally h.book.log new) → seat_of e ≡ h.number → Quiet h.number a.0
@@ -104,6 +104,7 @@ named_sees h new n x l hand same a =
     let quiet = adds_quiet h (Named n x l) new hand a same in
     let whole : old ++ (a.0 ++ Named n x l ∷ []) ≡ new = sym (append_assoc old a.0 (Named n x l ∷ [])) ∙ sym a.1 in record {
       later = (a.0 ++ Named n x l ∷ [], whole);
+      stores = history-prefix old new (a.0 ++ Named n x l ∷ [], whole);
       own = ap (λ log. mine (history log) h.number) a.1
           ∙ (ap (λ stores. mine stores h.number) (history-append (old ++ a.0) (Named n x l ∷ []) ∙ append-nil (history (old ++ a.0)))
           ∙ own-more h.number old a.0 (old ++ a.0) refl quiet);

@@ -8,6 +8,7 @@ pub mod Trades
 pub mod Claiming
 pub mod Moving
 pub mod Fronts
+pub mod Walking
 pub mod Handling
 pub mod Openings
 pub mod Following

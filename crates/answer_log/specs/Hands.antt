@@ -37,6 +37,7 @@ pub record AreHands (hands : Hands) : Type 0 where
 -- more was seen, and no store of the seat's own
 pub record SeesMore (seat : ℕ) (before after : List Event) : Type 0 where
   pub later : IsPrefix before after
+  pub stores : IsPrefix (history before) (history after)
   pub own : mine (history after) seat ≡ mine (history before) seat
 
 -- the history ends with the store, and till then no store of the seat's own was new

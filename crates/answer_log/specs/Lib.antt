@@ -5,3 +5,4 @@ pub mod Counts
 pub mod Rules
 pub mod Steps
 pub mod Hands
+pub mod Walks

@@ -8,11 +8,13 @@ mod log;
 mod steps;
 mod store;
 mod tally;
+mod walk;
 
 pub use event::{Counted, Event};
 pub use groups::{GROUP_COUNT, group, hash};
 pub use hand::{Hand, Hands};
-pub use log::{Claimed, Log, log_keeps_its_rule, logs_are_of_one_history};
-pub use steps::{Book, Pen, Word, node_before};
+pub use log::{Claimed, Log, histories_are_one, log_keeps_its_rule};
+pub use steps::{Book, Pen, Word};
 pub use store::{Draft, Store};
 pub use tally::{Law, Tallies, Tally};
+pub use walk::Walk;

@@ -8,6 +8,7 @@ ghost use Rattle.answer_log.specs.Histories.{IsSound};
 ghost use Rattle.answer_log.specs.Logs.{history, top};
 ghost use Rattle.answer_log.specs.Rules.{node_at};
 ghost use Rattle.answer_log.specs.Steps.{HadRoom, store_by, store_of};
+ghost use Rattle.answer_log.specs.Walks.{Ahead};
 ghost use Rattle.answer_log.specs.declared.event.Event.{Event as Noted};
 
 use crate::event::Event;
@@ -15,6 +16,7 @@ use crate::hand::{Hand, Hands};
 use crate::steps::{Book, Pen, Word, claim_node, place, top_node};
 use crate::store::Draft;
 use crate::tally::Tallies;
+use crate::walk::Walk;
 use dns_answers::{Answer, Moment};
 use dns_message::Question;
 use logbook::Opening;
@@ -80,17 +82,23 @@ impl Log {
         (Log { head, idle }, hands)
     }
 
-    /// The node placed last, 0 where there is none: one load of the head.
-    pub fn look(&self, hand: &mut Hand) -> u64
+    /// A walk from the node placed last: one load of the head.
+    pub fn walk(&self, hand: &mut Hand) -> Walk
         requires book { hand.old.book.book ≡ self.now }
         requires hand { IsHand hand.old }
         ensures hand { IsHand hand.new }
         ensures number { hand.new.number ≡ hand.old.number }
         ensures book { hand.new.book.book ≡ self.now }
         ensures seen { SeesMore hand.old.number hand.old.book.log hand.new.book.log }
-        ensures top { result ≡ top hand.new.book.log }
+        ensures places { hand.new.places ≡ hand.old.places }
+        ensures walk { (result.seen.book ≡ self.now) × (result.seen.log ≡ hand.new.book.log) × (result.next ≡ top hand.new.book.log) }
+        ensures ahead { Ahead result (history hand.new.book.log) }
     {
-        top_node(&self.head, &mut hand.book, &mut hand.tally, hand.number)
+        let next = top_node(&self.head, &mut hand.book, &mut hand.tally, hand.number);
+        Walk {
+            seen: hand.book.again(),
+            next,
+        }
     }
 
     /// Sees what was told, and what came since: one load of the head.
@@ -102,7 +110,7 @@ impl Log {
         ensures number { hand.new.number ≡ hand.old.number }
         ensures book { hand.new.book.book ≡ self.now }
         ensures seen { SeesMore hand.old.number hand.old.book.log hand.new.book.log }
-        ensures later { IsPrefix told.now.log hand.new.book.log }
+        ensures told { IsPrefix (history told.now.log) (history hand.new.book.log) }
     {
         hand.book.learn(told);
         let _node = top_node(&self.head, &mut hand.book, &mut hand.tally, hand.number);
@@ -195,10 +203,10 @@ pub fn log_keeps_its_rule(book: &Book)
     probe.learn(book);
 }
 
-/// A law: of two logs that were seen of one book, one goes on with the other.
-pub fn logs_are_of_one_history(one: &Book, other: &Book)
+/// A law: of two histories that were seen of one book, one goes on with the other.
+pub fn histories_are_one(one: &Book, other: &Book)
     requires { one.now.book ≡ other.now.book }
-    ensures { IsPrefix one.now.log other.now.log ⊎ IsPrefix other.now.log one.now.log }
+    ensures { IsPrefix (history one.now.log) (history other.now.log) ⊎ IsPrefix (history other.now.log) (history one.now.log) }
 {
     let mut probe = one.again();
     probe.learn(other);

@@ -138,7 +138,7 @@ pub(crate) fn top_node(head: &Word, book: &mut Book, tally: &mut Tally, seat: u6
 
 /// A load of the link of a placed node, which the log that `named` has seen named so: the node placed before it, 0 where
 /// there is none. The store that was placed is the one that was named.
-pub fn node_before(link: &Word, named: &Book, node: u64, book: &mut Book) -> u64
+pub(crate) fn node_before(link: &Word, named: &Book, node: u64, book: &mut Book) -> u64
     requires books { named.now.book ≡ book.old.book }
     requires named { (store : Store) × IsNamed named.now.book named.now.log node store link.now }
     requires placed { (before : List Noted) × (after : List Noted) × (store : Store) × (key : ℕ)

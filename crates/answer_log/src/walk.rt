@@ -1,0 +1,43 @@
+//! A walk along the placed nodes.
+ghost use Rattle.std.specs.Prelude.{◌≡◌, ◌≢◌, ◌∷◌, ◌++◌, [], IfNone, IfSome, List};
+ghost use Rattle.answer_log.specs.Hands.{IsNamed};
+ghost use Rattle.answer_log.specs.Walks.{Ahead};
+ghost use Rattle.answer_log.specs.declared.store.Store.{Store};
+
+use crate::log::log_keeps_its_rule;
+use crate::steps::{Book, Word, node_before};
+
+/// A walk from the node placed last to the first one: what it has seen, and the next node, 0 at the end.
+#[derive(Drop)]
+pub struct Walk {
+    pub seen: Book,
+    pub next: u64,
+}
+
+impl Walk {
+    /// The next node, unless the walk is at its end.
+    pub fn next(&self) -> Option<u64>
+        ensures end { IfNone result ((left : List Store) → Ahead self.now left → left ≡ []) }
+        ensures node { IfSome result (λ node. (node ≡ self.now.next) × (node ≢ 0)) }
+    {
+        log_keeps_its_rule(&self.seen);
+        if self.next == 0 {
+            None
+        } else {
+            Some(self.next)
+        }
+    }
+
+    /// Passes the next node, which the log that `named` has seen named so: one load of its link.
+    pub fn pass(&mut self, link: &Word, named: &Book)
+        requires books { named.now.book ≡ self.old.seen.book }
+        requires node { self.old.next ≢ 0 }
+        requires ahead { (left : List Store) × Ahead self.old left }
+        requires named { (store : Store) × IsNamed named.now.book named.now.log self.old.next store link.now }
+        ensures book { self.new.seen.book ≡ self.old.seen.book }
+        ensures passed { (store : Store) (left : List Store) → IsNamed named.now.book named.now.log self.old.next store link.now
+            → Ahead self.old left → (rest : List Store) × (left ≡ rest ++ store ∷ []) × Ahead self.new rest }
+    {
+        self.next = node_before(link, named, self.next, &mut self.seen);
+    }
+}
