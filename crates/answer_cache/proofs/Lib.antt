@@ -1,2 +1,4 @@
 mod Chains
 mod Adding
+pub mod Costing
+pub mod Lookups

@@ -43,7 +43,7 @@ IsShelved tag it = (numbers_of it.seen.book ≡ tag) × IsNode it.seen.book it
 abbrev pub Meets : Book → Walk → List Store → Option Node → Type 0
 Meets book walk left None = left ≡ []
 Meets book walk left (Some node) = (rest : List Store) × (seat : ℕ)
-    × (node.tag ≡ hash_of (hashed_of node.question)) × (left ≡ rest ++ store_in seat node ∷ []) × Ahead walk rest
+    × (left ≡ rest ++ store_in seat node ∷ []) × Ahead walk rest
 
 -- the node of the last store of a question
 abbrev pub IsLastOf : Question → List Store → Option Node → Type 0

@@ -1,12 +1,14 @@
 //! The nodes of a shared cache.
-ghost use Rattle.std.specs.Prelude.{◌↔◌, ◌+◌, ◌<◌, IsTrue};
+ghost use Rattle.std.specs.Prelude.{◌≡◌, ◌↔◌, ◌+◌, ◌<◌, ◌==◌, IsTrue};
 ghost use Rattle.std.specs.Arc.{arc_value};
+ghost use Rattle.dns_message.specs.Questions.{same_question};
+ghost use Rattle.answer_log.specs.Groups.{group_of, hash_of, hashed_of};
 
-use answer_log::{Book, Word};
+use answer_log::{Book, GROUP_COUNT, Word};
 use boxcar::Keeps;
 use boxcar::tag::Names;
 use dns_answers::{Answer, Moment};
-use dns_message::Question;
+use dns_message::{Question, same_questions_are_equal};
 use std::alloc::Global;
 use std::sync::Arc;
 
@@ -24,6 +26,24 @@ pub struct Node {
 }
 
 impl Node {
+    /// Whether it is of a question with this hash. Hashes are compared before names.
+    pub(crate) fn is_of(&self, tag: u32, question: &Question) -> bool
+        requires node { self.now.tag ≡ hash_of (hashed_of self.now.question) }
+        requires question { tag ≡ hash_of (hashed_of question.now) }
+        ensures { result ≡ same_question self.now.question question.now }
+    {
+        same_questions_are_equal();
+        self.tag == tag && self.question == *question
+    }
+
+    /// Whether its question is in a group.
+    pub(crate) fn is_in(&self, group: u8) -> bool
+        requires { self.now.tag ≡ hash_of (hashed_of self.now.question) }
+        ensures { result ≡ (group_of self.now.question == group) }
+    {
+        self.tag % u32::from(GROUP_COUNT) == u32::from(group)
+    }
+
     /// Whether its answer lives at a moment.
     pub(crate) fn lives_at(&self, now: Moment) -> bool
         ensures { IsTrue result ↔ (now < self.now.moment + (arc_value self.now.answer).life) }

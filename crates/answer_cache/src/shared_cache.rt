@@ -6,6 +6,7 @@ ghost use Rattle.logbook.specs.Pages.{may_write};
 ghost use Rattle.std.specs.Arc.{arc_value};
 ghost use Rattle.std.specs.List.{All, range_with_len};
 ghost use Rattle.std.specs.Option.{option_map};
+ghost use Rattle.answer_log.specs.Groups.{hash_of, hashed_of};
 ghost use Rattle.answer_log.specs.Hands.{AreHands, EndsWith, IsHand, SeesMore};
 ghost use Rattle.answer_log.specs.Histories.{IsFull, IsSound, cached, in_group};
 ghost use Rattle.answer_log.specs.Logs.{history, top};
@@ -31,7 +32,7 @@ use answer_log::{
 use boxcar::Pushed;
 use boxcar::tag::Tag;
 use dns_answers::{Answer, Moment};
-use dns_message::{Question, same_questions_are_equal};
+use dns_message::Question;
 use std::alloc::{AllocError, Global};
 use std::marker::Model;
 use std::sync::{Arc, Wait};
@@ -154,6 +155,7 @@ impl SharedCache {
         ensures book { walk.new.seen.book ≡ self.now }
         ensures met { IfOk result (λ found. (left : List Store) → Ahead walk.old left
             → Meets self.now walk.new left (option_map (λ node. node.now) found)) }
+        ensures tagged { IfOk result (λ found. IfSome found (λ node. node.now.tag ≡ hash_of (hashed_of node.now.question))) }
         ensures link { Costs notes.old.noted notes.new.noted 1 0 }
         ensures none { IfOk result (λ found. IfNone found (notes.new.noted ≡ notes.old.noted)) }
         ensures failed { IfErr result (λ _. notes.new.noted ≡ notes.old.noted) }
@@ -182,14 +184,11 @@ impl SharedCache {
         ensures costs { Costs notes.old.noted notes.new.noted 4096 0 }
     {
         log_keeps_its_rule(&walk.seen);
-        same_questions_are_equal();
         let tag = hash(question);
         'links: for _link in 0..MOST_STORES + 1 {
             match self.step(walk, notes)? {
                 None => return Ok(None),
-                Some(node) if node.tag == tag && node.question == *question => {
-                    return Ok(Some(node));
-                }
+                Some(node) if node.is_of(tag, question) => return Ok(Some(node)),
                 Some(_) => {}
             }
         }
@@ -204,16 +203,16 @@ impl SharedCache {
         ensures costs { Costs notes.old.noted notes.new.noted 4096 0 }
     {
         log_keeps_its_rule(&walk.seen);
-        let mut count = 0;
+        let mut count = 0u8;
         'links: for _link in 0..MOST_STORES + 1 {
             let Some(node) = self.step(walk, notes)? else {
                 return Ok(false);
             };
-            if node.tag % u32::from(GROUP_COUNT) == u32::from(group) {
+            if node.is_in(group) {
                 count += 1;
-            }
-            if count == GROUP_LIMIT {
-                return Ok(true);
+                if count == GROUP_LIMIT {
+                    return Ok(true);
+                }
             }
         }
         unreachable!()
