@@ -2,3 +2,4 @@ mod Chains
 mod Adding
 pub mod Costing
 pub mod Lookups
+pub mod Placing

@@ -379,13 +379,14 @@ impl SharedCache {
         ensures costs { Costs notes.old.noted notes.new.noted (15 * 4096) 16 }
         ensures competed { MatchResult result
             (λ _. EndsWith (store_in hand.old.number node.now) (history hand.old.book.log) (history hand.new.book.log))
-            (λ refusal. SeesMore hand.old.number hand.old.book.log hand.new.book.log
-            × WhyLost node.now.question (history hand.old.book.log) (history hand.new.book.log) refusal) }
+            (λ _. SeesMore hand.old.number hand.old.book.log hand.new.book.log) }
+        ensures lost { IfErr result (λ refusal. (seen : List Noticed) → IsPrefix seen hand.old.book.log → top seen ≡ old
+            → WhyLost node.now.question (history seen) (history hand.new.book.log) refusal) }
     {
         if self.attempt(hand, notes, node, &mut pen, old, 1, rival) {
             return Ok(());
         }
-        'tries: for number in 2..=TRIES {
+        'tries: for number in 2..TRIES + 1 {
             let old = self.room(hand, notes, &node.question)?;
             if self.attempt(hand, notes, node, &mut pen, old, number, rival) {
                 return Ok(());

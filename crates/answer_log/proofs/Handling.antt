@@ -4,9 +4,9 @@ use Rattle.std.proofs.lemmas.Bool.{ne_eqb}
 use Rattle.std.proofs.lemmas.List.{append-nil}
 use Rattle.std.proofs.lemmas.List.Elements.{filter-append}
 use mathlib.Core.List.{IsPrefix}
-use Rattle.logbook.specs.Pages.{Nib}
+use Rattle.logbook.specs.Pages.{Nib, Book, Named as Word}
 use Rattle.answer_log.specs.Counts.{count}
-use Rattle.answer_log.specs.Hands.{EndsWith, IsHand, SeesMore}
+use Rattle.answer_log.specs.Hands.{EndsWith, IsHand, IsNamed, SeesMore}
 use Rattle.answer_log.specs.Histories.{mine}
 use Rattle.answer_log.specs.Logs.{seat_of, history, top, top_from, Quiet, In}
 use Rattle.answer_log.specs.Rules.{node_at}
@@ -17,7 +17,7 @@ use Rattle.answer_log.specs.declared.hand.Hand.{Hand}
 use Rattle.answer_log.specs.declared.store.Store.{Store}
 use Rattle.answer_log.specs.declared.tally.Tally.{Tally}
 use Rattle.answer_log.proofs.Counting.{count-same, count-here}
-use Rattle.answer_log.proofs.Logs.{history-append, top-append, quiet-in, in-cases, last_placed, prefix_trans}
+use Rattle.answer_log.proofs.Logs.{history-append, top-append, quiet-in, in-cases, in-left, last_placed, prefix_trans}
 
 -- a log that is quiet of a seat has no stores of it
 own-quiet : (seat : ℕ) (events : List Event) → Quiet seat events → mine (history events) seat ≡ []
@@ -35,6 +35,14 @@ own-more seat old more new whole quiet =
 
 pub history-prefix : (old new : List Event) → IsPrefix old new → IsPrefix (history old) (history new)
 history-prefix old new p = (history p.0, sym (history-append old p.0) ∙ ap history p.1)
+
+-- what was named stays named
+named-on : (old new : List Event) → IsPrefix old new → (book : Book) (node : ℕ) (store : Store) (word : Word) → IsNamed book old node store word → IsNamed book new node store word
+named-on old new p book node store word it =
+    let I : List Event → Type 0 = λ log. In (Named node store word.key) log in record {
+      link = it.link;
+      named = subst I p.1 (in-left (Named node store word.key) old p.0 it.named);
+    }
 
 names_on : (old more new : List Event) (seat place : ℕ) → old ++ more ≡ new → Quiet seat more → NamesBelow seat place old → NamesBelow seat place new
 names_on old more new seat place whole quiet low n x l i same =
@@ -64,7 +72,7 @@ hand_on h k more hand number places names same grown =
     }
 
 pub hand_sees : (h : Hand) (new : List Event) → IsHand h → IsPrefix h.book.log new → count h.number new ≡ h.tally.count → SeesMore h.number h.book.log new
-hand_sees h new hand p same = record { later = p; stores = history-prefix h.book.log new p; own = own-more h.number h.book.log p.0 new p.1 (hand_quiet h p.0 new hand p.1 same) }
+hand_sees h new hand p same = record { later = p; stores = history-prefix h.book.log new p; names = named-on h.book.log new p; own = own-more h.number h.book.log p.0 new p.1 (hand_quiet h p.0 new hand p.1 same) }
 
 -- till the event nothing of the seat had come
 adds_quiet : (h : Hand) (e : Event) (new : List Event) → IsHand h → (a : Adds e h.tally h.book.log new) → seat_of e ≡ h.number → Quiet h.number a.0
@@ -105,6 +113,7 @@ named_sees h new n x l hand same a =
     let whole : old ++ (a.0 ++ Named n x l ∷ []) ≡ new = sym (append_assoc old a.0 (Named n x l ∷ [])) ∙ sym a.1 in record {
       later = (a.0 ++ Named n x l ∷ [], whole);
       stores = history-prefix old new (a.0 ++ Named n x l ∷ [], whole);
+      names = named-on old new (a.0 ++ Named n x l ∷ [], whole);
       own = ap (λ log. mine (history log) h.number) a.1
           ∙ (ap (λ stores. mine stores h.number) (history-append (old ++ a.0) (Named n x l ∷ []) ∙ append-nil (history (old ++ a.0)))
           ∙ own-more h.number old a.0 (old ++ a.0) refl quiet);

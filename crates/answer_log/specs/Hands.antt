@@ -34,11 +34,18 @@ pub record AreHands (hands : Hands) : Type 0 where
   pub left : hands.tallies.left + hands.next ≡ 64
   pub log : hands.seen.log ≡ []
 
+-- the log names the node so
+pub record IsNamed (book : Book) (log : List Event) (node : ℕ) (store : Store) (word : Word) : Type 0 where
+  pub link : word ≡ word_at book word.key
+  pub named : In (Named node store word.key) log
+
 -- more was seen, and no store of the seat's own
 pub record SeesMore (seat : ℕ) (before after : List Event) : Type 0 where
   pub later : IsPrefix before after
   pub stores : IsPrefix (history before) (history after)
   pub own : mine (history after) seat ≡ mine (history before) seat
+  pub names : (book : Book) (node : ℕ) (store : Store) (word : Word)
+      → IsNamed book before node store word → IsNamed book after node store word
 
 -- the history ends with the store, and till then no store of the seat's own was new
 pub record EndsWith (store : Store) (before after : List Store) : Type 0 where
@@ -46,11 +53,6 @@ pub record EndsWith (store : Store) (before after : List Store) : Type 0 where
   pub last : after ≡ front ++ store ∷ []
   pub later : IsPrefix before front
   pub own : mine front store.seat ≡ mine before store.seat
-
--- the log names the node so
-pub record IsNamed (book : Book) (log : List Event) (node : ℕ) (store : Store) (word : Word) : Type 0 where
-  pub link : word ≡ word_at book word.key
-  pub named : In (Named node store word.key) log
 
 -- what holds of each log that was seen
 pub record IsLog (log : List Event) : Type 0 where

@@ -1,0 +1,74 @@
+-- A node is placed, or it is ready for another try.
+use Rattle.std.proofs.Common.{◌≡◌, ◌+◌, ◌≤◌, ◌<◌, ℕ, Bool, true, false, List, [], ◌∷◌, ◌++◌, length, MatchBool, MatchResult, Result, refl, ap, sym, ◌∙◌, subst, arith, append_assoc, length-append}
+use mathlib.Core.List.{IsPrefix}
+use Rattle.logbook.specs.Pages.{Book, Nib, may_write}
+use Rattle.answer_log.specs.Hands.{EndsWith, SeesMore}
+use Rattle.answer_log.specs.Histories.{IsFull, mine}
+use Rattle.answer_log.specs.Logs.{history, top}
+use Rattle.answer_log.specs.Steps.{HadRoom}
+use Rattle.answer_log.specs.declared.event.Event.{Event}
+use Rattle.answer_log.specs.declared.store.Store.{Store}
+use Rattle.dns_message.specs.declared.question.Question.{Question}
+use Rattle.answer_cache.specs.Nodes.{IsReady, WhyLost, WhyNoRoom, store_in}
+use Rattle.answer_cache.specs.declared.node.Node.{Node}
+use Rattle.answer_cache.specs.declared.refusal.StoreRefusal.{StoreRefusal}
+use Rattle.answer_cache.specs.declared.refusal.StoreRefusal.TheVariants.{Lifeless, GenerationFull, Contended, Memory}
+
+pub prefix-trans : {X : Type 0} (xs ys zs : List X) → IsPrefix xs ys → IsPrefix ys zs → IsPrefix xs zs
+prefix-trans xs ys zs p q = (p.0 ++ q.0, sym (append_assoc xs p.0 q.0) ∙ (ap (λ l. l ++ q.0) p.1 ∙ q.1))
+
+pub sees-trans : (seat : ℕ) (old mid new : List Event) → SeesMore seat old mid → SeesMore seat mid new → SeesMore seat old new
+sees-trans seat old mid new one two = record {
+  later = prefix-trans old mid new one.later two.later;
+  stores = prefix-trans (history old) (history mid) (history new) one.stores two.stores;
+  own = two.own ∙ one.own;
+  names = λ book node store word it. two.names book node store word (one.names book node store word it);
+}
+
+-- a store that comes after more was seen
+pub ends-on : (store : Store) (old mid new : List Event) → SeesMore store.seat old mid → EndsWith store (history mid) (history new) → EndsWith store (history old) (history new)
+ends-on store old mid new one two = record {
+  front = two.front;
+  last = two.last;
+  later = prefix-trans (history old) (history mid) two.front one.stores two.later;
+  own = two.own ∙ one.own;
+}
+
+pub ready-on : (book : Book) (old new : List Event) (seat : ℕ) (node : Node) (nib : Nib) → SeesMore seat old new → IsReady book old seat node nib → IsReady book new seat node nib
+ready-on book old new seat node nib sees it = record {
+  named = sees.names book node.node (store_in seat node) node.link it.named;
+  right = it.right;
+  its = it.its;
+  above = it.above;
+}
+
+pub room-on : (old new : List Event) (node : ℕ) (question : Question) → IsPrefix old new → HadRoom old node question → HadRoom new node question
+room-on old new node question later it = record { seen = it.seen; later = prefix-trans it.seen old new it.later later; top = it.top; room = it.room }
+
+-- after a lost try the node is ready for another one
+pub again : (book its : Book) (old new : List Event) (seat : ℕ) (node : Node) (before after : Nib) (won : Bool) (X : Type 0) → IsReady book old seat node before
+    → MatchBool won X (SeesMore seat old new) → MatchBool won (Unit {0}) ((its ≡ book) × (after.right ≡ may_write) × (after.key ≡ node.link.key))
+    → MatchBool won (Unit {0}) ((its ≡ book) × IsReady book new seat node after)
+again book its old new seat node before after true X it sees pen = tt
+again book its old new seat node before after false X it sees pen = (pen.0, record {
+  named = sees.names book node.node (store_in seat node) node.link it.named;
+  right = pen.1;
+  its = pen.2;
+  above = it.above;
+})
+
+-- what a list is longer by
+pub longer : (xs ys : List Store) (n : ℕ) (zs : List Store) → IsPrefix xs ys → length ys + n ≤ length zs → length xs + n ≤ length zs
+longer xs ys n zs p more = let sum = ap length (sym p.1) ∙ length-append xs p.0 in omega arith
+
+pub lost-on : (question : Question) (old mid new : List Store) (refusal : StoreRefusal) → IsPrefix old mid → WhyLost question mid new refusal → WhyLost question old new refusal
+lost-on question old mid new Lifeless p why = why
+lost-on question old mid new GenerationFull p why = why
+lost-on question old mid new Contended p why = longer old mid 16 new p why
+lost-on question old mid new Memory p why = tt
+
+pub no-room-lost : (question : Question) (before after : List Store) (refusal : StoreRefusal) → WhyNoRoom question after refusal → WhyLost question before after refusal
+no-room-lost question before after Lifeless why = why
+no-room-lost question before after GenerationFull why = why
+no-room-lost question before after Contended why = absurd why
+no-room-lost question before after Memory why = tt

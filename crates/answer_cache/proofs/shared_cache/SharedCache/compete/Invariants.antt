@@ -1,0 +1,19 @@
+use Rattle.std.proofs.Common.{◌≡◌, ◌+◌, ◌*◌, ◌-◌, ◌≤◌, List, length}
+use Rattle.answer_log.specs.Hands.{IsHand, SeesMore}
+use mathlib.Core.List.{IsPrefix}
+use Rattle.answer_log.specs.Logs.{history, top}
+use Rattle.answer_log.specs.declared.event.Event.{Event}
+use Rattle.answer_cache.specs.Nodes.{Costs, IsReady}
+use Rattle.answer_cache.proofs.shared_cache.SharedCache.compete.Given as goal
+
+abbrev pub invariant-tries : goal.invariant-tries
+invariant-tries g l = record {
+  least : 2 ≤ l.number;
+  hand : IsHand l.hand;
+  number : l.hand.number ≡ l.fn.hand.number;
+  book : (l.hand.book.book ≡ l.self) × (l.pen.book ≡ l.self);
+  ready : IsReady l.self l.hand.book.log l.hand.number l.node l.pen.nib;
+  seen : SeesMore l.fn.hand.number l.fn.hand.book.log l.hand.book.log;
+  count : (seen : List Event) → IsPrefix seen l.fn.hand.book.log → top seen ≡ l.fn.old → length (history seen) + (l.number - 1) ≤ length (history l.hand.book.log);
+  costs : Costs l.fn.notes.noted l.notes.noted ((l.number - 2) * 4096) (l.number - 1);
+}
