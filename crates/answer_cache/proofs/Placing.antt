@@ -1,15 +1,17 @@
 -- A node is placed, or it is ready for another try.
-use Rattle.std.proofs.Common.{◌≡◌, ◌+◌, ◌≤◌, ◌<◌, ℕ, Bool, true, false, List, [], ◌∷◌, ◌++◌, length, MatchBool, MatchResult, Result, refl, ap, sym, ◌∙◌, subst, arith, append_assoc, length-append}
+use Rattle.std.proofs.Common.{◌≡◌, ◌+◌, ◌≤◌, ◌<◌, ℕ, Bool, true, false, List, [], ◌∷◌, ◌++◌, length, MatchBool, MatchResult, IfErr, Ok, Err, refl, ap, sym, ◌∙◌, subst, arith, append_assoc, length-append}
 use mathlib.Core.List.{IsPrefix}
+use Rattle.std.specs.declared.result.Result.{Result}
 use Rattle.logbook.specs.Pages.{Book, Nib, may_write}
 use Rattle.answer_log.specs.Hands.{EndsWith, SeesMore}
 use Rattle.answer_log.specs.Histories.{IsFull, mine}
 use Rattle.answer_log.specs.Logs.{history, top}
-use Rattle.answer_log.specs.Steps.{HadRoom}
+use Rattle.answer_log.specs.Steps.{HadRoom, store_by}
+use Rattle.dns_answers.specs.Values.{AnswerValue}
 use Rattle.answer_log.specs.declared.event.Event.{Event}
 use Rattle.answer_log.specs.declared.store.Store.{Store}
 use Rattle.dns_message.specs.declared.question.Question.{Question}
-use Rattle.answer_cache.specs.Nodes.{IsReady, WhyLost, WhyNoRoom, store_in}
+use Rattle.answer_cache.specs.Nodes.{IsReady, Says, WhyLost, WhyNoRoom, store_in}
 use Rattle.answer_cache.specs.declared.node.Node.{Node}
 use Rattle.answer_cache.specs.declared.refusal.StoreRefusal.{StoreRefusal}
 use Rattle.answer_cache.specs.declared.refusal.StoreRefusal.TheVariants.{Lifeless, GenerationFull, Contended, Memory}
@@ -72,3 +74,26 @@ no-room-lost question before after Lifeless why = why
 no-room-lost question before after GenerationFull why = why
 no-room-lost question before after Contended why = absurd why
 no-room-lost question before after Memory why = tt
+
+pub store-is : (seat its : ℕ) (node : Node) (question : Question) (answer : AnswerValue) (moment : ℕ) → seat ≡ its → Says node question answer moment
+    → store_in seat node ≡ store_by its question answer moment
+store-is seat its node question answer moment same says = λ i. store_by (same i) (says.0 i) (says.1 i) (says.2 i)
+
+-- what came of the tries, after more was seen
+pub put-on : {A E : Type 0} (result : Result A E) (seat its : ℕ) (placed store : Store) (old mid new : List Event) → its ≡ seat → placed ≡ store → store.seat ≡ seat → SeesMore seat old mid
+    → MatchResult result (λ _. EndsWith placed (history mid) (history new)) (λ _. SeesMore its mid new)
+    → MatchResult result (λ _. EndsWith store (history old) (history new)) (λ _. SeesMore seat old new)
+put-on (Ok a) seat its placed store old mid new number is mine' sees it =
+    let E : Store → Type 0 = λ s. EndsWith s (history mid) (history new) in
+    let S : ℕ → Type 0 = λ n. SeesMore n old mid in
+    ends-on store old mid new (subst S (sym mine') sees) (subst E is it)
+put-on (Err e) seat its placed store old mid new number is mine' sees it =
+    let S : ℕ → Type 0 = λ n. SeesMore n mid new in sees-trans seat old mid new sees (subst S number it)
+
+pub lost-by : {A : Type 0} (result : Result A StoreRefusal) (question its : Question) (old seen mid new : List Event) (node : ℕ) → its ≡ question → IsPrefix (history old) (history seen)
+    → IsPrefix seen mid → top seen ≡ node
+    → IfErr result (λ refusal. (some : List Event) → IsPrefix some mid → top some ≡ node → WhyLost its (history some) (history new) refusal)
+    → IfErr result (WhyLost question (history old) (history new))
+lost-by (Ok a) question its old seen mid new node same pre later last it = tt
+lost-by (Err e) question its old seen mid new node same pre later last it =
+    let W : Question → Type 0 = λ q. WhyLost q (history seen) (history new) e in lost-on question (history old) (history seen) (history new) e pre (subst W same (it seen later last))

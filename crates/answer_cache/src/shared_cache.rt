@@ -87,7 +87,7 @@ fn empty_shelves(alloc: Global, seats: usize, seen: &Book) -> Result<Vec<Shelf>,
     ensures { IfOk result (λ shelves. All (λ shelf. shelf.tag ≡ numbers_of seen.now.book) shelves.items) }
 {
     let mut shelves = Vec::new(alloc);
-    for _seat in 0..seats {
+    'shelves: for _seat in 0..seats {
         shelves.push(Shelf::with_rule(alloc, Tag::of::<Book, ByBook>(seen))?)?;
     }
     Ok(shelves)
@@ -101,7 +101,7 @@ fn new_seats(alloc: Global, seats: usize, hands: &mut Hands) -> Result<Vec<Seat>
     ensures { IfOk result (λ made. made.items ≡ map (new_seat hands.old.seen.book) (range_with_len 0 seats)) }
 {
     let mut made = Vec::new(alloc);
-    for _seat in 0..seats {
+    'seats: for _seat in 0..seats {
         made.push(Seat {
             hand: hands.deal(),
             notes: Notes::none(),
@@ -411,8 +411,8 @@ impl SharedCache {
         ensures costs { Costs notes.old.noted notes.new.noted (16 * 4096) 16 }
         ensures put { MatchResult result
             (λ _. EndsWith (store_by hand.old.number wanted.now.question.now (arc_value wanted.now.answer.now) wanted.now.moment) (history hand.old.book.log) (history hand.new.book.log))
-            (λ refusal. SeesMore hand.old.number hand.old.book.log hand.new.book.log
-            × WhyLost wanted.now.question.now (history hand.old.book.log) (history hand.new.book.log) refusal) }
+            (λ _. SeesMore hand.old.number hand.old.book.log hand.new.book.log) }
+        ensures lost { IfErr result (WhyLost wanted.now.question.now (history hand.old.book.log) (history hand.new.book.log)) }
     {
         let old = self.room(hand, notes, wanted.question)?;
         let Some(shelf) = self.shelves.get(hand.number as usize) else {

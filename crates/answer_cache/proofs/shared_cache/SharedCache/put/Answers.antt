@@ -1,0 +1,28 @@
+use Rattle.std.proofs.Common.{ℕ, subst, sym, refl, ◌∙◌, ap}
+use Rattle.std.proofs.lemmas.Result.{err_from_is_err_and}
+use Rattle.std.specs.Arc.{arc_value}
+use Rattle.answer_log.specs.Hands.{SeesMore}
+use Rattle.answer_log.specs.Steps.{store_by}
+use Rattle.answer_cache.specs.Nodes.{store_in}
+use Rattle.answer_cache.proofs.Placing.{lost-by, put-on, sees-trans, store-is}
+use Rattle.answer_cache.proofs.shared_cache.SharedCache.put.Goals as goal
+
+pub returns-in_err-pushed-clause-put : goal.returns-in_err-pushed-clause-put
+returns-in_err-pushed-clause-put g c =
+    let h = c.args.hand.now in
+    let e = err_from_is_err_and c.from_residual-in_err-pushed.result c.from_residual-in_err-pushed.ensures.1 in
+    let S : ℕ → Type 0 = λ n. SeesMore n c.room.new.hand.book.log c.make_ready.new.hand.book.log in
+    rw e.1 (sees-trans h.number h.book.log c.room.new.hand.book.log c.make_ready.new.hand.book.log c.room.ensures.seen (subst S c.room.ensures.holds.number c.make_ready.ensures.seen))
+
+pub returns-clause-put : goal.returns-clause-put
+returns-clause-put g c =
+    let h = c.args.hand.now in
+    let w = c.args.wanted.now in
+    let k = c.make_ready.new.hand in
+    let node = c.in_ok-pushed.pushed.value in
+    let S : ℕ → Type 0 = λ n. SeesMore n c.room.new.hand.book.log k.book.log in
+    let number = c.make_ready.ensures.holds.number ∙ c.room.ensures.holds.number in
+    let sees = sees-trans h.number h.book.log c.room.new.hand.book.log k.book.log c.room.ensures.seen (subst S c.room.ensures.holds.number c.make_ready.ensures.seen) in
+    let its = rw c.value.ensures at c.compete.ensures.competed in
+    put-on c.compete.result h.number k.number (store_in k.number node) (store_by h.number w.question.now (arc_value w.answer.now) w.moment) h.book.log k.book.log c.compete.new.hand.book.log
+    number (store-is k.number h.number node w.question.now (arc_value w.answer.now) w.moment number c.in_ok-pushed.ensures.made) refl sees its
