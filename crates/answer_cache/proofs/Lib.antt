@@ -3,3 +3,4 @@ mod Adding
 pub mod Costing
 pub mod Lookups
 pub mod Placing
+pub mod Seating

@@ -1,5 +1,5 @@
 -- A walk that looks for the last store of a question, or counts those of a group.
-use Rattle.std.proofs.Common.{◌≡◌, ◌≢◌, ◌+◌, ◌≤◌, ◌<◌, ◌==◌, ◌↔◌, ℕ, Bool, true, false, IsTrue, List, [], ◌∷◌, ◌++◌, length, Option, Some, None, refl, ap, sym, ◌∙◌, arith}
+use Rattle.std.proofs.Common.{◌≡◌, ◌≢◌, ◌+◌, ◌≤◌, ◌<◌, ◌==◌, ℕ, true, false, List, [], ◌∷◌, ◌++◌, length, Option, Some, None, refl, ap, ◌∙◌, arith}
 use Rattle.std.specs.List.{last_or}
 use Rattle.std.proofs.lemmas.List.{length-append, append-nil}
 use Rattle.std.proofs.lemmas.List.Elements.{filter-append}
@@ -10,7 +10,6 @@ use Rattle.answer_log.specs.Histories.{in_group, stores_of}
 use Rattle.answer_log.specs.Walks.{Ahead}
 use Rattle.answer_log.specs.declared.store.Store.{Store}
 use Rattle.answer_log.specs.declared.walk.Walk.{Walk}
-use Rattle.answer_cache.specs.Seats.{Noted}
 
 -- what is left of a walk after so many links: the last store of the question is the last one among these
 pub record Searches (question : Question) (whole : List Store) (walk : Walk) (links : ℕ) : Type 0 where

@@ -1,10 +1,9 @@
 -- A node is placed, or it is ready for another try.
-use Rattle.std.proofs.Common.{◌≡◌, ◌+◌, ◌≤◌, ◌<◌, ℕ, Bool, true, false, List, [], ◌∷◌, ◌++◌, length, MatchBool, MatchResult, IfErr, Ok, Err, refl, ap, sym, ◌∙◌, subst, arith, append_assoc, length-append}
+use Rattle.std.proofs.Common.{◌≡◌, ◌+◌, ◌≤◌, ℕ, Bool, true, false, List, ◌++◌, length, MatchBool, MatchResult, IfErr, Ok, Err, ap, sym, ◌∙◌, subst, arith, append_assoc, length-append}
 use mathlib.Core.List.{IsPrefix}
 use Rattle.std.specs.declared.result.Result.{Result}
 use Rattle.logbook.specs.Pages.{Book, Nib, may_write}
 use Rattle.answer_log.specs.Hands.{EndsWith, SeesMore}
-use Rattle.answer_log.specs.Histories.{IsFull, mine}
 use Rattle.answer_log.specs.Logs.{history, top}
 use Rattle.answer_log.specs.Steps.{HadRoom, store_by}
 use Rattle.dns_answers.specs.Values.{AnswerValue}

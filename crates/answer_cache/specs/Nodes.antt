@@ -1,16 +1,14 @@
 -- What holds of the nodes of a shared cache, and of a walk along them.
-use Rattle.std.specs.Prelude.{◌≡◌, ℕ, ◌+◌, ◌*◌, ◌<◌, ◌≤◌, List, [], ◌∷◌, ◌++◌, length, Option, Some, None}
+use Rattle.std.specs.Prelude.{◌≡◌, ℕ, ◌+◌, ◌<◌, ◌≤◌, List, [], ◌∷◌, ◌++◌, length, Option, Some, None}
 use Rattle.std.specs.Arc.{arc_value}
 use Rattle.std.specs.List.{last_or}
-use mathlib.Core.List.{IsPrefix}
 use Rattle.dns_answers.specs.Values.{AnswerValue}
 use Rattle.answer_log.specs.declared.event.Event.{Event}
 use Rattle.logbook.specs.Pages.{Book, Nib, may_write}
 use Rattle.dns_message.specs.declared.question.Question.{Question}
 use Rattle.answer_log.specs.Groups.{hash_of, hashed_of}
-use Rattle.answer_log.specs.Hands.{IsHand, IsNamed, SeesMore}
+use Rattle.answer_log.specs.Hands.{IsHand, IsNamed}
 use Rattle.answer_log.specs.Histories.{IsFull, stores_of}
-use Rattle.answer_log.specs.Logs.{history}
 use Rattle.answer_log.specs.Steps.{store_by}
 use Rattle.answer_log.specs.Walks.{Ahead}
 use Rattle.answer_log.specs.declared.hand.Hand.{Hand}

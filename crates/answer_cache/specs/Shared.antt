@@ -1,18 +1,13 @@
 -- What contracts see of the seats of a shared cache.
-use Rattle.std.specs.Prelude.{◌≡◌, ℕ, ◌+◌, ◌*◌, ◌<◌, ◌≤◌, ◌⊎◌, List, [], length}
-use mathlib.Core.List.{IsPrefix}
+use Rattle.std.specs.Prelude.{◌≡◌, ℕ, ◌+◌, ◌<◌, ◌≤◌, ◌⊎◌, List, []}
 use Rattle.logbook.specs.Pages.{Book}
-use Rattle.answer_log.specs.Hands.{IsHand, EndsWith, SeesMore}
-use Rattle.answer_log.specs.Histories.{IsFull, IsHistory, mine}
+use Rattle.answer_log.specs.Histories.{mine}
 use Rattle.answer_log.specs.Logs.{history}
 use Rattle.answer_log.specs.declared.hand.Hand.{Hand}
 use Rattle.answer_log.specs.declared.store.Store.{Store}
-use Rattle.dns_message.specs.declared.question.Question.{Question}
 use Rattle.answer_cache.specs.Seats.{Noted, SeatView, IsSeat}
 use Rattle.answer_cache.specs.declared.cache_refusal.CacheRefusal.{CacheRefusal}
 use Rattle.answer_cache.specs.declared.cache_refusal.CacheRefusal.TheVariants.{BadCount, Memory as NoMemory}
-use Rattle.answer_cache.specs.declared.refusal.StoreRefusal.{StoreRefusal}
-use Rattle.answer_cache.specs.declared.refusal.StoreRefusal.TheVariants.{Lifeless, GenerationFull, Contended, Memory}
 
 -- the cache that it was made with, what each book sees of its seats, and how many links its calls went along and how
 -- many times they tried to place a node

@@ -1,5 +1,5 @@
 -- `of` makes a value of no octets, whose notes are read off the argument.
-use Rattle.std.proofs.Common.{◌≡◌, List, [], ◌∷◌, refl}
+use Rattle.std.proofs.Common.{◌≡◌, [], ◌∷◌, refl}
 use mir.Syntax.{a_type, dcons, dnil, named}
 use mir.Val.{Val, vptr, vstruct, vcons, vnil}
 use mir.MapTy.{inst_fn}

@@ -1,11 +1,11 @@
-use Rattle.std.proofs.Common.{◌≡◌, ◌+◌, ◌-◌, ◌*◌, ◌<◌, ◌≤◌, ℕ, arith, sym, refl, ◌∙◌, ap, subst, length, []}
+use Rattle.std.proofs.Common.{◌+◌, ◌-◌, ◌*◌, ℕ, arith, sym, ◌∙◌, subst, []}
 use Rattle.std.proofs.lemmas.List.{append-nil}
 use Rattle.std.proofs.lemmas.Result.{err_from_is_err_and}
 use Rattle.answer_log.specs.Hands.{SeesMore}
 use Rattle.answer_log.specs.Logs.{history}
 use Rattle.answer_cache.specs.Nodes.{IsReady}
 use Rattle.answer_cache.proofs.Costing as costs
-use Rattle.answer_cache.proofs.Placing.{longer, no-room-lost, ready-on, sees-trans}
+use Rattle.answer_cache.proofs.Placing.{longer, ready-on, sees-trans}
 use Rattle.answer_cache.proofs.shared_cache.SharedCache.compete.Goals as goal
 
 pub tries-init : goal.tries-init

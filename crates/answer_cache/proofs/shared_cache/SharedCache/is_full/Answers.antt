@@ -1,5 +1,4 @@
-use Rattle.std.proofs.Common.{◌≡◌, ◌+◌, ◌≤◌, arith, refl, sym, ◌∙◌, length}
-use Rattle.answer_log.specs.Histories.{in_group}
+use Rattle.std.proofs.Common.{◌+◌, arith, refl, sym, ◌∙◌}
 use Rattle.answer_log.specs.Logs.{history}
 use Rattle.answer_cache.specs.Nodes.{store_in}
 use Rattle.answer_cache.proofs.Costing as costs

@@ -1,10 +1,10 @@
-use Rattle.std.proofs.Common.{ℕ, subst, sym, refl, ◌∙◌, ap}
+use Rattle.std.proofs.Common.{ℕ, subst, refl, ◌∙◌}
 use Rattle.std.proofs.lemmas.Result.{err_from_is_err_and}
 use Rattle.std.specs.Arc.{arc_value}
 use Rattle.answer_log.specs.Hands.{SeesMore}
 use Rattle.answer_log.specs.Steps.{store_by}
 use Rattle.answer_cache.specs.Nodes.{store_in}
-use Rattle.answer_cache.proofs.Placing.{lost-by, put-on, sees-trans, store-is}
+use Rattle.answer_cache.proofs.Placing.{put-on, sees-trans, store-is}
 use Rattle.answer_cache.proofs.shared_cache.SharedCache.put.Goals as goal
 
 pub returns-in_err-pushed-clause-put : goal.returns-in_err-pushed-clause-put

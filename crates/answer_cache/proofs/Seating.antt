@@ -1,0 +1,92 @@
+-- New seats, and what a seat has after a store.
+use Rattle.std.proofs.Common.{◌≡◌, ◌+◌, ◌<◌, ◌==◌, ℕ, zero, suc, List, [], ◌∷◌, ◌++◌, length, map, MatchResult, OnOk, Ok, Err, refl, ap, subst, ◌∙◌, arith, rules}
+use Rattle.std.proofs.lemmas.Bool.{eq-eqb}
+use Rattle.std.proofs.lemmas.List.{length-append, map-append}
+use Rattle.std.proofs.lemmas.List.Elements.{All-cons, All-map, All-nil, filter-append}
+use Rattle.std.specs.List.{All, range_with_len}
+use Rattle.std.specs.declared.result.Result.{Result}
+use Rattle.logbook.specs.Pages.{Book}
+use Rattle.dns_answers.specs.Values.{AnswerValue}
+use Rattle.dns_message.specs.declared.question.Question.{Question}
+use Rattle.answer_log.specs.Groups.{group_of}
+use Rattle.answer_log.specs.Hands.{EndsWith, IsNew, SeesMore}
+use Rattle.answer_log.specs.Histories.{IsFull, IsHistory, IsSound, in_group, mine}
+use Rattle.answer_log.specs.Logs.{history}
+use Rattle.answer_log.specs.Steps.{store_by}
+use Rattle.answer_log.specs.declared.event.Event.{Event}
+use Rattle.answer_log.specs.declared.hand.Hand.{Hand}
+use Rattle.answer_log.specs.declared.store.Store.{Store}
+use Rattle.answer_cache.specs.Seats.{IsStored, Noted, Offer, offer_of}
+use Rattle.answer_cache.specs.Shared.{Belongs, SharedView, new_seat, view_of}
+
+range-more : (from size : ℕ) → range_with_len from (suc size) ≡ range_with_len from size ++ (from + size) ∷ []
+range-more from zero = let same : from ≡ from + 0 = omega arith in ap (λ n. n ∷ []) same
+range-more from (suc size) =
+    let same : (from + 1) + size ≡ from + suc size = omega arith in
+    ap (λ rest. from ∷ rest) (range-more (from + 1) size ∙ ap (λ n. range_with_len (from + 1) size ++ n ∷ []) same)
+
+-- one seat more
+pub seats-more : (book : Book) (size : ℕ) → map (new_seat book) (range_with_len 0 (size + 1)) ≡ map (new_seat book) (range_with_len 0 size) ++ new_seat book size ∷ []
+seats-more book size =
+    let next : size + 1 ≡ suc size = omega arith in
+    let first : 0 + size ≡ size = omega arith in
+    ap (λ n. map (new_seat book) (range_with_len 0 n)) next
+    ∙ (ap (λ numbers. map (new_seat book) numbers) (range-more 0 size)
+    ∙ (map-append (new_seat book) (range_with_len 0 size) ((0 + size) ∷ []) ∙ ap (λ n. map (new_seat book) (range_with_len 0 size) ++ new_seat book n ∷ []) first))
+
+-- what is dealt for a new seat
+pub new-view : (hand : Hand) (noted : Noted) (book its : Book) (number size : ℕ) → IsNew hand its number → its ≡ book → number ≡ size
+    → noted ≡ record { offered = []; links = 0; tries = 0 } → view_of hand noted ≡ new_seat book size
+new-view hand noted book its number size it same is none =
+    let at = it.book ∙ same in
+    let n = it.number ∙ is in
+    λ i. record {
+      cache = at i;
+      seat = record { number = n i; seen = history (it.log i); own = mine (history (it.log i)) (n i); offered = (none i).offered };
+      links = (none i).links;
+      tries = (none i).tries;
+    }
+
+all-of : {X : Type 0} (P : X → Type 0) → ((x : X) → P x) → (xs : List X) → All P xs
+all-of P each [] = All-nil P
+all-of P each (x ∷ xs) = All-cons P x xs (each x) (all-of P each xs)
+
+pub new-belong : (book : Book) (size : ℕ) → All (Belongs book) (map (new_seat book) (range_with_len 0 size))
+new-belong book size = All-map (Belongs book) (new_seat book) (range_with_len 0 size) (all-of (λ n. Belongs book (new_seat book n)) (λ n. record {
+  cache = refl;
+  is = record { own = refl; history = record { sound = All-nil IsSound; few = λ group. search rules } };
+}) (range_with_len 0 size))
+
+module _ (front whole : List Store) (store : Store) (last : whole ≡ front ++ store ∷ []) where
+  -- the group of the store had room before it
+  had-room : IsHistory whole → IsFull front store.question → ⊥
+  had-room it full =
+      let few = it.few (group_of store.question) in
+      let own = eq-eqb (group_of store.question) (group_of store.question) refl in
+      let one : in_group (group_of store.question) (store ∷ []) ≡ store ∷ [] = rw own refl in
+      let split = ap (in_group (group_of store.question)) last ∙ (filter-append (λ it. group_of it.question == group_of store.question) front (store ∷ []) ∙ ap (λ l. in_group (group_of store.question) front ++ l) one) in
+      let size = ap length split ∙ length-append (in_group (group_of store.question) front) (store ∷ []) in
+      omega arith
+
+  own-one-more : mine whole store.seat ≡ mine front store.seat ++ store ∷ []
+  own-one-more =
+      let one : mine (store ∷ []) store.seat ≡ store ∷ [] = rw (eq-eqb store.seat store.seat refl) refl in
+      ap (λ h. mine h store.seat) last ∙ (filter-append (λ it. it.seat == store.seat) front (store ∷ []) ∙ ap (λ l. mine front store.seat ++ l) one)
+
+pub stored : {A E : Type 0} (result : Result A E) (hand : Hand) (noted : Noted) (view : SharedView) (new : List Event) (number : ℕ) (offered : List Offer)
+    (question : Question) (answer : AnswerValue) (moment : ℕ) → view_of hand noted ≡ view → number ≡ hand.number → 0 < answer.life → IsHistory (history new)
+    → MatchResult result (λ _. EndsWith (store_by hand.number question answer moment) (history hand.book.log) (history new)) (λ _. SeesMore hand.number hand.book.log new)
+    → OnOk result (IsStored view.seat (record { number = number; seen = history new; own = mine (history new) number; offered = offered }) (offer_of question answer moment))
+stored (Ok a) hand noted view new number offered question answer moment is same lives it end =
+    let store : Store = store_by hand.number question answer moment in
+    let V : SharedView → Type 0 = λ v. IsStored v.seat (record { number = number; seen = history new; own = mine (history new) number; offered = offered }) (offer_of question answer moment) in
+    subst V is (record {
+      lives = lives;
+      before = end.front;
+      later = end.later;
+      others = end.own;
+      room = had-room end.front (history new) store end.last it;
+      last = end.last;
+      own = ap (λ n. mine (history new) n) same ∙ (own-one-more end.front (history new) store end.last ∙ ap (λ l. l ++ store ∷ []) end.own);
+    })
+stored (Err e) hand noted view new number offered question answer moment is same lives it end = tt
