@@ -1,11 +1,9 @@
 -- A step along the link of a placed node.
-use Rattle.std.proofs.Common.{◌≡◌, ℕ, ◌++◌, ◌∷◌, List, sym, ap, ◌∙◌, subst}
+use Rattle.std.proofs.Common.{◌≡◌, ℕ, ◌++◌, ◌∷◌, List, sym, subst}
 use mathlib.Core.List.{IsPrefix}
-use Rattle.logbook.specs.Pages.{Cell, Book, Named as Word}
-use Rattle.answer_log.specs.Hands.{IsNamed}
+use Rattle.logbook.specs.Pages.{Cell}
 use Rattle.answer_log.specs.Logs.{In}
 use Rattle.answer_log.specs.Rules.{IsKept}
-use Rattle.answer_log.specs.Steps.{IsPlaced}
 use Rattle.answer_log.specs.declared.event.Event.{Event}
 use Rattle.answer_log.specs.declared.event.Event.TheVariants.{Named, Placed}
 use Rattle.answer_log.specs.declared.store.Store.{Store}

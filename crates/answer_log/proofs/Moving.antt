@@ -1,5 +1,5 @@
 -- Each step keeps the rule.
-use Rattle.std.proofs.Common.{◌≡◌, ◌≢◌, ℕ, ◌+◌, ◌*◌, ◌<◌, ◌≤◌, ◌==◌, ◌⊎◌, inl, inr, Bool, true, false, List, [], ◌∷◌, ◌++◌, length, refl, ap, sym, ◌∙◌, subst, arith, append_assoc, set, None, Some, length-set}
+use Rattle.std.proofs.Common.{◌≡◌, ◌≢◌, ℕ, ◌<◌, ◌==◌, ◌⊎◌, inl, inr, Bool, true, false, List, [], ◌∷◌, ◌++◌, length, refl, ap, sym, ◌∙◌, subst, arith, append_assoc, set, None, Some, length-set}
 use Rattle.std.proofs.lemmas.List.{append-nil, get_or-set_same}
 use Rattle.std.proofs.lemmas.Bool.Decides.{nat_tests}
 use mathlib.Core.List.{IsPrefix}
@@ -13,7 +13,7 @@ use Rattle.answer_log.specs.Counts.{count, Counts}
 use Rattle.answer_log.specs.Histories.{IsFull, IsHistory, IsSound}
 use Rattle.answer_log.specs.Logs.{seat_of, history, top, Linked, In}
 use Rattle.answer_log.specs.Rules.{IsKept, node_at}
-use Rattle.answer_log.specs.Steps.{IsPlaced, IsTaken, HadRoom, Looks, Follows, Claims, Tries}
+use Rattle.answer_log.specs.Steps.{IsPlaced, Looks, Follows, Claims, Tries}
 use Rattle.answer_log.proofs.Counting.{counts_keep, counts_add, kept_answer, more_answer}
 use Rattle.answer_log.proofs.Growing.{history-more}
 use Rattle.answer_log.proofs.Logs.{unplaced-of, once-named, once-placed, same-top, in-linked, history-append, top-append, linked-right, linked-append, linked-map, in-left, in-cases}

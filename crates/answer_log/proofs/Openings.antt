@@ -1,5 +1,5 @@
 -- How the log is opened.
-use Rattle.std.proofs.Common.{◌≡◌, ℕ, true, List, [], ◌∷◌, refl, rules}
+use Rattle.std.proofs.Common.{true, [], ◌∷◌, refl, rules}
 use Rattle.answer_log.specs.Rules.{IsKept}
 use Rattle.answer_log.specs.Histories.{IsSound}
 use Rattle.std.proofs.lemmas.List.Elements.{All-nil}

@@ -1,5 +1,5 @@
 -- What each step of the log says.
-use Rattle.std.specs.Prelude.{◌≡◌, ◌≢◌, ℕ, ◌+◌, ◌<◌, ◌==◌, ◌⊎◌, true, List, [], ◌∷◌, ◌++◌, MatchBool, Some}
+use Rattle.std.specs.Prelude.{◌≡◌, ℕ, ◌+◌, ◌<◌, ◌==◌, ◌⊎◌, true, List, [], ◌∷◌, ◌++◌, MatchBool, Some}
 use Rattle.std.specs.Arc.{arc_value}
 use Rattle.dns_answers.specs.Values.{AnswerValue}
 use Rattle.dns_message.specs.declared.question.Question.{Question}
