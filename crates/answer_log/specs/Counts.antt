@@ -58,7 +58,8 @@ abbrev pub keeps_counts : List ℕ → List Event → Fml
 keeps_counts names log = roster (first_name names) 0 (counts log)
 
 abbrev pub gains_count : List ℕ → List Event → Counted → Fml
-gains_count names about r = fsep (tally_owns true (first_name names) (first_seat about) r.after) (fact (first_count about ≡ r.before))
+gains_count names about r =
+    fsep (tally_owns true (first_name names) (first_seat about) r.after) (fact (first_count about ≡ r.before))
 
 -- The step found the asking seat at one count and leaves it at another, and the other seats as they were
 pub record Counts (ask : Event) (old new : List Event) (r : Counted) : Type 0 where

@@ -1,5 +1,6 @@
 -- What a history of stores answers. It is one list in the order of time, the oldest store first.
-use Rattle.std.specs.Prelude.{◌≡◌, ℕ, ◌+◌, ◌<◌, ◌≤◌, ◌==◌, nat_lt, List, length, Option, Some, None, option_and_then, if◌then◌else◌}
+use Rattle.std.specs.Prelude.{◌≡◌, ℕ, ◌+◌, ◌<◌, ◌≤◌, ◌==◌, nat_lt, List, length}
+use Rattle.std.specs.Prelude.{Option, Some, None, option_and_then, if◌then◌else◌}
 use Rattle.std.specs.List.{All, filter, last_or}
 use Rattle.dns_answers.specs.Records.{kind_of}
 use Rattle.dns_answers.specs.Values.{AnswerValue}

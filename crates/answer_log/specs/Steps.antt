@@ -30,7 +30,8 @@ IsPlaced log link = (before : List Event) × (after : List Event) × (node : ℕ
 -- the nodes of the seat stand at places below this one
 abbrev pub NamesBelow : ℕ → ℕ → List Event → Type 0
 NamesBelow seat place log =
-    (node : ℕ) (store : Store) (link : ℕ) → In (Named node store link) log → store.seat ≡ seat → node < node_at seat place
+    (node : ℕ) (store : Store) (link : ℕ) → In (Named node store link) log → store.seat ≡ seat
+    → node < node_at seat place
 
 -- once the head led to this node, and the group of the question was not full then
 pub record HadRoom (log : List Event) (node : ℕ) (question : Question) : Type 0 where
@@ -51,8 +52,8 @@ Stays old new = (new.held ≡ true) × (new.name ≡ old.name) × (new.seat ≡ 
 abbrev pub Same : Tally → Tally → ℕ → Type 0
 Same old new number = Stays old new × (new.count ≡ old.count) × (number ≡ old.count)
 
--- The log is what was seen, what came since, and then the event. Till then the log had as many events of its seat as the
--- tally says.
+-- The log is what was seen, what came since, and then the event. Till then the log had as many events of its seat as
+-- the tally says.
 abbrev pub Adds : Event → Tally → List Event → List Event → Type 0
 Adds event tally before after = (more : List Event) × (after ≡ (before ++ more) ++ event ∷ [])
     × (count (seat_of event) (before ++ more) ≡ tally.count)
@@ -68,7 +69,8 @@ Kept seat log counted = (counted.before ≡ count seat log) × (counted.after �
 -- an event was added, and the count of its seat has risen
 abbrev pub Rose : Event → List Event → List Event → Counted → Type 0
 Rose event before after counted = (counted.after ≡ counted.before + 1)
-    × ((more : List Event) × (after ≡ (before ++ more) ++ event ∷ []) × (counted.before ≡ count (seat_of event) (before ++ more)))
+    × ((more : List Event) × (after ≡ (before ++ more) ++ event ∷ [])
+    × (counted.before ≡ count (seat_of event) (before ++ more)))
 
 -- the head leads to the node placed last
 abbrev pub Looks : Step Event → View Event Counted → ℕ → View Event Counted → Type 0
@@ -77,7 +79,8 @@ Looks s v found w = (found ≡ top w.0) × Says w (Kept (seat_of s.ask) w.0)
 -- the link of a placed node leads to the one placed before it
 abbrev pub Follows : Step Event → View Event Counted → ℕ → View Event Counted → Type 0
 Follows s v found w =
-    (before after : List Event) (node : ℕ) (store : Store) → v.0 ≡ before ++ Placed node store s.key ∷ after → found ≡ top before
+    (before after : List Event) (node : ℕ) (store : Store) → v.0 ≡ before ++ Placed node store s.key ∷ after
+    → found ≡ top before
 
 abbrev pub linked_to : Event → ℕ → Event
 linked_to (Asks seat count) link = Asks seat count
@@ -94,13 +97,15 @@ abbrev pub IsTaken : ℕ → List Event → Type 0
 IsTaken node log = (store : Store) × (link : ℕ) × In (Named node store link) log × (store.seat < 64)
     × ((place : ℕ) × (node ≡ node_at store.seat place))
 
--- A cell is made. The node was new and is named with that cell as its link, or it was named already and nothing is added.
+-- A cell is made. The node was new and is named with that cell as its link, or it was named already and nothing is
+-- added.
 abbrev pub Claims : Step Event → View Event Counted → ℕ → View Event Counted → Type 0
 Claims s v found w = (link : ℕ) × (1 < link) × (w.1.0 ≡ nib may_make link 0)
     × Says w (λ counted. Rose (linked_to s.ask link) v.0 w.0 counted
     ⊎ (Kept (seat_of s.ask) w.0 counted × IsTaken (node_of s.ask) w.0))
 
--- The head was the one expected, and the node is placed; or it was another, which is the last one, and nothing is added.
+-- The head was the one expected, and the node is placed; or it was another, which is the last one, and nothing is
+-- added.
 abbrev pub Tries : Step Event → View Event Counted → ℕ → View Event Counted → Type 0
 Tries s v found w = Says w (λ counted. MatchBool (found == s.old) (Rose (linked_to s.ask v.1.0.key) v.0 w.0 counted)
     ((found ≡ top w.0) × (w.1.0 ≡ v.1.0) × Kept (seat_of s.ask) w.0 counted))

@@ -62,7 +62,7 @@ pub struct Claimed {
 }
 
 impl Log {
-    /// Opens a log for up to 64 seats.
+    /// Opens an empty log, and gives what up to 64 seats have at it.
     pub fn open() -> (Log, Hands)
         ensures book { result.0 ≡ result.1.seen.book }
         ensures first { result.1.next ≡ 0 }
@@ -116,7 +116,8 @@ impl Log {
         let _node = top_node(&self.head, &mut hand.book, &mut hand.tally, hand.number);
     }
 
-    /// Names the node of a place for a store: one exchange on the idle word.
+    /// Names the node of a place for a store, and makes its link: one exchange on the idle word. A place is named
+    /// once, so it is none below those that the seat has used.
     pub fn claim(
         &self,
         hand: &mut Hand,
@@ -153,7 +154,8 @@ impl Log {
         Claimed { node, link, pen }
     }
 
-    /// Tries to place a node before the node `old`, which its link holds: one exchange of the head.
+    /// Tries to place a node on top of the node `old`, which its link holds: one exchange of the head. Says whether
+    /// the node was placed. It was not where the head had another node by then.
     pub fn place(
         &self,
         hand: &mut Hand,
@@ -195,7 +197,7 @@ impl Log {
     }
 }
 
-/// A law: each log that was seen keeps the rule.
+/// A law: each log that was seen has a history of at most 4096 sound stores, 64 in a group, and no node 0.
 pub fn log_keeps_its_rule(book: &Book)
     ensures { IsLog book.now.log }
 {

@@ -120,8 +120,8 @@ fn settle(tally: &mut Tally, deal: Deal)
     tally.back(deal.into_gain());
 }
 
-/// A load of the head: the node placed last, 0 where there is none. Till then the log had as many events of the seat as
-/// the tally says.
+/// A load of the head: the node placed last, 0 where there is none. Till then the log had as many events of the seat
+/// as the tally says.
 pub(crate) fn top_node(head: &Word, book: &mut Book, tally: &mut Tally, seat: u64) -> u64
     requires head { head.now ≡ word_at book.old.book 0 }
     requires fits { Fits tally.old book.old.names seat }
@@ -136,8 +136,8 @@ pub(crate) fn top_node(head: &Word, book: &mut Book, tally: &mut Tally, seat: u6
     found
 }
 
-/// A load of the link of a placed node, which the log that `named` has seen named so: the node placed before it, 0 where
-/// there is none. The store that was placed is the one that was named.
+/// The node placed before a placed node, 0 where there is none: one load of its link. The log that `named` has seen
+/// names the node with that link. The store that was placed is the one that was named.
 pub(crate) fn node_before(link: &Word, named: &Book, node: u64, book: &mut Book) -> u64
     requires books { named.now.book ≡ book.old.book }
     requires named { (store : Store) × IsNamed named.now.book named.now.log node store link.now }
@@ -204,7 +204,8 @@ pub(crate) fn place(
     ensures tried { MatchBool result
         (Adds (Placed draft.now.node (store_of draft.now) link.now.key) tally.old book.old.log book.new.log
         × (tally.new.count ≡ tally.old.count + 1))
-        ((old ≢ top book.new.log) × (pen.new.nib ≡ pen.old.nib) × Same tally.old tally.new (count draft.now.seat book.new.log)) }
+        ((old ≢ top book.new.log) × (pen.new.nib ≡ pen.old.nib)
+        × Same tally.old tally.new (count draft.now.seat book.new.log)) }
 {
     let mut deal = tally.bid::<Draft<'_>, Try>(draft);
     let found = head.compare_exchange::<Try, Back>(old, draft.node, book, &mut deal, pen);

@@ -7,7 +7,7 @@ use crate::event::{Counted, Event};
 use logbook::{Gain, Gained, Offer, Plain, Rule, Start};
 use std::marker::{Model, PhantomData};
 
-/// The rule of the log.
+/// The rule of the log: what holds of its cells and events, and how the counts of the seats move.
 pub struct Law;
 
 impl Rule<Event, Counted> for Law {
@@ -83,8 +83,10 @@ impl Tallies {
     /// The first of them.
     pub fn take(&mut self) -> Tally
         requires { 0 < self.old.left }
-        ensures tally { (result.name ≡ self.old.name) × (result.seat ≡ self.old.next) × (result.count ≡ 0) × (result.held ≡ true) }
-        ensures rest { (self.new.name ≡ self.old.name) × (self.new.next ≡ self.old.next + 1) × (self.new.left ≡ self.old.left - 1) }
+        ensures tally { (result.name ≡ self.old.name) × (result.seat ≡ self.old.next) × (result.count ≡ 0)
+            × (result.held ≡ true) }
+        ensures rest { (self.new.name ≡ self.old.name) × (self.new.next ≡ self.old.next + 1)
+            × (self.new.left ≡ self.old.left - 1) }
     {
         Tally {
             marker: PhantomData,
@@ -96,7 +98,8 @@ impl Tally {
     /// Hands the count to a step, which says what it is and may raise it. What the step asks is read off `about`.
     pub fn bid<X, M: Plain<X, Event, Counted>>(&mut self, about: &X) -> Deal
         requires { (self.old.held ≡ true) × (seat_of (M.ask about.now) ≡ self.old.seat) }
-        ensures { (result.names ≡ self.old.name ∷ []) × (result.ask ≡ M.ask about.now) × (result.about ≡ holding self.old.seat self.old.count) × (result.state ≡ None) }
+        ensures { (result.names ≡ self.old.name ∷ []) × (result.ask ≡ M.ask about.now)
+            × (result.about ≡ holding self.old.seat self.old.count) × (result.state ≡ None) }
     {
         Offer {
             marker: PhantomData,
@@ -105,7 +108,8 @@ impl Tally {
 
     /// Takes the count back.
     pub fn back(&mut self, gained: Gained<Event, Counted, Back>)
-        ensures tally { (self.new.name ≡ first_name gained.names) × (self.new.seat ≡ first_seat gained.about) × (self.new.count ≡ gained.answer.after) × (self.new.held ≡ true) }
+        ensures tally { (self.new.name ≡ first_name gained.names) × (self.new.seat ≡ first_seat gained.about)
+            × (self.new.count ≡ gained.answer.after) × (self.new.held ≡ true) }
         ensures told { first_count gained.about ≡ gained.answer.before }
     {
         let Gained { marker: _ } = gained;
