@@ -31,7 +31,8 @@ pub front-log : (cells : List Cell) (log whole : List Event) → IsPrefix log wh
 front-log cells log whole pre kept =
     let H : List Store → Type 0 = λ stores. IsHistory stores in
     let I : List Event → Type 0 = λ events. IsKept cells events in
-    let stores = front-history (history log) (history pre.0) (subst H (ap history (sym pre.1) ∙ history-append log pre.0) kept.history) in record {
+    let stores = front-history (history log) (history pre.0)
+    (subst H (ap history (sym pre.1) ∙ history-append log pre.0) kept.history) in record {
       size = few-stores (history log) stores.few;
       nodes = λ before after node store link split.
           let E : List Event → Type 0 = λ events. In (Placed node store link) events in

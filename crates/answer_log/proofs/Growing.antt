@@ -13,14 +13,16 @@ module _ (stores : List Store) (store : Store) where
 
   no-more : (group : ℕ) → group_of store.question ≢ group → in_group group (stores ++ store ∷ []) ≡ in_group group stores
   no-more group other =
-      rw (filter-append (λ it. group_of it.question == group) stores (store ∷ []), ne_eqb (group_of store.question) group other) (append-nil (in_group group stores))
+      rw (filter-append (λ it. group_of it.question == group) stores (store ∷ []), ne_eqb (group_of store.question) group other)
+      (append-nil (in_group group stores))
 
   few-by : (group : ℕ) (is : Bool) → (group_of store.question == group) ≡ is → (IsFull stores store.question → ⊥)
       → length (in_group group stores) ≤ 64 → length (in_group group (stores ++ store ∷ [])) ≤ 64
   few-by group true is room few =
       let same = eqb-true (group_of store.question) group is in
       let more = length-append (in_group group stores) (store ∷ []) in
-      let below : length (in_group (group_of store.question) stores) < 64 = below-of (length (in_group (group_of store.question) stores)) room in
+      let below : length (in_group (group_of store.question) stores) < 64 = below-of
+      (length (in_group (group_of store.question) stores)) room in
       let below' = rw same at below in
       rw (one-more group same, more) omega arith
     where

@@ -134,7 +134,8 @@ once-placed (Placed m y k ∷ xs) n x l u h = (
 )
 
 -- where the last node is the same, nothing was placed since
-pub same-top : (v r log : List Event) → v ++ r ≡ log → Once log → ((n : ℕ) (x : Store) (l : ℕ) → In (Placed n x l) log → n ≢ 0) → top log ≡ top v → history r ≡ []
+pub same-top : (v r log : List Event) → v ++ r ≡ log → Once log → ((n : ℕ) (x : Store) (l : ℕ) → In (Placed n x l) log → n ≢ 0)
+    → top log ≡ top v → history r ≡ []
 same-top v r log p once some same =
     let L : List Event → Type 0 = λ w. Once w in
     elim (last_placed (top v) r) [
@@ -142,20 +143,24 @@ same-top v r log p once some same =
       | inr h ↦
           (let m : ℕ = top_from (top v) r in
           let n : m ≡ top v = sym (top-append 0 v r) ∙ (ap top p ∙ same) in
-          let all : log ≡ (v ++ h.before) ++ Placed m h.store h.link ∷ h.after = sym p ∙ (ap (λ w. v ++ w) h.split ∙ sym (append_assoc v h.before (Placed m h.store h.link ∷ h.after))) in
+          let all : log ≡ (v ++ h.before) ++ Placed m h.store h.link ∷ h.after = sym p ∙ (ap (λ w. v ++ w) h.split
+          ∙ sym (append_assoc v h.before (Placed m h.store h.link ∷ h.after))) in
           let I : List Event → Type 0 = λ w. In (Placed m h.store h.link) w in
           elim (last_placed 0 v) [
             | inl k ↦ absurd (some m h.store h.link (subst I (sym all) (in-here (Placed m h.store h.link) (v ++ h.before) h.after)) (n ∙ k.0))
             | inr k ↦
-                (let whole : log ≡ k.before ++ Placed (top v) k.store k.link ∷ (k.after ++ r) = sym p ∙ (ap (λ w. w ++ r) k.split ∙ append_assoc k.before (Placed (top v) k.store k.link ∷ k.after) r) in
+                (let whole : log ≡ k.before ++ Placed (top v) k.store k.link ∷ (k.after ++ r) = sym p
+                ∙ (ap (λ w. w ++ r) k.split ∙ append_assoc k.before (Placed (top v) k.store k.link ∷ k.after) r) in
                 let o = once-right k.before (Placed (top v) k.store k.link ∷ (k.after ++ r)) (subst L whole once) in
                 let U : List Event → Type 0 = λ w. Unplaced (top v) w in
-                let u = unplaced-right (top v) h.before (Placed m h.store h.link ∷ h.after) (subst U h.split (unplaced-right (top v) k.after r o.0)) in
+                let u = unplaced-right (top v) h.before (Placed m h.store h.link ∷ h.after)
+                (subst U h.split (unplaced-right (top v) k.after r o.0)) in
                 absurd (u.0 n))
           ])
     ]
 
-pub in-linked : (cs : List Cell) (p : ℕ) (xs : List Event) (n : ℕ) (x : Store) (l : ℕ) → Linked cs p xs → In (Placed n x l) xs → (cell cs l).1 ≡ true
+pub in-linked : (cs : List Cell) (p : ℕ) (xs : List Event) (n : ℕ) (x : Store) (l : ℕ) → Linked cs p xs → In (Placed n x l) xs
+    → (cell cs l).1 ≡ true
 in-linked cs p [] n x l h i = absurd i
 in-linked cs p (Asks s r ∷ xs) n x l h i = elim i [ inl q ↦ absurd (cc (q)) | inr j ↦ in-linked cs p xs n x l h j ]
 in-linked cs p (Named m y k ∷ xs) n x l h i = elim i [ inl q ↦ absurd (cc (q)) | inr j ↦ in-linked cs p xs n x l h j ]

@@ -1,5 +1,6 @@
 -- Each step keeps the rule.
-use Rattle.std.proofs.Common.{◌≡◌, ◌≢◌, ℕ, ◌<◌, ◌==◌, ◌⊎◌, inl, inr, Bool, true, false, List, [], ◌∷◌, ◌++◌, length, refl, ap, sym, ◌∙◌, subst, arith, append_assoc, set, None, Some, length-set}
+use Rattle.std.proofs.Common.{◌≡◌, ◌≢◌, ℕ, ◌<◌, ◌==◌, ◌⊎◌, inl, inr, Bool, true, false, List, []}
+use Rattle.std.proofs.Common.{◌∷◌, ◌++◌, length, refl, ap, sym, ◌∙◌, subst, arith, append_assoc, set, None, Some, length-set}
 use Rattle.std.proofs.lemmas.List.{append-nil, get_or-set_same}
 use Rattle.std.proofs.lemmas.Bool.Decides.{nat_tests}
 use mathlib.Core.List.{IsPrefix}
@@ -16,7 +17,8 @@ use Rattle.answer_log.specs.Rules.{IsKept, node_at}
 use Rattle.answer_log.specs.Steps.{IsPlaced, Looks, Follows, Claims, Tries}
 use Rattle.answer_log.proofs.Counting.{counts_keep, counts_add, kept_answer, more_answer}
 use Rattle.answer_log.proofs.Growing.{history-more}
-use Rattle.answer_log.proofs.Logs.{unplaced-of, once-named, once-placed, same-top, in-linked, history-append, top-append, linked-right, linked-append, linked-map, in-left, in-cases}
+use Rattle.answer_log.proofs.Logs.{unplaced-of, once-named, once-placed, same-top, in-linked, history-append}
+use Rattle.answer_log.proofs.Logs.{top-append, linked-right, linked-append, linked-map, in-left, in-cases}
 use Rattle.answer_log.proofs.Cells.{cell-adds, home-in, same-cell, idle, keep-else, keeps-low, apart, keeps-out, keeps-trans, keeps-adds}
 
 abbrev pub shown : List Event → List Event
@@ -29,7 +31,8 @@ idle-home : (cs : List Cell) (log : List Event) → IsKept cs log → (cell cs 1
 idle-home cs log kept = ap (λ (c : Cell). c.1) kept.idle
 
 -- with no event and no change of a word
-pub kept-same : (cs : List Cell) (log : List Event) (k n : ℕ) → (cell cs k).1 ≡ true → n ≡ (cell cs k).0 → IsKept cs log → IsKept (set cs k (n, true)) (log ++ [])
+pub kept-same : (cs : List Cell) (log : List Event) (k n : ℕ) → (cell cs k).1 ≡ true → n ≡ (cell cs k).0 → IsKept cs log
+    → IsKept (set cs k (n, true)) (log ++ [])
 kept-same cs log k n home e kept =
     let P : List Cell → Type 0 = λ c. IsKept c (log ++ []) in
     let Q : List Event → Type 0 = λ l. IsKept cs l in
@@ -48,7 +51,8 @@ kept-adds cs log kept = record {
 }
 
 -- the word at a link is the name placed before
-pub placed-cell : (cs : List Cell) (log a b : List Event) (n l : ℕ) (x : Store) → IsKept cs log → log ≡ a ++ Placed n x l ∷ b → cell cs l ≡ (top a, true)
+pub placed-cell : (cs : List Cell) (log a b : List Event) (n l : ℕ) (x : Store) → IsKept cs log → log ≡ a ++ Placed n x l ∷ b
+    → cell cs l ≡ (top a, true)
 placed-cell cs log a b n l x kept split =
     let L : List Event → Type 0 = λ w. Linked cs 0 w in
     let r = linked-right cs 0 a (Placed n x l ∷ b) (subst L split kept.linked) in r.1
@@ -77,7 +81,8 @@ look_moves v ask low cs log kept pre away =
 pub follow_moves : (v : List Event) (l : ℕ) (r : Counted) → IsPlaced v l
     → Moves IsKept shown (Counts (Asks 0 0)) l (v, (no_nib, Some r)) (λ n. n) (Follows (step l 0 0 (Asks 0 0)) (v, (no_nib, Some r)))
 follow_moves v l r placed cs log kept pre away =
-    let c = placed-cell cs log placed.0 (placed.1 ++ pre.0) placed.2 l placed.3 kept (longer v pre.0 log placed.0 placed.1 (Placed placed.2 placed.3 l) pre.1 placed.4) in
+    let c = placed-cell cs log placed.0 (placed.1 ++ pre.0) placed.2 l placed.3 kept
+    (longer v pre.0 log placed.0 placed.1 (Placed placed.2 placed.3 l) pre.1 placed.4) in
     let home : (cell cs l).1 ≡ true = ap (λ (c : Cell). c.1) c in (
       home-in cs l home,
       home,
@@ -88,7 +93,8 @@ follow_moves v l r placed cs log kept pre away =
         tt,
         kept-same cs log l (cell cs l).0 home refl kept,
         inl (refl, append-nil log),
-        λ a b n x split. ap (λ (c : Cell). c.0) (placed-cell cs log a (b ++ pre.0) n l x kept (longer v pre.0 log a b (Placed n x l) pre.1 split)),
+        λ a b n x split. ap (λ (c : Cell). c.0)
+            (placed-cell cs log a (b ++ pre.0) n l x kept (longer v pre.0 log a b (Placed n x l) pre.1 split)),
       ),
     )
 
@@ -99,14 +105,16 @@ some-name cs log kept n x l i none =
     absurd (omega (arith, num))
 
 -- a node whose link is out was not placed
-not-placed : (cs : List Cell) (log : List Event) (n : ℕ) (x : Store) (l : ℕ) → IsKept cs log → In (Named n x l) log → (cell cs l).1 ≡ false → (y : Store) (k : ℕ) → In (Placed n y k) log → ⊥
+not-placed : (cs : List Cell) (log : List Event) (n : ℕ) (x : Store) (l : ℕ) → IsKept cs log → In (Named n x l) log
+    → (cell cs l).1 ≡ false → (y : Store) (k : ℕ) → In (Placed n y k) log → ⊥
 not-placed cs log n x l kept named out y k i =
     let same = kept.unique n x y l k named (kept.twins n y k i) in
     let home = in-linked cs 0 log n y k kept.linked i in
     let e : (cell cs l).1 ≡ (cell cs k).1 = ap (λ j. (cell cs j).1) same.1 in
     absurd (cc (out, home, e))
 
-kept-named : (cs : List Cell) (log : List Event) (n : ℕ) (x : Store) (l places : ℕ) → IsKept cs log → ((y : Store) (k : ℕ) → In (Named n y k) log → ⊥) → n ≡ node_at x.seat places → x.seat < 64
+kept-named : (cs : List Cell) (log : List Event) (n : ℕ) (x : Store) (l places : ℕ) → IsKept cs log
+    → ((y : Store) (k : ℕ) → In (Named n y k) log → ⊥) → n ≡ node_at x.seat places → x.seat < 64
     → IsKept cs (log ++ Named n x l ∷ [])
 kept-named cs log n x l places kept none is some =
     let e : Event = Named n x l in record {
@@ -135,10 +143,12 @@ kept-named cs log n x l places kept none is some =
         ]
       ];
       once = once-named log n x l kept.once;
-      history = let H : List Store → Type 0 = λ h. IsHistory h in subst H (sym (history-append log (e ∷ []) ∙ append-nil (history log))) kept.history;
+      history = let H : List Store → Type 0 = λ h. IsHistory h in subst H
+          (sym (history-append log (e ∷ []) ∙ append-nil (history log))) kept.history;
     }
   where
-    new-named : (n m : ℕ) (x y : Store) (l k places : ℕ) → Named n x l ≡ Named m y k → n ≡ node_at x.seat places → x.seat < 64 → (y.seat < 64) × ((p : ℕ) × (m ≡ node_at y.seat p))
+    new-named : (n m : ℕ) (x y : Store) (l k places : ℕ) → Named n x l ≡ Named m y k → n ≡ node_at x.seat places → x.seat < 64
+        → (y.seat < 64) × ((p : ℕ) × (m ≡ node_at y.seat p))
     new-named n m x y l k places q is some =
         let a : m ≡ n = cc (q) in
         let b : y.seat ≡ x.seat = cc (q) in
@@ -164,8 +174,10 @@ has n (Asks s t ∷ log) = has-later n (Asks s t) log (λ y k q. absurd (cc (q))
 has n (Named m x l ∷ log) = has-when n m x l log (m == n) refl (has n log)
 has n (Placed m x l ∷ log) = has-later n (Placed m x l) log (λ y k q. absurd (cc (q))) (has n log)
 
-claim_goes : (v : List Event) (places n : ℕ) (x : Store) → n ≡ node_at x.seat places → x.seat < 64 → (cs : List Cell) (log : List Event) → IsKept cs log → IsPrefix v log → 1 < length cs → Has n log
-    → Goes IsKept shown (Counts (Named n x 0)) 1 (v, (no_nib, None)) (λ n. either (n == 0) 0 n) (Claims (step 1 0 0 (Named n x 0)) (v, (no_nib, None))) cs log
+claim_goes : (v : List Event) (places n : ℕ) (x : Store) → n ≡ node_at x.seat places → x.seat < 64 → (cs : List Cell) (log : List Event)
+    → IsKept cs log → IsPrefix v log → 1 < length cs → Has n log
+    → Goes IsKept shown (Counts (Named n x 0)) 1 (v, (no_nib, None)) (λ n. either (n == 0) 0 n)
+    (Claims (step 1 0 0 (Named n x 0)) (v, (no_nib, None))) cs log
 claim_goes v places n x is some cs log kept pre long h =
     let n0 : ℕ = either ((cell cs 1).0 == 0) 0 (cell cs 1).0 in
     let cs' : List Cell = set cs 1 (n0, true) in
@@ -199,20 +211,23 @@ claim_goes v places n x is some cs log kept pre long h =
     ]
 
 pub claim_moves : (v : List Event) (places n : ℕ) (x : Store) → n ≡ node_at x.seat places → x.seat < 64
-    → Moves IsKept shown (Counts (Named n x 0)) 1 (v, (no_nib, None)) (λ n. either (n == 0) 0 n) (Claims (step 1 0 0 (Named n x 0)) (v, (no_nib, None)))
+    → Moves IsKept shown (Counts (Named n x 0)) 1 (v, (no_nib, None)) (λ n. either (n == 0) 0 n)
+    (Claims (step 1 0 0 (Named n x 0)) (v, (no_nib, None)))
 claim_moves v places n x is some cs log kept pre away = (
   home-in cs 1 (idle-home cs log kept),
   idle-home cs log kept,
   claim_goes v places n x is some cs log kept pre (home-in cs 1 (idle-home cs log kept)) (has n log),
 )
 
-out-apart : (cs : List Cell) (k : ℕ) (v : ℕ) (j : ℕ) → (cell cs j).1 ≡ false → (cell cs k).1 ≡ true → (cell (set cs k (v, true)) j).1 ≡ false
+out-apart : (cs : List Cell) (k : ℕ) (v : ℕ) (j : ℕ) → (cell cs j).1 ≡ false → (cell cs k).1 ≡ true
+    → (cell (set cs k (v, true)) j).1 ≡ false
 out-apart cs k v j out home =
     let ne : j ≢ k = (λ p. apart cs j k out home (sym p)) in
     ap (λ (c : Cell). c.1) (keep-else cs k v j (cell cs j) ne refl) ∙ out
 
 kept-placed : (cs : List Cell) (log : List Event) (pen : Nib) (n : ℕ) (x : Store) → IsKept cs log
-    → (pen.key < length cs) × ((cell cs pen.key).1 ≡ false) → In (Named n x pen.key) log → 1 < pen.key → pen.value ≡ top log → IsSound x → (IsFull (history log) x.question → ⊥)
+    → (pen.key < length cs) × ((cell cs pen.key).1 ≡ false) → In (Named n x pen.key) log → 1 < pen.key → pen.value ≡ top log → IsSound x →
+    (IsFull (history log) x.question → ⊥)
     → IsKept (set (set cs 0 (n, true)) pen.key (pen.value, true)) (log ++ Placed n x pen.key ∷ [])
 kept-placed cs log pen n x kept out named some value sound room =
     let l : ℕ = pen.key in
@@ -222,9 +237,11 @@ kept-placed cs log pen n x kept out named some value sound room =
     let head_home : (cell cs 0).1 ≡ true = ap (λ (c : Cell). c.1) kept.head in
     let out1 : (cell cs1 pen.key).1 ≡ false = out-apart cs 0 n pen.key out.1 head_home in
     let first : cell cs1 0 ≡ (n, true) = get_or-set_same cs 0 (n, true) (0, false) (home-in cs 0 head_home) in
-    let zero' : cell cs' 0 ≡ (n, true) = keep-else cs1 pen.key pen.value 0 (n, true) (apart cs1 pen.key 0 out1 (ap (λ (c : Cell). c.1) first)) first in
+    let zero' : cell cs' 0 ≡ (n, true) = keep-else cs1 pen.key pen.value 0 (n, true)
+    (apart cs1 pen.key 0 out1 (ap (λ (c : Cell). c.1) first)) first in
     let one1 : cell cs1 1 ≡ (0, true) = keep-else cs 0 n 1 (0, true) (λ q. absurd (omega arith)) kept.idle in
-    let one : cell cs' 1 ≡ (0, true) = keep-else cs1 pen.key pen.value 1 (0, true) (apart cs1 pen.key 1 out1 (ap (λ (c : Cell). c.1) one1)) one1 in
+    let one : cell cs' 1 ≡ (0, true) = keep-else cs1 pen.key pen.value 1 (0, true)
+    (apart cs1 pen.key 1 out1 (ap (λ (c : Cell). c.1) one1)) one1 in
     let in_time : pen.key < length cs1 = (let q = out.0 in omega (arith, length-set {A = Cell})) in
     let there : cell cs' pen.key ≡ (pen.value, true) = get_or-set_same cs1 pen.key (pen.value, true) (0, false) in_time in
     let stays = keeps-trans cs cs1 cs' (keeps-low cs 0 n (omega arith)) (keeps-out cs1 pen.key pen.value out1) in
@@ -240,27 +257,34 @@ kept-placed cs log pen n x kept out named some value sound room =
       named = λ m y k i. kept.named m y k (old m y k i);
       unique = λ m y z k j a b. kept.unique m y z k j (old m y k a) (old m z j b);
       once = once-placed log n x l (unplaced-of n log (not-placed cs log n x l kept named out.1)) kept.once;
-      history = let H : List Store → Type 0 = λ h. IsHistory h in subst H (sym (history-append log (e ∷ []))) (history-more (history log) x sound room kept.history);
+      history = let H : List Store → Type 0 = λ h. IsHistory h in subst H (sym (history-append log (e ∷ [])))
+          (history-more (history log) x sound room kept.history);
     }
   where
-    same-named : (n m : ℕ) (x y : Store) (l k : ℕ) (log : List Event) → Placed n x l ≡ Placed m y k → In (Named n x l) log → In (Named m y k) log
+    same-named : (n m : ℕ) (x y : Store) (l k : ℕ) (log : List Event) → Placed n x l ≡ Placed m y k → In (Named n x l) log
+        → In (Named m y k) log
     same-named n m x y l k log q i =
         let e : Named n x l ≡ Named m y k = cc (q) in
         let P : Event → Type 0 = λ w. In w log in
         subst P e i
 
-module _ (v seen : List Event) (pen : Nib) (n : ℕ) (x : Store) (old : ℕ) (right : pen.right ≡ may_write) (named : In (Named n x pen.key) v) (some : 1 < pen.key) (value : pen.value ≡ old)
-    (later : IsPrefix seen v) (last : top seen ≡ old) (room : IsFull (history seen) x.question → ⊥) (sound : IsSound x) (low : x.seat < 64) where
+module _ (v seen : List Event) (pen : Nib) (n : ℕ) (x : Store) (old : ℕ) (right : pen.right ≡ may_write)
+    (named : In (Named n x pen.key) v) (some : 1 < pen.key) (value : pen.value ≡ old)
+    (later : IsPrefix seen v) (last : top seen ≡ old) (room : IsFull (history seen) x.question → ⊥) (sound : IsSound x)
+    (low : x.seat < 64) where
   -- where the head is as it was then, nothing was placed since
   same-since : (cs : List Cell) (log : List Event) → IsKept cs log → IsPrefix v log → (cell cs 0).0 ≡ old → history log ≡ history seen
   same-since cs log kept pre found =
       let more : List Event = later.0 ++ pre.0 in
       let whole : seen ++ more ≡ log = sym (append_assoc seen later.0 pre.0) ∙ (ap (λ w. w ++ pre.0) later.1 ∙ pre.1) in
-      let none = same-top seen more log whole kept.once (some-name cs log kept) (sym (ap (λ (c : Cell). c.0) kept.head) ∙ (found ∙ sym last)) in
+      let none = same-top seen more log whole kept.once (some-name cs log kept) (sym (ap (λ (c : Cell). c.0) kept.head)
+      ∙ (found ∙ sym last)) in
       ap history (sym whole) ∙ (history-append seen more ∙ (ap (λ k. history seen ++ k) none ∙ append-nil (history seen)))
 
-  try_goes : (cs : List Cell) (log : List Event) → IsKept cs log → (pre : IsPrefix v log) → Away pen cs → (b : Bool) → ((cell cs 0).0 == old) ≡ b
-      → Goes IsKept shown (Counts (Placed n x 0)) 0 (v, (pen, None)) (λ m. either (m == old) n m) (Tries (step 0 old n (Placed n x 0)) (v, (pen, None))) cs log
+  try_goes : (cs : List Cell) (log : List Event) → IsKept cs log → (pre : IsPrefix v log) → Away pen cs → (b : Bool)
+      → ((cell cs 0).0 == old) ≡ b
+      → Goes IsKept shown (Counts (Placed n x 0)) 0 (v, (pen, None)) (λ m. either (m == old) n m)
+      (Tries (step 0 old n (Placed n x 0)) (v, (pen, None))) cs log
   try_goes cs log kept pre away true b =
       let found : (cell cs 0).0 ≡ old = grind (arith, nat_tests) in
       let same = same-since cs log kept pre found in

@@ -1,5 +1,6 @@
 -- Where no group has more than 64 stores, there are at most 4,096.
-use Rattle.std.proofs.Common.{◌≡◌, ◌≢◌, ℕ, zero, suc, ◌+◌, ◌*◌, ◌<◌, ◌≤◌, ◌==◌, ◌%◌, Bool, true, false, List, [], ◌∷◌, cond, length, refl, arith}
+use Rattle.std.proofs.Common.{◌≡◌, ◌≢◌, ℕ, zero, suc, ◌+◌, ◌*◌, ◌<◌, ◌≤◌, ◌==◌}
+use Rattle.std.proofs.Common.{◌%◌, Bool, true, false, List, [], ◌∷◌, cond, length, refl, arith}
 use Rattle.std.proofs.lemmas.Bool.{eqb-false}
 use Rattle.answer_log.specs.Groups.{group_of, hash_of, hashed_of}
 use Rattle.answer_log.specs.Histories.{in_group}
@@ -42,7 +43,8 @@ below-when n store rest false is low others more =
 below-one : (n : ℕ) (store : Store) (rest : List Store) → group_of store.question < n → below n rest + 1 ≤ below n (store ∷ rest)
 unfolding below
 below-one zero store rest low = absurd (omega arith)
-below-one (suc n) store rest low = below-when n store rest (group_of store.question == n) refl low (below-one n store rest) (below-more n store rest)
+below-one (suc n) store rest low = below-when n store rest (group_of store.question == n) refl low (below-one n store rest)
+    (below-more n store rest)
 
 below-few : (n : ℕ) (stores : List Store) → ((group : ℕ) → length (in_group group stores) ≤ 64) → below n stores ≤ 64 * n
 unfolding below

@@ -16,7 +16,8 @@ compare_exchange-requires c =
       sym (ap (λ w. w.book) h),
       pen.0 ∙ sym (ap (λ w. w.book) h),
       d.0 ∙ c.requires.fits.1,
-      rw (ap (λ w. w.key) h, pen.1, d.1, d.3) (claim_moves c.args.book.now.log c.args.place draft.node (store_of draft) c.requires.node c.requires.fits.3),
+      rw (ap (λ w. w.key) h, pen.1, d.1, d.3)
+          (claim_moves c.args.book.now.log c.args.place draft.node (store_of draft) c.requires.node c.requires.fits.3),
     )
 
 pub returns-clause-tally : goal.returns-clause-tally
@@ -27,7 +28,9 @@ returns-clause-tally c =
     let draft = c.args.draft.now in
     let s = c.settle.ensures q.3.0 q.3.1 in
     let before = sym (ap first_count (x.ensures.4 ∙ d.2)) ∙ s.4 in
-    let rose = claim_told c.args.book.now.log x.new.seen.log c.bid-deal.result.ask draft.node c.args.place (store_of draft) q.0 q.3.0 d.1 c.requires.below c.requires.node c.requires.fits.3 (c.requires.counted ∙ before) x.ensures.6 q.3.2 in (
+    let rose = claim_told c.args.book.now.log x.new.seen.log c.bid-deal.result.ask draft.node c.args.place
+    (store_of draft) q.0 q.3.0 d.1 c.requires.below c.requires.node c.requires.fits.3 (c.requires.counted
+    ∙ before) x.ensures.6 q.3.2 in (
       (s.0, s.1 ∙ ap first_name (x.ensures.2 ∙ d.0), s.2 ∙ ap first_seat (x.ensures.4 ∙ d.2)),
       s.3 ∙ (rose.0 ∙ ap (λ j. j + 1) (sym before)),
     )
@@ -40,6 +43,7 @@ returns-clause-adds c =
     let draft = c.args.draft.now in
     let s = c.settle.ensures q.3.0 q.3.1 in
     let before = sym (ap first_count (x.ensures.4 ∙ d.2)) ∙ s.4 in
-    let rose = claim_told c.args.book.now.log x.new.seen.log c.bid-deal.result.ask draft.node c.args.place (store_of draft) q.0 q.3.0 d.1 c.requires.below c.requires.node c.requires.fits.3 (c.requires.counted ∙ before) x.ensures.6 q.3.2 in
+    let rose = claim_told c.args.book.now.log x.new.seen.log c.bid-deal.result.ask draft.node c.args.place
+    (store_of draft) q.0 q.3.0 d.1 c.requires.below c.requires.node c.requires.fits.3 (c.requires.counted ∙ before) x.ensures.6 q.3.2 in
     let E : ℕ → Type 0 = λ j. Adds (Named draft.node (store_of draft) j) c.args.tally.now c.args.book.now.log x.new.seen.log in
     subst E (sym (ap (λ p. p.key) q.2)) (rose.1.0, rose.1.1, sym (before ∙ rose.1.2))

@@ -26,7 +26,8 @@ returns-clause-before c before after placed key split =
     let n = c.requires.named in
     let log = c.learn.new.self.log in
     let same = as_named l.4.0 log c.args.book.now.log c.args.named.now.log before after c.args.node n.0 placed c.args.link.now.key key l.4.1 l.2 l.3 split n.1.named in
-    c.load.ensures.6.1 before (after ++ l.2.0) c.args.node placed (placed_on c.args.book.now.log log before after c.args.node placed c.args.link.now.key key l.2 split same.1)
+    c.load.ensures.6.1 before (after ++ l.2.0) c.args.node placed
+    (placed_on c.args.book.now.log log before after c.args.node placed c.args.link.now.key key l.2 split same.1)
 
 pub returns-clause-store : goal.returns-clause-store
 returns-clause-store c before after store placed key split named =

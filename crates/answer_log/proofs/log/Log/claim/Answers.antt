@@ -20,7 +20,9 @@ returns-clause-hand c =
     let t = c.claim_node-pen in
     let node : ℕ = node_at h.number c.args.place in
     let store : Store = store_by h.number c.args.question.now (arc_value c.args.answer.now) c.args.moment in
-    hand_adds h record { number = h.number; places = c.args.place + 1; tally = t.new.tally; book = t.new.book } (Named node store t.result.nib.key) c.requires.hand t.ensures.adds refl (let p = c.requires.place.0 in omega arith) t.ensures.book.1 t.ensures.tally.0 t.ensures.tally.1 refl
+    hand_adds h record { number = h.number; places = c.args.place + 1; tally = t.new.tally; book = t.new.book }
+    (Named node store t.result.nib.key) c.requires.hand t.ensures.adds refl
+    (let p = c.requires.place.0 in omega arith) t.ensures.book.1 t.ensures.tally.0 t.ensures.tally.1 refl
     (named_low h.number c.args.place node store t.result.nib.key refl)
 
 pub returns-clause-seen : goal.returns-clause-seen
@@ -41,5 +43,6 @@ returns-clause-named c =
     let I : List Event → Type 0 = λ log. In (Named node store t.result.nib.key) log in
     let K : ℕ → Type 0 = λ k. In (Named node store k) t.new.book.log in record {
       link = λ i. record { tracked = (link.ensures.0 i).tracked; key = link.result.key; book = ((ap (λ w. w.book) link.ensures.0) ∙ (t.ensures.book.2 ∙ c.requires.book)) i };
-      named = subst K (sym (ap (λ w. w.key) link.ensures.0)) (subst I (sym a.1) (in-here (Named node store t.result.nib.key) (h.book.log ++ a.0) []));
+      named = subst K (sym (ap (λ w. w.key) link.ensures.0))
+          (subst I (sym a.1) (in-here (Named node store t.result.nib.key) (h.book.log ++ a.0) []));
     }
