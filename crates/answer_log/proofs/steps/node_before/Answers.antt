@@ -12,7 +12,8 @@ load-requires c =
     let log = c.learn.new.self.log in
     let r : Counted = record { before = 0; after = 0 } in
     let offer = c.plain-offer.ensures in
-    let same = as_named l.4.0 log c.args.book.now.log c.args.named.now.log p.0 p.1 c.args.node n.0 p.2 c.args.link.now.key p.3 l.4.1 l.2 l.3 p.4 n.1.named in
+    let same = as_named l.4.0 log c.args.book.now.log c.args.named.now.log p.0 p.1 c.args.node n.0 p.2 c.args.link.now.key p.3 l.4.1 l.2
+    l.3 p.4 n.1.named in
     let placed = placed_on c.args.book.now.log log p.0 p.1 c.args.node p.2 c.args.link.now.key p.3 l.2 p.4 same.1 in (
       ap (λ w. w.tracked) n.1.link,
       l.0 ∙ sym c.requires.books ∙ sym (ap (λ w. w.book) n.1.link),
@@ -25,12 +26,14 @@ returns-clause-before c before after placed key split =
     let l = c.learn.ensures in
     let n = c.requires.named in
     let log = c.learn.new.self.log in
-    let same = as_named l.4.0 log c.args.book.now.log c.args.named.now.log before after c.args.node n.0 placed c.args.link.now.key key l.4.1 l.2 l.3 split n.1.named in
+    let same = as_named l.4.0 log c.args.book.now.log c.args.named.now.log before after c.args.node n.0 placed c.args.link.now.key key
+    l.4.1 l.2 l.3 split n.1.named in
     c.load.ensures.6.1 before (after ++ l.2.0) c.args.node placed
     (placed_on c.args.book.now.log log before after c.args.node placed c.args.link.now.key key l.2 split same.1)
 
 pub returns-clause-store : goal.returns-clause-store
 returns-clause-store c before after store placed key split named =
     let l = c.learn.ensures in
-    let same = as_named l.4.0 c.learn.new.self.log c.args.book.now.log c.args.named.now.log before after c.args.node store placed c.args.link.now.key key l.4.1 l.2 l.3 split named.named in
+    let same = as_named l.4.0 c.learn.new.self.log c.args.book.now.log c.args.named.now.log before after c.args.node store placed
+    c.args.link.now.key key l.4.1 l.2 l.3 split named.named in
     same.0

@@ -8,18 +8,22 @@ returns-clause-hand c =
     let h = c.args.hand.now in
     let d = c.args.draft.now in
     let t = c.place in
-    tried_hand h d.node (store_of d) c.args.link.now.key c.args.old c.args.pen.now.nib t.new.pen.nib c.requires.hand c.requires.seat record { number = h.number; places = h.places; tally = t.new.tally; book = t.new.book } refl refl t.ensures.book.1 t.ensures.tally t.ensures.later t.result t.ensures.tried
+    tried_hand h d.node (store_of d) c.args.link.now.key c.args.old c.args.pen.now.nib t.new.pen.nib c.requires.hand c.requires.seat
+    record { number = h.number; places = h.places; tally = t.new.tally; book = t.new.book } refl refl t.ensures.book.1 t.ensures.tally
+    t.ensures.later t.result t.ensures.tried
 
 pub returns-clause-placed : goal.returns-clause-placed
 returns-clause-placed c =
     let h = c.args.hand.now in
     let d = c.args.draft.now in
     let t = c.place in
-    tried_sees h d.node (store_of d) c.args.link.now.key c.args.old c.args.pen.now.nib t.new.pen.nib c.requires.hand c.requires.seat t.new.book.log t.new.tally t.ensures.later t.result t.ensures.tried
+    tried_sees h d.node (store_of d) c.args.link.now.key c.args.old c.args.pen.now.nib t.new.pen.nib c.requires.hand c.requires.seat
+    t.new.book.log t.new.tally t.ensures.later t.result t.ensures.tried
 
 pub returns-clause-lost : goal.returns-clause-lost
 returns-clause-lost c =
     let h = c.args.hand.now in
     let d = c.args.draft.now in
     let t = c.place in
-    tried_lost h d.node (store_of d) c.args.link.now.key c.args.old c.args.pen.now.nib t.new.pen.nib c.requires.hand c.requires.seat t.new.book.log t.new.tally t.ensures.later t.result t.ensures.tried
+    tried_lost h d.node (store_of d) c.args.link.now.key c.args.old c.args.pen.now.nib t.new.pen.nib c.requires.hand c.requires.seat
+    t.new.book.log t.new.tally t.ensures.later t.result t.ensures.tried
