@@ -24,8 +24,8 @@
 //!
 //! A step is of one of seven kinds. Four of them read or write one word that others may read:
 //!
-//! - a load of the head: `Log::look`, and `Log::learn`, which first takes over what another has seen;
-//! - a load of a link: `node_before`;
+//! - a load of the head: `Log::walk`, and `Log::learn`, which first takes over what another has seen;
+//! - a load of a link: `Walk::pass`;
 //! - a store into the link of a node that is not placed yet: `Word::store`, by the pen that `Log::claim` gives;
 //! - an exchange of the head, from the node that the link holds to the new one: `Log::place`. It fails where the head
 //!   has another node by then, and the seat may try again with that one in its link.
@@ -43,15 +43,18 @@
 //! ```text
 //! let (log, mut hands) = Log::open();
 //! let mut hand = hands.deal();
+//! let walk = log.walk(&mut hand);                                      // from the node placed last to the first one
 //! let Claimed { node, link, mut pen } = log.claim(&mut hand, 0, &question, &answer, moment);
-//! let old = log.look(&mut hand);
-//! link.store(&mut pen, old);
-//! let placed = log.place(&mut hand, &mut pen, old, &draft, &link);     // false: another node came in between
+//! link.store(&mut pen, walk.next);
+//! let placed = log.place(&mut hand, &mut pen, walk.next, &draft, &link);     // false: another node came in between
 //! ```
+//!
+//! A `Walk` goes from the node placed last to the first one. It says which node is next, and whoever finds that node passes
+//! its link.
 //!
 //! Read `specs/Histories.antt` and `specs/Logs.antt` first: what a history answers, and what events say of it. Then
 //! `specs/Rules.antt`, what holds at each moment, `specs/Steps.antt`, what each step says, and `specs/Hands.antt`,
-//! what a seat has.
+//! what a seat has, and `specs/Walks.antt`, what is ahead of a walk.
 #![tactic(auto)]
 
 mod event;
