@@ -51,12 +51,15 @@ pub again : (book its : Book) (old new : List Event) (seat : ℕ) (node : Node) 
     → MatchBool won X (SeesMore seat old new) → MatchBool won (Unit {0}) ((its ≡ book) × (after.right ≡ may_write) × (after.key ≡ node.link.key))
     → MatchBool won (Unit {0}) ((its ≡ book) × IsReady book new seat node after)
 again book its old new seat node before after true X it sees pen = tt
-again book its old new seat node before after false X it sees pen = (pen.0, record {
-  named = sees.names book node.node (store_in seat node) node.link it.named;
-  right = pen.1;
-  its = pen.2;
-  above = it.above;
-})
+again book its old new seat node before after false X it sees pen = (
+  pen.0,
+  record {
+    named = sees.names book node.node (store_in seat node) node.link it.named;
+    right = pen.1;
+    its = pen.2;
+    above = it.above;
+  },
+)
 
 -- what a list is longer by
 pub longer : (xs ys : List Store) (n : ℕ) (zs : List Store) → IsPrefix xs ys → length ys + n ≤ length zs → length xs + n ≤ length zs

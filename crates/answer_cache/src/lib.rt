@@ -56,4 +56,6 @@ pub use shared_cache::SharedCache;
 #[cfg(test)]
 mod refusals;
 #[cfg(test)]
+mod shared_tests;
+#[cfg(test)]
 mod tests;

@@ -7,8 +7,8 @@ use dns_message::Kind;
 fn store_refused(rt: HostRuntime) {
     let (book, mut seat) = ListCache::new(rt.alloc());
     let mut kept = None;
-    for life in [10, 20] {
-        let said = stored(&rt, &book, &mut seat, (Kind::A, life, 100));
+    'lives: for life in [10, 20] {
+        let said = stored(&rt, &book, &mut seat, Kind::A, life, 100);
         if said != Some(Ok(())) {
             assert!(rt; matches!(said, None | Some(Err(StoreRefusal::Memory))));
             // Nothing more is refused.
@@ -16,7 +16,7 @@ fn store_refused(rt: HostRuntime) {
                 found(rt.alloc(), &book, &mut seat, Kind::A, 100),
                 Some(kept)
             );
-            let again = stored(&rt, &book, &mut seat, (Kind::A, life, 100));
+            let again = stored(&rt, &book, &mut seat, Kind::A, life, 100);
             assert_eq!(rt; again, Some(Ok(())));
         }
         kept = Some(life);
