@@ -1,17 +1,18 @@
 //! Stores of several seats at once.
-ghost use Rattle.std.specs.Prelude.{◌≡◌, IfSome};
-ghost use Rattle.std.specs.Arc.{arc_value};
-ghost use Rattle.dns_answers.specs.Records.{kind_of};
+ghost use Rattle.std.specs.Prelude.{◌≡◌, ◌+◌, ◌<◌, IfSome, OnErr, OnOk, length};
+ghost use Rattle.std.specs.List.{All};
 ghost use Rattle.answer_cache.specs.Shared.{Belongs};
 
 use crate::tests::{answer_of, question_of, two_seats};
 use crate::*;
 use dns_answers::{Answer, Moment};
 use dns_message::{Kind, Question};
+use dns_name::Name;
 use std::alloc::Global;
 use std::marker::Model;
 use std::sync::{Arc, Wait};
 use std::test::*;
+use std::thread::{Threads, join};
 
 /// Stores through another seat in the tries up to a last one, and counts the tries.
 #[derive(Drop)]
@@ -89,4 +90,179 @@ fn stores_against_another_seat(rt: HostRuntime) {
     for (last, wanted) in rows {
         assert_eq!(rt; against(&rt, last), Some(wanted), "{last}");
     }
+}
+
+/// How many questions the seats at once store, and how many stores each of them makes.
+const QUESTIONS: usize = 40;
+
+const ROUNDS: u32 = 500;
+
+/// One of the questions: of ten names, and of four kinds each.
+fn question_at(alloc: Global, number: usize) -> Option<Question> {
+    let label = match number / 4 {
+        0 => "a",
+        1 => "b",
+        2 => "c",
+        3 => "d",
+        4 => "e",
+        5 => "f",
+        6 => "g",
+        7 => "h",
+        8 => "i",
+        _ => "j",
+    };
+    let kind = match number % 4 {
+        0 => Kind::A,
+        1 => Kind::Aaaa,
+        2 => Kind::Srv,
+        _ => Kind::Naptr,
+    };
+    let name = Name::from_text(alloc, label).ok()?;
+    Some(Question { name, kind })
+}
+
+/// What a seat has done: how many of its stores were taken, and the life of the last one for each question, 0 where
+/// there was none.
+#[derive(Drop)]
+struct Work {
+    seat: Seat,
+    taken: usize,
+    lasts: [u32; QUESTIONS],
+}
+
+/// What a store of one of the questions says.
+fn store_at(
+    rt: &(impl Wait + AllocGlobal),
+    cache: &SharedCache,
+    seat: &mut Seat,
+    number: usize,
+    life: u32,
+) -> Option<Result<(), StoreRefusal>>
+    requires { Belongs cache.now seat.old }
+    ensures made_here { Belongs cache.now seat.new }
+    ensures taken { IfSome result (λ said. OnOk said (length seat.new.seat.own ≡ length seat.old.seat.own + 1)) }
+    ensures refused { IfSome result (λ said. OnErr said (seat.new.seat.own ≡ seat.old.seat.own)) }
+{
+    let question = question_at(rt.alloc(), number)?;
+    let answer = answer_of(rt.alloc(), question.kind, life)?;
+    Some(cache.store(rt, seat, &question, &answer, Moment::new(100)?))
+}
+
+/// Stores the questions in turn, each answer with a life of its own. Each store is taken, or is refused since its group
+/// is full or since other seats were faster. Those taken stand in the history once each.
+fn store_in_turn(
+    rt: &(impl Wait + AllocGlobal),
+    cache: &SharedCache,
+    mut seat: Seat,
+    number: u32,
+) -> Option<Work>
+    requires made_here { Belongs cache.now seat }
+    requires number { number < 4 }
+    ensures made_here { IfSome result (λ done. Belongs cache.now done.seat) }
+    ensures own { IfSome result (λ done. length done.seat.seat.own ≡ length seat.seat.own + done.taken) }
+{
+    let mut taken = 0usize;
+    let mut lasts = [0; QUESTIONS];
+    'rounds: for round in 0..ROUNDS {
+        let question = round as usize % QUESTIONS;
+        let life = number * 1000 + round + 1;
+        match store_at(rt, cache, &mut seat, question, life)? {
+            Ok(()) => {
+                taken += 1;
+                lasts[question] = life;
+            }
+            Err(StoreRefusal::GenerationFull | StoreRefusal::Contended) => {}
+            Err(StoreRefusal::Lifeless | StoreRefusal::Memory) => return None,
+        }
+    }
+    Some(Work { seat, taken, lasts })
+}
+
+/// Two seats at once.
+fn work_by_two<R: Threads + Wait + AllocGlobal + Sync>(
+    rt: &R,
+    cache: &SharedCache,
+    first: Seat,
+    second: Seat,
+    number: u32,
+) -> Option<(Work, Work)>
+    requires first { Belongs cache.now first }
+    requires second { Belongs cache.now second }
+    requires number { number < 3 }
+    ensures first { IfSome result (λ done. Belongs cache.now done.0.seat) }
+    ensures second { IfSome result (λ done. Belongs cache.now done.1.seat) }
+{
+    let (first, second) = join(
+        rt,
+        || -> Option<Work>
+            requires { Belongs cache.now first × (number < 3) }
+            ensures { IfSome result (λ done. Belongs cache.entry.now done.seat) }
+        { store_in_turn(rt, cache, first, number) },
+        || -> Option<Work>
+            requires { Belongs cache.now second × (number < 3) }
+            ensures { IfSome result (λ done. Belongs cache.entry.now done.seat) }
+        { store_in_turn(rt, cache, second, number + 1) },
+    );
+    Some((first?, second?))
+}
+
+/// Four seats at once, each in a thread of its own.
+fn work_by_four<R: Threads + Wait + AllocGlobal + Sync>(
+    rt: &R,
+    cache: &SharedCache,
+    mut seats: Vec<Seat>,
+) -> Option<[Work; 4]>
+    requires { All (Belongs cache.now) seats.items }
+    ensures { IfSome result (λ done. All (λ it. Belongs cache.now it.seat) done) }
+{
+    let fourth = seats.pop()?;
+    let third = seats.pop()?;
+    let second = seats.pop()?;
+    let first = seats.pop()?;
+    let (left, right) = join(
+        rt,
+        || -> Option<(Work, Work)>
+            requires { Belongs cache.now first × Belongs cache.now second }
+            ensures { IfSome result (λ done. Belongs cache.entry.now done.0.seat × Belongs cache.entry.now done.1.seat) }
+        { work_by_two(rt, cache, first, second, 0) },
+        || -> Option<(Work, Work)>
+            requires { Belongs cache.now third × Belongs cache.now fourth }
+            ensures { IfSome result (λ done. Belongs cache.entry.now done.0.seat × Belongs cache.entry.now done.1.seat) }
+        { work_by_two(rt, cache, third, fourth, 2) },
+    );
+    let (first, second) = left?;
+    let (third, fourth) = right?;
+    Some([first, second, third, fourth])
+}
+
+/// Whether a seat finds the last store of some seat for each question, once it has learned what all have seen.
+fn last_stores_are_found(alloc: Global, cache: &SharedCache, works: [Work; 4]) -> Option<bool>
+    requires { All (λ it. Belongs cache.now it.seat) works }
+{
+    let [mut first, second, third, fourth] = works;
+    cache.learn(&mut first.seat, &second.seat.notice());
+    cache.learn(&mut first.seat, &third.seat.notice());
+    cache.learn(&mut first.seat, &fourth.seat.notice());
+    'questions: for number in 0..QUESTIONS {
+        let question = question_at(alloc, number)?;
+        let found = cache.lookup(&mut first.seat, &question, Moment::new(100)?);
+        let life = found.ok()??.life();
+        let lasts = [&first.lasts, &second.lasts, &third.lasts, &fourth.lasts];
+        if !lasts.iter().any(|lasts| lasts[number] == life) {
+            return Some(false);
+        }
+    }
+    Some(true)
+}
+
+#[test]
+fn four_threads(rt: HostRuntime) -> Result<(), Fail> {
+    let (cache, seats) = SharedCache::new(rt.alloc(), 4).ok().ok_or("a cache")?;
+    let works = work_by_four(&rt, &cache, seats).ok_or("memory")?;
+    assert!(rt; works.iter().map(|it| it.taken).sum::<usize>() >= 64);
+    assert_eq!(rt;
+        last_stores_are_found(rt.alloc(), &cache, works),
+        Some(true)
+    );
+    Ok(())
 }
