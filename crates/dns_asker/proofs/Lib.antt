@@ -3,15 +3,4 @@ pub mod Resending
 pub mod Dues
 pub mod Reading
 pub mod Orders
-pub mod ZoneLookups
-pub mod ZonePaths
-pub mod ZoneHeaders
-pub mod ZoneDigits
-pub mod ZoneFields
-pub mod ZoneTexts
-pub mod ZoneKinds
-pub mod ZoneSaid
-pub mod ZoneAliases
-pub mod ZoneLengths
-pub mod ZoneAnswers
 pub mod Rounds

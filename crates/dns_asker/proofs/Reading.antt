@@ -9,7 +9,7 @@ use Rattle.dns_message.specs.declared.question.Question.{Question}
 use Rattle.pending_list.specs.Pending.{IsTakenOut, Pending}
 use Rattle.pending_list.specs.declared.entry.Entry.{Entry}
 use Rattle.dns_asker.proofs.Listing.{mapped-out, taken}
-use Rattle.dns_asker.specs.Datagrams.{Begins}
+use Rattle.dns_message.specs.Messages.{Begins}
 use Rattle.dns_asker.specs.Events.{closed, EndsBy, IsNoReply, MayWant, Means, Tells}
 use Rattle.dns_asker.specs.Listed.{Finds, IsListed, asking_of, ticket_in}
 use Rattle.dns_asker.specs.Tickets.{Sent}

@@ -11,7 +11,7 @@ use Rattle.dns_message.specs.Places.{NamedAt}
 use Rattle.dns_message.specs.Written.{plain, query_of}
 use Rattle.dns_message.specs.declared.message.Message.{Message}
 use Rattle.dns_message.specs.declared.question.Question.{Question}
-use Rattle.dns_asker.specs.Datagrams.{Begins}
+use Rattle.dns_message.specs.Messages.{Begins}
 use Rattle.dns_asker.specs.Tickets.{Asking, Sent, Ticket, ticket_of, waiting_too, without}
 use Rattle.dns_asker.specs.declared.due.Due.{Due}
 use Rattle.dns_asker.specs.declared.due.Due.TheVariants.{Resend, GaveUp}

@@ -1,14 +1,8 @@
-pub mod Datagrams
 pub mod Tickets
 pub mod Events
 pub mod Runs
 pub mod Kept
 pub mod TicketLists
 pub mod Listed
-pub mod Zones
-pub mod ZoneReplies
-pub mod ZoneLines
-pub mod ZoneRefusals
-pub mod ZoneViews
 pub mod Wires
 pub mod Servers

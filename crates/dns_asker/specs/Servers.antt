@@ -2,8 +2,8 @@
 use Rattle.std.specs.Prelude.{ℕ, ◌+◌, Bool, true, false, List}
 use Rattle.dns_asker.specs.Wires.{Event, fault, nothing, received, sent}
 use Rattle.dns_message.specs.declared.message.Message.{Message}
-use Rattle.dns_asker.specs.Zones.{Owned}
-use Rattle.dns_asker.specs.ZoneReplies.{IsQuery, Replies}
+use Rattle.dns_zone.specs.Zones.{Owned}
+use Rattle.dns_zone.specs.Replies.{IsQuery, Replies}
 
 -- these octets are the zone's reply to the query in front of those
 abbrev pub RepliesTo : List Owned → List ℕ → List ℕ → Type 0

@@ -4,13 +4,12 @@ ghost use Rattle.dns_answers.specs.Replies.{reply_refusal};
 ghost use Rattle.dns_asker.specs.Events.{Asks, Dues, EndsBy, IsNoReply, MayWant, Means, left_by};
 ghost use Rattle.dns_asker.specs.Tickets.{IsAsking};
 
-use crate::datagram::message_in;
 use crate::due::Due;
 use crate::incoming::{Ending, Incoming, Why};
 use crate::refusal::AskRefusal;
 use crate::tickets::Tickets;
 use dns_answers::{Moment, ReplyRefusal, answer_of};
-use dns_message::{Message, Question};
+use dns_message::{Message, Question, message_in};
 use std::alloc::{AllocError, Global};
 use std::marker::Model;
 

@@ -3,7 +3,7 @@ ghost use Rattle.std.specs.Prelude.{◌-◌, ◌^◌, ◌<◌};
 ghost use Rattle.dns_asker.specs.Servers.{RepliesTo, Round, Serves};
 
 use crate::wire::{DATAGRAM_LIMIT, PeerWire};
-use crate::zone::Zone;
+use dns_zone::Zone;
 use std::alloc::Global;
 use std::sync::Wait;
 use std::sync::atomic::{AtomicBool, Ordering};

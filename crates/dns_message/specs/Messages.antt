@@ -1,5 +1,5 @@
 -- A message (RFC 1035 4.1).
-use Rattle.std.specs.Prelude.{ℕ, ◌<◌, ◌≤◌, List, length}
+use Rattle.std.specs.Prelude.{ℕ, ◌<◌, ◌≤◌, List, length, take}
 use Rattle.std.specs.Int.{w16}
 use Rattle.dns_message.specs.Places.{NumberAt, NamedAt, AllAt}
 use Rattle.dns_message.specs.Headers.{HeaderAt}
@@ -32,6 +32,12 @@ pub record MessageAt (octets : List ℕ) (message : Message) (end : ℕ) : Type 
 -- all of these octets are the message
 abbrev pub Spells : List ℕ → Message → Type 0
 Spells octets message = MessageAt octets message (length octets)
+
+-- this message stands in front of the octets, which are at most 65,535 (RFC 1035 4.2.2)
+pub record Begins (octets : List ℕ) (it : Message) : Type 0 where
+  pub short : length octets ≤ 65535
+  pub end : ℕ
+  pub spelled : Spells (take end octets) it
 
 -- ---- octets that begin with no message
 

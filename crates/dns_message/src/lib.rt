@@ -4,6 +4,7 @@
 //! message, and `read_message` gives that one, with each name spelled out, or says in which part of the octets there
 //! is none. It gives up for want of memory alone, and takes memory only for what it has read. Records of types A,
 //! AAAA, CNAME, SOA, SRV and NAPTR in class IN have their data as values; all other data is kept as it stands.
+//! `message_in` gives the same message, or nothing, to who need not know why there is none.
 //!
 //! Queries and replies are written without pointers, and what is written is read again as the same message. A reply that
 //! does not fit into a datagram of 512 octets is cut to its question.
@@ -43,7 +44,7 @@ pub use char_string::CharString;
 pub use header::Header;
 pub use kind::Kind;
 pub use laws::{one_message_in_front, same_questions_are_equal, written_message_is_read};
-pub use message::{Message, read_message};
+pub use message::{Message, message_in, read_message};
 pub use naptr::NaptrRecord;
 pub use other_data::OtherData;
 pub use question::{Asked, Question};

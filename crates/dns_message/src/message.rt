@@ -1,6 +1,7 @@
 //! Messages (RFC 1035 4.1).
-ghost use Rattle.std.specs.Prelude.{◌≡◌, ◌↔◌, ◌≤◌, ◌<◌, ℕ, length, take, IfOk, IfErr, MatchResult};
-ghost use Rattle.dns_message.specs.Messages.{Spells, RefusedWhere};
+ghost use Rattle.std.specs.Prelude.{◌≡◌, ◌↔◌, ◌≤◌, ◌<◌, ℕ, length, take, IfOk, IfErr, MatchOption, MatchResult, OnErr};
+ghost use Rattle.dns_message.specs.Messages.{Begins, Spells, RefusedWhere};
+ghost use Rattle.dns_message.specs.Places.{NamedAt};
 ghost use Rattle.dns_message.specs.declared.refusal.Part as part;
 ghost use Rattle.dns_message.specs.declared.message.Message as message;
 
@@ -10,7 +11,7 @@ use crate::refusal::{MessageRefusal, Part};
 use crate::resource::{Record, record_section_at};
 use crate::section::Section;
 use dns_name::{name_rests_before_its_end, one_name_at_a_place};
-use std::alloc::Global;
+use std::alloc::{AllocError, Global};
 
 /// The most octets of a message (RFC 1035 4.2.2).
 const MESSAGE_LIMIT: usize = 65_535;
@@ -82,4 +83,20 @@ pub fn read_message(alloc: Global, bytes: &[u8]) -> Result<Message, MessageRefus
         authority,
         additional,
     })
+}
+
+/// The message in front of these octets, for who need not know why there is none: `None` where they begin with no message, or
+/// are more than 65,535. What stands after its counted questions and records is ignored (RFC 1035 4.1).
+pub fn message_in(alloc: Global, octets: &[u8]) -> Result<Option<Message>, AllocError>
+    ensures read { IfOk result (λ it. MatchOption it ((it : message.Message) → Begins octets.now it → ⊥) (Begins octets.now)) }
+    // Memory is asked for only where a name stands after the header.
+    ensures wanted_short { OnErr result (length octets.now ≤ 65535) }
+    ensures wanted_name { OnErr result (NamedAt octets.now 12) }
+{
+    match read_message(alloc, octets) {
+        Ok(message) => Ok(Some(message)),
+        Err(MessageRefusal::Memory) => Err(AllocError),
+        Err(MessageRefusal::TooLong) => Ok(None),
+        Err(MessageRefusal::Malformed(_)) => Ok(None),
+    }
 }

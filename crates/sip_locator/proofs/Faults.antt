@@ -5,7 +5,7 @@ use Rattle.std.proofs.lemmas.Bool.{cases_lt}
 use Rattle.dns_answers.specs.Replies.{asks_this_alone, reply_refusal}
 use Rattle.dns_answers.specs.declared.refusal.ReplyRefusal.{ReplyRefusal}
 use Rattle.dns_answers.specs.declared.refusal.ReplyRefusal.TheVariants as reply
-use Rattle.dns_message.specs.Messages.{RefusedWhere, Spells}
+use Rattle.dns_message.specs.Messages.{Begins, RefusedWhere, Spells}
 use Rattle.dns_message.specs.declared.message.Message.{Message}
 use Rattle.dns_message.specs.declared.question.Question.{Question}
 use Rattle.dns_message.specs.declared.refusal.MessageRefusal.{MessageRefusal}
@@ -16,7 +16,7 @@ use Rattle.sip_locator.specs.Refusals.{of_message, of_reply}
 use Rattle.dns_answers.specs.Answers.{answer}
 use Rattle.dns_answers.specs.Values.{AnswerValue}
 use Rattle.sip_selection.specs.Choice.{Resolution, need}
-use Rattle.sip_locator.specs.Replies.{Answers, Begins, Refuses}
+use Rattle.sip_locator.specs.Replies.{Answers, Refuses}
 use Rattle.sip_locator.specs.declared.refusal.LocatorRefusal.{LocatorRefusal}
 use Rattle.sip_locator.specs.declared.refusal.LocatorRefusal.TheVariants as locator
 

@@ -1,11 +1,11 @@
 -- What the octets of a reply say to the question that is asked.
-use Rattle.std.specs.Prelude.{◌≡◌, ◌≢◌, ◌⊎◌, ℕ, ◌<◌, ◌≤◌, List, [], ◌∷◌, ◌++◌, length, take, Some, None}
+use Rattle.std.specs.Prelude.{◌≡◌, ◌≢◌, ◌⊎◌, ℕ, ◌<◌, ◌≤◌, List, [], ◌∷◌, ◌++◌, length, Some, None}
 use Rattle.dns_answers.specs.Answers.{answer}
 use Rattle.dns_answers.specs.Replies.{reply_refusal}
 use Rattle.dns_answers.specs.Values.{AnswerValue}
 use Rattle.dns_answers.specs.declared.refusal.ReplyRefusal.{ReplyRefusal}
 use Rattle.dns_answers.specs.declared.refusal.ReplyRefusal.TheVariants as reply
-use Rattle.dns_message.specs.Messages.{FailsIn, Spells}
+use Rattle.dns_message.specs.Messages.{Begins, FailsIn}
 use Rattle.dns_message.specs.Places.{NamedAt}
 use Rattle.dns_message.specs.declared.message.Message.{Message}
 use Rattle.dns_message.specs.declared.question.Question.{Question}
@@ -18,12 +18,6 @@ use Rattle.sip_locator.specs.declared.refusal.LocatorRefusal.{LocatorRefusal}
 use Rattle.sip_locator.specs.declared.refusal.LocatorRefusal.TheVariants as locator
 use Rattle.sip_locator.specs.declared.kept.Kept.{Kept}
 use Rattle.sip_locator.specs.declared.kept.Kept.TheVariants.{Yes, No}
-
--- a message stands in front of the octets
-pub record Begins (octets : List ℕ) (it : Message) : Type 0 where
-  pub short : length octets ≤ 65535
-  pub end : ℕ
-  pub spelled : Spells (take end octets) it
 
 -- the octets answer the question so
 pub record Answers (question : Question) (octets : List ℕ) (found : AnswerValue) : Type 0 where

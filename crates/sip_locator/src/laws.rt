@@ -4,10 +4,11 @@ ghost use Rattle.dns_answers.specs.Answers.{answer};
 ghost use Rattle.dns_answers.specs.Replies.{reply_refusal};
 ghost use Rattle.dns_answers.specs.Values.{AnswerValue};
 ghost use Rattle.dns_answers.specs.declared.refusal.ReplyRefusal.{ReplyRefusal};
+ghost use Rattle.dns_message.specs.Messages.{Begins};
 ghost use Rattle.dns_message.specs.declared.message.Message.{Message};
 ghost use Rattle.dns_message.specs.declared.question.Question.{Question};
 ghost use Rattle.sip_selection.specs.Choice.{Resolution, need};
-ghost use Rattle.sip_locator.specs.Replies.{Answers, Begins, Refuses};
+ghost use Rattle.sip_locator.specs.Replies.{Answers, Refuses};
 ghost use Rattle.sip_locator.specs.declared.refusal.LocatorRefusal.{LocatorRefusal};
 ghost use Rattle.sip_locator.specs.declared.refusal.LocatorRefusal.TheVariants as refusals;
 

@@ -4,11 +4,12 @@ use Rattle.dns_answers.specs.Answers.{answer}
 use Rattle.dns_answers.specs.Replies.{reply_refusal}
 use Rattle.dns_answers.specs.Values.{AnswerValue}
 use Rattle.dns_answers.specs.declared.refusal.ReplyRefusal.{ReplyRefusal}
+use Rattle.dns_message.specs.Messages.{Begins}
 use Rattle.dns_message.specs.declared.message.Message.{Message}
 use Rattle.dns_message.specs.declared.question.Question.{Question}
 use Rattle.dns_message.specs.declared.refusal.MessageRefusal.TheVariants as message
 use Rattle.hex.specs.Hex.{decode_of}
-use Rattle.sip_locator.specs.Replies.{Answers, Begins, Refuses}
+use Rattle.sip_locator.specs.Replies.{Answers, Refuses}
 use Rattle.sip_locator.specs.declared.refusal.LocatorRefusal.{LocatorRefusal}
 use Rattle.sip_locator.specs.declared.refusal.LocatorRefusal.TheVariants as locator
 use Rattle.sip_selection.specs.Choice.{Resolution, targets, refused, need}

@@ -2,13 +2,14 @@
 use Rattle.std.specs.Prelude.{◌≡◌, ◌≢◌, ⊤, ℕ, ◌<◌, ◌≤◌, ◌==◌, not, List, ◌∷◌, ◌++◌, length, Some, Ok}
 use Rattle.std.specs.List.{AllZip, filter}
 use Rattle.hex.specs.Hex.{decode_of}
+use Rattle.dns_message.specs.Messages.{Begins}
 use Rattle.dns_message.specs.declared.message.Message.{Message}
 use Rattle.dns_message.specs.declared.question.Question.{Question}
 use Rattle.dns_answers.specs.Replies.{reply_refusal}
 use Rattle.sip_selection.specs.Choice.{Resolution, need}
 use Rattle.sip_selection.specs.Known.{Given}
 use Rattle.dns_message.specs.declared.refusal.MessageRefusal.TheVariants as message
-use Rattle.sip_locator.specs.Replies.{Begins, IsAsking}
+use Rattle.sip_locator.specs.Replies.{IsAsking}
 use Rattle.sip_locator.specs.declared.refusal.LocatorRefusal.{LocatorRefusal}
 use Rattle.sip_locator.specs.declared.refusal.LocatorRefusal.TheVariants as locator
 use Rattle.siplocate.specs.Talks.{goes, talk}

@@ -3,7 +3,7 @@ ghost use Rattle.std.specs.Prelude.{◌≡◌, ◌+◌, ◌-◌, ◌^◌, ◌<�
 
 use super::serve;
 use crate::wire::{DATAGRAM_LIMIT, PeerWire, WireFault};
-use crate::zone::Zone;
+use dns_zone::Zone;
 use std::alloc::Global;
 use std::sync::Wait;
 use std::sync::atomic::{AtomicBool, Ordering};

@@ -3,7 +3,7 @@ use Rattle.dns_answers.specs.Replies.{reply_refusal}
 use Rattle.dns_message.specs.declared.question.Question.{Question}
 use Rattle.dns_asker.proofs.Listing.{free}
 use Rattle.dns_asker.proofs.Reading.{answered-is, ended-is, ignored-is, on-err}
-use Rattle.dns_asker.specs.Datagrams.{Begins}
+use Rattle.dns_message.specs.Messages.{Begins}
 use Rattle.dns_asker.specs.Events.{closed, EndsBy, IsNoReply, MayWant, Means, Tells}
 use Rattle.dns_asker.specs.Listed.{asking_of}
 use Rattle.dns_asker.specs.Tickets.{Asking}

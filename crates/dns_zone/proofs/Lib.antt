@@ -1,0 +1,11 @@
+pub mod Lookups
+pub mod Paths
+pub mod Headers
+pub mod Digits
+pub mod Fields
+pub mod Texts
+pub mod DataKinds
+pub mod Said
+pub mod Aliases
+pub mod Lengths
+pub mod Additions

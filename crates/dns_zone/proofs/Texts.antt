@@ -1,0 +1,43 @@
+-- Texts by their places.
+use Rattle.std.proofs.Common.{◌≡◌, ℕ, zero, suc, List, [], ◌∷◌, length, get_or, false, true≢false, refl, sym, ap, subst, ◌∙◌, arith}
+use Rattle.std.specs.Borrow.{Bor}
+use Rattle.std.specs.Prelude.{◌==◌}
+use Rattle.dns_zone.specs.Lines.{OneField}
+use Rattle.dns_zone.specs.Views.{texts}
+
+-- what a place past the last one has
+abbrev pub nothing : Bor (List ℕ)
+nothing = record { ref_ptr = (0, 0); now = [] }
+
+-- the octets of the text at a place
+pub text_at : (fields : List (Bor (List ℕ))) (place : ℕ) → (get_or fields place nothing).now ≡ get_or (texts fields) place []
+text_at [] place = refl
+text_at (field ∷ fields) zero = refl
+text_at (field ∷ fields) (suc place) = text_at fields place
+
+-- of one alone
+pub one_text : (fields : List (Bor (List ℕ))) → length fields ≡ 1 → texts fields ≡ (get_or fields 0 nothing).now ∷ []
+one_text [] one = absurd (omega arith)
+one_text (field ∷ []) one = refl
+one_text (field ∷ other ∷ others) one = absurd (omega arith)
+
+-- what is so of the one text is so of the first
+pub one_is : (Is : List ℕ → Type 0) (fields : List (Bor (List ℕ))) → OneField Is (texts fields) → Is (get_or fields 0 nothing).now
+one_is Is fields is = subst Is (sym (text_at fields 0 ∙ ap (λ (l : List (List ℕ)). get_or l 0 []) is.1)) is.2
+
+-- of six
+pub six_texts : (fields : List (Bor (List ℕ))) → length fields ≡ 6
+    → texts fields ≡ (get_or fields 0 nothing).now ∷ (get_or fields 1 nothing).now ∷ (get_or fields 2 nothing).now ∷ (get_or fields 3 nothing).now ∷ (get_or fields 4 nothing).now ∷ (get_or fields 5 nothing).now ∷ []
+six_texts [] six = absurd (omega arith)
+six_texts (a ∷ []) six = absurd (omega arith)
+six_texts (a ∷ b ∷ []) six = absurd (omega arith)
+six_texts (a ∷ b ∷ c ∷ []) six = absurd (omega arith)
+six_texts (a ∷ b ∷ c ∷ d ∷ []) six = absurd (omega arith)
+six_texts (a ∷ b ∷ c ∷ d ∷ e ∷ []) six = absurd (omega arith)
+six_texts (a ∷ b ∷ c ∷ d ∷ e ∷ f ∷ []) six = refl
+six_texts (a ∷ b ∷ c ∷ d ∷ e ∷ f ∷ g ∷ others) six = absurd (omega arith)
+
+-- where there are fields, there are texts
+pub some_texts : (fields : List (Bor (List ℕ))) → false ≡ (length fields == 0) → texts fields ≡ [] → ⊥
+some_texts [] some none = true≢false (sym some)
+some_texts (field ∷ fields) some none = absurd cc

@@ -1,0 +1,5 @@
+pub mod Zones
+pub mod Replies
+pub mod Lines
+pub mod Refusals
+pub mod Views

@@ -1,0 +1,139 @@
+-- The lines of a zone's text, and the records that they say (RFC 1035 5.1, in a form of its own).
+use Rattle.std.specs.Prelude.{◌≡◌, ℕ, ◌+◌, ◌==◌, ◌⊎◌, nat_le, nat_lt, Bool, ◌&&◌, ◌||◌, not, true, false, List, [], ◌∷◌, ◌++◌, length, codes, Option, Some, None, if◌then◌else◌}
+use Rattle.std.specs.Char.{is_ascii_digit}
+use Rattle.std.specs.List.{filter, list_all, slice_split}
+use Rattle.std.specs.Str.{bytes_eq}
+use Rattle.dns_message.specs.declared.naptr.NaptrRecord.{NaptrRecord}
+use Rattle.dns_message.specs.declared.rdata.Rdata.{Rdata}
+use Rattle.dns_message.specs.declared.rdata.Rdata.TheVariants.{Addr4, Addr6, Srv, Naptr, Cname, Soa, Other}
+use Rattle.dns_message.specs.declared.resource.Record.{Record}
+use Rattle.dns_message.specs.declared.srv.SrvRecord.{SrvRecord}
+use Rattle.dns_name.specs.Labels.{same_name}
+use Rattle.dns_name.specs.Texts.{TextOf}
+use Rattle.sip_uri.specs.Addresses.{AddressText}
+use Rattle.sip_uri.specs.Numbers.{decimal}
+use Rattle.sip_uri.specs.declared.numeric.Address.TheVariants as address
+use Rattle.dns_zone.specs.Zones.{Owned, records_at}
+
+-- ---- fields
+
+abbrev pub is_field : List ℕ → Bool
+is_field text = not (length text == 0)
+
+-- what blanks part: runs of other octets
+abbrev pub fields_of : List ℕ → List (List ℕ)
+fields_of line = filter is_field (slice_split (λ octet. octet == 32) line)
+
+-- the number of decimal digits, one at least, up to a limit
+abbrev pub number_of : ℕ → List ℕ → Option ℕ
+number_of limit text =
+    if length text == 0 || not (list_all is_ascii_digit text) || nat_lt limit (decimal text)
+    then None else Some (decimal text)
+
+-- octets from 33 to 126
+abbrev pub is_graphic : ℕ → Bool
+is_graphic octet = nat_le 33 octet && nat_le octet 126
+
+-- the character string of a field: of `-` alone the empty one, and else its octets, at most 255
+abbrev pub string_of : List ℕ → Option (List ℕ)
+string_of text =
+    if bytes_eq text (codes "-") then Some [] else
+    (if nat_le (length text) 255 && list_all is_graphic text then Some text else None)
+
+-- ---- data
+
+-- priority, weight, port and target (RFC 2782)
+pub record SrvFields (fields : List (List ℕ)) (server : SrvRecord) : Type 0 where
+  pub priority : List ℕ
+  pub weight : List ℕ
+  pub port : List ℕ
+  pub target : List ℕ
+  pub are : fields ≡ priority ∷ weight ∷ port ∷ target ∷ []
+  pub priority_is : number_of 65535 priority ≡ Some server.priority
+  pub weight_is : number_of 65535 weight ≡ Some server.weight
+  pub port_is : number_of 65535 port ≡ Some server.port
+  pub target_is : TextOf server.target target
+
+-- order, preference, flags, services, regular expression and replacement (RFC 3403 4.1)
+pub record NaptrFields (fields : List (List ℕ)) (rule : NaptrRecord) : Type 0 where
+  pub order : List ℕ
+  pub preference : List ℕ
+  pub flags : List ℕ
+  pub services : List ℕ
+  pub regexp : List ℕ
+  pub replacement : List ℕ
+  pub are : fields ≡ order ∷ preference ∷ flags ∷ services ∷ regexp ∷ replacement ∷ []
+  pub order_is : number_of 65535 order ≡ Some rule.order
+  pub preference_is : number_of 65535 preference ≡ Some rule.preference
+  pub flags_are : string_of flags ≡ Some rule.flags
+  pub services_are : string_of services ≡ Some rule.services
+  pub regexp_is : string_of regexp ≡ Some rule.regexp
+  pub replacement_is : TextOf rule.replacement replacement
+
+-- there is one field alone, which is this
+abbrev pub OneField : (List ℕ → Type 0) → List (List ℕ) → Type 0
+OneField Is fields = (text : List ℕ) × (fields ≡ text ∷ []) × Is text
+
+-- the fields behind an owner and a TTL: a type, and what it wants
+abbrev pub DataFields : List ℕ → List (List ℕ) → Rdata → Type 0
+DataFields kind fields (Addr4 octets) =
+    (kind ≡ codes "A") × OneField (λ text. AddressText text (address.V4 octets)) fields
+DataFields kind fields (Addr6 octets) =
+    (kind ≡ codes "AAAA") × OneField (λ text. AddressText text (address.V6 octets)) fields
+DataFields kind fields (Cname name) = (kind ≡ codes "CNAME") × OneField (TextOf name) fields
+DataFields kind fields (Srv server) = (kind ≡ codes "SRV") × SrvFields fields server
+DataFields kind fields (Naptr rule) = (kind ≡ codes "NAPTR") × NaptrFields fields rule
+DataFields kind fields (Soa authority) = ⊥
+DataFields kind fields (Other other) = ⊥
+
+-- ---- records
+
+-- the fields say this record: owner, TTL, type and data
+pub record RecordFields (fields : List (List ℕ)) (entry : Record) : Type 0 where
+  pub owner : List ℕ
+  pub ttl : List ℕ
+  pub kind : List ℕ
+  pub others : List (List ℕ)
+  pub are : fields ≡ owner ∷ ttl ∷ kind ∷ others
+  pub owner_is : TextOf entry.owner owner
+  pub ttl_is : number_of 4294967295 ttl ≡ Some entry.ttl
+  pub rdata_is : DataFields kind others entry.rdata
+
+-- ---- lines
+
+-- it begins with `#`
+abbrev pub is_comment : List ℕ → Bool
+is_comment [] = false
+is_comment (first ∷ others) = first == 35
+
+-- the record that a line says; a comment says none, and neither does an empty line, or one of blanks alone
+abbrev pub LineSays : List ℕ → Option Record → Type 0
+LineSays line None = (is_comment line ≡ true) ⊎ (fields_of line ≡ [])
+LineSays line (Some entry) = (is_comment line ≡ false) × RecordFields (fields_of line) entry
+
+-- the records that lines say, in their order
+abbrev pub LinesSay : List (List ℕ) → List Record → Type 0
+LinesSay [] records = records ≡ []
+LinesSay (line ∷ lines) records =
+    (LineSays line None × LinesSay lines records)
+    ⊎ ((entry : Record) × (others : List Record) × (records ≡ entry ∷ others) × LineSays line (Some entry) × LinesSay lines others)
+
+-- the line of this number, from 1, is the first that neither says a record nor may say none
+pub record IsFirstBad (lines : List (List ℕ)) (number : ℕ) : Type 0 where
+  pub front : List (List ℕ)
+  pub line : List ℕ
+  pub back : List (List ℕ)
+  pub stands : lines ≡ front ++ line ∷ back
+  pub number_is : number ≡ length front + 1
+  pub records : List Record
+  pub good : LinesSay front records
+  pub bad : (said : Option Record) → LineSays line said → ⊥
+
+-- for each name the zone has those of the records that are about it, in their order
+abbrev pub Holds : List Owned → List Record → Type 0
+Holds zone records = (name : List (List ℕ)) → records_at zone name ≡ filter (λ (entry : Record). same_name entry.owner name) records
+
+-- a line that is to say a record: no comment, and with fields
+pub record IsEntryLine (line : List ℕ) : Type 0 where
+  pub plain : is_comment line ≡ false
+  pub some : fields_of line ≡ [] → ⊥

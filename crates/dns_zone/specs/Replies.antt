@@ -1,0 +1,107 @@
+-- What is replied from a zone (RFC 1034 3.6.2, 4.3.2, RFC 1035 4.1.1).
+use Rattle.std.specs.Prelude.{◌≡◌, ℕ, ◌≤◌, ◌==◌, Bool, true, false, ◌&&◌, ◌||◌, List, [], ◌∷◌, ◌++◌, length, take, if◌then◌else◌}
+use Rattle.std.specs.List.{filter}
+use Rattle.dns_message.specs.Messages.{Spells}
+use Rattle.dns_message.specs.Written.{fitted, plain, rdata_code}
+use Rattle.dns_message.specs.declared.header.Header.{Header}
+use Rattle.dns_message.specs.declared.message.Message.{Message}
+use Rattle.dns_message.specs.declared.question.Asked.{Asked}
+use Rattle.dns_message.specs.declared.resource.Record.{Record}
+use Rattle.dns_zone.specs.Zones.{Owned, entries_at, path, records_at}
+use Rattle.dns_zone.specs.declared.zone.ZoneEntry.{ZoneEntry}
+
+-- ---- what a zone has for a question
+
+-- the types of question that are answered: A, AAAA, SRV and NAPTR
+abbrev pub is_answered : ℕ → Bool
+is_answered code = code == 1 || code == 28 || code == 33 || code == 35
+
+abbrev pub is_of : ℕ → Record → Bool
+is_of code entry = rdata_code entry.rdata == code
+
+-- the CNAME records that lead from the name, and the records of the type where they lead
+abbrev pub answers : List Owned → Asked → List Record
+answers zone asked =
+    if is_answered asked.code
+    then (path zone asked.name).links ++ filter (is_of asked.code) (records_at zone (path zone asked.name).last)
+    else []
+
+-- RCODE of what a name has: 3 where it has nothing, and so does not exist
+abbrev pub name_rcode : List ZoneEntry → ℕ
+name_rcode [] = 3
+name_rcode (entry ∷ entries) = 0
+
+-- of the name where the CNAME records lead
+abbrev pub rcode : List Owned → Asked → ℕ
+rcode zone asked = name_rcode (entries_at zone (path zone asked.name).last)
+
+-- ---- the reply to a query
+
+-- QR and AA are set, TC and RA are clear; ID, OPCODE and RD are those of the query
+abbrev pub reply_header : Header → ℕ → Header
+reply_header query code = record {
+  id = query.id;
+  reply = true;
+  opcode = query.opcode;
+  authoritative = true;
+  truncated = false;
+  recursion_desired = query.recursion_desired;
+  recursion_available = false;
+  rcode = code;
+}
+
+abbrev pub reply_of : Header → ℕ → List Asked → List Record → Message
+reply_of query code questions records = record {
+  header = reply_header query code;
+  questions = questions;
+  answers = records;
+  authority = [];
+  additional = [];
+}
+
+-- RCODE 5: refused
+abbrev pub refusal : Header → List Asked → Message
+refusal query questions = reply_of query 5 questions []
+
+-- a standard query, in class IN
+abbrev pub is_taken : Header → Asked → Bool
+is_taken query asked = query.opcode == 0 && asked.class_code == 1
+
+-- by the questions of the query: there has to be one alone
+abbrev pub reply_about : List Owned → Header → List Asked → Message
+reply_about zone query [] = refusal query []
+reply_about zone query (asked ∷ []) =
+    if is_taken query asked
+    then reply_of query (rcode zone asked) (asked ∷ []) (answers zone asked)
+    else refusal query (asked ∷ [])
+reply_about zone query (asked ∷ other ∷ more) = refusal query []
+
+abbrev pub reply_to : List Owned → Message → Message
+reply_to zone query = reply_about zone query.header query.questions
+
+-- ---- its octets
+
+-- at most 65,535 octets, which begin with a query: a message with QR clear
+pub record IsQuery (octets : List ℕ) (query : Message) : Type 0 where
+  pub short : length octets ≤ 65535
+  pub end : ℕ
+  pub spelled : Spells (take end octets) query
+  pub asks : query.header.reply ≡ false
+
+-- no query is in front of them: they are too many, or begin with no message, or with one with QR set
+abbrev pub IsSilent : List ℕ → Type 0
+IsSilent octets = (query : Message) → IsQuery octets query → ⊥
+
+-- the octets are a message with QR set and the id of the query, in one datagram
+pub record IsReply (query : Message) (octets : List ℕ) : Type 0 where
+  pub short : length octets ≤ 512
+  pub reply : Message
+  pub spelled : Spells octets reply
+  pub replies : reply.header.reply ≡ true
+  pub same_id : reply.header.id ≡ query.header.id
+
+-- the octets are the reply to a query, written without pointers for one datagram
+pub record Replies (zone : List Owned) (query : Message) (octets : List ℕ) : Type 0 where
+  pub written : octets ≡ plain (fitted (reply_to zone query))
+  pub spells : Spells octets (fitted (reply_to zone query))
+  pub short : length octets ≤ 512

@@ -1,0 +1,34 @@
+//! The records of a small DNS server for loopback, and what it replies.
+//!
+//! A `Zone` is read from a text of records, and replies to the octets of a query as an authoritative server does
+//! (RFC 1034 4.3.2): it follows its own aliases, and has records of types A, AAAA, SRV and NAPTR in class IN. What it gives
+//! is a whole message, or a part of one with TC set. Octets that are no query get no reply. It opens no socket: octets are
+//! handed in, and octets to send are handed out.
+//!
+//! ```text
+//! let zone = Zone::read(alloc, "a.example. 60 CNAME b.example.\nb.example. 300 A 192.0.2.7")?;
+//! if let Some(reply) = zone.answer_datagram(alloc, octets)? {
+//!     wire.send(&reply, peer)?;
+//! }
+//! ```
+//!
+//! Read `specs/Zones.antt`, `specs/Replies.antt` and `specs/Lines.antt` first: what a zone has, what it replies, and what its
+//! text says.
+#![tactic(auto)]
+
+mod datagram;
+mod field;
+mod laws;
+mod line;
+mod rdata;
+mod refusal;
+mod reply;
+mod text;
+mod zone;
+
+pub use laws::zone_follows_aliases;
+pub use refusal::ZoneRefusal;
+pub use zone::{Zone, ZoneEntry};
+
+#[cfg(test)]
+mod tests;

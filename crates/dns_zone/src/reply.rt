@@ -1,0 +1,146 @@
+//! What is replied from a zone (RFC 1034 3.6.2, 4.3.2, RFC 1035 4.1.1).
+ghost use Rattle.std.specs.Prelude.{◌≡◌, ◌≤◌, ◌++◌, IfOk, OnOk, length, map, take};
+ghost use Rattle.std.specs.List.{filter};
+ghost use Rattle.dns_zone.specs.Zones as zones;
+ghost use Rattle.dns_zone.specs.Replies as spec;
+ghost use Rattle.dns_zone.specs.Views.{bounded};
+
+use crate::zone::{Zone, ZoneEntry};
+use dns_message::{Asked, CLASS_IN, Header, Message, Rdata, Record, Section};
+use dns_name::Name;
+use std::alloc::{AllocError, Global};
+
+/// The most CNAME records that are followed.
+const LINK_LIMIT: u8 = 8;
+
+/// So many records never fit into a datagram, since each has 11 octets at least (RFC 1035 4.1.3, 4.2.1).
+const ANSWER_LIMIT: usize = 46;
+
+/// RCODE of a name that does not exist (RFC 1035 4.1.1).
+const NAME_ERROR: u8 = 3;
+
+/// RCODE of a query that is refused (RFC 1035 4.1.1).
+const REFUSED: u8 = 5;
+
+/// The CNAME records that lead from a name, and the name where they lead.
+fn path<'a>(
+    zone: &'a Zone,
+    alloc: Global,
+    start: &'a Name,
+) -> Result<(Vec<Record>, &'a Name), AllocError>
+    ensures { IfOk result (λ found. (found.0.items ≡ (zones.path zone.now start.now).links)
+        × (found.1.now ≡ (zones.path zone.now start.now).last) × (length found.0.items ≤ 8)) }
+{
+    let mut links = Vec::new(alloc);
+    let mut name = start;
+    for _ in 0..LINK_LIMIT {
+        let Some(alias) = zone.alias_at(name) else {
+            return Ok((links, name));
+        };
+        links.push(Record {
+            owner: name.try_clone()?,
+            ttl: alias.ttl,
+            rdata: Rdata::Cname(alias.target.try_clone()?),
+        })?;
+        name = alias.target;
+    }
+    Ok((links, name))
+}
+
+/// Whether questions of a type are answered: A, AAAA, SRV and NAPTR.
+fn is_answered(code: u16) -> bool
+    ensures { result ≡ spec.is_answered code }
+{
+    matches!(code, 1 | 28 | 33 | 35)
+}
+
+/// Adds the records of a type that an owner has, until there are 46.
+fn push_records(
+    records: &mut Vec<Record>,
+    owner: &Name,
+    entries: &[ZoneEntry],
+    code: u16,
+) -> Result<(), AllocError>
+    requires { length records.old.items ≤ 46 }
+    ensures { OnOk result (records.new.items
+        ≡ take 46 (records.old.items ++ filter (spec.is_of code) (map (zones.record_of owner.now) entries.now))) }
+{
+    for entry in entries {
+        if records.len() == ANSWER_LIMIT {
+            return Ok(());
+        }
+        if entry.rdata.code() == code {
+            records.push(Record {
+                owner: owner.try_clone()?,
+                ttl: entry.ttl,
+                rdata: entry.rdata.try_clone()?,
+            })?;
+        }
+    }
+    Ok(())
+}
+
+/// RCODE of what a name has.
+fn name_rcode(entries: &[ZoneEntry]) -> u8
+    ensures { result ≡ spec.name_rcode entries.now }
+{
+    if entries.is_empty() { NAME_ERROR } else { 0 }
+}
+
+/// RCODE and the records that answer a question in class IN, the first 46.
+fn found(zone: &Zone, alloc: Global, asked: &Asked) -> Result<(u8, Vec<Record>), AllocError>
+    ensures { IfOk result (λ found. (found.0 ≡ spec.rcode zone.now asked.now)
+        × (found.1.items ≡ take 46 (spec.answers zone.now asked.now))) }
+{
+    let (mut records, last) = path(zone, alloc, &asked.name)?;
+    let entries = zone.entries_at(last);
+    let rcode = name_rcode(entries);
+    if !is_answered(asked.code) {
+        return Ok((rcode, Vec::new(alloc)));
+    }
+    push_records(&mut records, last, entries, asked.code)?;
+    Ok((rcode, records))
+}
+
+/// The reply to a query of this header.
+fn reply_of(
+    alloc: Global,
+    query: Header,
+    rcode: u8,
+    questions: Section<Asked>,
+    answers: Vec<Record>,
+) -> Message
+    ensures { result ≡ spec.reply_of query rcode questions answers.items }
+{
+    Message {
+        header: Header {
+            reply: true,
+            authoritative: true,
+            truncated: false,
+            recursion_available: false,
+            rcode,
+            ..query
+        },
+        questions,
+        answers: Section::from_vec(answers),
+        authority: Section::from_vec(Vec::new(alloc)),
+        additional: Section::from_vec(Vec::new(alloc)),
+    }
+}
+
+/// The reply to a query, with at most 46 records.
+pub(crate) fn reply_to(zone: &Zone, alloc: Global, query: Message) -> Result<Message, AllocError>
+    ensures { IfOk result (λ reply. reply ≡ bounded (spec.reply_to zone.now query)) }
+{
+    let header = query.header;
+    let questions = query.questions;
+    let [asked] = questions.as_slice() else {
+        let none = Section::from_vec(Vec::new(alloc));
+        return Ok(reply_of(alloc, header, REFUSED, none, Vec::new(alloc)));
+    };
+    if header.opcode != 0 || asked.class_code != CLASS_IN {
+        return Ok(reply_of(alloc, header, REFUSED, questions, Vec::new(alloc)));
+    }
+    let (rcode, answers) = found(zone, alloc, asked)?;
+    Ok(reply_of(alloc, header, rcode, questions, answers))
+}
