@@ -1,7 +1,7 @@
 -- What is replied from a zone (RFC 1034 3.6.2, 4.3.2, RFC 1035 4.1.1).
-use Rattle.std.specs.Prelude.{◌≡◌, ℕ, ◌≤◌, ◌==◌, Bool, true, false, ◌&&◌, ◌||◌, List, [], ◌∷◌, ◌++◌, length, take, if◌then◌else◌}
+use Rattle.std.specs.Prelude.{◌≡◌, ℕ, ◌≤◌, ◌==◌, Bool, true, false, ◌&&◌, ◌||◌, List, [], ◌∷◌, ◌++◌, length, if◌then◌else◌}
 use Rattle.std.specs.List.{filter}
-use Rattle.dns_message.specs.Messages.{Spells}
+use Rattle.dns_message.specs.Messages.{Begins, Spells}
 use Rattle.dns_message.specs.Written.{fitted, plain, rdata_code}
 use Rattle.dns_message.specs.declared.header.Header.{Header}
 use Rattle.dns_message.specs.declared.message.Message.{Message}
@@ -83,9 +83,7 @@ reply_to zone query = reply_about zone query.header query.questions
 
 -- at most 65,535 octets, which begin with a query: a message with QR clear
 pub record IsQuery (octets : List ℕ) (query : Message) : Type 0 where
-  pub short : length octets ≤ 65535
-  pub end : ℕ
-  pub spelled : Spells (take end octets) query
+  pub begins : Begins octets query
   pub asks : query.header.reply ≡ false
 
 -- no query is in front of them: they are too many, or begin with no message, or with one with QR set

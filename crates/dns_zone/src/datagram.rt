@@ -6,7 +6,7 @@ ghost use Rattle.dns_zone.specs.Replies.{IsQuery, IsReply, IsSilent, Replies};
 
 use crate::reply::reply_to;
 use crate::zone::Zone;
-use dns_message::{Message, MessageRefusal, one_message_in_front, read_message, write_reply};
+use dns_message::{Message, message_in, one_message_in_front, write_reply};
 use std::alloc::{AllocError, Global};
 
 /// The query in front of octets, if there is one.
@@ -15,12 +15,10 @@ fn query_in(alloc: Global, octets: &[u8]) -> Result<Option<Message>, AllocError>
     ensures memory { IfErr result (λ _. NamedAt octets.now 12) }
 {
     one_message_in_front();
-    match read_message(alloc, octets) {
-        Ok(query) if query.header.reply => Ok(None),
-        Ok(query) => Ok(Some(query)),
-        Err(MessageRefusal::Memory) => Err(AllocError),
-        Err(MessageRefusal::TooLong) => Ok(None),
-        Err(MessageRefusal::Malformed(_)) => Ok(None),
+    match message_in(alloc, octets)? {
+        Some(message) if message.header.reply => Ok(None),
+        Some(query) => Ok(Some(query)),
+        None => Ok(None),
     }
 }
 

@@ -1,7 +1,4 @@
-use Rattle.std.proofs.Common.{refl}
 use Rattle.dns_zone.proofs.datagram.query_in.Goals as goal
 
-pub returns-in-Err-Malformed-clause-found : goal.returns-in-Err-Malformed-clause-found
-returns-in-Err-Malformed-clause-found c = λ query is.
-    let never = rw c.in-Err-Malformed.field-0-is at c.in-Err-Malformed.ensures.malformed c.in-Err-Malformed.field-0-0 in
-    absurd (never refl is.end query is.spelled)
+pub returns-in-None-clause-found : goal.returns-in-None-clause-found
+returns-in-None-clause-found c = λ query is. let none = rw c.in-None.is at c.in_ok-message.ensures.read in none query is.begins

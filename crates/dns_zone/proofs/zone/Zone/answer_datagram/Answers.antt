@@ -22,10 +22,13 @@ write_reply-requires-clause-rcode c =
     let code = ap (λ (header : Header). header.rcode) headed.header in
     rw (c.in_ok-reply.ensures, code) headed.low
 
+pub returns-clause-quiet : goal.returns-clause-quiet
+returns-clause-quiet c = λ silent. absurd (silent c.in-Some.query (is_query (goal.at.returns-clause-quiet c).In-Some))
+
 pub returns-clause-replied : goal.returns-clause-replied
 returns-clause-replied c = λ query is.
     let here = is_query (goal.at.returns-clause-replied c).In-Some in
-    let same = c.one_message_in_front.ensures c.args.octets.now here.end is.end c.in-Some.query query here.spelled is.spelled in
+    let same = c.one_message_in_front.ensures c.args.octets.now here.begins.end is.begins.end c.in-Some.query query here.begins.spelled is.begins.spelled in
     rw (← same) (replies (goal.at.returns-clause-replied c).In_ok-write_reply)
 
 pub returns-clause-found : goal.returns-clause-found
