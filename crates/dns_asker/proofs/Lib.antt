@@ -3,4 +3,5 @@ pub mod Resending
 pub mod Dues
 pub mod Reading
 pub mod Orders
+pub mod Keeping
 pub mod Rounds

@@ -7,11 +7,11 @@ use Rattle.std.proofs.lemmas.List.{length-append, length-map, map-append}
 use Rattle.std.proofs.lemmas.List.Elements.{All-append, All-cons, All-filter, All-head, All-map, All-tail, filter-append}
 use Rattle.std.proofs.lemmas.List.Kept.{AllPairs-cons}
 use Rattle.pending_list.specs.Ids.{Id}
-use Rattle.pending_list.specs.Pending.{IsPending, IsTakenOut, Pending, Precedes, entry_of, placed}
+use Rattle.pending_list.specs.Pending.{IsTakenOut, Pending, entry_of, placed}
 use Rattle.pending_list.specs.declared.entry.Entry.{Entry}
 use Rattle.dns_asker.specs.Events.{Refuses}
-use Rattle.dns_asker.specs.Listed.{CannotOpen, IsListed, asking_of, is_of, resent, ticket_in}
-use Rattle.dns_asker.specs.Tickets.{IsAsking, IsSent, Sent, Ticket, has_id, waiting_too}
+use Rattle.dns_asker.specs.Listed.{CannotOpen, asking_of, is_of, ticket_in}
+use Rattle.dns_asker.specs.Tickets.{Sent, Ticket, has_id, waiting_too}
 use Rattle.dns_asker.specs.Tickets as tickets
 use Rattle.dns_asker.specs.declared.refusal.AskRefusal.{AskRefusal}
 use Rattle.dns_asker.specs.declared.refusal.AskRefusal.TheVariants.{IdTaken, Full, Spent, Memory}
@@ -105,90 +105,6 @@ module _ {X : Type 0} (q : X → Bool) where
       let no-back : length (filter q back) ≡ 0 = omega (arith, single, parts, behind) in
       filter-append (λ it. not (q it)) front (x ∷ back) ∙ (rw (all-stay q front no-front, is, all-stay q back no-back) refl)
 
--- ---- what holds of the tickets
-
-ordered : (entries : List (Entry Sent)) → AllPairs Precedes entries → AllPairs (λ (it later : Ticket). it.deadline ≤ later.deadline) (map ticket_in entries)
-ordered [] order = λ i j d lt small. absurd (omega arith)
-ordered (x ∷ entries) order =
-    AllPairs-cons (λ (it later : Ticket). it.deadline ≤ later.deadline) (ticket_in x) (map ticket_in entries)
-    (All-map (λ (later : Ticket). x.deadline ≤ later.deadline) ticket_in entries (λ k d small. (order 0 (suc k) d (omega arith) (omega arith)).deadline))
-    (ordered entries (λ i j d lt small. order (suc i) (suc j) d (omega arith) (omega arith)))
-
-pub asking-is : (list : Pending Sent) → IsPending list → IsListed list → IsAsking (asking_of list)
-asking-is list it listed = record {
-  in_order = ordered list.entries it.in_order;
-  single = λ id. rw (filter-map ticket_in (has_id id) list.entries, length-map (filter (is_of id) list.entries) ticket_in) (listed.single id);
-  sent = All-map (λ (it : Ticket). IsSent it.sent) ticket_in list.entries listed.sent;
-  few = rw (length-map list.entries ticket_in) it.few;
-}
-
-module _ (list : Pending Sent) (listed : IsListed list) where
-  single-by : (entry : Entry Sent) (id : ℕ) (is : Bool) → is_of id entry ≡ is → find (is_of entry.item.id) list.entries ≡ None
-      → length (filter (is_of id) (entry ∷ [])) + length (filter (is_of id) list.entries) ≤ 1
-  single-by entry id true is free =
-      let same : entry.item.id ≡ id = search rules in
-      let none = none-found (is_of id) list.entries (rw same at free) in
-      rw is omega (arith, none)
-  single-by entry id false is free = let single = listed.single id in rw is omega (arith, single)
-
-  sent-more : (entry : Entry Sent) (entries : List (Entry Sent)) → IsSent entry.item → All (λ it. IsSent it.item) entries
-      → All (λ it. IsSent it.item) (placed entry entries)
-  sent-more entry entries sent all =
-      let in-front : Entry Sent → Bool = λ it. nat_le it.deadline entry.deadline in
-      All-append (λ it. IsSent it.item) (filter in-front entries) (entry ∷ filter (λ it. not (in-front it)) entries)
-      (All-filter in-front (λ it. IsSent it.item) entries all)
-      (All-cons (λ it. IsSent it.item) entry (filter (λ it. not (in-front it)) entries) sent
-      (All-filter (λ it. not (in-front it)) (λ it. IsSent it.item) entries all))
-
-  -- one more, of an id that has none
-  pub listed-more : (entry : Entry Sent) (serial : ℕ) → IsSent entry.item → find (is_of entry.item.id) list.entries ≡ None
-      → IsListed (record list { entries = placed entry list.entries; serial = serial })
-  listed-more entry serial sent free = record {
-    single = λ id. rw (counted (λ it. nat_le it.deadline entry.deadline) (is_of id) entry list.entries)
-        (single-by entry id (is_of id entry) refl free);
-    sent = sent-more entry list.entries sent listed.sent;
-  }
-
-  module _ (first : Entry Sent) (others : List (Entry Sent)) (whole : list.entries ≡ first ∷ others) where
-    sent-all : All (λ it. IsSent it.item) (first ∷ others)
-    sent-all = rw whole at listed.sent
-
-    same-count : (id deadline : ℕ) (is : Bool) → is_of id first ≡ is
-        → length (filter (is_of id) (resent deadline first ∷ [])) ≡ length (filter (is_of id) (first ∷ []))
-    same-count id deadline true is = rw is refl
-    same-count id deadline false is = rw is refl
-
-    -- the first was sent once more
-    pub listed-resent : (deadline : ℕ) → first.item.sends < 3 → IsListed (record list { entries = placed (resent deadline first) others })
-    listed-resent deadline more = record {
-      single = λ id.
-          let one = counted (λ it. nat_le it.deadline deadline) (is_of id) (resent deadline first) others in
-          let same : length (filter (is_of id) (resent deadline first ∷ [])) ≡ length (filter (is_of id) (first ∷ [])) = same-count id deadline (is_of id first) refl in
-          let all = first-counted (is_of id) first others in
-          let single = rw whole at listed.single id in
-          omega (arith, one, same, all, single);
-      sent = sent-more (resent deadline first) others
-          (record { some = omega arith; few = omega (arith, more) })
-          (All-tail (λ it. IsSent it.item) first others sent-all);
-    }
-
-    -- the first is gone
-    pub listed-rest : IsListed (record list { entries = others })
-    listed-rest = record {
-      single = λ id.
-          let all = first-counted (is_of id) first others in
-          let single = rw whole at listed.single id in
-          omega (arith, all, single);
-      sent = All-tail (λ it. IsSent it.item) first others sent-all;
-    }
-
-  -- some are left out
-  pub listed-fewer : (p : Entry Sent → Bool) → IsListed (record list { entries = filter p list.entries })
-  listed-fewer p = record {
-    single = λ id. let all = both p (is_of id) list.entries in let single = listed.single id in omega (arith, all, single);
-    sent = All-filter p (λ it. IsSent it.item) list.entries listed.sent;
-  }
-
 -- ---- the list, seen as tickets
 
 pub mapped-placed : (entry : Entry Sent) (entries : List (Entry Sent))
@@ -201,11 +117,16 @@ mapped-placed entry entries =
       filter-map ticket_in (λ it. not (nat_le it.deadline entry.deadline)) entries,
     ) refl)
 
+-- as many of an id
+counted-in : (id : ℕ) (entries : List (Entry Sent)) → length (filter (has_id id) (map ticket_in entries)) ≡ length (filter (is_of id) entries)
+counted-in id entries = rw (filter-map ticket_in (has_id id) entries, length-map (filter (is_of id) entries) ticket_in) refl
+
 pub mapped-out : (id : ℕ) (entries : List (Entry Sent)) (entry : Entry Sent) (left : List (Entry Sent)) → IsTakenOut entries entry left
-    → is_of id entry ≡ true → length (filter (is_of id) entries) ≤ 1
+    → is_of id entry ≡ true → length (filter (has_id id) (map ticket_in entries)) ≤ 1
     → map ticket_in left ≡ tickets.without id (map ticket_in entries)
 mapped-out id entries entry left out is single =
-    let here = between (is_of id) out.front entry out.back is (rw out.whole at single) in
+    let one : length (filter (is_of id) entries) ≤ 1 = rw (counted-in id entries) at single in
+    let here = between (is_of id) out.front entry out.back is (rw out.whole at one) in
     sym (filter-map ticket_in (λ it. not (has_id id it)) entries
     ∙ ap (map ticket_in) (ap (filter (λ it. not (is_of id it))) out.whole ∙ here ∙ sym out.left_is))
 

@@ -76,7 +76,7 @@ module _ (asking : Asking) (it : IsAsking asking) where
   single-by ticket id false is free = let single = it.single id in rw is omega (arith, single)
 
   -- a ticket more, of an id that has none
-  more-in-order : (ticket : Ticket) (serial : ℕ) → IsSent ticket.sent → find (has_id ticket.sent.id) asking.tickets ≡ None
+  pub more-in-order : (ticket : Ticket) (serial : ℕ) → IsSent ticket.sent → find (has_id ticket.sent.id) asking.tickets ≡ None
       → length asking.tickets < asking.limit → IsAsking (record asking { tickets = waiting_too ticket asking.tickets; serial = serial })
   more-in-order ticket serial sent free room = record {
     in_order = waiting-in-order ticket asking.tickets it.in_order;
@@ -86,7 +86,7 @@ module _ (asking : Asking) (it : IsAsking asking) where
   }
 
   -- tickets are left out
-  fewer-in-order : (p : Ticket → Bool) → IsAsking (record asking { tickets = filter p asking.tickets })
+  pub fewer-in-order : (p : Ticket → Bool) → IsAsking (record asking { tickets = filter p asking.tickets })
   fewer-in-order p = record {
     in_order = AllPairs-filter InOrder p asking.tickets it.in_order;
     single = λ id. let all = both p (has_id id) asking.tickets in let single = it.single id in omega (arith, all, single);
@@ -96,7 +96,7 @@ module _ (asking : Asking) (it : IsAsking asking) where
 
   module _ (ticket : Ticket) (others : List Ticket) (whole : asking.tickets ≡ ticket ∷ others) where
     -- the first ticket is gone
-    rest-in-order : IsAsking (record asking { tickets = others })
+    pub rest-in-order : IsAsking (record asking { tickets = others })
     rest-in-order =
         let order = rw whole at it.in_order in
         let sent = rw whole at it.sent in
@@ -114,7 +114,7 @@ module _ (asking : Asking) (it : IsAsking asking) where
     same-count now id false is = rw is refl
 
     -- the first ticket is sent once more
-    resent-in-order : (now : ℕ) → ticket.sent.sends < 3 → IsAsking (record asking { tickets = waiting_too (again now ticket) others })
+    pub resent-in-order : (now : ℕ) → ticket.sent.sends < 3 → IsAsking (record asking { tickets = waiting_too (again now ticket) others })
     resent-in-order now more =
         let rest = rest-in-order in
         let few = rw whole at it.few in

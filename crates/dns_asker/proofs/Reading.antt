@@ -11,8 +11,8 @@ use Rattle.pending_list.specs.declared.entry.Entry.{Entry}
 use Rattle.dns_asker.proofs.Listing.{mapped-out, taken}
 use Rattle.dns_message.specs.Messages.{Begins}
 use Rattle.dns_asker.specs.Events.{closed, EndsBy, IsNoReply, MayWant, Means, Tells}
-use Rattle.dns_asker.specs.Listed.{Finds, IsListed, asking_of, ticket_in}
-use Rattle.dns_asker.specs.Tickets.{Sent}
+use Rattle.dns_asker.specs.Listed.{Finds, asking_of, ticket_in}
+use Rattle.dns_asker.specs.Tickets.{IsAsking, Sent}
 use Rattle.dns_asker.specs.Tickets as tickets
 use Rattle.dns_asker.specs.declared.incoming.Ending.{Ending}
 use Rattle.dns_asker.specs.declared.incoming.Ending.TheVariants.{Answered}
@@ -81,8 +81,8 @@ module _ (list : Pending Sent) (octets : List ℕ) (message : Message) (begins :
   )
 
 -- the ticket of an id is taken out
-pub left-is : (list new : Pending Sent) (listed : IsListed list) (entry : Entry Sent) → IsTakenOut list.entries entry new.entries
+pub left-is : (list new : Pending Sent) (it : IsAsking (asking_of list)) (entry : Entry Sent) → IsTakenOut list.entries entry new.entries
     → new ≡ record list { entries = new.entries } → asking_of new ≡ closed entry.item.id (asking_of list)
-left-is list new listed entry out rest =
+left-is list new it entry out rest =
     ap asking_of rest
-    ∙ (rw (mapped-out entry.item.id list.entries entry new.entries out (eq-eqb entry.item.id entry.item.id refl) (listed.single entry.item.id)) refl)
+    ∙ (rw (mapped-out entry.item.id list.entries entry new.entries out (eq-eqb entry.item.id entry.item.id refl) (it.single entry.item.id)) refl)

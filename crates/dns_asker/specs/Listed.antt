@@ -1,13 +1,12 @@
 -- The tickets in an asker's list. No public clause cites this module.
 use Rattle.std.specs.Prelude.{◌≡◌, ℕ, ◌+◌, ◌-◌, ◌^◌, ◌==◌, ◌<◌, ◌≤◌, Bool, List, ◌∷◌, Option, Some, None, IsSome, Result, Ok, Err, length, map}
-use Rattle.std.specs.List.{All, filter, find}
-use Rattle.dns_message.specs.Written.{plain, query_of}
+use Rattle.std.specs.List.{All, find}
 use Rattle.pending_list.specs.Ids.{Id}
 use Rattle.pending_list.specs.Pending.{Pending, entry_of, placed}
 use Rattle.pending_list.specs.declared.entry.Entry.{Entry}
-use Rattle.dns_asker.specs.Events.{sent_again}
+use Rattle.dns_asker.specs.Events.{sent_again, sent_octets}
 use Rattle.dns_asker.specs.TicketLists.{TicketList}
-use Rattle.dns_asker.specs.Tickets.{Asking, IsSent, Sent, Ticket}
+use Rattle.dns_asker.specs.Tickets.{Asking, Sent, Ticket}
 use Rattle.dns_asker.specs.declared.due.Due.{Due}
 use Rattle.dns_asker.specs.declared.due.Due.TheVariants.{Resend, GaveUp}
 use Rattle.dns_asker.specs.declared.refusal.AskRefusal.{AskRefusal}
@@ -33,11 +32,6 @@ pub record Finds (entries : List (Entry Sent)) (id : ℕ) (at : Id) : Type 0 whe
 -- it was sent once more, and has another deadline
 abbrev pub resent : ℕ → Entry Sent → Entry Sent
 resent deadline entry = record entry { deadline = deadline; item = sent_again entry.item }
-
--- at most one of each id, each sent once to three times
-pub record IsListed (list : Pending Sent) : Type 0 where
-  pub single : (id : ℕ) → length (filter (is_of id) list.entries) ≤ 1
-  pub sent : All (λ it. IsSent it.item) list.entries
 
 -- ---- what is done with the tickets in the list
 
@@ -88,7 +82,7 @@ IsThere it Over = IsSome it.given_up
 abbrev pub ToldBy : TicketList → Overdue → Due → Type 0
 ToldBy it (Again at) (Resend id octets) =
     (entry : Entry Sent) × (entry_of at it.list.entries ≡ Some entry) × (id ≡ entry.item.id)
-    × (octets.now ≡ plain (query_of entry.item.id entry.item.question))
+    × (octets.now ≡ sent_octets entry.item.id entry.item.question)
 ToldBy it Over (GaveUp id question) =
     (sent : Sent) × (it.given_up ≡ Some sent) × (id ≡ sent.id) × (question.now ≡ sent.question)
 ToldBy it (Again at) (GaveUp id question) = ⊥

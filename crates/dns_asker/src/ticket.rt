@@ -1,7 +1,6 @@
 //! A question that was sent and has no reply yet.
 ghost use Rattle.std.specs.Prelude.{◌≡◌, ◌↔◌, ◌<◌, IfOk, IsTrue};
-ghost use Rattle.dns_message.specs.Written.{plain, query_of};
-ghost use Rattle.dns_asker.specs.Events.{sent_again};
+ghost use Rattle.dns_asker.specs.Events.{sent_again, sent_octets};
 
 use dns_message::{Question, write_query};
 use std::alloc::{AllocError, Global};
@@ -61,7 +60,7 @@ impl Ticket {
 
     /// The octets that are sent.
     pub(crate) fn octets(&self) -> &[u8]
-        ensures { result.now ≡ plain (query_of self.now.id self.now.question) }
+        ensures { result.now ≡ sent_octets self.now.id self.now.question }
     {
         self.octets.as_slice()
     }

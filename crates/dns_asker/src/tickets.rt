@@ -1,10 +1,9 @@
 //! The tickets of an asker in their list.
 ghost use Rattle.std.specs.Prelude.{◌≡◌, ◌↔◌, ◌<◌, ◌≤◌, [], Some, None, IsSome, IfOk, IsTrue, MatchOption};
 ghost use Rattle.std.specs.List.{find};
-ghost use Rattle.dns_message.specs.Written.{plain, query_of};
 ghost use Rattle.pending_list.specs.Pending.{entry_of, placed, without};
 ghost use Rattle.pending_list.specs.declared.entry.Entry.{Entry};
-ghost use Rattle.dns_asker.specs.Events.{closed};
+ghost use Rattle.dns_asker.specs.Events.{closed, sent_octets};
 ghost use Rattle.dns_asker.specs.Listed.{Finds, IsOverdue, IsThere, Opens, ToldBy, asking_of, is_of, resent};
 ghost use Rattle.dns_asker.specs.Tickets.{IsAsking, Sent};
 
@@ -41,11 +40,12 @@ impl Model for Tickets {
 
     ghost Value = { TicketList };
 
-    ghost use Rattle.dns_asker.specs.Listed.{IsListed};
+    ghost use Rattle.dns_asker.specs.Listed.{asking_of};
+    ghost use Rattle.dns_asker.specs.Tickets.{IsAsking};
 
     ghost view = { λ it. record { list = it.list; given_up = it.given_up } };
 
-    ghost invariant = { λ it. IsListed it.list };
+    ghost invariant = { λ it. IsAsking (asking_of it.list) };
 }
 
 impl Tickets {
@@ -124,7 +124,7 @@ impl Tickets {
     pub(crate) fn octets_at(&self, at: PendingId) -> &[u8]
         requires { IsSome (entry_of at self.now.list.entries) }
         ensures { (entry : Entry Sent) → entry_of at self.now.list.entries ≡ Some entry
-            → result.now ≡ plain (query_of entry.item.id entry.item.question) }
+            → result.now ≡ sent_octets entry.item.id entry.item.question }
     {
         match self.list.get(at) {
             Some(ticket) => ticket.octets(),

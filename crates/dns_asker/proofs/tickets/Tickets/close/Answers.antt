@@ -1,23 +1,32 @@
-use Rattle.std.proofs.Common.{◌≡◌, ℕ, not, ap, sym, ◌∙◌}
+use Rattle.std.proofs.Common.{◌≡◌, ℕ, IsSome, ap, sym, subst, ◌∙◌}
 use Rattle.dns_message.specs.declared.question.Question.{Question}
+use Rattle.dns_asker.proofs.Keeping.{kept-without, there}
 use Rattle.dns_asker.proofs.Reading.{left-is}
+use Rattle.dns_asker.specs.TicketLists.{TicketList}
 use Rattle.dns_asker.specs.Tickets.{Sent}
-use Rattle.dns_asker.proofs.Listing.{listed-fewer}
-use Rattle.pending_list.specs.Pending.{Pending, has_id}
+use Rattle.pending_list.specs.Pending.{Pending, entry_of}
 use Rattle.dns_asker.proofs.tickets.Tickets.close.Goals as goal
+use Rattle.dns_asker.proofs.tickets.Tickets.close.Goals.{In-Some}
+
+-- all but the entries stays
+rest : (c : In-Some) → c.remove.new.self ≡ record c.self.inside.list { entries = c.remove.new.self.entries }
+rest c = c.in-Some.ensures.left ∙ ap (λ (it : Pending Sent). record c.self.inside.list { entries = it.entries }) (sym c.in-Some.ensures.left)
 
 pub invariant_of-self : goal.invariant_of-self
-invariant_of-self c = rw c.in-Some.ensures.left (listed-fewer c.self.inside.list c.self.invariant (λ it. not (has_id c.args.at it)))
+invariant_of-self c =
+    let some : IsSome (entry_of c.args.at c.self.inside.list.entries) =
+    subst (λ (it : TicketList). IsSome (entry_of c.args.at it.list.entries)) (sym c.self.view_is) c.requires in
+    let found = there (entry_of c.args.at c.self.inside.list.entries) some in
+    kept-without c.self.inside.list c.self.invariant c.remove.new.self found.0 (c.in-Some.ensures.apart found.0 found.1)
+    (rest (goal.at.invariant_of-self c).In-Some)
 
 pub returns : goal.returns
 returns c =
     rw (← c.self.view_is)
     (λ entry found.
     let item = rw found at c.in-Some.ensures.item in
-    let same : c.in-Some.ticket ≡ entry.item = cc in
-    let rest : c.remove.new.self ≡ record c.self.inside.list { entries = c.remove.new.self.entries } =
-    c.in-Some.ensures.left ∙ ap (λ (it : Pending Sent). record c.self.inside.list { entries = it.entries }) (sym c.in-Some.ensures.left) in (
+    let same : c.in-Some.ticket ≡ entry.item = cc in (
       ap (λ (it : ℕ × Question). it.0) c.into_parts.ensures ∙ ap (λ (sent : Sent). sent.id) same,
       ap (λ (it : ℕ × Question). it.1) c.into_parts.ensures ∙ ap (λ (sent : Sent). sent.question) same,
-      left-is c.self.inside.list c.remove.new.self c.self.invariant entry (c.in-Some.ensures.apart entry found) rest,
+      left-is c.self.inside.list c.remove.new.self c.self.invariant entry (c.in-Some.ensures.apart entry found) (rest (goal.at.returns c).In-Some),
     ))

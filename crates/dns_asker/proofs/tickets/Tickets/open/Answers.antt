@@ -2,7 +2,8 @@ use Rattle.std.proofs.Common.{◌≡◌, ◌+◌, None, ap, ◌∙◌, arith}
 use Rattle.std.specs.List.{find}
 use Rattle.pending_list.specs.Ids.{Id}
 use Rattle.pending_list.specs.declared.entry.Entry.{Entry}
-use Rattle.dns_asker.proofs.Listing.{listed-more, none-told}
+use Rattle.dns_asker.proofs.Keeping.{kept-more}
+use Rattle.dns_asker.proofs.Listing.{none-told}
 use Rattle.dns_asker.specs.Listed.{is_of}
 use Rattle.dns_asker.specs.TicketLists.{TicketList}
 use Rattle.dns_asker.specs.Tickets.{IsSent, Sent}
@@ -16,4 +17,4 @@ invariant_of-self-2 c =
     ap (λ (it : TicketList). find (is_of c.args.id) it.list.entries) c.self.view_is ∙ none in
     let sent : IsSent c.in-Ok-new.ticket = rw c.in-Ok-new.ensures record { some = omega arith; few = omega arith } in
     let free' : find (is_of c.in-Ok-new.ticket.id) c.self.inside.list.entries ≡ None = rw c.in-Ok-new.ensures free in
-    rw c.in-Ok-insert.ensures.inserted (listed-more c.self.inside.list c.self.invariant entry (c.self.inside.list.serial + 1) sent free')
+    rw c.in-Ok-insert.ensures.inserted (kept-more c.self.inside.list c.self.invariant entry (c.self.inside.list.serial + 1) sent free' c.in-Ok.ensures.can.0)

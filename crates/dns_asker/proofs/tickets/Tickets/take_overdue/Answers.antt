@@ -1,7 +1,8 @@
 use Rattle.std.proofs.Common.{◌≡◌, refl, ap, ◌∙◌, arith}
 use Rattle.pending_list.specs.Pending.{without}
 use Rattle.pending_list.specs.declared.entry.Entry.{Entry}
-use Rattle.dns_asker.proofs.Listing.{leader-found, leads, listed-resent, listed-rest, not-more, same-first}
+use Rattle.dns_asker.proofs.Keeping.{kept-resent, kept-rest}
+use Rattle.dns_asker.proofs.Listing.{leader-found, leads, not-more, same-first}
 use Rattle.dns_asker.specs.Tickets.{Sent}
 use Rattle.dns_asker.proofs.tickets.Tickets.take_overdue.Goals as goal
 
@@ -19,7 +20,7 @@ invariant_of-self c =
     let sent = (c.send_again.ensures it.entry found).0 in
     let rest : without it.entry.id c.self.inside.list.entries ≡ it.others = c.stands_in_order.ensures.first it.entry it.others it.whole in
     let others : without c.in_ok-at.at c.self.inside.list.entries ≡ it.others = ap (λ id. without id c.self.inside.list.entries) it.at_is ∙ rest in
-    rw (sent, others) (listed-resent c.self.inside.list c.self.invariant it.entry it.others it.whole _ more)
+    rw (sent, others) (kept-resent c.self.inside.list c.self.invariant it.entry it.others it.whole _ more)
 
 pub returns-then-may_be_sent_again : goal.returns-then-may_be_sent_again
 returns-then-may_be_sent_again c =
@@ -43,7 +44,7 @@ returns-then-may_be_sent_again c =
 pub invariant_of-self-2 : goal.invariant_of-self-2
 invariant_of-self-2 c =
     rw c.in_ok-ticket.ensures.left
-    (listed-rest c.self.inside.list c.self.invariant (record { id = c.in_ok-ticket.field-0-0; deadline = c.in_ok-ticket.field-0-1; item = c.in_ok-ticket.ticket })
+    (kept-rest c.self.inside.list c.self.invariant (record { id = c.in_ok-ticket.field-0-0; deadline = c.in_ok-ticket.field-0-1; item = c.in_ok-ticket.ticket })
     c.pop_due.new.self.entries c.in_ok-ticket.ensures.taken)
 
 pub returns : goal.returns
