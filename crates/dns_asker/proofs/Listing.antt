@@ -1,11 +1,10 @@
 -- Tickets in their list.
 use Rattle.std.proofs.Common.{◌≡◌, ℕ, suc, ◌+◌, ◌<◌, ◌≤◌, Bool, true, false, cond, not, nat_le, List, [], ◌∷◌, ◌++◌, length, map, Option, Some, None, IsSome, MatchOption, is_some, refl, sym, ap, ◌∙◌, arith, rules}
-use Rattle.std.specs.List.{All, AllPairs, filter, find, slice_get}
+use Rattle.std.specs.List.{All, filter, find, slice_get}
 use Rattle.std.specs.Option.{option_map}
 use Rattle.std.specs.Bool.{IsTrue}
 use Rattle.std.proofs.lemmas.List.{length-append, length-map, map-append}
-use Rattle.std.proofs.lemmas.List.Elements.{All-append, All-cons, All-filter, All-head, All-map, All-tail, filter-append}
-use Rattle.std.proofs.lemmas.List.Kept.{AllPairs-cons}
+use Rattle.std.proofs.lemmas.List.Elements.{All-head, All-tail, filter-append}
 use Rattle.pending_list.specs.Ids.{Id}
 use Rattle.pending_list.specs.Pending.{IsTakenOut, Pending, entry_of, placed}
 use Rattle.pending_list.specs.declared.entry.Entry.{Entry}

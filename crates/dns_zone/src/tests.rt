@@ -11,8 +11,8 @@ pub(crate) fn replied(alloc: Global, zone: &str, octets: &[u8]) -> Option<Option
     zone.answer_datagram(alloc, octets).ok()
 }
 
-/// A zone, a query, and the reply.
-const REPLIES: [(&str, &[u8], &[u8]); 22] = [
+/// A zone, octets, and the reply to them; without octets where there is to be none.
+const REPLIES: [(&str, &[u8], &[u8]); 27] = [
     (
         "a.example. 300 A 192.0.2.7",
         b"\x12\x34\x01\x00\x00\x01\x00\x00\x00\x00\x00\x00\x01a\x07example\x00\x00\x01\x00\x01",
@@ -144,32 +144,38 @@ const REPLIES: [(&str, &[u8], &[u8]); 22] = [
         b"\x12\x34\x01\x00\x00\x01\x00\x00\x00\x00\x00\x00\x01a\x07example\x00\x00\x01\x00\x01",
         b"\x12\x34\x87\x00\x00\x01\x00\x00\x00\x00\x00\x00\x01a\x07example\x00\x00\x01\x00\x01",
     ),
+    // no query: nothing is replied
+    ("a.example. 300 A 192.0.2.7", b"", b""),
+    ("a.example. 300 A 192.0.2.7", b"\xff", b""),
+    (
+        "a.example. 300 A 192.0.2.7",
+        b"\x12\x34\x01\x00\x00\x01\x00\x00\x00\x00\x00",
+        b"",
+    ),
+    // QR set
+    (
+        "a.example. 300 A 192.0.2.7",
+        b"\x12\x34\x81\x00\x00\x01\x00\x00\x00\x00\x00\x00\x01a\x07example\x00\x00\x01\x00\x01",
+        b"",
+    ),
+    // one octet less than a question
+    (
+        "a.example. 300 A 192.0.2.7",
+        b"\x12\x34\x01\x00\x00\x01\x00\x00\x00\x00\x00\x00\x01a\x07example\x00\x00\x01\x00",
+        b"",
+    ),
 ];
 
 #[test]
 fn replies(rt: HostRuntime) {
-    for (zone, query, reply) in &REPLIES {
-        let got = replied(rt.alloc(), zone, query).flatten();
-        assert_eq!(rt; got.as_deref(), Some(*reply), "{query:?}");
-    }
-}
-
-/// Octets in front of which no query stands.
-const SILENT: [&[u8]; 5] = [
-    b"",
-    b"\xff",
-    b"\x12\x34\x01\x00\x00\x01\x00\x00\x00\x00\x00",
-    // QR set
-    b"\x12\x34\x81\x00\x00\x01\x00\x00\x00\x00\x00\x00\x01a\x07example\x00\x00\x01\x00\x01",
-    // one octet less than a question
-    b"\x12\x34\x01\x00\x00\x01\x00\x00\x00\x00\x00\x00\x01a\x07example\x00\x00\x01\x00",
-];
-
-#[test]
-fn no_reply(rt: HostRuntime) {
-    for octets in &SILENT {
-        let got = replied(rt.alloc(), "a.example. 300 A 192.0.2.7", octets);
-        assert_eq!(rt; got.map(|got| got.is_none()), Some(true), "{octets:?}");
+    for (zone, octets, reply) in &REPLIES {
+        let got = replied(rt.alloc(), zone, octets);
+        let wanted = (!reply.is_empty()).then_some(*reply);
+        assert_eq!(rt;
+            got.as_ref().map(|got| got.as_deref()),
+            Some(wanted),
+            "{octets:?}"
+        );
     }
 }
 

@@ -173,32 +173,13 @@ fn bad_lines(rt: HostRuntime) {
     }
 }
 
-/// A text of one NAPTR line whose flags have so many octets.
-fn with_flags(alloc: Global, count: usize) -> Option<String> {
-    let mut text = String::from_str(alloc, "a.example. 300 NAPTR 10 50 ").ok()?;
+/// A text in which a part stands so many times between two others.
+fn text_of(alloc: Global, front: &str, part: &str, count: usize, back: &str) -> Option<String> {
+    let mut text = String::from_str(alloc, front).ok()?;
     for _ in 0..count {
-        text.push('s').ok()?;
+        text.push_str(part).ok()?;
     }
-    text.push_str(" - - .").ok()?;
-    Some(text)
-}
-
-#[test]
-fn longest_string(rt: HostRuntime) {
-    for (count, refusal) in [(255, None), (256, Some(ZoneRefusal::BadLine(1)))] {
-        let text = with_flags(rt.alloc(), count);
-        let got = text.map(|text| Zone::read(rt.alloc(), &text).err());
-        assert_eq!(rt; got, Some(refusal), "{count}");
-    }
-}
-
-/// A text of so many records, and a last line.
-fn text_of(alloc: Global, count: usize, last: &str) -> Option<String> {
-    let mut text = String::new(alloc);
-    for _ in 0..count {
-        text.push_str("a.example. 300 A 192.0.2.7\n").ok()?;
-    }
-    text.push_str(last).ok()?;
+    text.push_str(back).ok()?;
     Some(text)
 }
 
@@ -211,18 +192,28 @@ fn reply_length(alloc: Global, text: &str) -> Result<usize, ZoneRefusal> {
     Ok(reply.map_or(0, |reply| reply.len()))
 }
 
+/// A record, and the front of one with further strings.
+const RECORD: &str = "a.example. 300 A 192.0.2.7\n";
+
+const RULE: &str = "a.example. 300 NAPTR 10 50 ";
+
+/// A text of a part that stands so many times between two others, and the length of the reply, or why there is no zone.
+const LONGEST: [(&str, &str, usize, &str, Result<usize, ZoneRefusal>); 8] = [
+    ("", RECORD, 19, "", Ok(502)),
+    ("", RECORD, 20, "", Ok(27)),
+    ("", RECORD, 47, "", Ok(27)),
+    ("", RECORD, 4_096, "# more", Ok(27)),
+    ("", RECORD, 4_097, "", Err(ZoneRefusal::TooMany)),
+    ("", RECORD, 4_097, "bad", Err(ZoneRefusal::BadLine(4_098))),
+    // the longest string, and one that is too long
+    (RULE, "s", 255, " - - .", Ok(27)),
+    (RULE, "s", 256, " - - .", Err(ZoneRefusal::BadLine(1))),
+];
+
 #[test]
-fn most_records(rt: HostRuntime) {
-    let rows = [
-        (19, "", Ok(502)),
-        (20, "", Ok(27)),
-        (47, "", Ok(27)),
-        (4_096, "# more", Ok(27)),
-        (4_097, "", Err(ZoneRefusal::TooMany)),
-        (4_097, "bad", Err(ZoneRefusal::BadLine(4_098))),
-    ];
-    for (count, last, wanted) in rows {
-        let text = text_of(rt.alloc(), count, last);
+fn longest_texts(rt: HostRuntime) {
+    for (front, part, count, back, wanted) in LONGEST {
+        let text = text_of(rt.alloc(), front, part, count, back);
         let got = text.map(|text| reply_length(rt.alloc(), &text));
         assert_eq!(rt; got, Some(wanted), "{count}");
     }
