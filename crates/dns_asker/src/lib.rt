@@ -16,8 +16,8 @@
 //! match asker.incoming(octets)? { .. }                     // Incoming::Ended(id, question, ending), Incoming::Ignored(why)
 //! ```
 //!
-//! `Wire` and `PeerWire` say what may be known of who carries datagrams, to one server or to many peers, and `Clock` of who
-//! tells the time. `serve` replies from a zone (`dns_zone`) over a `PeerWire`, until it is told to stop.
+//! `Wire` and `PeerWire` say what may be known of who carries datagrams, to one server or to many peers, and `Clock` of
+//! who tells the time. `serve` replies from a zone (`dns_zone`) over a `PeerWire`, until it is told to stop.
 //!
 //! ```text
 //! let zone = Zone::read(alloc, "a.example. 60 CNAME b.example.\nb.example. 300 A 192.0.2.7")?;

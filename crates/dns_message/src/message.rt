@@ -85,8 +85,8 @@ pub fn read_message(alloc: Global, bytes: &[u8]) -> Result<Message, MessageRefus
     })
 }
 
-/// The message in front of these octets, for who need not know why there is none: `None` where they begin with no message, or
-/// are more than 65,535. What stands after its counted questions and records is ignored (RFC 1035 4.1).
+/// The message in front of these octets, for who need not know why there is none: `None` where they begin with no
+/// message, or are more than 65,535. What stands after its counted questions and records is ignored (RFC 1035 4.1).
 pub fn message_in(alloc: Global, octets: &[u8]) -> Result<Option<Message>, AllocError>
     ensures read { IfOk result (λ it. MatchOption it ((it : message.Message) → Begins octets.now it → ⊥) (Begins octets.now)) }
     // Memory is asked for only where a name stands after the header.
