@@ -97,7 +97,7 @@ const QUESTIONS: usize = 40;
 
 const ROUNDS: u32 = 500;
 
-/// One of the questions: of ten names, and of four kinds each.
+/// One of 64 questions: of 16 names, and of four kinds each.
 fn question_at(alloc: Global, number: usize) -> Option<Question> {
     let label = match number / 4 {
         0 => "a",
@@ -109,7 +109,13 @@ fn question_at(alloc: Global, number: usize) -> Option<Question> {
         6 => "g",
         7 => "h",
         8 => "i",
-        _ => "j",
+        9 => "j",
+        10 => "k",
+        11 => "l",
+        12 => "m",
+        13 => "n",
+        14 => "o",
+        _ => "p",
     };
     let kind = match number % 4 {
         0 => Kind::A,
@@ -239,15 +245,16 @@ fn work_by_four<R: Threads + Wait + AllocGlobal + Sync>(
 fn last_stores_are_found(alloc: Global, cache: &SharedCache, works: [Work; 4]) -> Option<bool>
     requires { All (λ it. Belongs cache.now it.seat) works }
 {
-    let [mut first, second, third, fourth] = works;
-    cache.learn(&mut first.seat, &second.seat.notice());
-    cache.learn(&mut first.seat, &third.seat.notice());
-    cache.learn(&mut first.seat, &fourth.seat.notice());
+    let [first, second, third, fourth] = works;
+    let lasts = [first.lasts, second.lasts, third.lasts, fourth.lasts];
+    let mut seat = first.seat;
+    cache.learn(&mut seat, &second.seat.notice());
+    cache.learn(&mut seat, &third.seat.notice());
+    cache.learn(&mut seat, &fourth.seat.notice());
     'questions: for number in 0..QUESTIONS {
         let question = question_at(alloc, number)?;
-        let found = cache.lookup(&mut first.seat, &question, Moment::new(100)?);
+        let found = cache.lookup(&mut seat, &question, Moment::new(100)?);
         let life = found.ok()??.life();
-        let lasts = [&first.lasts, &second.lasts, &third.lasts, &fourth.lasts];
         if !lasts.iter().any(|lasts| lasts[number] == life) {
             return Some(false);
         }
@@ -264,5 +271,77 @@ fn four_threads(rt: HostRuntime) -> Result<(), Fail> {
         last_stores_are_found(rt.alloc(), &cache, works),
         Some(true)
     );
+    Ok(())
+}
+
+/// Seats that have stored one question each, and what the last of them tells.
+#[derive(Drop)]
+struct Stored {
+    seats: Vec<Seat>,
+    notice: Notice,
+}
+
+/// Lets each seat store a question of its own.
+fn store_one_each(
+    rt: &(impl Wait + AllocGlobal),
+    cache: &SharedCache,
+    mut seats: Vec<Seat>,
+) -> Option<Stored>
+    requires { All (Belongs cache.now) seats.items }
+    ensures seats { IfSome result (λ stored. All (Belongs cache.now) stored.seats.items) }
+    ensures notice { IfSome result (λ stored. stored.notice.cache ≡ cache.now) }
+{
+    let mut seat = seats.pop()?;
+    store_at(rt, cache, &mut seat, 0, 1)?.ok()?;
+    let mut notice = seat.notice();
+    let mut done = Vec::new(rt.alloc());
+    done.push(seat).ok()?;
+    'seats: for number in 1..64 {
+        let mut seat = seats.pop()?;
+        store_at(rt, cache, &mut seat, number, number as u32 + 1)?.ok()?;
+        notice = seat.notice();
+        done.push(seat).ok()?;
+    }
+    Some(Stored {
+        seats: done,
+        notice,
+    })
+}
+
+/// Whether a seat finds the stores of all 64.
+fn finds_all(alloc: Global, cache: &SharedCache, mut seat: Seat) -> Option<bool>
+    requires { Belongs cache.now seat }
+{
+    'questions: for number in 0..64 {
+        let question = question_at(alloc, number)?;
+        let found = cache.lookup(&mut seat, &question, Moment::new(100)?);
+        if found.ok()??.life() != number as u32 + 1 {
+            return Some(false);
+        }
+    }
+    Some(true)
+}
+
+/// Whether each seat finds them, once it has learned what the last one tells.
+fn each_finds_all(alloc: Global, cache: &SharedCache, stored: Stored) -> Option<bool>
+    requires seats { All (Belongs cache.now) stored.seats.items }
+    requires notice { stored.notice.cache ≡ cache.now }
+{
+    let Stored { mut seats, notice } = stored;
+    'seats: for _seat in 0..64 {
+        let mut seat = seats.pop()?;
+        cache.learn(&mut seat, &notice);
+        if !finds_all(alloc, cache, seat)? {
+            return Some(false);
+        }
+    }
+    Some(true)
+}
+
+#[test]
+fn sixty_four_seats(rt: HostRuntime) -> Result<(), Fail> {
+    let (cache, seats) = SharedCache::new(rt.alloc(), 64).ok().ok_or("a cache")?;
+    let stored = store_one_each(&rt, &cache, seats).ok_or("memory")?;
+    assert_eq!(rt; each_finds_all(rt.alloc(), &cache, stored), Some(true));
     Ok(())
 }

@@ -187,10 +187,10 @@ fn found_by_the_first(
     let answer = answer_of(rt.alloc(), Kind::A, 10)?;
     let now = Moment::new(100)?;
     cache.store(rt, second, &question, &answer, now).ok()?;
-    let before = found(rt.alloc(), cache, first, Kind::A, 109)?;
+    let before = cache.lookup(first, &question, now).ok()?;
     cache.learn(first, &second.notice().again());
-    let after = found(rt.alloc(), cache, first, Kind::A, 109)?;
-    Some([before, after])
+    let after = cache.lookup(first, &question, now).ok()?;
+    Some([before, after].map(|found| found.map(|answer| answer.life())))
 }
 
 #[test]

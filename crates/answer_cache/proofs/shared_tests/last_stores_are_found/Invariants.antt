@@ -2,4 +2,4 @@ use Rattle.answer_cache.specs.Shared.{Belongs}
 use Rattle.answer_cache.proofs.shared_tests.last_stores_are_found.Given as goal
 
 abbrev pub invariant-questions : goal.invariant-questions
-invariant-questions l = Belongs l.cache l.first.seat
+invariant-questions l = Belongs l.cache l.seat
