@@ -152,7 +152,9 @@ pub(crate) fn two_seats(alloc: Global) -> Option<(SharedCache, Seat, Seat)>
     ensures first { IfSome result (λ made. Belongs made.0 made.1) }
     ensures second { IfSome result (λ made. Belongs made.0 made.2) }
 {
-    let (cache, mut seats) = SharedCache::new(alloc, 2).ok()?;
+    let Ok((cache, mut seats)) = SharedCache::new(alloc, 2) else {
+        return None;
+    };
     let second = seats.pop()?;
     let first = seats.pop()?;
     Some((cache, first, second))
