@@ -1,3 +1,4 @@
 pub mod SrvOrder
 pub mod Outcomes
 pub mod Chances
+pub mod Later
