@@ -1,7 +1,7 @@
 /* Measures all candidates on all vectors within one process, and writes lines of fields with tabs between them.
  *
  *   bench times          table, vector, candidate, least and middle ns of a call over the slices
- *   bench allocations    table, vector, candidate, calls of the allocator in one call (with count_allocations.c preloaded)
+ *   bench allocations    table, vector, candidate, calls of the allocator in one call (count_allocations.c preloaded)
  *   bench instructions   the same calls for callgrind, whose dumps have the names of their cells
  *   bench faults         table, candidate, a fault that it takes
  */
@@ -26,7 +26,7 @@
 enum { SLICES = 801, SLICES_OF_SLOW_CALLS = 11, COUNTED_CALLS = 20 };
 static const double SLICE_NS = 100e3, SLOW_CALL_NS = 5e6;
 
-/* What is prepared for such a call counts for less than a thousandth in so many rounds, which begin at each word ten times. */
+/* What is prepared for such a call counts little in so many rounds, which begin at each word ten times. */
 enum { PREPARED_ROUNDS = 10 * (WORD_COUNT - SRV_LIMIT) };
 
 typedef size_t order_call(const struct srv_vector *list, size_t *places, size_t rounds);
@@ -88,13 +88,16 @@ static int compare(const void *left, const void *right) {
     return (a > b) - (a < b);
 }
 
-static void write_name(const struct cell *cell) { printf("%s\t%s\t%s\t", cell->table, cell->vector->name, cell->candidate); }
+static void write_name(const struct cell *cell) {
+    printf("%s\t%s\t%s\t", cell->table, cell->vector->name, cell->candidate);
+}
 
 static void time_cells(struct cell *cells, size_t count) {
     size_t slices = SLICES;
     for (size_t at = 0; at < count; at++) calibrate(&cells[at]);
     for (size_t at = 0; at < count; at++) {
-        if (slice(&cells[at], cells[at].rounds) * (double)cells[at].rounds > SLOW_CALL_NS) slices = SLICES_OF_SLOW_CALLS;
+        double whole = slice(&cells[at], cells[at].rounds) * (double)cells[at].rounds;
+        if (whole > SLOW_CALL_NS) slices = SLICES_OF_SLOW_CALLS;
     }
     for (size_t turn = 0; turn < slices; turn++) {
         for (size_t at = 0; at < count; at++) cells[at].slices[turn] = slice(&cells[at], cells[at].rounds);
@@ -151,7 +154,8 @@ static void compare_numbers(const struct vector *vector, const struct candidate 
 }
 
 /* Does it with the candidates that take the vector. */
-static void visit_calls(visit *visit, const char *table, const struct vector *vector, const struct candidate *candidates) {
+static void visit_calls(visit *visit, const char *table, const struct vector *vector,
+                        const struct candidate *candidates) {
     static struct cell cells[CANDIDATE_LIMIT];
     size_t count = 0;
     compare_numbers(vector, candidates);
@@ -160,7 +164,9 @@ static void visit_calls(visit *visit, const char *table, const struct vector *ve
             fprintf(stderr, "refused by %s: %s\n", candidate->name, vector->name);
             continue;
         }
-        cells[count++] = (struct cell){ .table = table, .candidate = candidate->name, .vector = vector, .call = candidate->call };
+        cells[count++] = (struct cell){
+            .table = table, .candidate = candidate->name, .vector = vector, .call = candidate->call
+        };
     }
     visit(cells, count);
 }
@@ -206,7 +212,8 @@ static void visit_all(visit *visit) {
     for (size_t at = 0; at < SRV_LIST_COUNT; at++) visit_orders(visit, &srv_vectors[at]);
 }
 
-static void write_faults(const char *table, const struct candidate *candidates, const struct vector *faults, size_t count) {
+static void write_faults(const char *table, const struct candidate *candidates, const struct vector *faults,
+                         size_t count) {
     for (const struct candidate *candidate = candidates; candidate->name != NULL; candidate++) {
         if (candidate->leaves_out[0] != 0) printf("%s\t%s\tdoes\t%s\n", table, candidate->name, candidate->leaves_out);
         for (size_t at = 0; at < count; at++) {

@@ -7,8 +7,8 @@ size_t bench_read_message(const uint8_t *octets, size_t length);
 size_t bench_read_uri(const uint8_t *octets, size_t length);
 size_t bench_read_via(const uint8_t *octets, size_t length);
 size_t bench_answer_of(const uint8_t *octets, size_t length, size_t rounds);
-size_t bench_order(const uint8_t *octets, size_t length, const uint64_t *random, size_t count, size_t *places, size_t room,
-                   size_t rounds);
+size_t bench_order(const uint8_t *octets, size_t length, const uint64_t *random, size_t count, size_t *places,
+                   size_t room, size_t rounds);
 
 /* peers/ */
 call cares_reply, ldns_reply, libresolv_reply, re_reply, trust_dns_reply;
@@ -20,13 +20,15 @@ const struct candidate reply_candidates[] = {
     { "minimal C, allocating", minimal_reply_allocating, "" },
     { "minimal C, allocating, case kept", minimal_reply_keeping_case, "capitals stay capitals" },
 #ifdef WITH_CARES
-    { "c-ares", cares_reply, "the answers of the asked type alone, and no other section; chains of thousands of pointers are refused" },
+    { "c-ares", cares_reply,
+      "the answers of the asked type alone, and no other section; chains of thousands of pointers are refused" },
 #endif
 #ifdef WITH_LDNS
     { "ldns", ldns_reply, "data of SRV and NAPTR stays a row of fields" },
 #endif
 #ifdef WITH_LIBRESOLV
-    { "libresolv", libresolv_reply, "each name as a text in one buffer; keeps nothing; data of other types is not looked at" },
+    { "libresolv", libresolv_reply,
+      "each name as a text in one buffer; keeps nothing; data of other types is not looked at" },
 #endif
 #ifdef WITH_RE
     { "re", re_reply, "names as texts; chains of thousands of pointers are refused" },

@@ -1,4 +1,4 @@
-/* Plain C for the same calls: what they cost without proofs. It makes the same checks, but for what candidates.c says. */
+/* Plain C for the same calls: what they cost without proofs. */
 #ifndef MINIMAL_H
 #define MINIMAL_H
 

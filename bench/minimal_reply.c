@@ -1,6 +1,7 @@
-/* A reader of DNS messages (RFC 1035 4, 2782, 3403, 3596), which is built three times, under the names that NAME says. With
-   ALLOCATE each name, string and list has its own memory, as in a message that lives on; without, all lie in one block
-   that the next message takes over. With KEEP_CASE capitals stay capitals, so who compares names has to look at case. */
+/* A reader of DNS messages (RFC 1035 4, 2782, 3403, 3596), which is built three times, under the names that NAME says.
+   With ALLOCATE each name, string and list has its own memory, as in a message that lives on; without, all lie in one
+   block that the next message takes over. With KEEP_CASE capitals stay capitals, so who compares names has to look at
+   case. */
 #include "minimal.h"
 
 #include <stdbool.h>

@@ -10,7 +10,8 @@
 enum { TEXT_LIMIT = 1024, DEFAULT_PORT = 5060, NAME_LIMIT = 255, LABEL_LIMIT = 63, PARAM_LIMIT = 64 };
 
 /* Classes of octets. */
-enum { USER = 1, PASSWORD = 2, PARAM = 4, HEADER = 8, HOST = 16, DIGIT = 32, TOKEN = 64, ALL_TEXT = USER | PASSWORD | PARAM | HEADER };
+enum { USER = 1, PASSWORD = 2, PARAM = 4, HEADER = 8, HOST = 16, DIGIT = 32, TOKEN = 64 };
+enum { ALL_TEXT = USER | PASSWORD | PARAM | HEADER };
 
 static uint8_t classes[256];
 

@@ -189,8 +189,8 @@ static struct vector thirty_a(void) {
     return done("30 A, 512 octets", to, 512);
 }
 
-/* The data of the first record is a name and then pointers, each to the one before it, as far as pointers reach. The owners of
-   all other records are the name at the end of that chain. */
+/* The data of the first record is a name and then pointers, each to the one before it, as far as pointers reach. The
+   owners of all other records are the name at the end of that chain. */
 static struct vector chains(void) {
     struct writer *to = reply(NULL, 0, 3072, 0);
     put(to, "", 1);

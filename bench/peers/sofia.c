@@ -1,4 +1,4 @@
-/* sofia-sip: a URI is split in a copy of its text, as its stack does in a message; a Via is made in a home of its own. */
+/* sofia-sip: a URI is split in a copy of its text; a Via is made in a home of its own. */
 #include "../candidates.h"
 
 #include <stdlib.h>

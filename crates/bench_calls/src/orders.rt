@@ -37,8 +37,8 @@ fn last_order(alloc: Global, servers: &[SrvRecord], words: &Words, rounds: usize
     last
 }
 
-/// Puts the SRV records that answer in the message in front of these octets in order, so many times, each time from another word
-/// on; writes the last order, and returns how many places it has.
+/// Puts the SRV records that answer in the message in front of these octets in order, so many times, each time from
+/// another word on; writes the last order, and returns how many places it has.
 #[unsafe(no_mangle)]
 pub extern "C" fn bench_order(
     alloc: Global,
