@@ -1,22 +1,24 @@
 //! Where memory is refused: the call then says so, or has its answer all the same, and done again it has it.
-ghost use Rattle.answer_cache.specs.Lists.{IsListSeat};
 
-use crate::tests::{Desk, Gives, REPLY, open_desk, told};
+use crate::tests::{Desk, Gives, REPLY, one_seat, open_desk, told};
 use crate::*;
-use answer_cache::StoreRefusal;
+use answer_cache::{AnswerBook, ListCache, StoreRefusal};
 use dns_answers::Moment;
 use std::sync::Wait;
 
 /// What becomes of the reply, and what both locators then give, where memory is refused at most once: a call that it was
 /// refused to is done again.
-fn outcome(rt: &impl Wait, desk: &mut Desk) -> Option<(Kept, Gives, Gives)>
-    requires { IsListSeat desk.old.seat }
+fn outcome<B: AnswerBook>(
+    rt: &impl Wait,
+    desk: &mut Desk<B>,
+    book: &B,
+    seat: &mut B::Seat,
+) -> Option<(Kept, Gives, Gives)>
+    requires { B.belongs book.now seat.old }
 {
     let Desk {
         first,
         second,
-        book,
-        seat,
         question,
     } = desk;
     let now = Moment::new(100)?;
@@ -31,17 +33,30 @@ fn outcome(rt: &impl Wait, desk: &mut Desk) -> Option<(Kept, Gives, Gives)>
     Some((kept.ok()?, given, other))
 }
 
+/// Whether both locators have the answer, or the second one asks where the store was refused.
+fn is_right(outcome: Option<(Kept, Gives, Gives)>) -> bool {
+    matches!(
+        outcome,
+        Some(
+            (Kept::Yes, Gives::Goes, Gives::Goes)
+                | (Kept::No(StoreRefusal::Memory), Gives::Goes, Gives::Asks)
+        )
+    )
+}
+
 #[test]
 fn locator_refused(rt: HostRuntime) {
+    let (book, mut seat) = ListCache::new(rt.alloc());
     if let Some(mut desk) = open_desk(rt.alloc()) {
-        assert!(rt;
-            matches!(
-                outcome(&rt, &mut desk),
-                Some(
-                    (Kept::Yes, Gives::Goes, Gives::Goes)
-                        | (Kept::No(StoreRefusal::Memory), Gives::Goes, Gives::Asks)
-                )
-            )
-        );
+        assert!(rt; is_right(outcome(&rt, &mut desk, &book, &mut seat)));
+    }
+}
+
+#[test]
+fn shared_locator_refused(rt: HostRuntime) {
+    if let Some((book, mut seat)) = one_seat(rt.alloc())
+        && let Some(mut desk) = open_desk(rt.alloc())
+    {
+        assert!(rt; is_right(outcome(&rt, &mut desk, &book, &mut seat)));
     }
 }

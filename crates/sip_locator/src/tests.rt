@@ -1,9 +1,9 @@
-//! Replies to one question, as tables, and what two locators then have of one book.
+//! Replies to one question, as tables, and what two locators then have of one book of either kind.
 ghost use Rattle.std.specs.Prelude.{IfSome};
-ghost use Rattle.answer_cache.specs.Lists.{IsListSeat};
+ghost use Rattle.answer_cache.specs.Shared.{Belongs};
 
 use crate::*;
-use answer_cache::{ListCache, ListSeat, StoreRefusal};
+use answer_cache::{AnswerBook, ListCache, Seat, SharedCache, StoreRefusal};
 use dns_answers::Moment;
 use dns_message::{Kind, MessageRefusal, Question};
 use dns_name::Name;
@@ -45,7 +45,7 @@ pub(crate) enum Gives {
 }
 
 /// The choice of a request to port 5070 of a.example, over UDP and IPv4 alone, where there is memory for it.
-fn begun(alloc: Global) -> Option<Locator<ListCache>> {
+fn begun<B: AnswerBook>(alloc: Global) -> Option<Locator<B>> {
     let request = Request::Uri(read_uri(alloc, "sip:a.example:5070").ok()?);
     let caps = Caps::new(&[Udp], Families::V4)?;
     Locator::new(alloc, request, caps, Words([0; WORD_COUNT])).ok()
@@ -69,31 +69,30 @@ pub(crate) fn told(next: Next<'_>, question: &Question) -> Gives {
     }
 }
 
-/// Two locators of the request over one book, and the question that they ask.
+/// Two locators of the request, to be used over one book, and the question that they ask.
 #[derive(Drop)]
-pub(crate) struct Desk {
-    pub first: Locator<ListCache>,
-    pub second: Locator<ListCache>,
-    pub book: ListCache,
-    pub seat: ListSeat,
+pub(crate) struct Desk<B> {
+    pub first: Locator<B>,
+    pub second: Locator<B>,
     pub question: Question,
 }
 
 /// Such locators, where there is memory for them.
-pub(crate) fn open_desk(alloc: Global) -> Option<Desk>
-    ensures { IfSome result (λ desk. IsListSeat desk.seat) }
-{
-    let question = question(alloc)?;
-    let first = begun(alloc)?;
-    let second = begun(alloc)?;
-    let (book, seat) = ListCache::new(alloc);
+pub(crate) fn open_desk<B: AnswerBook>(alloc: Global) -> Option<Desk<B>> {
     Some(Desk {
-        first,
-        second,
-        book,
-        seat,
-        question,
+        first: begun(alloc)?,
+        second: begun(alloc)?,
+        question: question(alloc)?,
     })
+}
+
+/// A cache with one seat, where there is memory for it.
+pub(crate) fn one_seat(alloc: Global) -> Option<(SharedCache, Seat)>
+    ensures { IfSome result (λ made. Belongs made.0 made.1) }
+{
+    let (cache, mut seats) = SharedCache::new(alloc, 1).ok()?;
+    let seat = seats.pop()?;
+    Some((cache, seat))
 }
 
 /// What becomes of a reply at the moment 100, what the first locator gives then, what becomes of the same reply again,
@@ -106,14 +105,19 @@ type Outcome = (
 );
 
 /// This of a desk, unless memory is refused.
-fn talk(rt: &impl Wait, desk: &mut Desk, octets: &[u8], later: u64) -> Option<Outcome>
-    requires { IsListSeat desk.old.seat }
+fn talk<B: AnswerBook>(
+    rt: &impl Wait,
+    desk: &mut Desk<B>,
+    book: &B,
+    seat: &mut B::Seat,
+    octets: &[u8],
+    later: u64,
+) -> Option<Outcome>
+    requires { B.belongs book.now seat.old }
 {
     let Desk {
         first,
         second,
-        book,
-        seat,
         question,
     } = desk;
     let now = Moment::new(100)?;
@@ -125,15 +129,22 @@ fn talk(rt: &impl Wait, desk: &mut Desk, octets: &[u8], later: u64) -> Option<Ou
     Some((taken, given, again, other))
 }
 
-/// The same of a new desk.
-fn outcome(rt: &impl Wait, alloc: Global, octets: &[u8], later: u64) -> Option<Outcome> {
-    talk(rt, &mut open_desk(alloc)?, octets, later)
+/// The same of a new desk over a book of one thread.
+fn over_list(rt: &impl Wait, alloc: Global, octets: &[u8], later: u64) -> Option<Outcome> {
+    let (book, mut seat) = ListCache::new(alloc);
+    talk(rt, &mut open_desk(alloc)?, &book, &mut seat, octets, later)
 }
 
-/// Whether these octets are not read, and the question is asked again.
-fn is_asked_again(rt: &impl Wait, alloc: Global, octets: &[u8]) -> bool {
+/// The same of a new desk over a book that threads can share.
+fn over_shared(rt: &impl Wait, alloc: Global, octets: &[u8], later: u64) -> Option<Outcome> {
+    let (book, mut seat) = one_seat(alloc)?;
+    talk(rt, &mut open_desk(alloc)?, &book, &mut seat, octets, later)
+}
+
+/// Whether octets were not read, and the question is asked again.
+fn is_asked_again(outcome: Option<Outcome>) -> bool {
     matches!(
-        outcome(rt, alloc, octets, 100),
+        outcome,
         Some((
             Err(LocatorRefusal::Message(MessageRefusal::Malformed(_))),
             Gives::Asks,
@@ -146,7 +157,15 @@ fn is_asked_again(rt: &impl Wait, alloc: Global, octets: &[u8]) -> bool {
 #[test]
 fn replies_cut_short(rt: HostRuntime) {
     for len in 0..REPLY.len() {
-        assert!(rt; is_asked_again(&rt, rt.alloc(), &REPLY[..len]), "{len}");
+        let octets = &REPLY[..len];
+        assert!(rt;
+            is_asked_again(over_list(&rt, rt.alloc(), octets, 100)),
+            "{len}"
+        );
+        assert!(rt;
+            is_asked_again(over_shared(&rt, rt.alloc(), octets, 100)),
+            "{len}"
+        );
     }
 }
 
@@ -166,14 +185,13 @@ const ROWS: [(&[u8], Kept, u64, Gives); 4] = [
 #[test]
 fn answers_shared(rt: HostRuntime) {
     for (octets, kept, later, other) in ROWS {
-        assert_eq!(rt;
-            outcome(&rt, rt.alloc(), octets, later),
-            Some((
-                Ok(kept),
-                Gives::Goes,
-                Err(LocatorRefusal::NothingAsked),
-                other
-            ))
-        );
+        let wanted = Some((
+            Ok(kept),
+            Gives::Goes,
+            Err(LocatorRefusal::NothingAsked),
+            other,
+        ));
+        assert_eq!(rt; over_list(&rt, rt.alloc(), octets, later), wanted);
+        assert_eq!(rt; over_shared(&rt, rt.alloc(), octets, later), wanted);
     }
 }
