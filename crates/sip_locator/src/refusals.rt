@@ -6,8 +6,8 @@ use answer_cache::{AnswerBook, ListCache, StoreRefusal};
 use dns_answers::Moment;
 use std::sync::Wait;
 
-/// What becomes of the reply, and what both locators then give, where memory is refused at most once: a call that it was
-/// refused to is done again.
+/// What becomes of the reply, and what both locators then give, where memory is refused at most once: a call that it
+/// was refused to is done again.
 fn outcome<B: AnswerBook>(
     rt: &impl Wait,
     desk: &mut Desk<B>,
