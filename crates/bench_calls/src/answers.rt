@@ -10,7 +10,7 @@ use dns_answers::answer_of;
 use dns_message::{Kind, Message, Question, read_message};
 use std::alloc::Global;
 
-/// The kind of this number (RFC 1035 3.2.2).
+/// The kind of this number (RFC 1035 3.2.2, 3596 2.1, 2782, 3403 4.1).
 fn kind_of(code: u16) -> Option<Kind> {
     [Kind::A, Kind::Aaaa, Kind::Srv, Kind::Naptr]
         .into_iter()

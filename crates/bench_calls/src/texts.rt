@@ -8,7 +8,7 @@ ghost use Rattle.sip_uri.specs.declared.via.Via as via;
 use sip_uri::{SipUri, Via, read_uri, read_via};
 use std::alloc::Global;
 
-/// The port where none is written (RFC 3261 19.1.2).
+/// The port where none is written (RFC 3261 18.1.1 and Table 1).
 const DEFAULT_PORT: u16 = 5060;
 
 /// The URI that these octets spell.

@@ -1,4 +1,4 @@
--- Aliases, followed inside a section (RFC 1034 3.6.2).
+-- Aliases, followed inside a section (RFC 1034 3.6.2, 5.2.2).
 use Rattle.std.specs.Prelude.{◌≡◌, ◌≤◌, ℕ, zero, suc, List, [], ◌∷◌, ◌++◌, length, Option, Some, None, slice_get, if◌then◌else◌}
 use Rattle.std.specs.List.{All, filter_map}
 use Rattle.std.specs.Option.{option_map, option_map_or}

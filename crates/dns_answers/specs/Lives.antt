@@ -9,7 +9,8 @@ use Rattle.dns_answers.specs.Chains.{Chain}
 abbrev pub lasting : ℕ → ℕ
 lasting ttl = if nat_le ttl 2147483647 then ttl else 0
 
--- records together, by their TTLs: as long as the one that lasts least (RFC 2181 5.2), and no longer than a limit
+-- records together, by their TTLs: as long as the one that lasts least (of one set: RFC 2181 5.2),
+-- and no longer than a limit
 abbrev pub least_from : ℕ → List ℕ → ℕ
 least_from limit ttls = fold min limit (map lasting ttls)
 

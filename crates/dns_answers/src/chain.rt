@@ -1,4 +1,4 @@
-//! Aliases, followed inside a section (RFC 1034 3.6.2).
+//! Aliases, followed inside a section (RFC 1034 3.6.2, 5.2.2).
 ghost use Rattle.std.specs.Prelude.{◌≡◌, List, Some, None, MatchOption, min};
 ghost use Rattle.std.specs.Option.{option_map};
 ghost use Rattle.dns_message.specs.declared.resource.Record as resource;
@@ -35,7 +35,7 @@ fn lasting(ttl: u32) -> u32
     if ttl <= LIFE_LIMIT { ttl } else { 0 }
 }
 
-/// The life of records of this life together with one of this TTL (RFC 2181 5.2).
+/// The life of records of this life together with one of this TTL (of one set: RFC 2181 5.2).
 pub(crate) fn life_with(life: u32, ttl: u32) -> u32
     ensures { result ≡ min life (lives.lasting ttl) }
 {

@@ -16,7 +16,7 @@ pub enum Kind {
 }
 
 impl Kind {
-    /// Its number among the types of records (RFC 1035 3.2.2).
+    /// Its number among the types of records (RFC 1035 3.2.2, 3596 2.1, 2782, 3403 4.1).
     pub fn code(self) -> u16
         ensures { result ≡ kind_code self }
     {

@@ -54,7 +54,7 @@ pub enum Rdata {
 }
 
 impl Rdata {
-    /// The number of its type (RFC 1035 3.2.2).
+    /// The number of its type (RFC 1035 3.2.2, 3596 2.1, 2782, 3403 4.1).
     pub fn code(&self) -> u16
         ensures { result ≡ rdata_code self.now }
     {

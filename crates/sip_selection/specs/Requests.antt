@@ -64,7 +64,7 @@ meant_by false (Some named) = plainly named
 abbrev pub transport_of : Request → Result Transport Reason
 transport_of request = meant_by (is_secure request) (spoken_of request)
 
--- the port where none is written (RFC 3261 18.1.1, 19.1.2)
+-- the port where none is written (RFC 3261 18.1.1 and Table 1)
 abbrev pub default_port : Transport → ℕ
 default_port Tls = 5061
 default_port Udp = 5060

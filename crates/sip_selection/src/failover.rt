@@ -13,7 +13,7 @@ pub enum Failure {
     Status503,
     /// The transport reported an error (RFC 3261 18.4).
     Transport,
-    /// Nothing came in time (RFC 3261 17.1).
+    /// Nothing came in time, no provisional response either (RFC 3261 17.1.1.2, 17.1.2.2).
     Timeout,
 }
 

@@ -4,7 +4,7 @@ use thiserror::Error;
 /// Why a request goes nowhere.
 #[derive(Clone, Copy, Debug, PartialEq, Eq, Error)]
 pub enum Reason {
-    /// Its transport is not one of the caller's, or not one of SIPS (RFC 3261 19.1.5, RFC 3263 4.1).
+    /// Its transport is not one of the caller's (RFC 3261 19.1.5), or not one that is taken for SIPS.
     #[error("the transport is not supported")]
     TransportUnsupported,
     /// Its transport is not secure, as a SIPS URI demands (RFC 3261 26.2.2).

@@ -8,7 +8,7 @@ use crate::reason::Reason;
 use crate::request::Request;
 use sip_uri::{Spoken, Transport};
 
-/// The port of a transport where none is written (RFC 3261 18.1.1, 19.1.2).
+/// The port of a transport where none is written (RFC 3261 18.1.1 and Table 1).
 pub(crate) fn default_port(transport: Transport) -> u16
     ensures { result ≡ spec.default_port transport }
 {

@@ -1,4 +1,4 @@
--- The names of transports (RFC 3261 25.1, RFC 4168).
+-- The names of transports (RFC 3261 25.1).
 use Rattle.std.specs.Prelude.{ℕ, List, [], ◌∷◌, if◌then◌else◌}
 use Rattle.std.specs.Str.{str_eq_ignore_ascii_case}
 use Rattle.sip_uri.specs.declared.transport.Transport.TheVariants.{Udp, Tcp, Sctp, Tls}

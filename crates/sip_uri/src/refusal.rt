@@ -19,7 +19,7 @@ pub enum UriRefusal {
     /// The port is no number from 1 to 65535.
     #[error("the port is bad")]
     BadPort,
-    /// A parameter is none by the grammar, or lacks the value that it needs (RFC 3261 25.1).
+    /// A parameter is none by the grammar (RFC 3261 25.1), or lacks the value that it needs.
     #[error("a parameter is bad")]
     BadParam,
     /// A parameter of this name stood before (RFC 3261 19.1.1, 7.3.1).
@@ -28,7 +28,7 @@ pub enum UriRefusal {
     /// A header is none by the grammar (RFC 3261 25.1).
     #[error("a header is bad")]
     BadHeader,
-    /// A Via does not begin with a protocol of SIP 2.0 and a transport (RFC 3261 20.42).
+    /// A Via does not begin with a protocol of SIP 2.0 and a transport (RFC 3261 8.1.1.7).
     #[error("the protocol of the Via is bad")]
     BadVia,
     /// Memory was refused.

@@ -24,7 +24,7 @@ pub enum Spoken {
     Other,
 }
 
-/// The transport of a name, as the parameter `transport` or a Via has it (RFC 3261 25.1, RFC 4168).
+/// The transport of a name, as the parameter `transport` or a Via has it (RFC 3261 25.1).
 pub(crate) fn spoken_of(name: &[u8]) -> Spoken
     ensures { result ≡ spoken_of name.now }
 {

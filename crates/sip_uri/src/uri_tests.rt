@@ -100,7 +100,7 @@ const URIS: [(&str, &str); 47] = [
         "sip:biloxi.com;transport=tcp;method=REGISTER?to=sip:bob%40biloxi.com",
         "false biloxi.com. None Some(Known(Tcp)) -",
     ),
-    // RFC 4475 3.1.1
+    // RFC 4475 3.1.1.1, 3.1.1.2, 3.1.1.3, 3.1.1.4 and 3.1.1.9
     (
         "sip:vivekg@chair-dnrc.example.com;unknownparam",
         "false chair-dnrc.example.com. None None -",
@@ -121,7 +121,7 @@ const URIS: [(&str, &str); 47] = [
         "sip:user;par=u%40example.net@example.com",
         "false example.com. None None -",
     ),
-    // RFC 5118 4
+    // RFC 5118 4.1, 4.4 and 4.6
     (
         "sip:[2001:db8::10]",
         "false 2001:db8:0:0:0:0:0:10 None None -",
@@ -134,19 +134,21 @@ const URIS: [(&str, &str); 47] = [
         "sip:user@[2001:db8::10]",
         "false 2001:db8:0:0:0:0:0:10 None None -",
     ),
+    // by hand
     (
         "sips:[2001:db8::1]",
         "true 2001:db8:0:0:0:0:0:1 None None -",
     ),
+    // RFC 5118 4.10
     (
         "sip:user@[2001:db8::192.0.2.1]",
         "false 2001:db8:0:0:0:0:c000:201 None None -",
     ),
+    // by hand
     (
         "sip:[::ffff:192.0.2.7]",
         "false 0:0:0:0:0:ffff:c000:207 None None -",
     ),
-    // by hand
     (
         "sip:u@c.example;maddr=192.0.2.9;transport=tcp",
         "false c.example. None Some(Known(Tcp)) 192.0.2.9",

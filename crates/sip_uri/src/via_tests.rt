@@ -100,7 +100,7 @@ const VIAS: [(&str, &str); 32] = [
         "SIP/2.0/TCP t5.example.com;branch=z9hG4bK0a9idfnee",
         "Known(Tcp) t5.example.com. None",
     ),
-    // RFC 5118 4.4, 4.5
+    // RFC 5118 4.5
     (
         "SIP/2.0/UDP [2001:db8::9:1];received=[2001:db8::9:255];branch=z9hG4bKas3-111",
         "Known(Udp) 2001:db8:0:0:0:0:9:1 None",
