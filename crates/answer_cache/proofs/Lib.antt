@@ -4,3 +4,4 @@ pub mod Costing
 pub mod Lookups
 pub mod Placing
 pub mod Seating
+pub mod Together

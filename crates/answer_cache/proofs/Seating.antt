@@ -17,7 +17,7 @@ use Rattle.answer_log.specs.declared.event.Event.{Event}
 use Rattle.answer_log.specs.declared.hand.Hand.{Hand}
 use Rattle.answer_log.specs.declared.store.Store.{Store}
 use Rattle.answer_cache.specs.Seats.{IsStored, Noted, Offer, offer_of}
-use Rattle.answer_cache.specs.Shared.{Belongs, SharedView, new_seat, view_of}
+use Rattle.answer_cache.specs.Shared.{Belongs, CacheView, SharedView, cache_view, new_seat, view_of}
 
 range-more : (from size : ℕ) → range_with_len from (suc size) ≡ range_with_len from size ++ (from + size) ∷ []
 range-more from zero = let same : from ≡ from + 0 = omega arith in ap (λ n. n ∷ []) same
@@ -26,19 +26,20 @@ range-more from (suc size) =
     ap (λ rest. from ∷ rest) (range-more (from + 1) size ∙ ap (λ n. range_with_len (from + 1) size ++ n ∷ []) same)
 
 -- one seat more
-pub seats-more : (book : Book) (size : ℕ) → map (new_seat book) (range_with_len 0 (size + 1)) ≡ map (new_seat book) (range_with_len 0 size) ++ new_seat book size ∷ []
-seats-more book size =
+pub seats-more : (cache : CacheView) (size : ℕ) → map (new_seat cache) (range_with_len 0 (size + 1)) ≡ map (new_seat cache) (range_with_len 0 size) ++ new_seat cache size ∷ []
+seats-more cache size =
     let next : size + 1 ≡ suc size = omega arith in
     let first : 0 + size ≡ size = omega arith in
-    ap (λ n. map (new_seat book) (range_with_len 0 n)) next
-    ∙ (ap (λ numbers. map (new_seat book) numbers) (range-more 0 size)
-    ∙ (map-append (new_seat book) (range_with_len 0 size) ((0 + size) ∷ []) ∙ ap (λ n. map (new_seat book) (range_with_len 0 size) ++ new_seat book n ∷ []) first))
+    ap (λ n. map (new_seat cache) (range_with_len 0 n)) next
+    ∙ (ap (λ numbers. map (new_seat cache) numbers) (range-more 0 size)
+    ∙ (map-append (new_seat cache) (range_with_len 0 size) ((0 + size) ∷ []) ∙ ap (λ n. map (new_seat cache) (range_with_len 0 size) ++ new_seat cache n ∷ []) first))
 
 -- what is dealt for a new seat
-pub new-view : (hand : Hand) (noted : Noted) (book its : Book) (number size : ℕ) → IsNew hand its number → its ≡ book → number ≡ size
-    → noted ≡ record { offered = []; links = 0; tries = 0 } → view_of hand noted ≡ new_seat book size
-new-view hand noted book its number size it same is none =
-    let at = it.book ∙ same in
+pub new-view : (hand : Hand) (noted : Noted) (cache : CacheView) (its : Book) (number seats size : ℕ) → IsNew hand its number seats
+    → cache_view its seats ≡ cache → number ≡ size
+    → noted ≡ record { offered = []; links = 0; tries = 0 } → view_of hand noted ≡ new_seat cache size
+new-view hand noted cache its number seats size it same is none =
+    let at : cache_view hand.book.book hand.seats ≡ cache = (λ i. cache_view (it.book i) (it.count i)) ∙ same in
     let n = it.number ∙ is in
     λ i. record {
       cache = at i;
@@ -51,9 +52,9 @@ all-of : {X : Type 0} (P : X → Type 0) → ((x : X) → P x) → (xs : List X)
 all-of P each [] = All-nil P
 all-of P each (x ∷ xs) = All-cons P x xs (each x) (all-of P each xs)
 
-pub new-belong : (book : Book) (size : ℕ) → All (Belongs book) (map (new_seat book) (range_with_len 0 size))
-new-belong book size = All-map (Belongs book) (new_seat book) (range_with_len 0 size) (all-of (λ n. Belongs book (new_seat book n)) (λ n. record {
-  cache = refl;
+pub new-belong : (cache : CacheView) (size : ℕ) → All (Belongs cache) (map (new_seat cache) (range_with_len 0 size))
+new-belong cache size = All-map (Belongs cache) (new_seat cache) (range_with_len 0 size) (all-of (λ n. Belongs cache (new_seat cache n)) (λ n. record {
+  made = refl;
   is = record { own = refl; history = record { sound = All-nil IsSound; few = λ group. search rules } };
 }) (range_with_len 0 size))
 

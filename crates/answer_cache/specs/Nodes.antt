@@ -58,6 +58,7 @@ pub record Costs (old new : Noted) (links tries : ℕ) : Type 0 where
 pub record Holds (book : Book) (old new : Hand) : Type 0 where
   pub hand : IsHand new
   pub number : new.number ≡ old.number
+  pub seats : new.seats ≡ old.seats
   pub same : new.book.book ≡ book
 
 -- what is to be placed: the log names the node so, and the pen writes its link

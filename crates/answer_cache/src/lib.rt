@@ -32,7 +32,8 @@
 //! ```
 //!
 //! `SharedCache` is the book that up to 64 seats share without a lock, each seat in a thread of its own. All seats see
-//! one history: of what two seats have seen, one is the beginning of the other. A seat sees what another had seen once
+//! one history: of what two seats have seen, one is the beginning of the other. Each store in it is of one of the seats,
+//! so their own stores together are the history. A seat sees what another had seen once
 //! it has learned that one's notice. A lookup takes no memory, and looks through all stores, the newest first: 4096 at
 //! most. A store is tried 16 times at most, and it may lose each try to stores of other seats.
 //!
@@ -66,7 +67,9 @@ pub use cache_refusal::CacheRefusal;
 pub use list_cache::{ListCache, ListSeat};
 pub use refusal::StoreRefusal;
 pub use rival::Rival;
-pub use seat::{Notice, Seat, notices_tell_one_history, seats_see_one_history};
+pub use seat::{
+    Notice, Seat, notices_tell_one_history, seats_see_one_history, stores_are_of_the_seats,
+};
 pub use shared_cache::SharedCache;
 
 #[cfg(test)]

@@ -1,9 +1,10 @@
 //! The seats of a shared cache, and what they tell each other.
-ghost use Rattle.std.specs.Prelude.{◌≡◌, ◌⊎◌};
+ghost use Rattle.std.specs.Prelude.{◌≡◌, ◌<◌, ◌⊎◌};
+ghost use Rattle.std.specs.List.{All};
 ghost use mathlib.Core.List.{IsPrefix};
 
 use crate::notes::Notes;
-use answer_log::{Book, Hand, histories_are_one};
+use answer_log::{Book, Hand, histories_are_one, log_keeps_its_rule};
 use std::marker::Model;
 
 /// A seat at a `SharedCache`. One thread uses it at a time, and it may be sent to another.
@@ -51,12 +52,12 @@ pub struct Notice {
 }
 
 impl Model for Notice {
-    ghost use Rattle.answer_log.specs.Logs.{history};
-    ghost use Rattle.answer_cache.specs.Shared.{Told};
+    ghost use Rattle.answer_log.specs.Logs.{history, seats_in};
+    ghost use Rattle.answer_cache.specs.Shared.{Told, cache_view};
 
     ghost Value = { Told };
 
-    ghost view = { λ it. record { cache = it.seen.book; seen = history it.seen.log } };
+    ghost view = { λ it. record { cache = cache_view it.seen.book (seats_in it.seen.log); seen = history it.seen.log } };
 }
 
 impl Notice {
@@ -69,6 +70,13 @@ impl Notice {
             seen: self.seen.again(),
         }
     }
+}
+
+/// A law: each store that a seat has seen is of one of the seats that the cache was made with.
+pub fn stores_are_of_the_seats(seat: &Seat)
+    ensures { All (λ store. store.seat < seat.now.cache.seats) seat.now.seat.seen }
+{
+    log_keeps_its_rule(&seat.hand.book);
 }
 
 /// A law: what two seats of a cache have seen is of one history.

@@ -15,7 +15,7 @@ ghost use Rattle.answer_log.specs.declared.store.Store.{Store};
 ghost use Rattle.dns_answers.specs.Records.{kind_of};
 ghost use Rattle.answer_cache.specs.Nodes.{Costs, Holds, IsLastOf, IsNode, IsReady, Meets, Says, WhyLost, WhyNoRoom, numbers_of, store_in};
 ghost use Rattle.answer_cache.specs.Seats.{GoesOn, IsRefused, IsStored, StoresNothing, offer_of};
-ghost use Rattle.answer_cache.specs.Shared.{Belongs, Takes, Refuses, new_seat};
+ghost use Rattle.answer_cache.specs.Shared.{Belongs, Takes, Refuses, cache_view, new_seat};
 ghost use Rattle.answer_log.specs.Walks.{Ahead};
 ghost use Rattle.answer_log.specs.declared.event.Event.{Event as Noticed};
 
@@ -60,16 +60,16 @@ pub struct SharedCache {
 }
 
 impl Model for SharedCache {
-    ghost use Rattle.std.specs.Prelude.{◌≡◌};
+    ghost use Rattle.std.specs.Prelude.{◌≡◌, length};
     ghost use Rattle.std.specs.List.{All};
-    ghost use Rattle.logbook.specs.Pages.{Book, book_coded};
     ghost use Rattle.answer_cache.specs.Nodes.{numbers_of};
+    ghost use Rattle.answer_cache.specs.Shared.{CacheView, cache_coded, cache_view};
 
-    ghost Value = { Book };
+    ghost Value = { CacheView };
 
-    ghost coded = { book_coded };
+    ghost coded = { cache_coded };
 
-    ghost view = { λ it. it.log };
+    ghost view = { λ it. cache_view it.log (length it.shelves.items) };
 
     ghost invariant = { λ it. All (λ shelf. shelf.tag ≡ numbers_of it.log) it.shelves.items };
 }
@@ -84,7 +84,8 @@ struct Wanted<'a> {
 
 /// An empty shelf for each seat.
 fn empty_shelves(alloc: Global, seats: usize, seen: &Book) -> Result<Vec<Shelf>, AllocError>
-    ensures { IfOk result (λ shelves. All (λ shelf. shelf.tag ≡ numbers_of seen.now.book) shelves.items) }
+    ensures tagged { IfOk result (λ shelves. All (λ shelf. shelf.tag ≡ numbers_of seen.now.book) shelves.items) }
+    ensures count { IfOk result (λ shelves. length shelves.items ≡ seats) }
 {
     let mut shelves = Vec::new(alloc);
     'shelves: for _seat in 0..seats {
@@ -95,10 +96,10 @@ fn empty_shelves(alloc: Global, seats: usize, seen: &Book) -> Result<Vec<Shelf>,
 
 /// The seats of a new log.
 fn new_seats(alloc: Global, seats: usize, hands: &mut Hands) -> Result<Vec<Seat>, AllocError>
-    requires count { seats ≤ 64 }
     requires hands { AreHands hands.old }
-    requires first { hands.old.next ≡ 0 }
-    ensures { IfOk result (λ made. made.items ≡ map (new_seat hands.old.seen.book) (range_with_len 0 seats)) }
+    requires first { (hands.old.next ≡ 0) × (hands.old.seats ≡ seats) }
+    ensures { IfOk result (λ made. made.items
+        ≡ map (new_seat (cache_view hands.old.seen.book seats)) (range_with_len 0 seats)) }
 {
     let mut made = Vec::new(alloc);
     'seats: for _seat in 0..seats {
@@ -116,7 +117,7 @@ impl SharedCache {
     /// # Errors
     /// `BadCount` outside 1 to 64 seats, and then `Memory`.
     pub fn new(alloc: Global, seats: usize) -> Result<(SharedCache, Vec<Seat>), CacheRefusal>
-        ensures count { OnOk result ((0 < seats) × (seats ≤ 64)) }
+        ensures count { IfOk result (λ made. (0 < seats) × (seats ≤ 64) × (made.0.seats ≡ seats)) }
         ensures seats { IfOk result (λ made. made.1.items ≡ map (new_seat made.0) (range_with_len 0 seats)) }
         ensures belong { IfOk result (λ made. All (Belongs made.0) made.1.items) }
         ensures refused { IfErr result (Refuses seats) }
@@ -124,7 +125,7 @@ impl SharedCache {
         if seats == 0 || seats > MOST_SEATS {
             return Err(CacheRefusal::BadCount);
         }
-        let (log, mut hands) = Log::open();
+        let (log, mut hands) = Log::open(seats as u64);
         let Ok(shelves) = empty_shelves(alloc, seats, &hands.seen) else {
             return Err(CacheRefusal::Memory);
         };
@@ -136,7 +137,7 @@ impl SharedCache {
 
     /// The node of a number.
     fn node(&self, number: u64) -> Option<&Node>
-        ensures { IfSome result (λ node. (node.now.node ≡ number) × IsNode self.now node.now) }
+        ensures { IfSome result (λ node. (node.now.node ≡ number) × IsNode self.now.book node.now) }
     {
         let at = number.checked_sub(1)?;
         let shelf = self.shelves.get((at % u64::from(GROUP_COUNT)) as usize)?;
@@ -150,11 +151,11 @@ impl SharedCache {
 
     /// The next node of a walk: one load of its link.
     fn step(&self, walk: &mut Walk, notes: &mut Notes) -> Result<Option<&Node>, AllocError>
-        requires book { walk.old.seen.book ≡ self.now }
+        requires book { walk.old.seen.book ≡ self.now.book }
         requires ahead { (left : List Store) × Ahead walk.old left }
-        ensures book { walk.new.seen.book ≡ self.now }
+        ensures book { walk.new.seen.book ≡ self.now.book }
         ensures met { IfOk result (λ found. (left : List Store) → Ahead walk.old left
-            → Meets self.now walk.new left (option_map (λ node. node.now) found)) }
+            → Meets self.now.book walk.new left (option_map (λ node. node.now) found)) }
         ensures tagged { IfOk result (λ found. IfSome found (λ node. node.now.tag ≡ hash_of (hashed_of node.now.question))) }
         ensures link { Costs notes.old.noted notes.new.noted 1 0 }
         ensures counted { IfOk result (λ found. IfSome found (λ _. notes.new.noted.links ≡ notes.old.noted.links + 1)) }
@@ -179,7 +180,7 @@ impl SharedCache {
         notes: &mut Notes,
         question: &Question,
     ) -> Result<Option<&Node>, AllocError>
-        requires book { walk.old.seen.book ≡ self.now }
+        requires book { walk.old.seen.book ≡ self.now.book }
         requires ahead { Ahead walk.old (history walk.old.seen.log) }
         ensures last { IfOk result (λ found. IsLastOf question.now (history walk.old.seen.log) (option_map (λ node. node.now) found)) }
         ensures costs { Costs notes.old.noted notes.new.noted 4096 0 }
@@ -198,7 +199,7 @@ impl SharedCache {
 
     /// Whether there are 64 stores of a group.
     fn is_full(&self, walk: &mut Walk, notes: &mut Notes, group: u8) -> Result<bool, AllocError>
-        requires book { walk.old.seen.book ≡ self.now }
+        requires book { walk.old.seen.book ≡ self.now.book }
         requires ahead { Ahead walk.old (history walk.old.seen.log) }
         ensures full { IfOk result (λ full. IsTrue full ↔ (64 ≤ length (in_group group (history walk.old.seen.log)))) }
         ensures costs { Costs notes.old.noted notes.new.noted 4096 0 }
@@ -227,8 +228,8 @@ impl SharedCache {
         question: &Question,
     ) -> Result<u64, StoreRefusal>
         requires hand { IsHand hand.old }
-        requires book { hand.old.book.book ≡ self.now }
-        ensures holds { Holds self.now hand.old hand.new }
+        requires book { hand.old.book.book ≡ self.now.book }
+        ensures holds { Holds self.now.book hand.old hand.new }
         ensures seen { SeesMore hand.old.number hand.old.book.log hand.new.book.log }
         ensures places { hand.new.places ≡ hand.old.places }
         ensures costs { Costs notes.old.noted notes.new.noted 4096 0 }
@@ -253,14 +254,14 @@ impl SharedCache {
         wanted: &Wanted<'_>,
     ) -> Result<(Pushed<Node, Global, Shelved>, Pen), AllocError>
         requires hand { IsHand hand.old }
-        requires book { hand.old.book.book ≡ self.now }
-        requires shelf { shelf.now.tag ≡ numbers_of self.now }
+        requires book { hand.old.book.book ≡ self.now.book }
+        requires shelf { shelf.now.tag ≡ numbers_of self.now.book }
         requires place { hand.old.places ≤ place }
-        ensures holds { Holds self.now hand.old hand.new }
+        ensures holds { Holds self.now.book hand.old hand.new }
         ensures seen { SeesMore hand.old.number hand.old.book.log hand.new.book.log }
         ensures shown { IfOk result (λ ready. Shows shelf.now ready.0) }
-        ensures ready { IfOk result (λ ready. (ready.1.book ≡ self.now)
-            × IsReady self.now hand.new.book.log hand.old.number ready.0.value ready.1.nib) }
+        ensures ready { IfOk result (λ ready. (ready.1.book ≡ self.now.book)
+            × IsReady self.now.book hand.new.book.log hand.old.number ready.0.value ready.1.nib) }
         ensures made { IfOk result (λ ready. Says ready.0.value wanted.now.question.now (arc_value wanted.now.answer.now) wanted.now.moment) }
     {
         if place >= MOST_PLACES {
@@ -297,13 +298,13 @@ impl SharedCache {
         wanted: &Wanted<'_>,
     ) -> Result<(Pushed<Node, Global, Shelved>, Pen), AllocError>
         requires hand { IsHand hand.old }
-        requires book { hand.old.book.book ≡ self.now }
-        requires shelf { shelf.now.tag ≡ numbers_of self.now }
-        ensures holds { Holds self.now hand.old hand.new }
+        requires book { hand.old.book.book ≡ self.now.book }
+        requires shelf { shelf.now.tag ≡ numbers_of self.now.book }
+        ensures holds { Holds self.now.book hand.old hand.new }
         ensures seen { SeesMore hand.old.number hand.old.book.log hand.new.book.log }
         ensures shown { IfOk result (λ ready. Shows shelf.now ready.0) }
-        ensures ready { IfOk result (λ ready. (ready.1.book ≡ self.now)
-            × IsReady self.now hand.new.book.log hand.old.number ready.0.value ready.1.nib) }
+        ensures ready { IfOk result (λ ready. (ready.1.book ≡ self.now.book)
+            × IsReady self.now.book hand.new.book.log hand.old.number ready.0.value ready.1.nib) }
         ensures made { IfOk result (λ ready. Says ready.0.value wanted.now.question.now (arc_value wanted.now.answer.now) wanted.now.moment) }
     {
         let place = hand.places;
@@ -333,11 +334,11 @@ impl SharedCache {
         rival: &mut V,
     ) -> bool
         requires hand { IsHand hand.old }
-        requires book { (hand.old.book.book ≡ self.now) × (pen.old.book ≡ self.now) }
-        requires ready { IsReady self.now hand.old.book.log hand.old.number node.now pen.old.nib }
+        requires book { (hand.old.book.book ≡ self.now.book) × (pen.old.book ≡ self.now.book) }
+        requires ready { IsReady self.now.book hand.old.book.log hand.old.number node.now pen.old.nib }
         requires sound { IsSound (store_in hand.old.number node.now) }
         requires room { HadRoom hand.old.book.log old node.now.question }
-        ensures holds { Holds self.now hand.old hand.new }
+        ensures holds { Holds self.now.book hand.old hand.new }
         ensures costs { Costs notes.old.noted notes.new.noted 0 1 }
         ensures counted { notes.new.noted.tries ≡ notes.old.noted.tries + 1 }
         ensures placed { MatchBool result
@@ -347,7 +348,7 @@ impl SharedCache {
             ((seen : List Noticed) → IsPrefix seen hand.old.book.log → top seen ≡ old
             → length (history seen) < length (history hand.new.book.log)) }
         ensures again { MatchBool result (Unit {0})
-            ((pen.new.book ≡ self.now) × IsReady self.now hand.new.book.log hand.old.number node.now pen.new.nib) }
+            ((pen.new.book ≡ self.now.book) × IsReady self.now.book hand.new.book.log hand.old.number node.now pen.new.nib) }
     {
         rival.between(number);
         *notes = notes.with_try();
@@ -373,11 +374,11 @@ impl SharedCache {
         rival: &mut V,
     ) -> Result<(), StoreRefusal>
         requires hand { IsHand hand.old }
-        requires book { (hand.old.book.book ≡ self.now) × (pen.book ≡ self.now) }
-        requires ready { IsReady self.now hand.old.book.log hand.old.number node.now pen.nib }
+        requires book { (hand.old.book.book ≡ self.now.book) × (pen.book ≡ self.now.book) }
+        requires ready { IsReady self.now.book hand.old.book.log hand.old.number node.now pen.nib }
         requires sound { IsSound (store_in hand.old.number node.now) }
         requires room { HadRoom hand.old.book.log old node.now.question }
-        ensures holds { Holds self.now hand.old hand.new }
+        ensures holds { Holds self.now.book hand.old hand.new }
         ensures costs { Costs notes.old.noted notes.new.noted (15 * 4096) 16 }
         ensures competed { MatchResult result
             (λ _. EndsWith (store_in hand.old.number node.now) (history hand.old.book.log) (history hand.new.book.log))
@@ -407,9 +408,9 @@ impl SharedCache {
         rival: &mut V,
     ) -> Result<(), StoreRefusal>
         requires hand { IsHand hand.old }
-        requires book { hand.old.book.book ≡ self.now }
+        requires book { hand.old.book.book ≡ self.now.book }
         requires sound { IsSound (store_by hand.old.number wanted.now.question.now (arc_value wanted.now.answer.now) wanted.now.moment) }
-        ensures holds { Holds self.now hand.old hand.new }
+        ensures holds { Holds self.now.book hand.old hand.new }
         ensures costs { Costs notes.old.noted notes.new.noted (16 * 4096) 16 }
         ensures put { MatchResult result
             (λ _. EndsWith (store_by hand.old.number wanted.now.question.now (arc_value wanted.now.answer.now) wanted.now.moment) (history hand.old.book.log) (history hand.new.book.log))

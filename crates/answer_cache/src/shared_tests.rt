@@ -1,7 +1,7 @@
 //! Stores of several seats at once.
-ghost use Rattle.std.specs.Prelude.{◌≡◌, ◌+◌, ◌<◌, IfSome, OnErr, OnOk, length};
-ghost use Rattle.std.specs.List.{All};
-ghost use Rattle.answer_cache.specs.Shared.{Belongs};
+ghost use Rattle.std.specs.Prelude.{◌≡◌, ◌+◌, ◌<◌, IfSome, OnErr, OnOk, length, map};
+ghost use Rattle.std.specs.List.{All, range_with_len};
+ghost use Rattle.answer_cache.specs.Shared.{Belongs, HasStored, new_seat};
 
 use crate::tests::{answer_of, question_of, two_seats};
 use crate::*;
@@ -146,6 +146,7 @@ fn store_at(
 ) -> Option<Result<(), StoreRefusal>>
     requires { Belongs cache.now seat.old }
     ensures made_here { Belongs cache.now seat.new }
+    ensures number { seat.new.seat.number ≡ seat.old.seat.number }
     ensures taken { IfSome result (λ said. OnOk said (length seat.new.seat.own ≡ length seat.old.seat.own + 1)) }
     ensures refused { IfSome result (λ said. OnErr said (seat.new.seat.own ≡ seat.old.seat.own)) }
 {
@@ -162,10 +163,9 @@ fn store_in_turn(
     mut seat: Seat,
     number: u32,
 ) -> Option<Work>
-    requires made_here { Belongs cache.now seat }
+    requires seat { HasStored cache.now number 0 seat }
     requires number { number < 4 }
-    ensures made_here { IfSome result (λ done. Belongs cache.now done.seat) }
-    ensures own { IfSome result (λ done. length done.seat.seat.own ≡ length seat.seat.own + done.taken) }
+    ensures { IfSome result (λ done. HasStored cache.now number done.taken done.seat) }
 {
     let mut taken = 0usize;
     let mut lasts = [0; QUESTIONS];
@@ -192,31 +192,31 @@ fn work_by_two<R: Threads + Wait + AllocGlobal + Sync>(
     second: Seat,
     number: u32,
 ) -> Option<(Work, Work)>
-    requires first { Belongs cache.now first }
-    requires second { Belongs cache.now second }
+    requires first { HasStored cache.now number 0 first }
+    requires second { HasStored cache.now (number + 1) 0 second }
     requires number { number < 3 }
-    ensures first { IfSome result (λ done. Belongs cache.now done.0.seat) }
-    ensures second { IfSome result (λ done. Belongs cache.now done.1.seat) }
+    ensures first { IfSome result (λ done. HasStored cache.now number done.0.taken done.0.seat) }
+    ensures second { IfSome result (λ done. HasStored cache.now (number + 1) done.1.taken done.1.seat) }
 {
     let (first, second) = join(
         rt,
         || -> Option<Work>
-            requires { Belongs cache.now first × (number < 3) }
-            ensures { IfSome result (λ done. Belongs cache.entry.now done.seat) }
+            requires { HasStored cache.now number 0 first × (number < 3) }
+            ensures { IfSome result (λ done. HasStored cache.entry.now number done.taken done.seat) }
         { store_in_turn(rt, cache, first, number) },
         || -> Option<Work>
-            requires { Belongs cache.now second × (number < 3) }
-            ensures { IfSome result (λ done. Belongs cache.entry.now done.seat) }
+            requires { HasStored cache.now (number + 1) 0 second × (number < 3) }
+            ensures { IfSome result (λ done. HasStored cache.entry.now (number + 1) done.taken done.seat) }
         { store_in_turn(rt, cache, second, number + 1) },
     );
     Some((first?, second?))
 }
 
-/// Four seats.
+/// The four seats of a new cache.
 fn four_of(cache: &SharedCache, mut seats: Vec<Seat>) -> Option<((Seat, Seat), (Seat, Seat))>
-    requires { All (Belongs cache.now) seats.items }
-    ensures left { IfSome result (λ four. Belongs cache.now four.0.0 × Belongs cache.now four.0.1) }
-    ensures right { IfSome result (λ four. Belongs cache.now four.1.0 × Belongs cache.now four.1.1) }
+    requires { seats.items ≡ map (new_seat cache.now) (range_with_len 0 4) }
+    ensures left { IfSome result (λ four. HasStored cache.now 0 0 four.0.0 × HasStored cache.now 1 0 four.0.1) }
+    ensures right { IfSome result (λ four. HasStored cache.now 2 0 four.1.0 × HasStored cache.now 3 0 four.1.1) }
 {
     let fourth = seats.pop()?;
     let third = seats.pop()?;
@@ -232,47 +232,76 @@ fn work_by_four<R: Threads + Wait + AllocGlobal + Sync>(
     left: (Seat, Seat),
     right: (Seat, Seat),
 ) -> Option<((Work, Work), (Work, Work))>
-    requires left { Belongs cache.now left.0 × Belongs cache.now left.1 }
-    requires right { Belongs cache.now right.0 × Belongs cache.now right.1 }
-    ensures left { IfSome result (λ done. Belongs cache.now done.0.0.seat × Belongs cache.now done.0.1.seat) }
-    ensures right { IfSome result (λ done. Belongs cache.now done.1.0.seat × Belongs cache.now done.1.1.seat) }
+    requires left { HasStored cache.now 0 0 left.0 × HasStored cache.now 1 0 left.1 }
+    requires right { HasStored cache.now 2 0 right.0 × HasStored cache.now 3 0 right.1 }
+    ensures first { IfSome result (λ done. HasStored cache.now 0 done.0.0.taken done.0.0.seat) }
+    ensures second { IfSome result (λ done. HasStored cache.now 1 done.0.1.taken done.0.1.seat) }
+    ensures third { IfSome result (λ done. HasStored cache.now 2 done.1.0.taken done.1.0.seat) }
+    ensures fourth { IfSome result (λ done. HasStored cache.now 3 done.1.1.taken done.1.1.seat) }
 {
     let (first, second) = left;
     let (third, fourth) = right;
     let (left, right) = join(
         rt,
         || -> Option<(Work, Work)>
-            requires { Belongs cache.now first × Belongs cache.now second }
-            ensures { IfSome result (λ done. Belongs cache.entry.now done.0.seat × Belongs cache.entry.now done.1.seat) }
+            requires { HasStored cache.now 0 0 first × HasStored cache.now 1 0 second }
+            ensures { IfSome result (λ done. HasStored cache.entry.now 0 done.0.taken done.0.seat
+                × HasStored cache.entry.now 1 done.1.taken done.1.seat) }
         { work_by_two(rt, cache, first, second, 0) },
         || -> Option<(Work, Work)>
-            requires { Belongs cache.now third × Belongs cache.now fourth }
-            ensures { IfSome result (λ done. Belongs cache.entry.now done.0.seat × Belongs cache.entry.now done.1.seat) }
+            requires { HasStored cache.now 2 0 third × HasStored cache.now 3 0 fourth }
+            ensures { IfSome result (λ done. HasStored cache.entry.now 2 done.0.taken done.0.seat
+                × HasStored cache.entry.now 3 done.1.taken done.1.seat) }
         { work_by_two(rt, cache, third, fourth, 2) },
     );
     Some((left?, right?))
 }
 
-/// Whether a seat finds the last store of some seat for each question, once it has learned what all have seen.
-fn last_stores_are_found(
-    alloc: Global,
-    cache: &SharedCache,
-    left: (Work, Work),
-    right: (Work, Work),
-) -> Option<bool>
-    requires left { Belongs cache.now left.0.seat × Belongs cache.now left.1.seat }
-    requires right { Belongs cache.now right.0.seat × Belongs cache.now right.1.seat }
+/// A seat that has learned what all have seen, and the last stores of all.
+#[derive(Drop)]
+struct Joined {
+    seat: Seat,
+    lasts: [[u32; QUESTIONS]; 4],
+}
+
+/// Lets the first seat learn what all have seen, and each other one what that has seen then. The history has as many
+/// stores as were taken.
+fn join_all(cache: &SharedCache, left: (Work, Work), right: (Work, Work)) -> Joined
+    requires four { cache.now.seats ≡ 4 }
+    requires first { HasStored cache.now 0 left.0.taken left.0.seat }
+    requires second { HasStored cache.now 1 left.1.taken left.1.seat }
+    requires third { HasStored cache.now 2 right.0.taken right.0.seat }
+    requires fourth { HasStored cache.now 3 right.1.taken right.1.seat }
+    ensures made_here { Belongs cache.now result.seat }
+    ensures all { length result.seat.seat.seen ≡ left.0.taken + left.1.taken + right.0.taken + right.1.taken }
 {
     let (first, second) = left;
     let (third, fourth) = right;
-    let lasts = [first.lasts, second.lasts, third.lasts, fourth.lasts];
+    let (firsts, seconds) = (first.lasts, second.lasts);
+    let (thirds, fourths) = (third.lasts, fourth.lasts);
     let mut seat = first.seat;
-    let second = second.seat;
-    let third = third.seat;
-    let fourth = fourth.seat;
+    let mut second = second.seat;
+    let mut third = third.seat;
+    let mut fourth = fourth.seat;
     cache.learn(&mut seat, &second.notice());
     cache.learn(&mut seat, &third.notice());
     cache.learn(&mut seat, &fourth.notice());
+    let notice = seat.notice();
+    cache.learn(&mut second, &notice);
+    cache.learn(&mut third, &notice);
+    cache.learn(&mut fourth, &notice);
+    stores_are_of_the_seats(&seat);
+    Joined {
+        seat,
+        lasts: [firsts, seconds, thirds, fourths],
+    }
+}
+
+/// Whether the seat finds the last store of some seat for each question.
+fn last_stores_are_found(alloc: Global, cache: &SharedCache, joined: Joined) -> Option<bool>
+    requires { Belongs cache.now joined.seat }
+{
+    let Joined { mut seat, lasts } = joined;
     'questions: for number in 0..QUESTIONS {
         let question = question_at(alloc, number)?;
         let found = cache.lookup(&mut seat, &question, Moment::new(100)?);
@@ -289,8 +318,9 @@ fn four_threads(rt: HostRuntime) -> Result<(), Fail> {
     let (cache, seats) = SharedCache::new(rt.alloc(), 4).ok().ok_or("a cache")?;
     let (left, right) = four_of(&cache, seats).ok_or("four seats")?;
     let (left, right) = work_by_four(&rt, &cache, left, right).ok_or("memory")?;
+    let joined = join_all(&cache, left, right);
     assert_eq!(rt;
-        last_stores_are_found(rt.alloc(), &cache, left, right),
+        last_stores_are_found(rt.alloc(), &cache, joined),
         Some(true)
     );
     Ok(())

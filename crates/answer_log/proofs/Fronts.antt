@@ -1,17 +1,18 @@
 -- What holds of the front of a log that keeps the rule.
-use Rattle.std.proofs.Common.{◌==◌, List, ◌++◌, length, ap, sym, ◌∙◌, subst, arith}
+use Rattle.std.proofs.Common.{◌≡◌, ◌==◌, ◌<◌, ℕ, inl, inr, List, [], ◌∷◌, ◌++◌, length, refl, ap, sym, ◌∙◌, subst, arith}
 use Rattle.std.proofs.lemmas.List.{length-append}
 use Rattle.std.proofs.Math.Seq.{take-append_seam}
-use Rattle.std.proofs.lemmas.List.Elements.{filter-append, All-take}
+use Rattle.std.proofs.lemmas.List.Elements.{filter-append, All-cons, All-nil, All-take}
+use Rattle.std.specs.List.{All}
 use Rattle.logbook.specs.Pages.{Cell}
 use mathlib.Core.List.{IsPrefix}
 use Rattle.answer_log.specs.Hands.{IsLog}
 use Rattle.answer_log.specs.Groups.{group_of}
 use Rattle.answer_log.specs.Histories.{IsHistory, IsSound, in_group}
-use Rattle.answer_log.specs.Logs.{history, In}
+use Rattle.answer_log.specs.Logs.{history, seats_in, In}
 use Rattle.answer_log.specs.Rules.{IsKept}
 use Rattle.answer_log.specs.declared.event.Event.{Event}
-use Rattle.answer_log.specs.declared.event.Event.TheVariants.{Placed}
+use Rattle.answer_log.specs.declared.event.Event.TheVariants.{Asks, Named, Opened, Placed}
 use Rattle.answer_log.specs.declared.store.Store.{Store}
 use Rattle.answer_log.proofs.Logs.{history-append, in-here, in-left}
 use Rattle.answer_log.proofs.Moving.{some-name}
@@ -27,12 +28,32 @@ front-history stores more it = record {
       omega arith;
 }
 
+-- what holds of each store that was placed
+all-placed : (P : Store → Type 0) (log : List Event) → ((node : ℕ) (store : Store) (link : ℕ) → In (Placed node store link) log → P store) → All P (history log)
+all-placed P [] each = All-nil P
+all-placed P (Opened seats ∷ log) each = all-placed P log (λ node store link i. each node store link (inr i))
+all-placed P (Asks seat count ∷ log) each = all-placed P log (λ node store link i. each node store link (inr i))
+all-placed P (Named node store link ∷ log) each = all-placed P log (λ n x l i. each n x l (inr i))
+all-placed P (Placed node store link ∷ log) each =
+    All-cons P store (history log) (each node store link (inl refl)) (all-placed P log (λ n x l i. each n x l (inr i)))
+
+-- a log in which something stands goes on with the seats that it was opened for
+seats-front : (e : Event) (log more : List Event) → In e log → seats_in (log ++ more) ≡ seats_in log
+seats-front e [] more i = absurd i
+seats-front e (first ∷ log) more i = refl
+
 pub front-log : (cells : List Cell) (log whole : List Event) → IsPrefix log whole → IsKept cells whole → IsLog log
 front-log cells log whole pre kept =
     let H : List Store → Type 0 = λ stores. IsHistory stores in
     let I : List Event → Type 0 = λ events. IsKept cells events in
     let stores = front-history (history log) (history pre.0)
     (subst H (ap history (sym pre.1) ∙ history-append log pre.0) kept.history) in record {
+      seats = all-placed (λ store. store.seat < seats_in log) log (λ node store link i.
+          let E : List Event → Type 0 = λ events. In (Placed node store link) events in
+          let there = subst E pre.1 (in-left (Placed node store link) log pre.0 i) in
+          let low = (kept.named node store link (kept.twins node store link there)).0 in
+          let same = ap seats_in (sym pre.1) ∙ seats-front (Placed node store link) log pre.0 i in
+          omega arith);
       size = few-stores (history log) stores.few;
       nodes = λ before after node store link split.
           let E : List Event → Type 0 = λ events. In (Placed node store link) events in

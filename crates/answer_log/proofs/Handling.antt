@@ -8,20 +8,21 @@ use Rattle.logbook.specs.Pages.{Nib, Book, Named as Word}
 use Rattle.answer_log.specs.Counts.{count}
 use Rattle.answer_log.specs.Hands.{EndsWith, IsHand, IsNamed, SeesMore}
 use Rattle.answer_log.specs.Histories.{mine}
-use Rattle.answer_log.specs.Logs.{seat_of, history, top, top_from, Quiet, In}
+use Rattle.answer_log.specs.Logs.{seat_of, seats_in, history, top, top_from, Quiet, In}
 use Rattle.answer_log.specs.Rules.{node_at}
 use Rattle.answer_log.specs.Steps.{Adds, Fits, NamesBelow, Same, Stays}
 use Rattle.answer_log.specs.declared.event.Event.{Event}
-use Rattle.answer_log.specs.declared.event.Event.TheVariants.{Asks, Named, Placed}
+use Rattle.answer_log.specs.declared.event.Event.TheVariants.{Asks, Named, Opened, Placed}
 use Rattle.answer_log.specs.declared.hand.Hand.{Hand}
 use Rattle.answer_log.specs.declared.store.Store.{Store}
 use Rattle.answer_log.specs.declared.tally.Tally.{Tally}
 use Rattle.answer_log.proofs.Counting.{count-same, count-here}
-use Rattle.answer_log.proofs.Logs.{history-append, top-append, quiet-in, in-cases, in-left, last_placed, prefix_trans}
+use Rattle.answer_log.proofs.Logs.{history-append, seats-append, top-append, quiet-in, in-cases, in-left, last_placed, prefix_trans}
 
 -- a log that is quiet of a seat has no stores of it
 own-quiet : (seat : ℕ) (events : List Event) → Quiet seat events → mine (history events) seat ≡ []
 own-quiet seat [] quiet = refl
+own-quiet seat (Opened t ∷ rest) quiet = own-quiet seat rest quiet.1
 own-quiet seat (Asks s t ∷ rest) quiet = own-quiet seat rest quiet.1
 own-quiet seat (Named n x l ∷ rest) quiet = own-quiet seat rest quiet.1
 own-quiet seat (Placed n x l ∷ rest) quiet = rw (ne_eqb x.seat seat quiet.0) (own-quiet seat rest quiet.1)
@@ -52,6 +53,15 @@ names_on old more new seat place whole quiet low n x l i same =
       | inr j ↦ absurd (quiet-in seat more (Named n x l) quiet j same)
     ]
 
+-- a hand goes on with the seats that its log was opened for
+seats_on : (h k : Hand) (more : List Event) → IsHand h → k.seats ≡ h.seats → h.book.log ++ more ≡ k.book.log → seats_in k.book.log ≡ k.seats
+seats_on h k more hand same grown =
+    let some : 0 < seats_in h.book.log = (let seats = hand.seats in let below = hand.below in omega arith) in
+    ap seats_in (sym grown) ∙ (seats-append h.book.log more some ∙ (hand.seats ∙ sym same))
+
+below_on : (h k : Hand) → IsHand h → k.number ≡ h.number → k.seats ≡ h.seats → k.number < k.seats
+below_on h k hand number seats = let below = hand.below in omega arith
+
 -- a hand whose book has grown, with nothing of its seat
 hand_quiet : (h : Hand) (more new : List Event) → IsHand h → h.book.log ++ more ≡ new → count h.number new ≡ h.tally.count → Quiet h.number more
 hand_quiet h more new hand grown same = count-same h.number h.book.log more new grown (same ∙ sym hand.counted)
@@ -61,11 +71,13 @@ fits_on h k hand number names stays =
     let F : ℕ → Type 0 = λ n. n < 64 in
     (stays.0, ap (λ n. n ∷ []) stays.1 ∙ (hand.fits.1 ∙ sym names), stays.2 ∙ (hand.fits.2 ∙ sym number), subst F (sym number) hand.fits.3)
 
-pub hand_on : (h k : Hand) (more : List Event) → IsHand h → k.number ≡ h.number → k.places ≡ h.places → k.book.names ≡ h.book.names → Same h.tally k.tally (count h.number k.book.log) → h.book.log ++ more ≡ k.book.log
+pub hand_on : (h k : Hand) (more : List Event) → IsHand h → k.number ≡ h.number → k.seats ≡ h.seats → k.places ≡ h.places → k.book.names ≡ h.book.names → Same h.tally k.tally (count h.number k.book.log) → h.book.log ++ more ≡ k.book.log
     → IsHand k
-hand_on h k more hand number places names same grown =
+hand_on h k more hand number seats places names same grown =
     let N : ℕ → Type 0 = λ n. NamesBelow n k.places k.book.log in
     let M : ℕ → Type 0 = λ n. NamesBelow h.number n k.book.log in record {
+      seats = seats_on h k more hand seats grown;
+      below = below_on h k hand number seats;
       fits = fits_on h k hand number names same.0;
       counted = ap (λ n. count n k.book.log) number ∙ (same.2 ∙ sym same.1);
       names = subst N (sym number) (subst M (sym places) (names_on h.book.log more k.book.log h.number h.places grown (hand_quiet h more k.book.log hand grown same.2) hand.names));
@@ -89,10 +101,10 @@ pub names_more : (seat p q : ℕ) (log : List Event) → p ≤ q → NamesBelow 
 names_more seat p q log le low n x l i same = let h = low n x l i same in omega arith
 
 -- a hand after an event of its seat
-pub hand_adds : (h k : Hand) (e : Event) → IsHand h → Adds e h.tally h.book.log k.book.log → k.number ≡ h.number → h.places ≤ k.places → k.book.names ≡ h.book.names → Stays h.tally k.tally → k.tally.count ≡ h.tally.count + 1 → seat_of e ≡ h.number
+pub hand_adds : (h k : Hand) (e : Event) → IsHand h → Adds e h.tally h.book.log k.book.log → k.number ≡ h.number → k.seats ≡ h.seats → h.places ≤ k.places → k.book.names ≡ h.book.names → Stays h.tally k.tally → k.tally.count ≡ h.tally.count + 1 → seat_of e ≡ h.number
     → ((n : ℕ) (x : Store) (l : ℕ) → e ≡ Named n x l → n < node_at h.number k.places)
     → IsHand k
-hand_adds h k e hand a number places names stays more seat new =
+hand_adds h k e hand a number seats places names stays more seat new =
     let quiet = adds_quiet h e k.book.log hand a seat in
     let N : ℕ → Type 0 = λ n. NamesBelow n k.places k.book.log in
     let L : List Event → Type 0 = λ l. NamesBelow h.number k.places l in
@@ -100,6 +112,8 @@ hand_adds h k e hand a number places names stays more seat new =
     let was : count h.number (h.book.log ++ a.0) ≡ h.tally.count = ap (λ n. count n (h.book.log ++ a.0)) (sym seat) ∙ a.2 in
     let one : count h.number k.book.log ≡ suc (count h.number (h.book.log ++ a.0)) = ap (count h.number) a.1 ∙ count-here h.number (h.book.log ++ a.0) e seat in
     let all : count h.number k.book.log ≡ k.tally.count = omega (arith, one, was, more) in record {
+      seats = seats_on h k (a.0 ++ e ∷ []) hand seats (sym (append_assoc h.book.log a.0 (e ∷ [])) ∙ sym a.1);
+      below = below_on h k hand number seats;
       fits = fits_on h k hand number names stays;
       counted = ap (λ n. count n k.book.log) number ∙ all;
       names = subst N (sym number) (subst L (sym a.1) (names_new (h.book.log ++ a.0) e h.number k.places low new));
@@ -157,12 +171,12 @@ Tried won h new tally n x l old before after = MatchBool won (Adds (Placed n x l
     ((old ≢ top new) × (after ≡ before) × Same h.tally tally (count x.seat new))
 
 module _ (h : Hand) (n : ℕ) (x : Store) (l old : ℕ) (before after : Nib) (hand : IsHand h) (seat : x.seat ≡ h.number) where
-  pub tried_hand : (k : Hand) → k.number ≡ h.number → k.places ≡ h.places → k.book.names ≡ h.book.names → Stays h.tally k.tally → IsPrefix h.book.log k.book.log
+  pub tried_hand : (k : Hand) → k.number ≡ h.number → k.seats ≡ h.seats → k.places ≡ h.places → k.book.names ≡ h.book.names → Stays h.tally k.tally → IsPrefix h.book.log k.book.log
       → (won : Bool) → Tried won h k.book.log k.tally n x l old before after → IsHand k
-  tried_hand k number places names stays pre true m =
-      hand_adds h k (Placed n x l) hand m.0 number (omega (arith, places)) names stays m.1 seat (placed_low h.number k.places n x l)
-  tried_hand k number places names stays pre false m =
-      hand_on h k pre.0 hand number places names (m.2.0, m.2.1, ap (λ s. count s k.book.log) (sym seat) ∙ m.2.2) pre.1
+  tried_hand k number seats places names stays pre true m =
+      hand_adds h k (Placed n x l) hand m.0 number seats (omega (arith, places)) names stays m.1 seat (placed_low h.number k.places n x l)
+  tried_hand k number seats places names stays pre false m =
+      hand_on h k pre.0 hand number seats places names (m.2.0, m.2.1, ap (λ s. count s k.book.log) (sym seat) ∙ m.2.2) pre.1
 
   pub tried_sees : (new : List Event) (tally : Tally) → IsPrefix h.book.log new → (won : Bool) → Tried won h new tally n x l old before after
       → MatchBool won (EndsWith x (history h.book.log) (history new)) (SeesMore h.number h.book.log new)

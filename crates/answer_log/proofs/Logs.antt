@@ -1,32 +1,47 @@
 -- What stands in a log, and what follows when it grows.
-use Rattle.std.proofs.Common.{◌≡◌, ◌≢◌, ℕ, ◌<◌, ◌⊎◌, inl, inr, true, List, [], ◌∷◌, ◌++◌, refl, ap, sym, ◌∙◌, subst, append_assoc}
+use Rattle.std.proofs.Common.{◌≡◌, ◌≢◌, ℕ, ◌<◌, ◌⊎◌, inl, inr, true, List, [], ◌∷◌, ◌++◌, refl, ap, sym, ◌∙◌, subst, append_assoc, arith}
 use mathlib.Core.List.{IsPrefix}
 use Rattle.logbook.specs.Pages.{Cell, cell}
 use Rattle.answer_log.specs.declared.store.Store.{Store}
 use Rattle.answer_log.specs.declared.event.Event.{Event}
-use Rattle.answer_log.specs.declared.event.Event.TheVariants.{Asks, Named, Placed}
-use Rattle.answer_log.specs.Logs.{seat_of, history, top_from, top, Linked, Quiet, In, Unplaced, Once}
+use Rattle.answer_log.specs.declared.event.Event.TheVariants.{Asks, Named, Opened, Placed}
+use Rattle.answer_log.specs.Logs.{seat_of, seats_in, history, top_from, top, Linked, Quiet, In, Unplaced, Once}
 
 pub history-append : (xs ys : List Event) → history (xs ++ ys) ≡ history xs ++ history ys
 history-append [] ys = refl
+history-append (Opened t ∷ xs) ys = history-append xs ys
 history-append (Asks s t ∷ xs) ys = history-append xs ys
 history-append (Named n x l ∷ xs) ys = history-append xs ys
 history-append (Placed n x l ∷ xs) ys = ap (λ w. x ∷ w) (history-append xs ys)
 
+-- a log goes on with the seats that it was opened for
+pub seats-append : (xs ys : List Event) → 0 < seats_in xs → seats_in (xs ++ ys) ≡ seats_in xs
+seats-append [] ys some = absurd (omega arith)
+seats-append (e ∷ xs) ys some = refl
+
+pub seat-append : (s : ℕ) (xs ys : List Event) → s < seats_in xs → s < seats_in (xs ++ ys)
+seat-append s xs ys low = let same = seats-append xs ys (omega arith) in omega arith
+
+pub seat-prefix : (s : ℕ) (old new : List Event) → IsPrefix old new → s < seats_in old → s < seats_in new
+seat-prefix s old new p low = let S : List Event → Type 0 = λ log. s < seats_in log in subst S p.1 (seat-append s old p.0 low)
+
 pub top-append : (p : ℕ) (xs ys : List Event) → top_from p (xs ++ ys) ≡ top_from (top_from p xs) ys
 top-append p [] ys = refl
+top-append p (Opened t ∷ xs) ys = top-append p xs ys
 top-append p (Asks s t ∷ xs) ys = top-append p xs ys
 top-append p (Named n x l ∷ xs) ys = top-append p xs ys
 top-append p (Placed n x l ∷ xs) ys = top-append n xs ys
 
 pub linked-right : (cs : List Cell) (p : ℕ) (xs ys : List Event) → Linked cs p (xs ++ ys) → Linked cs (top_from p xs) ys
 linked-right cs p [] ys h = h
+linked-right cs p (Opened t ∷ xs) ys h = linked-right cs p xs ys h
 linked-right cs p (Asks s t ∷ xs) ys h = linked-right cs p xs ys h
 linked-right cs p (Named n x l ∷ xs) ys h = linked-right cs p xs ys h
 linked-right cs p (Placed n x l ∷ xs) ys h = linked-right cs n xs ys h.2
 
 pub linked-append : (cs : List Cell) (p : ℕ) (xs ys : List Event) → Linked cs p xs → Linked cs (top_from p xs) ys → Linked cs p (xs ++ ys)
 linked-append cs p [] ys h r = r
+linked-append cs p (Opened t ∷ xs) ys h r = linked-append cs p xs ys h r
 linked-append cs p (Asks s t ∷ xs) ys h r = linked-append cs p xs ys h r
 linked-append cs p (Named n x l ∷ xs) ys h r = linked-append cs p xs ys h r
 linked-append cs p (Placed n x l ∷ xs) ys h r = (h.0, h.1, linked-append cs n xs ys h.2 r)
@@ -37,6 +52,7 @@ Keeps cs cs' = (l v : ℕ) → 1 < l → cell cs l ≡ (v, true) → cell cs' l 
 
 pub linked-map : (cs cs' : List Cell) (p : ℕ) (xs : List Event) → Keeps cs cs' → Linked cs p xs → Linked cs' p xs
 linked-map cs cs' p [] k h = tt
+linked-map cs cs' p (Opened t ∷ xs) k h = linked-map cs cs' p xs k h
 linked-map cs cs' p (Asks s t ∷ xs) k h = linked-map cs cs' p xs k h
 linked-map cs cs' p (Named n x l ∷ xs) k h = linked-map cs cs' p xs k h
 linked-map cs cs' p (Placed n x l ∷ xs) k h = (h.0, k l p h.0 h.1, linked-map cs cs' n xs k h.2)
@@ -81,6 +97,7 @@ last-later e p xs node h = record { before = e ∷ h.before; store = h.store; li
 
 pub last_placed : (p : ℕ) (xs : List Event) → LastPlaced p xs
 last_placed p [] = inl (refl, refl)
+last_placed p (Opened t ∷ xs) = elim (last_placed p xs) [ inl h ↦ inl h | inr h ↦ inr (last-later (Opened t) p xs (top_from p xs) h) ]
 last_placed p (Asks s t ∷ xs) = elim (last_placed p xs) [ inl h ↦ inl h | inr h ↦ inr (last-later (Asks s t) p xs (top_from p xs) h) ]
 last_placed p (Named n x l ∷ xs) = elim (last_placed p xs) [ inl h ↦ inl h | inr h ↦ inr (last-later (Named n x l) p xs (top_from p xs) h) ]
 last_placed p (Placed n x l ∷ xs) = elim (last_placed n xs) [
@@ -93,18 +110,21 @@ prefix_trans xs ys zs p q = (p.0 ++ q.0, sym (append_assoc xs p.0 q.0) ∙ (ap (
 
 unplaced-right : (n : ℕ) (xs ys : List Event) → Unplaced n (xs ++ ys) → Unplaced n ys
 unplaced-right n [] ys h = h
+unplaced-right n (Opened t ∷ xs) ys h = unplaced-right n xs ys h
 unplaced-right n (Asks s t ∷ xs) ys h = unplaced-right n xs ys h
 unplaced-right n (Named m x l ∷ xs) ys h = unplaced-right n xs ys h
 unplaced-right n (Placed m x l ∷ xs) ys h = unplaced-right n xs ys h.1
 
 unplaced-append : (n : ℕ) (xs ys : List Event) → Unplaced n xs → Unplaced n ys → Unplaced n (xs ++ ys)
 unplaced-append n [] ys h r = r
+unplaced-append n (Opened t ∷ xs) ys h r = unplaced-append n xs ys h r
 unplaced-append n (Asks s t ∷ xs) ys h r = unplaced-append n xs ys h r
 unplaced-append n (Named m x l ∷ xs) ys h r = unplaced-append n xs ys h r
 unplaced-append n (Placed m x l ∷ xs) ys h r = (h.0, unplaced-append n xs ys h.1 r)
 
 pub unplaced-of : (n : ℕ) (xs : List Event) → ((x : Store) (l : ℕ) → In (Placed n x l) xs → ⊥) → Unplaced n xs
 unplaced-of n [] h = tt
+unplaced-of n (Opened t ∷ xs) h = unplaced-of n xs (λ x l i. h x l (inr i))
 unplaced-of n (Asks s t ∷ xs) h = unplaced-of n xs (λ x l i. h x l (inr i))
 unplaced-of n (Named m y k ∷ xs) h = unplaced-of n xs (λ x l i. h x l (inr i))
 unplaced-of n (Placed m y k ∷ xs) h = (
@@ -114,18 +134,21 @@ unplaced-of n (Placed m y k ∷ xs) h = (
 
 once-right : (xs ys : List Event) → Once (xs ++ ys) → Once ys
 once-right [] ys h = h
+once-right (Opened t ∷ xs) ys h = once-right xs ys h
 once-right (Asks s t ∷ xs) ys h = once-right xs ys h
 once-right (Named m x l ∷ xs) ys h = once-right xs ys h
 once-right (Placed m x l ∷ xs) ys h = once-right xs ys h.1
 
 pub once-named : (xs : List Event) (n : ℕ) (x : Store) (l : ℕ) → Once xs → Once (xs ++ Named n x l ∷ [])
 once-named [] n x l h = tt
+once-named (Opened t ∷ xs) n x l h = once-named xs n x l h
 once-named (Asks s t ∷ xs) n x l h = once-named xs n x l h
 once-named (Named m y k ∷ xs) n x l h = once-named xs n x l h
 once-named (Placed m y k ∷ xs) n x l h = (unplaced-append m xs (Named n x l ∷ []) h.0 tt, once-named xs n x l h.1)
 
 pub once-placed : (xs : List Event) (n : ℕ) (x : Store) (l : ℕ) → Unplaced n xs → Once xs → Once (xs ++ Placed n x l ∷ [])
 once-placed [] n x l u h = (tt, tt)
+once-placed (Opened t ∷ xs) n x l u h = once-placed xs n x l u h
 once-placed (Asks s t ∷ xs) n x l u h = once-placed xs n x l u h
 once-placed (Named m y k ∷ xs) n x l u h = once-placed xs n x l u h
 once-placed (Placed m y k ∷ xs) n x l u h = (
@@ -162,6 +185,7 @@ same-top v r log p once some same =
 pub in-linked : (cs : List Cell) (p : ℕ) (xs : List Event) (n : ℕ) (x : Store) (l : ℕ) → Linked cs p xs → In (Placed n x l) xs
     → (cell cs l).1 ≡ true
 in-linked cs p [] n x l h i = absurd i
+in-linked cs p (Opened r ∷ xs) n x l h i = elim i [ inl q ↦ absurd (cc (q)) | inr j ↦ in-linked cs p xs n x l h j ]
 in-linked cs p (Asks s r ∷ xs) n x l h i = elim i [ inl q ↦ absurd (cc (q)) | inr j ↦ in-linked cs p xs n x l h j ]
 in-linked cs p (Named m y k ∷ xs) n x l h i = elim i [ inl q ↦ absurd (cc (q)) | inr j ↦ in-linked cs p xs n x l h j ]
 in-linked cs p (Placed m y k ∷ xs) n x l h i =

@@ -9,16 +9,16 @@ use Rattle.logbook.specs.Pages.{Cell, cell, keeps, gives, adds, Nib, no_nib, may
 use Rattle.answer_log.specs.declared.store.Store.{Store}
 use Rattle.answer_log.specs.declared.event.Event.{Event}
 use Rattle.answer_log.specs.declared.event.Counted.{Counted}
-use Rattle.answer_log.specs.declared.event.Event.TheVariants.{Asks, Named, Placed}
+use Rattle.answer_log.specs.declared.event.Event.TheVariants.{Asks, Named, Opened, Placed}
 use Rattle.answer_log.specs.Counts.{count, Counts}
 use Rattle.answer_log.specs.Histories.{IsFull, IsHistory, IsSound}
-use Rattle.answer_log.specs.Logs.{seat_of, history, top, Linked, In}
+use Rattle.answer_log.specs.Logs.{seat_of, seats_in, history, top, Linked, In}
 use Rattle.answer_log.specs.Rules.{IsKept, node_at}
 use Rattle.answer_log.specs.Steps.{IsPlaced, Looks, Follows, Claims, Tries}
 use Rattle.answer_log.proofs.Counting.{counts_keep, counts_add, kept_answer, more_answer}
 use Rattle.answer_log.proofs.Growing.{history-more}
 use Rattle.answer_log.proofs.Logs.{unplaced-of, once-named, once-placed, same-top, in-linked, history-append}
-use Rattle.answer_log.proofs.Logs.{top-append, linked-right, linked-append, linked-map, in-left, in-cases}
+use Rattle.answer_log.proofs.Logs.{seats-append, seat-append, seat-prefix, top-append, linked-right, linked-append, linked-map, in-left, in-cases}
 use Rattle.answer_log.proofs.Cells.{cell-adds, home-in, same-cell, idle, keep-else, keeps-low, apart, keeps-out, keeps-trans, keeps-adds}
 
 abbrev pub shown : List Event → List Event
@@ -40,6 +40,7 @@ kept-same cs log k n home e kept =
 
 pub kept-adds : (cs : List Cell) (log : List Event) → IsKept cs log → IsKept (cs ++ (0, false) ∷ []) log
 kept-adds cs log kept = record {
+  seats = kept.seats;
   head = cell-adds cs 0 ∙ kept.head;
   idle = cell-adds cs 1 ∙ kept.idle;
   linked = linked-map cs (cs ++ (0, false) ∷ []) 0 log (keeps-adds cs) kept.linked;
@@ -114,10 +115,11 @@ not-placed cs log n x l kept named out y k i =
     absurd (cc (out, home, e))
 
 kept-named : (cs : List Cell) (log : List Event) (n : ℕ) (x : Store) (l places : ℕ) → IsKept cs log
-    → ((y : Store) (k : ℕ) → In (Named n y k) log → ⊥) → n ≡ node_at x.seat places → x.seat < 64
+    → ((y : Store) (k : ℕ) → In (Named n y k) log → ⊥) → n ≡ node_at x.seat places → x.seat < seats_in log
     → IsKept cs (log ++ Named n x l ∷ [])
 kept-named cs log n x l places kept none is some =
     let e : Event = Named n x l in record {
+      seats = let same = seats-append log (e ∷ []) (omega arith) in let few = kept.seats in omega arith;
       head = kept.head ∙ sym (ap (λ (m : ℕ). (m, true)) (top-append 0 log (e ∷ [])));
       idle = kept.idle;
       linked = linked-append cs 0 log (e ∷ []) kept.linked tt;
@@ -126,8 +128,8 @@ kept-named cs log n x l places kept none is some =
         | inr j ↦ elim j [ inl q ↦ absurd (cc (q)) | inr z ↦ absurd z ]
       ];
       named = λ m y k i. elim (in-cases (Named m y k) log (e ∷ []) i) [
-        | inl j ↦ kept.named m y k j
-        | inr j ↦ elim j [ inl q ↦ new-named n m x y l k places q is some | inr z ↦ absurd z ]
+        | inl j ↦ (let it = kept.named m y k j in (seat-append y.seat log (e ∷ []) it.0, it.1))
+        | inr j ↦ elim j [ inl q ↦ new-named n m x y l k places (seats_in (log ++ e ∷ [])) q is (seat-append x.seat log (e ∷ []) some) | inr z ↦ absurd z ]
       ];
       unique = λ m y z k j a b. elim (in-cases (Named m y k) log (e ∷ []) a) [
         | inl c ↦ elim (in-cases (Named m z j) log (e ∷ []) b) [
@@ -147,9 +149,9 @@ kept-named cs log n x l places kept none is some =
           (sym (history-append log (e ∷ []) ∙ append-nil (history log))) kept.history;
     }
   where
-    new-named : (n m : ℕ) (x y : Store) (l k places : ℕ) → Named n x l ≡ Named m y k → n ≡ node_at x.seat places → x.seat < 64
-        → (y.seat < 64) × ((p : ℕ) × (m ≡ node_at y.seat p))
-    new-named n m x y l k places q is some =
+    new-named : (n m : ℕ) (x y : Store) (l k places seats : ℕ) → Named n x l ≡ Named m y k → n ≡ node_at x.seat places → x.seat < seats
+        → (y.seat < seats) × ((p : ℕ) × (m ≡ node_at y.seat p))
+    new-named n m x y l k places seats q is some =
         let a : m ≡ n = cc (q) in
         let b : y.seat ≡ x.seat = cc (q) in
         (omega arith, (places, omega arith))
@@ -170,15 +172,16 @@ has-when n m x l log false is h = has-later n (Named m x l) log (λ y k q. let e
 
 has : (n : ℕ) (log : List Event) → Has n log
 has n [] = inr (λ y k i. i)
+has n (Opened t ∷ log) = has-later n (Opened t) log (λ y k q. absurd (cc (q))) (has n log)
 has n (Asks s t ∷ log) = has-later n (Asks s t) log (λ y k q. absurd (cc (q))) (has n log)
 has n (Named m x l ∷ log) = has-when n m x l log (m == n) refl (has n log)
 has n (Placed m x l ∷ log) = has-later n (Placed m x l) log (λ y k q. absurd (cc (q))) (has n log)
 
-claim_goes : (v : List Event) (places n : ℕ) (x : Store) → n ≡ node_at x.seat places → x.seat < 64 → (cs : List Cell) (log : List Event)
+claim_goes : (v : List Event) (places n : ℕ) (x : Store) → n ≡ node_at x.seat places → x.seat < 64 → x.seat < seats_in v → (cs : List Cell) (log : List Event)
     → IsKept cs log → IsPrefix v log → 1 < length cs → Has n log
     → Goes IsKept shown (Counts (Named n x 0)) 1 (v, (no_nib, None)) (λ n. either (n == 0) 0 n)
     (Claims (step 1 0 0 (Named n x 0)) (v, (no_nib, None))) cs log
-claim_goes v places n x is some cs log kept pre long h =
+claim_goes v places n x is some low cs log kept pre long h =
     let n0 : ℕ = either ((cell cs 1).0 == 0) 0 (cell cs 1).0 in
     let cs' : List Cell = set cs 1 (n0, true) in
     let same : cs' ≡ cs = same-cell cs 1 n0 (idle-home cs log kept) (idle (cell cs 1).0) in
@@ -188,6 +191,7 @@ claim_goes v places n x is some cs log kept pre long h =
       | inl p ↦
           (let r : Counted = kept_answer (count x.seat log) in
           let m = kept.named n p.0 p.1 p.2 in
+          let below : p.0.seat < 64 = (let its = m.0 in let few = kept.seats in omega arith) in
           let I : List Event → Type 0 = λ w. In (Named n p.0 p.1) w in (
             adds,
             [],
@@ -195,7 +199,7 @@ claim_goes v places n x is some cs log kept pre long h =
             tt,
             (let Q : List Event → Type 0 = λ w. IsKept (cs' ++ (0, false) ∷ []) w in subst Q (sym (append-nil log)) (kept-adds cs' log kept')),
             inr (r, refl, refl, counts_keep (Named n x 0) log some),
-            (length cs, long, refl, (r, refl, inr ((ap (count x.seat) (sym (append-nil log)), refl), (p.0, p.1, subst I (sym (append-nil log)) p.2, m.0, m.1)))),
+            (length cs, long, refl, (r, refl, inr ((ap (count x.seat) (sym (append-nil log)), refl), (p.0, p.1, subst I (sym (append-nil log)) p.2, below, m.1)))),
           ))
       | inr none ↦
           (let r : Counted = more_answer (count x.seat log) in
@@ -204,19 +208,19 @@ claim_goes v places n x is some cs log kept pre long h =
             e ∷ [],
             Some r,
             tt,
-            kept-adds cs' (log ++ e ∷ []) (kept-named cs' log n x (length cs) places kept' none is some),
+            kept-adds cs' (log ++ e ∷ []) (kept-named cs' log n x (length cs) places kept' none is (seat-prefix x.seat v log pre low)),
             inr (r, refl, refl, counts_add (Named n x 0) e log refl some),
             (length cs, long, refl, (r, refl, inl (refl, (pre.0, ap (λ w. w ++ e ∷ []) (sym pre.1), ap (count x.seat) (sym pre.1))))),
           ))
     ]
 
-pub claim_moves : (v : List Event) (places n : ℕ) (x : Store) → n ≡ node_at x.seat places → x.seat < 64
+pub claim_moves : (v : List Event) (places n : ℕ) (x : Store) → n ≡ node_at x.seat places → x.seat < 64 → x.seat < seats_in v
     → Moves IsKept shown (Counts (Named n x 0)) 1 (v, (no_nib, None)) (λ n. either (n == 0) 0 n)
     (Claims (step 1 0 0 (Named n x 0)) (v, (no_nib, None)))
-claim_moves v places n x is some cs log kept pre away = (
+claim_moves v places n x is some low cs log kept pre away = (
   home-in cs 1 (idle-home cs log kept),
   idle-home cs log kept,
-  claim_goes v places n x is some cs log kept pre (home-in cs 1 (idle-home cs log kept)) (has n log),
+  claim_goes v places n x is some low cs log kept pre (home-in cs 1 (idle-home cs log kept)) (has n log),
 )
 
 out-apart : (cs : List Cell) (k : ℕ) (v : ℕ) (j : ℕ) → (cell cs j).1 ≡ false → (cell cs k).1 ≡ true
@@ -246,7 +250,9 @@ kept-placed cs log pen n x kept out named some value sound room =
     let there : cell cs' pen.key ≡ (pen.value, true) = get_or-set_same cs1 pen.key (pen.value, true) (0, false) in_time in
     let stays = keeps-trans cs cs1 cs' (keeps-low cs 0 n (omega arith)) (keeps-out cs1 pen.key pen.value out1) in
     let link : cell cs' l ≡ (top log, true) = there ∙ ap (λ (m : ℕ). (m, true)) value in
-    let old : (m : ℕ) (y : Store) (k : ℕ) → In (Named m y k) (log ++ e ∷ []) → In (Named m y k) log = (λ m y k i. elim (in-cases (Named m y k) log (e ∷ []) i) [ inl j ↦ j | inr j ↦ elim j [ inl q ↦ absurd (cc (q)) | inr z ↦ absurd z ] ]) in record {
+    let old : (m : ℕ) (y : Store) (k : ℕ) → In (Named m y k) (log ++ e ∷ []) → In (Named m y k) log = (λ m y k i. elim (in-cases (Named m y k) log (e ∷ []) i) [ inl j ↦ j | inr j ↦ elim j [ inl q ↦ absurd (cc (q)) | inr z ↦ absurd z ] ]) in
+    let low : x.seat < seats_in log = (kept.named n x l named).0 in record {
+      seats = let same = seats-append log (e ∷ []) (omega arith) in let few = kept.seats in omega arith;
       head = zero' ∙ sym (ap (λ (m : ℕ). (m, true)) (top-append 0 log (e ∷ [])));
       idle = one;
       linked = linked-append cs' 0 log (e ∷ []) (linked-map cs cs' 0 log stays kept.linked) (some, link, tt);
@@ -254,7 +260,7 @@ kept-placed cs log pen n x kept out named some value sound room =
         | inl j ↦ in-left (Named m y k) log (e ∷ []) (kept.twins m y k j)
         | inr j ↦ elim j [ inl q ↦ in-left (Named m y k) log (e ∷ []) (same-named n m x y l k log q named) | inr z ↦ absurd z ]
       ];
-      named = λ m y k i. kept.named m y k (old m y k i);
+      named = λ m y k i. let it = kept.named m y k (old m y k i) in (seat-append y.seat log (e ∷ []) it.0, it.1);
       unique = λ m y z k j a b. kept.unique m y z k j (old m y k a) (old m z j b);
       once = once-placed log n x l (unplaced-of n log (not-placed cs log n x l kept named out.1)) kept.once;
       history = let H : List Store → Type 0 = λ h. IsHistory h in subst H (sym (history-append log (e ∷ [])))

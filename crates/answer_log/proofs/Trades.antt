@@ -17,6 +17,7 @@ use Rattle.logbook.specs.Kept.{halved, part, home, roster, pens_own, offer_owns}
 use Rattle.logbook.proofs.Roster.{resets, joined, Reset, at_home}
 use Rattle.answer_log.specs.declared.event.Event.{Event}
 use Rattle.answer_log.specs.declared.event.Counted.{Counted}
+use Rattle.answer_log.specs.declared.event.Event.TheVariants.{Opened}
 use Rattle.answer_log.specs.Logs.{seat_of}
 use Rattle.answer_log.specs.Counts.{counts, counts_from, first_name, holding, tally_owns, tallies_own, keeps_counts, gains_count, Counts}
 
@@ -50,13 +51,13 @@ module _ {M : Type 1} {𝓤 : Ura M} (𝓛 : Logic 𝓤) where
       use1 𝓛 (raw (upd 𝓤 (⟦ roster δ (suc k) more ⟧ ∗ ⟦ pens_own δ (suc k) n ⟧))) (rowed δ n (suc k)) $ settle 𝓛 Z (‵ (roster δ (suc k) more) ⊛ ‵ (pens_own δ (suc k) n)) $ split ! $
       suffices ! _ (upd_i 𝓤 Z) $ move ! (2 ∷ 1 ∷ []) $ fjoin ! $ move ! (2 ∷ 1 ∷ []) $ fjoin ! $ done !
 
-  abbrev pub Begun : ℕ → Pr
-  Begun δ = ⟦ keeps_counts (δ ∷ []) [] ⟧ ∗ ⟦ tallies_own δ 0 64 ⟧
+  abbrev pub Begun : ℕ → ℕ → Pr
+  Begun seats δ = ⟦ keeps_counts (δ ∷ []) (Opened seats ∷ []) ⟧ ∗ ⟦ tallies_own δ 0 64 ⟧
 
-  pub begins : emp 𝓤 ⊢ H.⇛ (ex 𝓤 Begun)
-  begins = qed 𝓛 [] ∵ updating ! $
+  pub begins : (seats : ℕ) → emp 𝓤 ⊢ H.⇛ (ex 𝓤 (Begun seats))
+  begins seats = qed 𝓛 [] ∵ updating ! $
       use0 𝓛 (later (some (λ (δ : ℕ). ‵ (roster δ 0 [])))) (via 𝓤 _ (entries_new halved 𝓛 0 (λ _. (full_share, 0))) (basic 𝓛 _)) $ await ! tt $ pick ! (λ δ.
-      use1 𝓛 (later (‵ (roster δ 0 (counts_from 0 64 [])) ⊛ ‵ (pens_own δ 0 64))) (via 𝓤 _ (rowed δ 64 0) (basic 𝓛 _)) $ await ! tt $ now ! $ show ! Begun δ $ done !)
+      use1 𝓛 (later (‵ (roster δ 0 (counts_from 0 64 [])) ⊛ ‵ (pens_own δ 0 64))) (via 𝓤 _ (rowed δ 64 0) (basic 𝓛 _)) $ await ! tt $ now ! $ show ! (Begun seats) δ $ done !)
 
   -- the first seat's count leaves the row
   pub one_tally : (δ k n : ℕ) → 0 < n → ⟦ tallies_own δ k n ⟧ ⊢ ⟦ tally_owns true δ k 0 ⟧ ∗ ⟦ tallies_own δ (k + 1) (n - 1) ⟧

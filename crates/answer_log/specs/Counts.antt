@@ -6,7 +6,7 @@ use Rattle.logbook.specs.Pages.{Cell, cell}
 use Rattle.logbook.specs.Kept.{fact, part, roster, pens_own}
 use Rattle.std.specs.Prelude.{slice_set}
 use Rattle.answer_log.specs.declared.event.Event.{Event}
-use Rattle.answer_log.specs.declared.event.Event.TheVariants.{Asks, Named, Placed}
+use Rattle.answer_log.specs.declared.event.Event.TheVariants.{Asks, Named, Opened, Placed}
 use Rattle.answer_log.specs.declared.event.Counted.{Counted}
 use Rattle.answer_log.specs.Logs.{seat_of}
 
@@ -35,6 +35,7 @@ first_seat [] = 0
 first_seat (e ∷ es) = seat_of e
 
 abbrev pub number_in : Event → ℕ
+number_in (Opened n) = 0
 number_in (Asks s n) = n
 number_in (Named n x l) = 0
 number_in (Placed n x l) = 0

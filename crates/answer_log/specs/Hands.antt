@@ -1,38 +1,44 @@
 -- What a seat has at the log, and how that goes on.
-use Rattle.std.specs.Prelude.{◌≡◌, ◌≢◌, ℕ, ◌+◌, ◌≤◌, List, [], ◌∷◌, ◌++◌, length}
+use Rattle.std.specs.Prelude.{◌≡◌, ◌≢◌, ℕ, ◌+◌, ◌<◌, ◌≤◌, List, [], ◌∷◌, ◌++◌, length}
+use Rattle.std.specs.List.{All}
 use mathlib.Core.List.{IsPrefix}
 use Rattle.logbook.specs.Pages.{Book, Named as Word}
 use Rattle.answer_log.specs.Counts.{count}
 use Rattle.answer_log.specs.Histories.{IsHistory, mine}
-use Rattle.answer_log.specs.Logs.{history, In}
+use Rattle.answer_log.specs.Logs.{history, In, seats_in}
 use Rattle.answer_log.specs.Rules.{word_at}
 use Rattle.answer_log.specs.Steps.{Fits, NamesBelow}
 use Rattle.answer_log.specs.declared.event.Event.{Event}
-use Rattle.answer_log.specs.declared.event.Event.TheVariants.{Named, Placed}
+use Rattle.answer_log.specs.declared.event.Event.TheVariants.{Named, Opened, Placed}
 use Rattle.answer_log.specs.declared.hand.Hand.{Hand}
 use Rattle.answer_log.specs.declared.hand.Hands.{Hands}
 use Rattle.answer_log.specs.declared.store.Store.{Store}
 
--- the seat has the count of its events in what it has seen, and its nodes stand below the next place
+-- The seat is one of those that the log was opened for. It has the count of its events in what it has seen, and its
+-- nodes stand below the next place.
 pub record IsHand (hand : Hand) : Type 0 where
+  pub seats : seats_in hand.book.log ≡ hand.seats
+  pub below : hand.number < hand.seats
   pub fits : Fits hand.tally hand.book.names hand.number
   pub counted : count hand.number hand.book.log ≡ hand.tally.count
   pub names : NamesBelow hand.number hand.places hand.book.log
 
 -- a seat that has seen nothing
-pub record IsNew (hand : Hand) (new_book : Book) (seat : ℕ) : Type 0 where
+pub record IsNew (hand : Hand) (new_book : Book) (seat seats : ℕ) : Type 0 where
   pub is : IsHand hand
   pub book : hand.book.book ≡ new_book
   pub number : hand.number ≡ seat
+  pub count : hand.seats ≡ seats
   pub places : hand.places ≡ 0
-  pub log : hand.book.log ≡ []
+  pub log : hand.book.log ≡ Opened seats ∷ []
 
 -- what is left for the seats from the next one on
 pub record AreHands (hands : Hands) : Type 0 where
   pub tallies : hands.tallies.name ∷ [] ≡ hands.seen.names
   pub next : hands.tallies.next ≡ hands.next
   pub left : hands.tallies.left + hands.next ≡ 64
-  pub log : hands.seen.log ≡ []
+  pub few : hands.seats ≤ 64
+  pub log : hands.seen.log ≡ Opened hands.seats ∷ []
 
 -- the log names the node so
 pub record IsNamed (book : Book) (log : List Event) (node : ℕ) (store : Store) (word : Word) : Type 0 where
@@ -58,6 +64,8 @@ pub record EndsWith (store : Store) (before after : List Store) : Type 0 where
 pub record IsLog (log : List Event) : Type 0 where
   -- 64 groups of 64
   pub size : length (history log) ≤ 4096
+  -- each store is of a seat that the log was opened for
+  pub seats : All (λ store. store.seat < seats_in log) (history log)
   -- 0 is the number of no node
   pub nodes : (before after : List Event) (node : ℕ) (store : Store) (link : ℕ)
       → log ≡ before ++ Placed node store link ∷ after → node ≢ 0

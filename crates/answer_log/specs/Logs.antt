@@ -2,17 +2,31 @@
 use Rattle.std.specs.Prelude.{◌≡◌, ◌≢◌, ℕ, ◌<◌, ◌⊎◌, true, List, [], ◌∷◌}
 use Rattle.logbook.specs.Pages.{Cell, cell}
 use Rattle.answer_log.specs.declared.event.Event.{Event}
-use Rattle.answer_log.specs.declared.event.Event.TheVariants.{Asks, Named, Placed}
+use Rattle.answer_log.specs.declared.event.Event.TheVariants.{Asks, Named, Opened, Placed}
 use Rattle.answer_log.specs.declared.store.Store.{Store}
 
+-- 64 is the number of no seat
 abbrev pub seat_of : Event → ℕ
+seat_of (Opened seats) = 64
 seat_of (Asks seat count) = seat
 seat_of (Named node store link) = store.seat
 seat_of (Placed node store link) = store.seat
 
+abbrev pub opened_for : Event → ℕ
+opened_for (Opened seats) = seats
+opened_for (Asks seat count) = 0
+opened_for (Named node store link) = 0
+opened_for (Placed node store link) = 0
+
+-- how many seats there are: the first event says it
+abbrev pub seats_in : List Event → ℕ
+seats_in [] = 0
+seats_in (first ∷ log) = opened_for first
+
 -- the stores that were placed, the oldest first
 abbrev pub history : List Event → List Store
 history [] = []
+history (Opened seats ∷ log) = history log
 history (Asks seat count ∷ log) = history log
 history (Named node store link ∷ log) = history log
 history (Placed node store link ∷ log) = store ∷ history log
@@ -20,6 +34,7 @@ history (Placed node store link ∷ log) = store ∷ history log
 -- the node that was placed last; the one given where none was
 abbrev pub top_from : ℕ → List Event → ℕ
 top_from last [] = last
+top_from last (Opened seats ∷ log) = top_from last log
 top_from last (Asks seat count ∷ log) = top_from last log
 top_from last (Named node store link ∷ log) = top_from last log
 top_from last (Placed node store link ∷ log) = top_from node log
@@ -31,6 +46,7 @@ top log = top_from 0 log
 -- The link of each placed node is at home, and holds the node that was placed before it. Cells 0 and 1 are no links.
 abbrev pub Linked : List Cell → ℕ → List Event → Type 0
 Linked cells last [] = Unit {0}
+Linked cells last (Opened seats ∷ log) = Linked cells last log
 Linked cells last (Asks seat count ∷ log) = Linked cells last log
 Linked cells last (Named node store link ∷ log) = Linked cells last log
 Linked cells last (Placed node store link ∷ log) = (1 < link) × (cell cells link ≡ (last, true)) × Linked cells node log
@@ -46,6 +62,7 @@ In event (first ∷ log) = (first ≡ event) ⊎ In event log
 
 abbrev pub Unplaced : ℕ → List Event → Type 0
 Unplaced node [] = Unit {0}
+Unplaced node (Opened seats ∷ log) = Unplaced node log
 Unplaced node (Asks seat count ∷ log) = Unplaced node log
 Unplaced node (Named other store link ∷ log) = Unplaced node log
 Unplaced node (Placed other store link ∷ log) = (other ≢ node) × Unplaced node log
@@ -53,6 +70,7 @@ Unplaced node (Placed other store link ∷ log) = (other ≢ node) × Unplaced n
 -- each node is placed at most once
 abbrev pub Once : List Event → Type 0
 Once [] = Unit {0}
+Once (Opened seats ∷ log) = Once log
 Once (Asks seat count ∷ log) = Once log
 Once (Named node store link ∷ log) = Once log
 Once (Placed node store link ∷ log) = Unplaced node log × Once log

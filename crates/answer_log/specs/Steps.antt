@@ -11,7 +11,7 @@ use Rattle.answer_log.specs.Logs.{seat_of, history, top, In}
 use Rattle.answer_log.specs.Rules.{node_at}
 use Rattle.answer_log.specs.declared.event.Counted.{Counted}
 use Rattle.answer_log.specs.declared.event.Event.{Event}
-use Rattle.answer_log.specs.declared.event.Event.TheVariants.{Asks, Named, Placed}
+use Rattle.answer_log.specs.declared.event.Event.TheVariants.{Asks, Named, Opened, Placed}
 use Rattle.answer_log.specs.declared.store.Store.{Store}
 use Rattle.answer_log.specs.declared.store.Draft.{Draft}
 use Rattle.answer_log.specs.declared.tally.Tally.{Tally}
@@ -83,11 +83,13 @@ Follows s v found w =
     → found ≡ top before
 
 abbrev pub linked_to : Event → ℕ → Event
+linked_to (Opened seats) link = Opened seats
 linked_to (Asks seat count) link = Asks seat count
 linked_to (Named node store _) link = Named node store link
 linked_to (Placed node store _) link = Placed node store link
 
 abbrev pub node_of : Event → ℕ
+node_of (Opened seats) = 0
 node_of (Asks seat count) = 0
 node_of (Named node store link) = node
 node_of (Placed node store link) = node

@@ -5,10 +5,12 @@ ghost use Rattle.answer_log.specs.Hands.{AreHands, IsNew};
 use crate::steps::Book;
 use crate::tally::{Tallies, Tally};
 
-/// What a seat has at the log: its number, the place of its next node, its count, and what it has seen.
+/// What a seat has at the log: its number, how many seats there are, the place of its next node, its count, and what it
+/// has seen.
 #[derive(Drop)]
 pub struct Hand {
     pub number: u64,
+    pub seats: u64,
     pub places: u64,
     pub tally: Tally,
     pub book: Book,
@@ -18,6 +20,7 @@ pub struct Hand {
 #[derive(Drop)]
 pub struct Hands {
     pub next: u64,
+    pub seats: u64,
     pub tallies: Tallies,
     pub seen: Book,
 }
@@ -25,17 +28,19 @@ pub struct Hands {
 impl Hands {
     /// What the next seat is given.
     pub fn deal(&mut self) -> Hand
-        requires seats { self.old.next < 64 }
+        requires seats { self.old.next < self.old.seats }
         requires hands { AreHands self.old }
         ensures hands { AreHands self.new }
         ensures next { self.new.next ≡ self.old.next + 1 }
+        ensures seats { self.new.seats ≡ self.old.seats }
         ensures book { self.new.seen.book ≡ self.old.seen.book }
-        ensures hand { IsNew result self.old.seen.book self.old.next }
+        ensures hand { IsNew result self.old.seen.book self.old.next self.old.seats }
     {
         let number = self.next;
         self.next += 1;
         Hand {
             number,
+            seats: self.seats,
             places: 0,
             tally: self.tallies.take(),
             book: self.seen.again(),

@@ -1,16 +1,16 @@
 //! The log that seats share: a history of stores, and the atomic steps that read it and let it grow.
 //!
 //! A store says which answer a question had at a moment, and which seat stored it. The log is the list of all events
-//! so far, in the order of time. An event names a node for a store, or places a node that was named. The history is
-//! the list of the stores whose nodes were placed, the oldest first. Nothing leaves the log, so what was seen of it
-//! stays true.
+//! so far, in the order of time. The first event says how many seats there are. Each other one names a node for a
+//! store, or places a node that was named. The history is the list of the stores whose nodes were placed, the oldest
+//! first. Nothing leaves the log, so what was seen of it stays true.
 //!
 //! No value of the log is made, and what a program has is words. The head holds the number of the node placed last,
 //! and the link of each placed node holds the number of the one placed before it. 0 is the number of no node. A seat
 //! numbers its nodes by its own number and a place: node 1 + seat + 64 * place.
 //!
 //! ```text
-//!  events   Named 1 a, Placed 1 a, Named 2 b, Named 65 c, Placed 2 b, Placed 65 c, Named 66 d
+//!  events   Opened 2, Named 1 a, Placed 1 a, Named 2 b, Named 65 c, Placed 2 b, Placed 65 c, Named 66 d
 //!
 //!  head      node 65      node 2      node 1                        node 66
 //! +----+     store c      store b     store a                       store d
@@ -32,7 +32,7 @@
 //!
 //! Three say who may write which word:
 //!
-//! - the two words are made, and 64 seats have their counts of events: `Log::open`, before any other step;
+//! - the two words are made, and the seats have their counts of events: `Log::open`, before any other step;
 //! - a link is made and its node is named, by an exchange of 0 with 0 on the idle word: `Log::claim`;
 //! - the link of a placed node is given over to the log, and nobody writes it again: within the exchange of
 //!   `Log::place`.
@@ -41,7 +41,7 @@
 //! Nobody else adds an event of that seat, so a seat knows that its next node has no name yet.
 //!
 //! ```text
-//! let (log, mut hands) = Log::open();
+//! let (log, mut hands) = Log::open(2);                                 // for two seats
 //! let mut hand = hands.deal();
 //! let walk = log.walk(&mut hand);                                      // from the node placed last to the first one
 //! let Claimed { node, link, mut pen } = log.claim(&mut hand, 0, &question, &answer, moment);

@@ -23,13 +23,14 @@ use logbook::Opening;
 use std::marker::Model;
 use std::sync::Arc;
 
-/// The log of a new book is empty.
+/// The log of a new book has no store, and says how many seats there are.
 struct Blank;
 
-impl Opening<(), Event> for Blank {
-    ghost use Rattle.std.specs.Prelude.{[]};
+impl Opening<u64, Event> for Blank {
+    ghost use Rattle.std.specs.Prelude.{◌∷◌, []};
+    ghost use Rattle.answer_log.specs.declared.event.Event.TheVariants.{Opened};
 
-    ghost log = { λ n x. [] };
+    ghost log = { λ words seats. Opened seats ∷ [] };
 }
 
 /// The log: its head, which leads to the node placed last, and a word that holds 0.
@@ -62,20 +63,22 @@ pub struct Claimed {
 }
 
 impl Log {
-    /// Opens an empty log, and gives what up to 64 seats have at it.
-    pub fn open() -> (Log, Hands)
+    /// Opens a log without stores, and gives what its seats have at it.
+    pub fn open(seats: u64) -> (Log, Hands)
+        requires seats { seats ≤ 64 }
         ensures book { result.0 ≡ result.1.seen.book }
-        ensures first { result.1.next ≡ 0 }
+        ensures first { (result.1.next ≡ 0) × (result.1.seats ≡ seats) }
         ensures hands { AreHands result.1 }
     {
-        let (start, tallies) = Tallies::open();
-        let (seen, mut pens) = Book::open_row::<(), Blank>(&(), start, 2);
+        let (start, tallies) = Tallies::open(seats);
+        let (seen, mut pens) = Book::open_row::<u64, Blank>(&seats, start, 2);
         let mut pen = pens.take();
         let head = Word::tracked(0, &mut pen);
         let mut pen = pens.take();
         let idle = Word::tracked(0, &mut pen);
         let hands = Hands {
             next: 0,
+            seats,
             tallies,
             seen,
         };
@@ -87,7 +90,7 @@ impl Log {
         requires book { hand.old.book.book ≡ self.now }
         requires hand { IsHand hand.old }
         ensures hand { IsHand hand.new }
-        ensures number { hand.new.number ≡ hand.old.number }
+        ensures number { (hand.new.number ≡ hand.old.number) × (hand.new.seats ≡ hand.old.seats) }
         ensures book { hand.new.book.book ≡ self.now }
         ensures seen { SeesMore hand.old.number hand.old.book.log hand.new.book.log }
         ensures places { hand.new.places ≡ hand.old.places }
@@ -107,7 +110,7 @@ impl Log {
         requires told { told.now.book ≡ self.now }
         requires hand { IsHand hand.old }
         ensures hand { IsHand hand.new }
-        ensures number { hand.new.number ≡ hand.old.number }
+        ensures number { (hand.new.number ≡ hand.old.number) × (hand.new.seats ≡ hand.old.seats) }
         ensures book { hand.new.book.book ≡ self.now }
         ensures seen { SeesMore hand.old.number hand.old.book.log hand.new.book.log }
         ensures told { IsPrefix (history told.now.log) (history hand.new.book.log) }
@@ -130,7 +133,7 @@ impl Log {
         requires hand { IsHand hand.old }
         requires place { (hand.old.places ≤ place) × (place < 2 ^ 32) }
         ensures hand { IsHand hand.new }
-        ensures number { hand.new.number ≡ hand.old.number }
+        ensures number { (hand.new.number ≡ hand.old.number) × (hand.new.seats ≡ hand.old.seats) }
         ensures book { hand.new.book.book ≡ self.now }
         ensures places { hand.new.places ≡ place + 1 }
         ensures seen { SeesMore hand.old.number hand.old.book.log hand.new.book.log }
@@ -173,7 +176,7 @@ impl Log {
         requires pen { (pen.old.book ≡ self.now) × (pen.old.nib.right ≡ may_write) × (pen.old.nib.key ≡ link.now.key)
             × (pen.old.nib.value ≡ old) × (1 < link.now.key) }
         ensures hand { IsHand hand.new }
-        ensures number { hand.new.number ≡ hand.old.number }
+        ensures number { (hand.new.number ≡ hand.old.number) × (hand.new.seats ≡ hand.old.seats) }
         ensures book { hand.new.book.book ≡ self.now }
         ensures placed { MatchBool result
             (EndsWith (store_of draft.now) (history hand.old.book.log) (history hand.new.book.log))
@@ -197,7 +200,7 @@ impl Log {
     }
 }
 
-/// A law: each log that was seen has a history of at most 4096 sound stores, 64 in a group, and no node 0.
+/// A law: each log that was seen has a history of at most 4096 sound stores of its seats, 64 in a group, and no node 0.
 pub fn log_keeps_its_rule(book: &Book)
     ensures { IsLog book.now.log }
 {

@@ -5,10 +5,10 @@ ghost use Rattle.logbook.specs.Pages.{nib, may_make, may_write};
 ghost use Rattle.answer_log.specs.Counts.{count, first_name, first_seat, first_count};
 ghost use Rattle.answer_log.specs.Histories.{IsSound};
 ghost use Rattle.answer_log.specs.Hands.{IsNamed};
-ghost use Rattle.answer_log.specs.Logs.{In, top};
+ghost use Rattle.answer_log.specs.Logs.{In, seats_in, top};
 ghost use Rattle.answer_log.specs.declared.event.Event.{Event as Noted};
 ghost use Rattle.answer_log.specs.Rules.{node_at, word_at};
-ghost use Rattle.answer_log.specs.Steps.{Adds, Fits, HadRoom, IsPlaced, NamesBelow, Same, Stays, store_of};
+ghost use Rattle.answer_log.specs.Steps.{Adds, Fits, HadRoom, NamesBelow, Same, Stays, store_of};
 ghost use Rattle.answer_log.specs.declared.event.Counted.{Counted as Number};
 ghost use Rattle.answer_log.specs.declared.event.Event.TheVariants.{Named, Placed};
 ghost use Rattle.answer_log.specs.declared.store.Store.{Store};
@@ -169,6 +169,7 @@ pub(crate) fn claim_node(
     requires counted { count draft.now.seat book.old.log ≡ tally.old.count }
     requires below { NamesBelow draft.now.seat place book.old.log }
     requires node { draft.now.node ≡ node_at draft.now.seat place }
+    requires seat { draft.now.seat < seats_in book.old.log }
     ensures book { (book.new.book ≡ book.old.book) × (book.new.names ≡ book.old.names) × (result.book ≡ book.old.book) }
     ensures pen { (1 < result.nib.key) × (result.nib ≡ nib may_make result.nib.key 0) }
     ensures tally { Stays tally.old tally.new × (tally.new.count ≡ tally.old.count + 1) }

@@ -1,6 +1,7 @@
 //! The counts of the seats, of which the rule and each seat hold parts.
 ghost use Rattle.std.specs.Prelude.{◌≡◌, ℕ, ◌+◌, ◌-◌, ◌<◌, [], ◌∷◌, None, Some, Bool, true, false};
 ghost use Rattle.answer_log.specs.Logs.{seat_of};
+ghost use Rattle.answer_log.specs.declared.event.Event.TheVariants.{Opened};
 ghost use Rattle.answer_log.specs.Counts.{first_name, first_seat, first_count, holding, tally_owns, tallies_own};
 
 use crate::event::{Counted, Event};
@@ -65,11 +66,12 @@ impl Model for Tallies {
 pub(crate) type Deal = Offer<Event, Counted, Law, Back>;
 
 impl Tallies {
-    /// The counts of 64 seats, and what the rule keeps of them.
-    pub fn open() -> (Start<Event, Counted, Law>, Tallies)
-        ensures start { (result.0.names ≡ result.1.name ∷ []) × (result.0.shown ≡ []) }
+    /// The counts of 64 seats, and what the rule keeps of them when a log opens for so many of them.
+    pub fn open(seats: u64) -> (Start<Event, Counted, Law>, Tallies)
+        ensures start { (result.0.names ≡ result.1.name ∷ []) × (result.0.shown ≡ Opened seats ∷ []) }
         ensures all { (result.1.next ≡ 0) × (result.1.left ≡ 64) }
     {
+        let _ = seats;
         (
             Start {
                 marker: PhantomData,

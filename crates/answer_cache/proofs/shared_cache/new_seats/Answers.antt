@@ -1,15 +1,16 @@
 use Rattle.std.proofs.Common.{◌+◌, ◌++◌, ◌∷◌, [], ap, sym, ◌∙◌}
+use Rattle.answer_cache.specs.Shared.{cache_view}
 use Rattle.answer_cache.proofs.Seating.{new-view, seats-more}
 use Rattle.answer_cache.proofs.shared_cache.new_seats.Goals as goal
 
 pub seats-preserved : goal.seats-preserved
 seats-preserved c =
     let i = c.seats.invariant in
-    let book = c.args.hands.now.seen.book in
+    let cache = cache_view c.args.hands.now.seen.book c.args.seats in
     let dealt = c.deal.ensures in
-    let seat = new-view c.deal.result c.none.result.noted book c.seats.hands.seen.book c.seats.hands.next c.seats._seat dealt.hand i.book i.next c.none.ensures in record {
+    let seat = new-view c.deal.result c.none.result.noted cache c.seats.hands.seen.book c.seats.hands.next c.seats.hands.seats c.seats._seat dealt.hand (λ j. cache_view (i.book j) (i.next.1 j)) i.next.0 c.none.ensures in record {
       hands = dealt.hands;
-      next = dealt.next ∙ ap (λ n. n + 1) i.next;
+      next = (dealt.next ∙ ap (λ n. n + 1) i.next.0, dealt.seats ∙ i.next.1);
       book = dealt.book ∙ i.book;
-      made = c.in_ok-push.ensures.items ∙ ((λ j. i.made j ++ seat j ∷ []) ∙ sym (seats-more book c.seats._seat));
+      made = c.in_ok-push.ensures.items ∙ ((λ j. i.made j ++ seat j ∷ []) ∙ sym (seats-more cache c.seats._seat));
     }

@@ -1,10 +1,11 @@
-use Rattle.std.proofs.Common.{◌≡◌, ◌+◌, ◌≤◌, length}
+use Rattle.std.proofs.Common.{◌≡◌, ◌≤◌, length}
 use Rattle.answer_cache.specs.Shared.{Belongs}
 use Rattle.answer_cache.proofs.shared_tests.store_in_turn.Given as goal
 
 abbrev pub invariant-rounds : goal.invariant-rounds
 invariant-rounds g l = record {
   made_here : Belongs l.cache l.seat;
-  own : length l.seat.seat.own ≡ length l.initial.seat.seat.own + l.taken;
+  number : l.seat.seat.number ≡ l.number;
+  own : length l.seat.seat.own ≡ l.taken;
   taken : l.taken ≤ l.round;
 }

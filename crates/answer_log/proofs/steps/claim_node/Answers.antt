@@ -17,7 +17,7 @@ compare_exchange-requires c =
       pen.0 ∙ sym (ap (λ w. w.book) h),
       d.0 ∙ c.requires.fits.1,
       rw (ap (λ w. w.key) h, pen.1, d.1, d.3)
-          (claim_moves c.args.book.now.log c.args.place draft.node (store_of draft) c.requires.node c.requires.fits.3),
+          (claim_moves c.args.book.now.log c.args.place draft.node (store_of draft) c.requires.node c.requires.fits.3 c.requires.seat),
     )
 
 pub returns-clause-tally : goal.returns-clause-tally

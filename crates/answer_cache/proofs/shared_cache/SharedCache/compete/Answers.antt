@@ -12,10 +12,10 @@ pub tries-init : goal.tries-init
 tries-init g c =
     let t = c.attempt.new in
     let it = c.attempt.ensures in
-    let R : ℕ → Type 0 = λ n. IsReady c.args.self.now t.hand.book.log n c.args.node.now t.pen.nib in record {
+    let R : ℕ → Type 0 = λ n. IsReady c.args.self.now.book t.hand.book.log n c.args.node.now t.pen.nib in record {
       least = omega arith;
       hand = it.holds.hand;
-      number = it.holds.number;
+      number = (it.holds.number, it.holds.seats);
       book = (it.holds.same, c.if-attempt.ensures.again.0);
       ready = subst R (sym it.holds.number) c.if-attempt.ensures.again.1;
       seen = c.if-attempt.ensures.placed;
@@ -29,14 +29,14 @@ returns-in_err-old-clause-competed g c =
     let i = c.tries.invariant in
     let S : ℕ → Type 0 = λ n. SeesMore n c.tries.hand.book.log c.room.new.hand.book.log in
     let e = err_from_is_err_and c.from_residual.result c.from_residual.ensures.1 in
-    rw e.1 (sees-trans h.number h.book.log c.tries.hand.book.log c.room.new.hand.book.log i.seen (subst S i.number c.in_err-old.ensures.seen))
+    rw e.1 (sees-trans h.number h.book.log c.tries.hand.book.log c.room.new.hand.book.log i.seen (subst S i.number.0 c.in_err-old.ensures.seen))
 
 pub attempt-requires-in-tries-clause-ready : goal.attempt-requires-in-tries-clause-ready
 attempt-requires-in-tries-clause-ready g c =
     let i = c.tries.invariant in
     let k = c.room.new.hand in
-    let R : ℕ → Type 0 = λ n. IsReady c.args.self.now k.book.log n c.args.node.now c.tries.pen.nib in
-    subst R (sym c.in_ok-old.ensures.holds.number) (ready-on c.args.self.now c.tries.hand.book.log k.book.log c.tries.hand.number c.args.node.now c.tries.pen.nib c.in_ok-old.ensures.seen i.ready)
+    let R : ℕ → Type 0 = λ n. IsReady c.args.self.now.book k.book.log n c.args.node.now c.tries.pen.nib in
+    subst R (sym c.in_ok-old.ensures.holds.number) (ready-on c.args.self.now.book c.tries.hand.book.log k.book.log c.tries.hand.number c.args.node.now c.tries.pen.nib c.in_ok-old.ensures.seen i.ready)
 
 pub tries-preserved : goal.tries-preserved
 tries-preserved g c =
@@ -46,16 +46,16 @@ tries-preserved g c =
     let t = c.attempt-in-tries.new in
     let it = c.attempt-in-tries.ensures in
     let lost = c.if-attempt-2.ensures in
-    let number = c.in_ok-old.ensures.holds.number ∙ i.number in
-    let R : ℕ → Type 0 = λ n. IsReady c.args.self.now t.hand.book.log n c.args.node.now t.pen.nib in
+    let number = c.in_ok-old.ensures.holds.number ∙ i.number.0 in
+    let R : ℕ → Type 0 = λ n. IsReady c.args.self.now.book t.hand.book.log n c.args.node.now t.pen.nib in
     let S : ℕ → Type 0 = λ n. SeesMore n c.tries.hand.book.log k.book.log in
     let U : ℕ → Type 0 = λ n. SeesMore n k.book.log t.hand.book.log in record {
       least = let l = i.least in omega arith;
       hand = it.holds.hand;
-      number = it.holds.number ∙ number;
+      number = (it.holds.number ∙ number, it.holds.seats ∙ (c.in_ok-old.ensures.holds.seats ∙ i.number.1));
       book = (it.holds.same, lost.again.0);
       ready = subst R (sym it.holds.number) lost.again.1;
-      seen = sees-trans h.number h.book.log k.book.log t.hand.book.log (sees-trans h.number h.book.log c.tries.hand.book.log k.book.log i.seen (subst S i.number c.in_ok-old.ensures.seen)) (subst U number lost.placed);
+      seen = sees-trans h.number h.book.log k.book.log t.hand.book.log (sees-trans h.number h.book.log c.tries.hand.book.log k.book.log i.seen (subst S i.number.0 c.in_ok-old.ensures.seen)) (subst U number lost.placed);
       count = λ seen later last.
           let so = i.count seen later last in
           let less = lost.lost k.book.log ([], append-nil k.book.log) (sym c.in_ok-old.ensures.room.0) in

@@ -10,9 +10,9 @@ abbrev pub invariant-tries : goal.invariant-tries
 invariant-tries g l = record {
   least : 2 ≤ l.number;
   hand : IsHand l.hand;
-  number : l.hand.number ≡ l.fn.hand.number;
-  book : (l.hand.book.book ≡ l.self) × (l.pen.book ≡ l.self);
-  ready : IsReady l.self l.hand.book.log l.hand.number l.node l.pen.nib;
+  number : (l.hand.number ≡ l.fn.hand.number) × (l.hand.seats ≡ l.fn.hand.seats);
+  book : (l.hand.book.book ≡ l.self.book) × (l.pen.book ≡ l.self.book);
+  ready : IsReady l.self.book l.hand.book.log l.hand.number l.node l.pen.nib;
   seen : SeesMore l.fn.hand.number l.fn.hand.book.log l.hand.book.log;
   count : (seen : List Event) → IsPrefix seen l.fn.hand.book.log → top seen ≡ l.fn.old → length (history seen) + (l.number - 1) ≤ length (history l.hand.book.log);
   costs : Costs l.fn.notes.noted l.notes.noted ((l.number - 2) * 4096) (l.number - 1);

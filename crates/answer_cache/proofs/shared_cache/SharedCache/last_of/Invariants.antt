@@ -6,7 +6,7 @@ use Rattle.answer_cache.proofs.shared_cache.SharedCache.last_of.Given as goal
 
 abbrev pub invariant-links : goal.invariant-links
 invariant-links l = record {
-  book : l.walk.seen.book ≡ l.self;
+  book : l.walk.seen.book ≡ l.self.book;
   searches : Searches l.question (history l.fn.walk.seen.log) l.walk l._link;
   costs : Costs l.fn.notes.noted l.notes.noted l._link 0;
 }
