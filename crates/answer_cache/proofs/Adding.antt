@@ -1,7 +1,9 @@
 -- A store is added behind the others.
-use Rattle.std.proofs.Common.{◌≡◌, ◌≢◌, ℕ, ◌+◌, ◌<◌, ◌≤◌, ◌==◌, Bool, true, false, List, [], ◌∷◌, ◌++◌, length, Option, Some, None, get_or, set, replicate, refl, sym, ap, ◌∙◌, arith, rules}
+use Rattle.std.proofs.Common.{◌≡◌, ◌≢◌, ℕ, ◌+◌, ◌<◌, ◌≤◌, ◌==◌, Bool, true, false, List, [], ◌∷◌, ◌++◌, length, Option, Some, None, get_or}
+use Rattle.std.proofs.Common.{set, replicate, refl, sym, ap, ◌∙◌, arith, rules}
 use Rattle.std.proofs.lemmas.Bool.{eqb-true, eqb-false, eq-eqb, ne_eqb}
-use Rattle.std.proofs.lemmas.List.{map-append, length-append, append_assoc, append-nil, get_or-replicate, length-set, get_or-set_same, get_or-set_other}
+use Rattle.std.proofs.lemmas.List.{map-append, length-append, append_assoc, append-nil, get_or-replicate, length-set, get_or-set_same}
+use Rattle.std.proofs.lemmas.List.{get_or-set_other}
 use Rattle.std.proofs.lemmas.List.Elements.{filter-append, All-nil, All-push}
 use Rattle.answer_cache.specs.Chains.{IsChain, none, some, IsGroup, IsKept, no_group, store_in, stores_in}
 use Rattle.answer_log.specs.Groups.{group_of}
@@ -12,12 +14,14 @@ use Rattle.answer_cache.specs.declared.store_list.Group.{Group}
 
 module _ (stores : List Store) (store : Store) where
   -- the group of a store has it behind the others, and no other group has
-  pub one-more : (number : ℕ) → group_of store.question ≡ number → in_group number (stores ++ store ∷ []) ≡ in_group number stores ++ store ∷ []
+  pub one-more : (number : ℕ) → group_of store.question ≡ number → in_group number (stores ++ store ∷ []) ≡ in_group number stores ++ store
+      ∷ []
   one-more number is = rw (filter-append (λ it. group_of it.question == number) stores (store ∷ []), is, eq-eqb number number refl) refl
 
   pub no-more : (number : ℕ) → group_of store.question ≢ number → in_group number (stores ++ store ∷ []) ≡ in_group number stores
   no-more number other =
-      rw (filter-append (λ it. group_of it.question == number) stores (store ∷ []), ne_eqb (group_of store.question) number other) (append-nil (in_group number stores))
+      rw (filter-append (λ it. group_of it.question == number) stores (store ∷ []), ne_eqb (group_of store.question) number other)
+      (append-nil (in_group number stores))
 
 module _ (entries : List Entry) (entry : Entry) where
   stores-more : stores_in (entries ++ entry ∷ []) ≡ stores_in entries ++ store_in entry ∷ []
@@ -76,13 +80,16 @@ module _ (entries : List Entry) (entry : Entry) where
       let same = eqb-true (group_of entry.question) number is in
       let there = each (group_of entry.question) (rw same below) in
       let within : group_of entry.question < length groups = rw (size, same) below in
-      rw (← same, get_or-set_same groups (group_of entry.question) _ no_group within) (group-grows (get_or groups (group_of entry.question) no_group) before there)
+      rw (← same, get_or-set_same groups (group_of entry.question) _ no_group within)
+      (group-grows (get_or groups (group_of entry.question) no_group) before there)
   each-by groups number false is size below before each =
       let other = eqb-false (group_of entry.question) number is in
-      rw (get_or-set_other groups (group_of entry.question) number _ no_group (λ e. other (sym e))) (group-stays number (get_or groups number no_group) other (each number below))
+      rw (get_or-set_other groups (group_of entry.question) number _ no_group (λ e. other (sym e)))
+      (group-stays number (get_or groups number no_group) other (each number below))
 
   kept-by : (groups : List Group) → group_of entry.question < 64
-      → entry.before ≡ (get_or groups (group_of entry.question) no_group).last → (get_or groups (group_of entry.question) no_group).count < 64
+      → entry.before ≡ (get_or groups (group_of entry.question) no_group).last
+      → (get_or groups (group_of entry.question) no_group).count < 64
       → IsSound (store_in entry) → IsKept entries groups
       → IsKept (entries ++ entry ∷ []) (set groups (group_of entry.question)
       (record { last = Some (length entries); count = (get_or groups (group_of entry.question) no_group).count + 1 }))
@@ -97,7 +104,8 @@ module _ (entries : List Entry) (entry : Entry) where
   pub kept-more : (groups : List Group) (number : ℕ) → number ≡ group_of entry.question → number < 64
       → entry.before ≡ (get_or groups number no_group).last → (get_or groups number no_group).count < 64
       → IsSound (store_in entry) → IsKept entries groups
-      → IsKept (entries ++ entry ∷ []) (set groups number (record { last = Some (length entries); count = (get_or groups number no_group).count + 1 }))
+      → IsKept (entries ++ entry ∷ [])
+      (set groups number (record { last = Some (length entries); count = (get_or groups number no_group).count + 1 }))
   kept-more groups number index below before room sound it =
       rw index (kept-by groups (rw index at below) (rw index at before) (rw index at room) sound it)
 

@@ -1,5 +1,6 @@
 -- A list of stores is searched along the chain of a group.
-use Rattle.std.proofs.Common.{◌≡◌, ◌↔◌, ℕ, ◌+◌, ◌<◌, ◌≤◌, ◌==◌, Bool, true, false, IsTrue, List, [], ◌∷◌, ◌++◌, length, Option, Some, None, get_or, refl, sym, ap, ◌∙◌, arith}
+use Rattle.std.proofs.Common.{◌≡◌, ◌↔◌, ℕ, ◌+◌, ◌<◌, ◌≤◌, ◌==◌, Bool, true, false, IsTrue, List, [], ◌∷◌, ◌++◌, length, Option, Some, None}
+use Rattle.std.proofs.Common.{get_or, refl, sym, ap, ◌∙◌, arith}
 use Rattle.std.specs.List.{last_or}
 use Rattle.std.proofs.lemmas.Bool.{eq-eqb}
 use Rattle.std.proofs.lemmas.List.{map-append, length-append, nil_from_length, append_assoc, append-nil}
@@ -44,7 +45,13 @@ module _ (front back : List Entry) (entry : Entry) where
   pub group-there : (group : ℕ) → group_of entry.question ≡ group → in_group group (stores_in back) ≡ []
       → in_group group (stores_in (front ++ entry ∷ back)) ≡ in_group group (stores_in front) ++ store_in entry ∷ []
   group-there group here alone =
-      rw (map-append store_in front (entry ∷ back), filter-append (λ store. group_of store.question == group) (stores_in front) (stores_in (entry ∷ back)), here, eq-eqb group group refl, alone) refl
+      rw (
+        map-append store_in front (entry ∷ back),
+        filter-append (λ store. group_of store.question == group) (stores_in front) (stores_in (entry ∷ back)),
+        here,
+        eq-eqb group group refl,
+        alone,
+      ) refl
 
 module _ (same : (question other : Question) → IsTrue (same_question question other) ↔ (question ≡ other)) where
   none-by : (question : Question) (store : Store) (stores : List Store)
@@ -65,11 +72,16 @@ module _ (same : (question other : Question) → IsTrue (same_question question 
   none-stored question (store ∷ stores) e =
       none-by question store stores _ refl _ refl (none-stored question stores) e
 
-  module _ (question : Question) (front back : List Entry) (entry : Entry) (alone : in_group (group_of question) (stores_in back) ≡ []) where
+  module _ (question : Question) (front back : List Entry) (entry : Entry) (alone : in_group (group_of question) (stores_in back)
+      ≡ []) where
     stores-there : stores_of question (stores_in (front ++ entry ∷ back))
         ≡ stores_of question (stores_in front) ++ stores_of question (store_in entry ∷ [])
     stores-there =
-        rw (map-append store_in front (entry ∷ back), filter-append (λ store. same_question store.question question) (stores_in front) (stores_in (entry ∷ back)), none-stored question (stores_in back) alone) refl
+        rw (
+          map-append store_in front (entry ∷ back),
+          filter-append (λ store. same_question store.question question) (stores_in front) (stores_in (entry ∷ back)),
+          none-stored question (stores_in back) alone,
+        ) refl
 
     last-found : same_question entry.question question ≡ true
         → last_or None (stores_of question (stores_in (front ++ entry ∷ back))) ≡ Some (store_in entry)
@@ -84,7 +96,8 @@ module _ (same : (question other : Question) → IsTrue (same_question question 
       → last_or None (stores_of question (stores_in front)) ≡ None
   ends-by question front (none alone) = rw (none-stored question (stores_in front) alone) refl
 
-  module _ (question : Question) (entries : List Entry) (size : ℕ) (at : Option ℕ) (steps : ℕ) (left : IsLeft question entries size at steps) where
+  module _ (question : Question) (entries : List Entry) (size : ℕ) (at : Option ℕ) (steps : ℕ)
+      (left : IsLeft question entries size at steps) where
     pub ends : at ≡ None → last_or None (stores_of question (stores_in entries)) ≡ None
     ends at-is = left.last ∙ ends-by question left.front (rw at-is at left.chain)
 

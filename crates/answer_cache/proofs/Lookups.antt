@@ -1,5 +1,6 @@
 -- A walk that looks for the last store of a question, or counts those of a group.
-use Rattle.std.proofs.Common.{◌≡◌, ◌≢◌, ◌+◌, ◌≤◌, ◌<◌, ◌==◌, ℕ, true, false, List, [], ◌∷◌, ◌++◌, length, Option, Some, None, refl, ap, ◌∙◌, arith}
+use Rattle.std.proofs.Common.{◌≡◌, ◌≢◌, ◌+◌, ◌≤◌, ◌<◌, ◌==◌, ℕ, true, false, List, [], ◌∷◌, ◌++◌, length, Option, Some, None, refl, ap, ◌∙◌}
+use Rattle.std.proofs.Common.{arith}
 use Rattle.std.specs.List.{last_or}
 use Rattle.std.proofs.lemmas.List.{length-append, append-nil}
 use Rattle.std.proofs.lemmas.List.Elements.{filter-append}
@@ -40,7 +41,8 @@ last-before : (question : Question) (rest : List Store) (store : Store) → same
 last-before question rest store not =
     rw (filter-append (λ it. same_question it.question question) rest (store ∷ []), not, append-nil (stores_of question rest)) refl
 
-one-less : (rest : List Store) (store : Store) (links size : ℕ) → length (rest ++ store ∷ []) + links ≡ size → length rest + (links + 1) ≡ size
+one-less : (rest : List Store) (store : Store) (links size : ℕ) → length (rest ++ store ∷ []) + links ≡ size
+    → length rest + (links + 1) ≡ size
 one-less rest store links size sum = let n = length-append rest (store ∷ []) in omega arith
 
 -- a walk begins with all stores
@@ -55,7 +57,8 @@ module _ (question : Question) (whole : List Store) (walk : Walk) (links : ℕ) 
       → last_or None (stores_of question whole) ≡ Some store
   finds rest store split is = it.last ∙ (ap (λ stores. last_or None (stores_of question stores)) split ∙ last-here question rest store is)
 
-  pub goes-on : (rest : List Store) (store : Store) (new : Walk) → it.left ≡ rest ++ store ∷ [] → same_question store.question question ≡ false
+  pub goes-on : (rest : List Store) (store : Store) (new : Walk) → it.left ≡ rest ++ store ∷ []
+      → same_question store.question question ≡ false
       → Ahead new rest → Searches question whole new (links + 1)
   goes-on rest store new split not ahead = record {
     left = rest;
@@ -74,7 +77,8 @@ module _ (question : Question) (whole : List Store) (walk : Walk) (links : ℕ) 
 one-more : (group : ℕ) (rest : List Store) (store : Store) → (group_of store.question == group) ≡ true
     → length (in_group group (rest ++ store ∷ [])) ≡ length (in_group group rest) + 1
 one-more group rest store is =
-    let more = length-append (in_group group rest) (store ∷ []) in rw (filter-append (λ it. group_of it.question == group) rest (store ∷ []), is) more
+    let more = length-append (in_group group rest) (store ∷ []) in
+    rw (filter-append (λ it. group_of it.question == group) rest (store ∷ []), is) more
 
 none-more : (group : ℕ) (rest : List Store) (store : Store) → (group_of store.question == group) ≡ false
     → length (in_group group (rest ++ store ∷ [])) ≡ length (in_group group rest)
@@ -99,7 +103,8 @@ module _ (group : ℕ) (whole : List Store) (walk : Walk) (found links : ℕ) (i
     count-full is full =
         let sum = rw (split, one-more group rest store is) at it.count in omega arith
 
-    pub count-one : (new : Walk) → (group_of store.question == group) ≡ true → (found + 1 ≢ 64) → Ahead new rest → Counts group whole new (found + 1) (links + 1)
+    pub count-one : (new : Walk) → (group_of store.question == group) ≡ true → (found + 1 ≢ 64) → Ahead new rest
+        → Counts group whole new (found + 1) (links + 1)
     count-one new is room ahead = record {
       left = rest;
       ahead = ahead;

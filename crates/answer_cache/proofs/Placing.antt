@@ -1,19 +1,18 @@
 -- A node is placed, or it is ready for another try.
-use Rattle.std.proofs.Common.{◌≡◌, ◌+◌, ◌≤◌, ℕ, Bool, true, false, List, ◌++◌, length, MatchBool, MatchResult, IfErr, Ok, Err, ap, sym, ◌∙◌, subst, arith, append_assoc, length-append}
+use Rattle.std.proofs.Common.{◌≡◌, ◌+◌, ◌≤◌, ℕ, Bool, true, false, List, ◌++◌, length, MatchBool, MatchResult, Ok, Err, ap, sym, ◌∙◌}
+use Rattle.std.proofs.Common.{subst, arith, append_assoc, length-append}
 use mathlib.Core.List.{IsPrefix}
 use Rattle.std.specs.declared.result.Result.{Result}
 use Rattle.logbook.specs.Pages.{Book, Nib, may_write}
 use Rattle.answer_log.specs.Hands.{EndsWith, SeesMore}
-use Rattle.answer_log.specs.Logs.{history, top}
-use Rattle.answer_log.specs.Steps.{HadRoom, store_by}
+use Rattle.answer_log.specs.Logs.{history}
+use Rattle.answer_log.specs.Steps.{store_by}
 use Rattle.dns_answers.specs.Values.{AnswerValue}
 use Rattle.answer_log.specs.declared.event.Event.{Event}
 use Rattle.answer_log.specs.declared.store.Store.{Store}
 use Rattle.dns_message.specs.declared.question.Question.{Question}
-use Rattle.answer_cache.specs.Nodes.{IsReady, Says, WhyLost, WhyNoRoom, store_in}
+use Rattle.answer_cache.specs.Nodes.{IsReady, Says, store_in}
 use Rattle.answer_cache.specs.declared.node.Node.{Node}
-use Rattle.answer_cache.specs.declared.refusal.StoreRefusal.{StoreRefusal}
-use Rattle.answer_cache.specs.declared.refusal.StoreRefusal.TheVariants.{Lifeless, GenerationFull, Contended, Memory}
 
 pub prefix-trans : {X : Type 0} (xs ys zs : List X) → IsPrefix xs ys → IsPrefix ys zs → IsPrefix xs zs
 prefix-trans xs ys zs p q = (p.0 ++ q.0, sym (append_assoc xs p.0 q.0) ∙ (ap (λ l. l ++ q.0) p.1 ∙ q.1))
@@ -27,7 +26,8 @@ sees-trans seat old mid new one two = record {
 }
 
 -- a store that comes after more was seen
-pub ends-on : (store : Store) (old mid new : List Event) → SeesMore store.seat old mid → EndsWith store (history mid) (history new) → EndsWith store (history old) (history new)
+pub ends-on : (store : Store) (old mid new : List Event) → SeesMore store.seat old mid → EndsWith store (history mid) (history new)
+    → EndsWith store (history old) (history new)
 ends-on store old mid new one two = record {
   front = two.front;
   last = two.last;
@@ -35,7 +35,8 @@ ends-on store old mid new one two = record {
   own = two.own ∙ one.own;
 }
 
-pub ready-on : (book : Book) (old new : List Event) (seat : ℕ) (node : Node) (nib : Nib) → SeesMore seat old new → IsReady book old seat node nib → IsReady book new seat node nib
+pub ready-on : (book : Book) (old new : List Event) (seat : ℕ) (node : Node) (nib : Nib) → SeesMore seat old new
+    → IsReady book old seat node nib → IsReady book new seat node nib
 ready-on book old new seat node nib sees it = record {
   named = sees.names book node.node (store_in seat node) node.link it.named;
   right = it.right;
@@ -43,12 +44,11 @@ ready-on book old new seat node nib sees it = record {
   above = it.above;
 }
 
-pub room-on : (old new : List Event) (node : ℕ) (question : Question) → IsPrefix old new → HadRoom old node question → HadRoom new node question
-room-on old new node question later it = record { seen = it.seen; later = prefix-trans it.seen old new it.later later; top = it.top; room = it.room }
-
 -- after a lost try the node is ready for another one
-pub again : (book its : Book) (old new : List Event) (seat : ℕ) (node : Node) (before after : Nib) (won : Bool) (X : Type 0) → IsReady book old seat node before
-    → MatchBool won X (SeesMore seat old new) → MatchBool won (Unit {0}) ((its ≡ book) × (after.right ≡ may_write) × (after.key ≡ node.link.key))
+pub again : (book its : Book) (old new : List Event) (seat : ℕ) (node : Node) (before after : Nib) (won : Bool) (X : Type 0)
+    → IsReady book old seat node before
+    → MatchBool won X (SeesMore seat old new)
+    → MatchBool won (Unit {0}) ((its ≡ book) × (after.right ≡ may_write) × (after.key ≡ node.link.key))
     → MatchBool won (Unit {0}) ((its ≡ book) × IsReady book new seat node after)
 again book its old new seat node before after true X it sees pen = tt
 again book its old new seat node before after false X it sees pen = (
@@ -65,24 +65,14 @@ again book its old new seat node before after false X it sees pen = (
 pub longer : (xs ys : List Store) (n : ℕ) (zs : List Store) → IsPrefix xs ys → length ys + n ≤ length zs → length xs + n ≤ length zs
 longer xs ys n zs p more = let sum = ap length (sym p.1) ∙ length-append xs p.0 in omega arith
 
-pub lost-on : (question : Question) (old mid new : List Store) (refusal : StoreRefusal) → IsPrefix old mid → WhyLost question mid new refusal → WhyLost question old new refusal
-lost-on question old mid new Lifeless p why = why
-lost-on question old mid new GenerationFull p why = why
-lost-on question old mid new Contended p why = longer old mid 16 new p why
-lost-on question old mid new Memory p why = tt
-
-pub no-room-lost : (question : Question) (before after : List Store) (refusal : StoreRefusal) → WhyNoRoom question after refusal → WhyLost question before after refusal
-no-room-lost question before after Lifeless why = why
-no-room-lost question before after GenerationFull why = why
-no-room-lost question before after Contended why = absurd why
-no-room-lost question before after Memory why = tt
-
-pub store-is : (seat its : ℕ) (node : Node) (question : Question) (answer : AnswerValue) (moment : ℕ) → seat ≡ its → Says node question answer moment
+pub store-is : (seat its : ℕ) (node : Node) (question : Question) (answer : AnswerValue) (moment : ℕ) → seat ≡ its
+    → Says node question answer moment
     → store_in seat node ≡ store_by its question answer moment
 store-is seat its node question answer moment same says = λ i. store_by (same i) (says.0 i) (says.1 i) (says.2 i)
 
 -- what came of the tries, after more was seen
-pub put-on : {A E : Type 0} (result : Result A E) (seat its : ℕ) (placed store : Store) (old mid new : List Event) → its ≡ seat → placed ≡ store → store.seat ≡ seat → SeesMore seat old mid
+pub put-on : {A E : Type 0} (result : Result A E) (seat its : ℕ) (placed store : Store) (old mid new : List Event) → its ≡ seat
+    → placed ≡ store → store.seat ≡ seat → SeesMore seat old mid
     → MatchResult result (λ _. EndsWith placed (history mid) (history new)) (λ _. SeesMore its mid new)
     → MatchResult result (λ _. EndsWith store (history old) (history new)) (λ _. SeesMore seat old new)
 put-on (Ok a) seat its placed store old mid new number is mine' sees it =
@@ -91,11 +81,3 @@ put-on (Ok a) seat its placed store old mid new number is mine' sees it =
     ends-on store old mid new (subst S (sym mine') sees) (subst E is it)
 put-on (Err e) seat its placed store old mid new number is mine' sees it =
     let S : ℕ → Type 0 = λ n. SeesMore n mid new in sees-trans seat old mid new sees (subst S number it)
-
-pub lost-by : {A : Type 0} (result : Result A StoreRefusal) (question its : Question) (old seen mid new : List Event) (node : ℕ) → its ≡ question → IsPrefix (history old) (history seen)
-    → IsPrefix seen mid → top seen ≡ node
-    → IfErr result (λ refusal. (some : List Event) → IsPrefix some mid → top some ≡ node → WhyLost its (history some) (history new) refusal)
-    → IfErr result (WhyLost question (history old) (history new))
-lost-by (Ok a) question its old seen mid new node same pre later last it = tt
-lost-by (Err e) question its old seen mid new node same pre later last it =
-    let W : Question → Type 0 = λ q. WhyLost q (history seen) (history new) e in lost-on question (history old) (history seen) (history new) e pre (subst W same (it seen later last))

@@ -1,5 +1,6 @@
 -- New seats, and what a seat has after a store.
-use Rattle.std.proofs.Common.{◌≡◌, ◌+◌, ◌<◌, ◌==◌, ℕ, zero, suc, List, [], ◌∷◌, ◌++◌, length, map, MatchResult, OnOk, Ok, Err, refl, ap, subst, ◌∙◌, arith, rules}
+use Rattle.std.proofs.Common.{◌≡◌, ◌+◌, ◌<◌, ◌==◌, ℕ, zero, suc, List, [], ◌∷◌, ◌++◌, length, map, MatchResult, OnOk, Ok, Err, refl, ap}
+use Rattle.std.proofs.Common.{subst, ◌∙◌, arith, rules}
 use Rattle.std.proofs.lemmas.Bool.{eq-eqb}
 use Rattle.std.proofs.lemmas.List.{length-append, map-append}
 use Rattle.std.proofs.lemmas.List.Elements.{All-cons, All-map, All-nil, filter-append}
@@ -26,13 +27,15 @@ range-more from (suc size) =
     ap (λ rest. from ∷ rest) (range-more (from + 1) size ∙ ap (λ n. range_with_len (from + 1) size ++ n ∷ []) same)
 
 -- one seat more
-pub seats-more : (cache : CacheView) (size : ℕ) → map (new_seat cache) (range_with_len 0 (size + 1)) ≡ map (new_seat cache) (range_with_len 0 size) ++ new_seat cache size ∷ []
+pub seats-more : (cache : CacheView) (size : ℕ)
+    → map (new_seat cache) (range_with_len 0 (size + 1)) ≡ map (new_seat cache) (range_with_len 0 size) ++ new_seat cache size ∷ []
 seats-more cache size =
     let next : size + 1 ≡ suc size = omega arith in
     let first : 0 + size ≡ size = omega arith in
     ap (λ n. map (new_seat cache) (range_with_len 0 n)) next
     ∙ (ap (λ numbers. map (new_seat cache) numbers) (range-more 0 size)
-    ∙ (map-append (new_seat cache) (range_with_len 0 size) ((0 + size) ∷ []) ∙ ap (λ n. map (new_seat cache) (range_with_len 0 size) ++ new_seat cache n ∷ []) first))
+    ∙ (map-append (new_seat cache) (range_with_len 0 size) ((0 + size) ∷ [])
+    ∙ ap (λ n. map (new_seat cache) (range_with_len 0 size) ++ new_seat cache n ∷ []) first))
 
 -- what is dealt for a new seat
 pub new-view : (hand : Hand) (noted : Noted) (cache : CacheView) (its : Book) (number seats size : ℕ) → IsNew hand its number seats
@@ -53,10 +56,11 @@ all-of P each [] = All-nil P
 all-of P each (x ∷ xs) = All-cons P x xs (each x) (all-of P each xs)
 
 pub new-belong : (cache : CacheView) (size : ℕ) → All (Belongs cache) (map (new_seat cache) (range_with_len 0 size))
-new-belong cache size = All-map (Belongs cache) (new_seat cache) (range_with_len 0 size) (all-of (λ n. Belongs cache (new_seat cache n)) (λ n. record {
-  made = refl;
-  is = record { own = refl; history = record { sound = All-nil IsSound; few = λ group. search rules } };
-}) (range_with_len 0 size))
+new-belong cache size =
+    All-map (Belongs cache) (new_seat cache) (range_with_len 0 size) (all-of (λ n. Belongs cache (new_seat cache n)) (λ n. record {
+      made = refl;
+      is = record { own = refl; history = record { sound = All-nil IsSound; few = λ group. search rules } };
+    }) (range_with_len 0 size))
 
 module _ (front whole : List Store) (store : Store) (last : whole ≡ front ++ store ∷ []) where
   -- the group of the store had room before it
@@ -65,22 +69,31 @@ module _ (front whole : List Store) (store : Store) (last : whole ≡ front ++ s
       let few = it.few (group_of store.question) in
       let own = eq-eqb (group_of store.question) (group_of store.question) refl in
       let one : in_group (group_of store.question) (store ∷ []) ≡ store ∷ [] = rw own refl in
-      let split = ap (in_group (group_of store.question)) last ∙ (filter-append (λ it. group_of it.question == group_of store.question) front (store ∷ []) ∙ ap (λ l. in_group (group_of store.question) front ++ l) one) in
+      let split = ap (in_group (group_of store.question)) last
+      ∙ (filter-append (λ it. group_of it.question == group_of store.question) front (store ∷ [])
+      ∙ ap (λ l. in_group (group_of store.question) front ++ l) one) in
       let size = ap length split ∙ length-append (in_group (group_of store.question) front) (store ∷ []) in
       omega arith
 
   own-one-more : mine whole store.seat ≡ mine front store.seat ++ store ∷ []
   own-one-more =
       let one : mine (store ∷ []) store.seat ≡ store ∷ [] = rw (eq-eqb store.seat store.seat refl) refl in
-      ap (λ h. mine h store.seat) last ∙ (filter-append (λ it. it.seat == store.seat) front (store ∷ []) ∙ ap (λ l. mine front store.seat ++ l) one)
+      ap (λ h. mine h store.seat) last
+      ∙ (filter-append (λ it. it.seat == store.seat) front (store ∷ []) ∙ ap (λ l. mine front store.seat ++ l) one)
 
-pub stored : {A E : Type 0} (result : Result A E) (hand : Hand) (noted : Noted) (view : SharedView) (new : List Event) (number : ℕ) (offered : List Offer)
-    (question : Question) (answer : AnswerValue) (moment : ℕ) → view_of hand noted ≡ view → number ≡ hand.number → 0 < answer.life → IsHistory (history new)
-    → MatchResult result (λ _. EndsWith (store_by hand.number question answer moment) (history hand.book.log) (history new)) (λ _. SeesMore hand.number hand.book.log new)
-    → OnOk result (IsStored view.seat (record { number = number; seen = history new; own = mine (history new) number; offered = offered }) (offer_of question answer moment))
+pub stored : {A E : Type 0} (result : Result A E) (hand : Hand) (noted : Noted) (view : SharedView) (new : List Event) (number : ℕ)
+    (offered : List Offer)
+    (question : Question) (answer : AnswerValue) (moment : ℕ) → view_of hand noted ≡ view → number ≡ hand.number → 0 < answer.life
+    → IsHistory (history new)
+    → MatchResult result (λ _. EndsWith (store_by hand.number question answer moment) (history hand.book.log) (history new))
+    (λ _. SeesMore hand.number hand.book.log new)
+    → OnOk result (IsStored view.seat (record { number = number; seen = history new; own = mine (history new) number; offered = offered })
+    (offer_of question answer moment))
 stored (Ok a) hand noted view new number offered question answer moment is same lives it end =
     let store : Store = store_by hand.number question answer moment in
-    let V : SharedView → Type 0 = λ v. IsStored v.seat (record { number = number; seen = history new; own = mine (history new) number; offered = offered }) (offer_of question answer moment) in
+    let V : SharedView → Type 0 =
+    λ v. IsStored v.seat (record { number = number; seen = history new; own = mine (history new) number; offered = offered })
+    (offer_of question answer moment) in
     subst V is (record {
       lives = lives;
       before = end.front;

@@ -86,4 +86,8 @@ pub new-stored : (cache : CacheView) (number : ℕ) (seat : SharedView) → seat
 new-stored cache number seat is =
     let S : SharedView → Type 0 = λ it. HasStored cache number 0 it in
     let history : IsHistory [] = record { sound = All-nil IsSound; few = λ group. search rules } in
-    subst S (sym is) (record { here = record { made = refl; is = record { own = refl; history = history } }; numbered = refl; stores = refl })
+    subst S (sym is) (record {
+      here = record { made = refl; is = record { own = refl; history = history } };
+      numbered = refl;
+      stores = refl;
+    })

@@ -4,11 +4,17 @@ use Rattle.answer_log.specs.Histories.{IsFull}
 use Rattle.answer_log.specs.declared.store.Store.{Store}
 use Rattle.answer_cache.specs.Seats.{Offer, SeatView, IsSeat, store_of}
 use Rattle.answer_cache.specs.declared.refusal.StoreRefusal.{StoreRefusal}
-use Rattle.answer_cache.specs.declared.refusal.StoreRefusal.TheVariants.{Lifeless, GenerationFull, Contended, Memory}
+use Rattle.answer_cache.specs.declared.refusal.StoreRefusal.TheVariants.{Lifeless, GenerationFull}
+use Rattle.answer_cache.specs.declared.refusal.StoreRefusal.TheVariants.{Contended, Memory}
 
 -- the store of the one seat
 abbrev pub own_store : Offer → Store
-own_store offer = record { seat = 0; question = offer.question; answer = offer.answer; moment = offer.moment }
+own_store offer = record {
+  seat = 0;
+  question = offer.question;
+  answer = offer.answer;
+  moment = offer.moment;
+}
 
 -- what the seat sees: all stores are its own
 abbrev pub seat_at : List Store → List Offer → SeatView

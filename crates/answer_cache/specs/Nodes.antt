@@ -1,5 +1,6 @@
 -- What holds of the nodes of a shared cache, and of a walk along them.
-use Rattle.std.specs.Prelude.{◌≡◌, ℕ, ◌+◌, ◌<◌, ◌≤◌, List, [], ◌∷◌, ◌++◌, length, Option, Some, None}
+use Rattle.std.specs.Prelude.{◌≡◌, ℕ, ◌+◌, ◌<◌, ◌≤◌, List, [], ◌∷◌, ◌++◌, length, Option, Some}
+use Rattle.std.specs.Prelude.{None}
 use Rattle.std.specs.Arc.{arc_value}
 use Rattle.std.specs.List.{last_or}
 use Rattle.dns_answers.specs.Values.{AnswerValue}
@@ -17,7 +18,8 @@ use Rattle.answer_log.specs.declared.walk.Walk.{Walk}
 use Rattle.answer_cache.specs.Seats.{Noted}
 use Rattle.answer_cache.specs.declared.node.Node.{Node}
 use Rattle.answer_cache.specs.declared.refusal.StoreRefusal.{StoreRefusal}
-use Rattle.answer_cache.specs.declared.refusal.StoreRefusal.TheVariants.{Lifeless, GenerationFull, Contended, Memory}
+use Rattle.answer_cache.specs.declared.refusal.StoreRefusal.TheVariants.{Lifeless, GenerationFull}
+use Rattle.answer_cache.specs.declared.refusal.StoreRefusal.TheVariants.{Contended, Memory}
 
 -- what the nodes of a book are tagged with
 abbrev pub numbers_of : Book → List ℕ
@@ -46,7 +48,8 @@ Meets book walk left (Some node) = (rest : List Store) × (seat : ℕ)
 -- the node of the last store of a question
 abbrev pub IsLastOf : Question → List Store → Option Node → Type 0
 IsLastOf question stores None = last_or None (stores_of question stores) ≡ None
-IsLastOf question stores (Some node) = (seat : ℕ) × (last_or None (stores_of question stores) ≡ Some (store_in seat node))
+IsLastOf question stores (Some node) =
+    (seat : ℕ) × (last_or None (stores_of question stores) ≡ Some (store_in seat node))
 
 -- the notes are those of before but for so many links and tries at most
 pub record Costs (old new : Noted) (links tries : ℕ) : Type 0 where
@@ -62,15 +65,17 @@ pub record Holds (book : Book) (old new : Hand) : Type 0 where
   pub same : new.book.book ≡ book
 
 -- what is to be placed: the log names the node so, and the pen writes its link
-pub record IsReady (book : Book) (log : List Event) (seat : ℕ) (node : Node) (nib : Nib) : Type 0 where
+pub record IsReady (book : Book) (log : List Event) (seat : ℕ) (node : Node)
+    (nib : Nib) : Type 0 where
   pub named : IsNamed book log node.node (store_in seat node) node.link
   pub right : nib.right ≡ may_write
   pub its : nib.key ≡ node.link.key
   pub above : 1 < node.link.key
 
--- the node has this question and answer, from this moment on
+-- the node has this question with its hash, and this answer, from this moment on
 abbrev pub Says : Node → Question → AnswerValue → ℕ → Type 0
-Says node question answer moment = (node.question ≡ question) × (arc_value node.answer ≡ answer) × (node.moment ≡ moment)
+Says node question answer moment = (node.question ≡ question) × (arc_value node.answer ≡ answer)
+    × (node.moment ≡ moment) × (node.tag ≡ hash_of (hashed_of node.question))
 
 -- why a try does not begin
 abbrev pub WhyNoRoom : Question → List Store → StoreRefusal → Type 0

@@ -6,7 +6,8 @@ use Rattle.dns_message.specs.declared.question.Question.{Question}
 use Rattle.answer_log.specs.Histories.{IsFull, IsHistory, mine}
 use Rattle.answer_log.specs.declared.store.Store.{Store}
 use Rattle.answer_cache.specs.declared.refusal.StoreRefusal.{StoreRefusal}
-use Rattle.answer_cache.specs.declared.refusal.StoreRefusal.TheVariants.{Lifeless, GenerationFull, Contended, Memory}
+use Rattle.answer_cache.specs.declared.refusal.StoreRefusal.TheVariants.{Lifeless, GenerationFull}
+use Rattle.answer_cache.specs.declared.refusal.StoreRefusal.TheVariants.{Contended, Memory}
 
 -- what a store was handed, whatever it answered
 pub record Offer : Type 0 where
@@ -17,8 +18,8 @@ pub record Offer : Type 0 where
 abbrev pub offer_of : Question → AnswerValue → ℕ → Offer
 offer_of question answer moment = record { question = question; answer = answer; moment = moment }
 
--- what contracts note of a seat: what its stores were handed, how many links its calls went along, and how many times
--- they tried to place a node
+-- what contracts note of a seat: what its stores were handed, how many links its calls went along,
+-- and how many times they tried to place a node
 pub record Noted : Type 0 where
   pub offered : List Offer
   pub links : ℕ
@@ -48,10 +49,15 @@ pub record StoresNothing (old new : SeatView) : Type 0 where
 
 abbrev pub store_of : SeatView → Offer → Store
 store_of seat offer =
-    record { seat = seat.number; question = offer.question; answer = offer.answer; moment = offer.moment }
+    record {
+      seat = seat.number;
+      question = offer.question;
+      answer = offer.answer;
+      moment = offer.moment;
+    }
 
--- What was handed is the last store of the history. Before it, the history had no other store of this seat
--- than before the call, and the question's group was not full.
+-- What was handed is the last store of the history. Before it, the history had no other store of
+-- this seat than before the call, and the question's group was not full.
 pub record IsStored (old new : SeatView) (offer : Offer) : Type 0 where
   pub lives : 0 < offer.answer.life
   pub before : List Store
@@ -61,7 +67,8 @@ pub record IsStored (old new : SeatView) (offer : Offer) : Type 0 where
   pub last : new.seen ≡ before ++ store_of old offer ∷ []
   pub own : new.own ≡ old.own ++ store_of old offer ∷ []
 
--- Why what was handed is not stored. That it does not live is the reason exactly where its life is 0.
+-- Why what was handed is not stored. That it does not live is the reason exactly where its life is
+-- 0.
 abbrev pub WhyNot : SeatView → SeatView → Offer → StoreRefusal → Type 0
 WhyNot old new offer Lifeless = offer.answer.life ≡ 0
 WhyNot old new offer GenerationFull = (0 < offer.answer.life) × IsFull new.seen offer.question

@@ -8,7 +8,8 @@ use Rattle.answer_log.specs.declared.hand.Hand.{Hand}
 use Rattle.answer_log.specs.declared.store.Store.{Store}
 use Rattle.answer_cache.specs.Seats.{Noted, SeatView, IsSeat}
 use Rattle.answer_cache.specs.declared.cache_refusal.CacheRefusal.{CacheRefusal}
-use Rattle.answer_cache.specs.declared.cache_refusal.CacheRefusal.TheVariants.{BadCount, Memory as NoMemory}
+use Rattle.answer_cache.specs.declared.cache_refusal.CacheRefusal.TheVariants.{BadCount}
+use Rattle.answer_cache.specs.declared.cache_refusal.CacheRefusal.TheVariants.{Memory as NoMemory}
 
 -- which cache it is, and how many seats it was made with
 pub record CacheView : Type 0 where
@@ -22,8 +23,8 @@ abbrev pub cache_coded : Coded CacheView
 cache_coded = coded_via (coded× book_coded coded_ℕ) (λ (it : CacheView). (it.book, it.seats))
     (λ x y e i. cache_view (e i).0 (e i).1)
 
--- the cache that it was made with, what each book sees of its seats, and how many links its calls went along and how
--- many times they tried to place a node
+-- the cache that it was made with, what each book sees of its seats, and how many links its calls
+-- went along and how many times they tried to place a node
 pub record SharedView : Type 0 where
   pub cache : CacheView
   pub seat : SeatView
@@ -62,7 +63,12 @@ pub record HasStored (cache : CacheView) (number count : ℕ) (seat : SharedView
 -- a new seat has seen an empty history
 abbrev pub new_seat : CacheView → ℕ → SharedView
 new_seat cache number =
-    record { cache = cache; seat = record { number = number; seen = []; own = []; offered = [] }; links = 0; tries = 0 }
+    record {
+      cache = cache;
+      seat = record { number = number; seen = []; own = []; offered = [] };
+      links = 0;
+      tries = 0;
+    }
 
 -- The count is bad exactly outside 1 to 64. Memory is wanted only for a good one.
 abbrev pub Refuses : ℕ → CacheRefusal → Type 0

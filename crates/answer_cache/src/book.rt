@@ -4,7 +4,8 @@ ghost use Rattle.std.specs.Arc.{arc_value};
 ghost use Rattle.std.specs.Option.{option_map};
 ghost use Rattle.dns_answers.specs.Records.{kind_of};
 ghost use Rattle.answer_log.specs.Histories.{cached};
-ghost use Rattle.answer_cache.specs.Seats.{GoesOn, IsRefused, IsSeat, IsStored, SeatView, StoresNothing, offer_of};
+ghost use Rattle.answer_cache.specs.Seats.{GoesOn, IsRefused, IsSeat, IsStored, SeatView};
+ghost use Rattle.answer_cache.specs.Seats.{StoresNothing, offer_of};
 
 use crate::refusal::StoreRefusal;
 use dns_answers::{Answer, Moment};
@@ -14,8 +15,9 @@ use std::sync::{Arc, Wait};
 
 /// A book of answers that seats share: one history of what was stored, which only grows.
 ///
-/// A seat is used by one thread at a time. It sees a history, and each call through it goes on with that history: what
-/// it had seen is in front of what it sees then. What is stored stays until the book is dropped.
+/// A seat is used by one thread at a time. It sees a history, and each call through it goes on with
+/// that history: what it had seen is in front of what it sees then. What is stored stays until the
+/// book is dropped.
 pub trait AnswerBook {
     /// A seat at the book.
     type Seat;
@@ -26,8 +28,9 @@ pub trait AnswerBook {
     // Its number, the history that it has seen, its own stores, and what its stores were handed.
     ghost shown: { Self.Seat → SeatView };
 
-    /// The answer of the last store of the question, while it lives: from the moment of its store on, for as many
-    /// seconds as its life is. An older store does not come back when the last one has expired.
+    /// The answer of the last store of the question, while it lives: from the moment of its store
+    /// on, for as many seconds as its life is. An older store does not come back when the last one
+    /// has expired.
     fn lookup(
         &self,
         seat: &mut Self::Seat,
@@ -38,7 +41,8 @@ pub trait AnswerBook {
         ensures stays { belongs self.now seat.new }
         ensures goes_on { GoesOn (shown seat.old) (shown seat.new) }
         ensures stores_nothing { StoresNothing (shown seat.old) (shown seat.new) }
-        ensures found { IfOk result (λ found. option_map arc_value found ≡ cached (shown seat.new).seen question.now now) };
+        ensures found { IfOk result
+            (λ found. option_map arc_value found ≡ cached (shown seat.new).seen question.now now) };
 
     /// Stores an answer, whose life begins now.
     fn store<R: Wait>(
@@ -56,9 +60,11 @@ pub trait AnswerBook {
         ensures offered { (shown seat.new).offered
             ≡ (shown seat.old).offered ++ offer_of question.now (arc_value answer.now) now ∷ [] }
         ensures stored { OnOk result
-            (IsStored (shown seat.old) (shown seat.new) (offer_of question.now (arc_value answer.now) now)) }
+            (IsStored (shown seat.old) (shown seat.new)
+            (offer_of question.now (arc_value answer.now) now)) }
         ensures refused { IfErr result
-            (IsRefused (shown seat.old) (shown seat.new) (offer_of question.now (arc_value answer.now) now)) };
+            (IsRefused (shown seat.old) (shown seat.new)
+            (offer_of question.now (arc_value answer.now) now)) };
 
     // What holds of each seat of the book.
     ghost holds: { (book : Self) (seat : Self.Seat) → belongs book seat → IsSeat (shown seat) };

@@ -1,53 +1,57 @@
 //! A book of DNS answers that seats share, and the one history of what was stored.
 //!
-//! A resolver asks DNS servers so that a SIP request finds its next hop (RFC 3263). The answers may be kept for as long
-//! as they live. This crate keeps them: a book is asked before a server is, and each new answer is stored in it.
+//! A resolver asks DNS servers so that a SIP request finds its next hop (RFC 3263). The answers may
+//! be kept for as long as they live. This crate keeps them: a book is asked before a server is, and
+//! each new answer is stored in it.
 //!
-//! A book has one history: the list of all stores, the oldest first. It only grows, and what was stored stays until the
-//! book is dropped. Each user of a book has a seat at it, and a thread uses its own seat. A seat sees a history, and
-//! after each call it sees the same history or a longer one.
+//! A book has one history: the list of all stores, the oldest first. It only grows, and what was
+//! stored stays until the book is dropped. Each user of a book has a seat at it, and a thread uses
+//! its own seat. A seat sees a history, and after each call it sees the same history or a longer
+//! one.
 //!
-//! `lookup` answers from the last store of the question. It gives the answer while that lives: from the moment of the
-//! store on, for as many seconds as the life of the answer says. When the life has ended, it finds nothing. An older
-//! store of the question does not come back.
+//! `lookup` answers from the last store of the question. It gives the answer while that lives: from
+//! the moment of the store on, for as many seconds as the life of the answer says. When the life
+//! has ended, it finds nothing. An older store of the question does not come back.
 //!
-//! `store` adds an answer behind all others, and its life begins at the moment that the caller gives. It refuses an
-//! answer of life 0, because that may not be kept. It also refuses an answer when the group of its question is full,
-//! when other stores came in between 16 times, and when there is no memory. `StoreRefusal` says which it was, and
-//! nothing was stored then.
+//! `store` adds an answer behind all others, and its life begins at the moment that the caller
+//! gives. It refuses an answer of life 0, because that may not be kept. It also refuses an answer
+//! when the group of its question is full, when other stores came in between 16 times, and when
+//! there is no memory. `StoreRefusal` says which it was, and nothing was stored then.
 //!
-//! `group` puts each question, by its name and type, into one of 64 groups, and a group has at most 64 stores. So a
-//! book never has more than 4096. Stores do not make room for others: when groups are full, the user of a book begins a
-//! new one.
+//! `group` puts each question, by its name and type, into one of 64 groups, and a group has at most
+//! 64 stores. So a book never has more than 4096. Stores do not make room for others: when groups
+//! are full, the user of a book begins a new one.
 //!
-//! `AnswerBook` is the trait of all books. Its `store` takes a runtime that may wait, for books that other threads
-//! share. `ListCache` is the book of one thread, and has one seat. It never waits, and a lookup looks through the
-//! stores of one group.
+//! `AnswerBook` is the trait of all books. Its `store` takes a runtime that may wait, for books
+//! that other threads share. `ListCache` is the book of one thread, and has one seat. It never
+//! waits, and a lookup looks through the stores of one group.
 //!
 //! ```text
 //! let (book, mut seat) = ListCache::new(alloc);
-//! book.store(&rt, &mut seat, &question, &answer, at_100)?;    // at second 100, an answer of life 10
+//! book.store(&rt, &mut seat, &question, &answer, at_100)?;    // at 100, an answer of life 10
 //! book.lookup(&mut seat, &question, at_109)?;                 // Some(answer)
 //! book.lookup(&mut seat, &question, at_110)?;                 // None
 //! ```
 //!
-//! `SharedCache` is the book that up to 64 seats share without a lock, each seat in a thread of its own. All seats see
-//! one history: of what two seats have seen, one is the beginning of the other. Each store in it is of one of the seats,
-//! so their own stores together are the history. A seat sees what another had seen once
-//! it has learned that one's notice. A lookup takes no memory, and looks through all stores, the newest first: 4096 at
-//! most. A store is tried 16 times at most, and it may lose each try to stores of other seats.
+//! `SharedCache` is the book that up to 64 seats share without a lock, each seat in a thread of its
+//! own. All seats see one history: of what two seats have seen, one is the beginning of the other.
+//! Each store in it is of one of the seats, so their own stores together are the history. A seat
+//! sees what another had seen once it has learned that one's notice. A lookup takes no memory, and
+//! looks through all stores, the newest first: 4096 at most. A store is tried 16 times at most, and
+//! it may lose each try to stores of other seats.
 //!
 //! ```text
-//! let (cache, seats) = SharedCache::new(alloc, 2)?;           // 1 to 64 seats, numbered from 0; each goes to a thread
+//! let (cache, seats) = SharedCache::new(alloc, 2)?;           // two seats, one for each thread
 //! cache.store(&rt, &mut seat_0, &question, &answer, now)?;    // in the thread of seat 0
-//! let notice = seat_0.notice();                               // this may be sent to the other thread
-//! cache.learn(&mut seat_1, &notice);                          // there: seat 1 has seen that store
-//! cache.lookup(&mut seat_1, &question, now)?;                 // Some(answer), if it lives and no newer one came
+//! let notice = seat_0.notice();                               // this may go to the other thread
+//! cache.learn(&mut seat_1, &notice);                          // there: seat 1 has seen it now
+//! cache.lookup(&mut seat_1, &question, now)?;                 // Some(answer), while it lives
 //! ```
 //!
-//! Read `specs/Histories.antt` of `answer_log` first: it says what a history is, and `cached` is what a lookup answers.
-//! Then read `specs/Seats.antt`: it says what a seat sees, how each call changes that, and why a store is refused.
-//! `specs/Shared.antt` says what contracts see of the seats of a `SharedCache`.
+//! Read `specs/Histories.antt` of `answer_log` first: it says what a history is, and `cached` is
+//! what a lookup answers. Then read `specs/Seats.antt`: it says what a seat sees, how each call
+//! changes that, and why a store is refused. `specs/Shared.antt` says what contracts see of the
+//! seats of a `SharedCache`.
 #![tactic(auto)]
 
 mod book;

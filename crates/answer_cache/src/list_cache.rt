@@ -4,7 +4,8 @@ ghost use Rattle.std.specs.Arc.{arc_value};
 ghost use Rattle.std.specs.Option.{option_map};
 ghost use Rattle.dns_answers.specs.Records.{kind_of};
 ghost use Rattle.answer_log.specs.Histories.{cached};
-ghost use Rattle.answer_cache.specs.Lists.{IsListSeat, Refuses, Takes, offered_too, seat_at, stored_too};
+ghost use Rattle.answer_cache.specs.Lists.{IsListSeat, Refuses, Takes, offered_too, seat_at};
+ghost use Rattle.answer_cache.specs.Lists.{stored_too};
 ghost use Rattle.answer_cache.specs.Seats.{offer_of};
 
 use crate::book::AnswerBook;
@@ -80,7 +81,8 @@ impl AnswerBook for ListCache {
         now: Moment,
     ) -> Result<Option<Arc<Answer>>, AllocError>
         ensures leaves { seat.new ≡ seat.old }
-        ensures found { IfOk result (λ found. option_map arc_value found ≡ cached seat.old.seen question.now now) }
+        ensures found { IfOk result
+            (λ found. option_map arc_value found ≡ cached seat.old.seen question.now now) }
         // Memory is wanted only where there is an answer to give.
         ensures wanted { OnErr result (cached seat.old.seen question.now now ≢ None) }
     {
@@ -97,10 +99,14 @@ impl AnswerBook for ListCache {
     ) -> Result<(), StoreRefusal>
         requires kind { kind_of (arc_value answer.now).records ≡ question.now.kind }
         ensures is { IsListSeat seat.new }
-        ensures stored { OnOk result (seat.new ≡ stored_too seat.old (offer_of question.now (arc_value answer.now) now)) }
-        ensures takes { OnOk result (Takes seat.old.seen (offer_of question.now (arc_value answer.now) now)) }
-        ensures unchanged { OnErr result (seat.new ≡ offered_too seat.old (offer_of question.now (arc_value answer.now) now)) }
-        ensures refused { IfErr result (Refuses seat.old.seen (offer_of question.now (arc_value answer.now) now)) }
+        ensures stored { OnOk result
+            (seat.new ≡ stored_too seat.old (offer_of question.now (arc_value answer.now) now)) }
+        ensures takes { OnOk result
+            (Takes seat.old.seen (offer_of question.now (arc_value answer.now) now)) }
+        ensures unchanged { OnErr result
+            (seat.new ≡ offered_too seat.old (offer_of question.now (arc_value answer.now) now)) }
+        ensures refused { IfErr result
+            (Refuses seat.old.seen (offer_of question.now (arc_value answer.now) now)) }
     {
         seat.notes = seat.notes.with(question, answer, now);
         let stored = seat.stores.add(question, answer, now);

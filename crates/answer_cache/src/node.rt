@@ -4,7 +4,7 @@ ghost use Rattle.std.specs.Arc.{arc_value};
 ghost use Rattle.dns_message.specs.Questions.{same_question};
 ghost use Rattle.answer_log.specs.Groups.{group_of, hash_of, hashed_of};
 
-use answer_log::{Book, GROUP_COUNT, Word};
+use answer_log::{Book, Word, group_of_hash};
 use boxcar::Keeps;
 use boxcar::tag::Names;
 use dns_answers::{Answer, Moment};
@@ -12,8 +12,16 @@ use dns_message::{Question, same_questions_are_equal};
 use std::alloc::Global;
 use std::sync::Arc;
 
-/// A store with its number, the hash of its question, its link to the node placed before it, and what its seat had seen
-/// when it was named. It stays on its shelf as it is, but for the link until it is placed.
+/// A question with its hash.
+#[derive(Clone, Copy)]
+pub(crate) struct Hashed<'a> {
+    pub question: &'a Question,
+    pub hash: u32,
+}
+
+/// A store with its number, the hash of its question, its link to the node placed before it, and
+/// what its seat had seen when it was named. It stays on its shelf as it is, but for the link until
+/// it is placed.
 #[derive(Drop)]
 pub struct Node {
     pub node: u64,
@@ -41,7 +49,7 @@ impl Node {
         requires { self.now.tag ≡ hash_of (hashed_of self.now.question) }
         ensures { result ≡ (group_of self.now.question == group) }
     {
-        self.tag % u32::from(GROUP_COUNT) == u32::from(group)
+        group_of_hash(self.tag) == group
     }
 
     /// Whether its answer lives at a moment.

@@ -5,7 +5,8 @@ ghost use Rattle.answer_cache.specs.declared.refusal.StoreRefusal.TheVariants as
 use std::alloc::{AllocError, AllocFailed};
 use thiserror::Error;
 
-/// Why an answer was not stored. That it has no life is looked at first; memory may be wanted before the other two.
+/// Why an answer was not stored. That it has no life is looked at first; memory may be wanted
+/// before the other two.
 #[derive(Clone, Copy, Debug, PartialEq, Eq, Error)]
 pub enum StoreRefusal {
     /// Its life is 0.

@@ -57,7 +57,10 @@ impl Model for Notice {
 
     ghost Value = { Told };
 
-    ghost view = { λ it. record { cache = cache_view it.seen.book (seats_in it.seen.log); seen = history it.seen.log } };
+    ghost view = { λ it. record {
+      cache = cache_view it.seen.book (seats_in it.seen.log);
+      seen = history it.seen.log;
+    } };
 }
 
 impl Notice {
@@ -82,7 +85,8 @@ pub fn stores_are_of_the_seats(seat: &Seat)
 /// A law: what two seats of a cache have seen is of one history.
 pub fn seats_see_one_history(one: &Seat, other: &Seat)
     requires { one.now.cache ≡ other.now.cache }
-    ensures { IsPrefix one.now.seat.seen other.now.seat.seen ⊎ IsPrefix other.now.seat.seen one.now.seat.seen }
+    ensures { IsPrefix one.now.seat.seen other.now.seat.seen
+        ⊎ IsPrefix other.now.seat.seen one.now.seat.seen }
 {
     histories_are_one(&one.hand.book, &other.hand.book);
 }

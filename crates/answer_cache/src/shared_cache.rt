@@ -1,5 +1,7 @@
 //! The cache that threads share.
-ghost use Rattle.std.specs.Prelude.{◌≡◌, ℕ, ◌+◌, ◌*◌, ◌<◌, ◌≤◌, ◌^◌, ◌++◌, ◌∷◌, [], List, Option, IfErr, IfOk, IfNone, IfSome, IsTrue, None, MatchBool, MatchResult, OnOk, OnErr, ◌↔◌, length, map};
+ghost use Rattle.std.specs.Prelude.{◌≡◌, ℕ, ◌+◌, ◌*◌, ◌<◌, ◌≤◌, ◌^◌, ◌++◌, ◌∷◌, [], List, Option};
+ghost use Rattle.std.specs.Prelude.{IfErr, IfOk, IfNone, IfSome, IsTrue, None, MatchBool};
+ghost use Rattle.std.specs.Prelude.{MatchResult, OnOk, OnErr, ◌↔◌, length, map};
 ghost use mathlib.Core.List.{IsPrefix};
 ghost use Rattle.boxcar.specs.Table.{Shows};
 ghost use Rattle.logbook.specs.Pages.{may_write};
@@ -13,7 +15,8 @@ ghost use Rattle.answer_log.specs.Logs.{history, top};
 ghost use Rattle.answer_log.specs.Steps.{HadRoom, store_by};
 ghost use Rattle.answer_log.specs.declared.store.Store.{Store};
 ghost use Rattle.dns_answers.specs.Records.{kind_of};
-ghost use Rattle.answer_cache.specs.Nodes.{Costs, Holds, IsLastOf, IsNode, IsReady, Meets, Says, WhyLost, WhyNoRoom, numbers_of, store_in};
+ghost use Rattle.answer_cache.specs.Nodes.{Costs, Holds, IsLastOf, IsNode, IsReady, Meets, Says};
+ghost use Rattle.answer_cache.specs.Nodes.{WhyLost, WhyNoRoom, numbers_of, store_in};
 ghost use Rattle.answer_cache.specs.Seats.{GoesOn, IsRefused, IsStored, StoresNothing, offer_of};
 ghost use Rattle.answer_cache.specs.Shared.{Belongs, Takes, Refuses, cache_view, new_seat};
 ghost use Rattle.answer_log.specs.Walks.{Ahead};
@@ -21,13 +24,14 @@ ghost use Rattle.answer_log.specs.declared.event.Event.{Event as Noticed};
 
 use crate::book::AnswerBook;
 use crate::cache_refusal::CacheRefusal;
-use crate::node::{ByBook, Node, Shelf, Shelved};
+use crate::node::{ByBook, Hashed, Node, Shelf, Shelved};
 use crate::notes::Notes;
 use crate::refusal::StoreRefusal;
 use crate::rival::{NoRival, Rival};
 use crate::seat::{Notice, Seat};
 use answer_log::{
-    Book, Claimed, Draft, GROUP_COUNT, Hand, Hands, Log, Pen, Walk, group, hash, log_keeps_its_rule,
+    Book, Claimed, Draft, GROUP_LIMIT, Hand, Hands, Log, MOST_SEATS, Pen, Walk, group_of_hash,
+    hash, log_keeps_its_rule,
 };
 use boxcar::Pushed;
 use boxcar::tag::Tag;
@@ -40,17 +44,11 @@ use std::sync::{Arc, Wait};
 /// How many stores there can be: 64 in each of 64 groups.
 const MOST_STORES: u16 = 4096;
 
-/// How many stores of one group there can be.
-const GROUP_LIMIT: u8 = 64;
-
 /// How many times a store is tried.
 const TRIES: u8 = 16;
 
 /// How many places a shelf has.
 const MOST_PLACES: u64 = 1 << 32;
-
-/// How many seats there can be.
-const MOST_SEATS: usize = 64;
 
 /// A book of answers that up to 64 seats share without a lock, each in a thread of its own.
 #[derive(Drop)]
@@ -78,13 +76,15 @@ impl Model for SharedCache {
 #[derive(Clone, Copy)]
 struct Wanted<'a> {
     question: &'a Question,
+    hash: u32,
     answer: &'a Arc<Answer>,
     moment: Moment,
 }
 
 /// An empty shelf for each seat.
 fn empty_shelves(alloc: Global, seats: usize, seen: &Book) -> Result<Vec<Shelf>, AllocError>
-    ensures tagged { IfOk result (λ shelves. All (λ shelf. shelf.tag ≡ numbers_of seen.now.book) shelves.items) }
+    ensures tagged { IfOk result
+        (λ shelves. All (λ shelf. shelf.tag ≡ numbers_of seen.now.book) shelves.items) }
     ensures count { IfOk result (λ shelves. length shelves.items ≡ seats) }
 {
     let mut shelves = Vec::new(alloc);
@@ -118,11 +118,12 @@ impl SharedCache {
     /// `BadCount` outside 1 to 64 seats, and then `Memory`.
     pub fn new(alloc: Global, seats: usize) -> Result<(SharedCache, Vec<Seat>), CacheRefusal>
         ensures count { IfOk result (λ made. (0 < seats) × (seats ≤ 64) × (made.0.seats ≡ seats)) }
-        ensures seats { IfOk result (λ made. made.1.items ≡ map (new_seat made.0) (range_with_len 0 seats)) }
+        ensures seats { IfOk result
+            (λ made. made.1.items ≡ map (new_seat made.0) (range_with_len 0 seats)) }
         ensures belong { IfOk result (λ made. All (Belongs made.0) made.1.items) }
         ensures refused { IfErr result (Refuses seats) }
     {
-        if seats == 0 || seats > MOST_SEATS {
+        if seats == 0 || seats as u64 > MOST_SEATS {
             return Err(CacheRefusal::BadCount);
         }
         let (log, mut hands) = Log::open(seats as u64);
@@ -140,8 +141,8 @@ impl SharedCache {
         ensures { IfSome result (λ node. (node.now.node ≡ number) × IsNode self.now.book node.now) }
     {
         let at = number.checked_sub(1)?;
-        let shelf = self.shelves.get((at % u64::from(GROUP_COUNT)) as usize)?;
-        let node = shelf.get((at / u64::from(GROUP_COUNT)) as usize)?;
+        let shelf = self.shelves.get((at % MOST_SEATS) as usize)?;
+        let node = shelf.get((at / MOST_SEATS) as usize)?;
         if node.node == number {
             Some(node)
         } else {
@@ -156,9 +157,11 @@ impl SharedCache {
         ensures book { walk.new.seen.book ≡ self.now.book }
         ensures met { IfOk result (λ found. (left : List Store) → Ahead walk.old left
             → Meets self.now.book walk.new left (option_map (λ node. node.now) found)) }
-        ensures tagged { IfOk result (λ found. IfSome found (λ node. node.now.tag ≡ hash_of (hashed_of node.now.question))) }
+        ensures tagged { IfOk result
+            (λ found. IfSome found (λ node. node.now.tag ≡ hash_of (hashed_of node.now.question))) }
         ensures link { Costs notes.old.noted notes.new.noted 1 0 }
-        ensures counted { IfOk result (λ found. IfSome found (λ _. notes.new.noted.links ≡ notes.old.noted.links + 1)) }
+        ensures counted { IfOk result
+            (λ found. IfSome found (λ _. notes.new.noted.links ≡ notes.old.noted.links + 1)) }
         ensures none { IfOk result (λ found. IfNone found (notes.new.noted ≡ notes.old.noted)) }
         ensures failed { IfErr result (λ _. notes.new.noted ≡ notes.old.noted) }
     {
@@ -182,7 +185,9 @@ impl SharedCache {
     ) -> Result<Option<&Node>, AllocError>
         requires book { walk.old.seen.book ≡ self.now.book }
         requires ahead { Ahead walk.old (history walk.old.seen.log) }
-        ensures last { IfOk result (λ found. IsLastOf question.now (history walk.old.seen.log) (option_map (λ node. node.now) found)) }
+        ensures last { IfOk result
+            (λ found. IsLastOf question.now (history walk.old.seen.log)
+            (option_map (λ node. node.now) found)) }
         ensures costs { Costs notes.old.noted notes.new.noted 4096 0 }
     {
         log_keeps_its_rule(&walk.seen);
@@ -201,11 +206,12 @@ impl SharedCache {
     fn is_full(&self, walk: &mut Walk, notes: &mut Notes, group: u8) -> Result<bool, AllocError>
         requires book { walk.old.seen.book ≡ self.now.book }
         requires ahead { Ahead walk.old (history walk.old.seen.log) }
-        ensures full { IfOk result (λ full. IsTrue full ↔ (64 ≤ length (in_group group (history walk.old.seen.log)))) }
+        ensures full { IfOk result
+            (λ full. IsTrue full ↔ (64 ≤ length (in_group group (history walk.old.seen.log)))) }
         ensures costs { Costs notes.old.noted notes.new.noted 4096 0 }
     {
         log_keeps_its_rule(&walk.seen);
-        let mut count = 0u8;
+        let mut count = 0usize;
         'links: for _link in 0..MOST_STORES + 1 {
             let Some(node) = self.step(walk, notes)? else {
                 return Ok(false);
@@ -225,20 +231,23 @@ impl SharedCache {
         &self,
         hand: &mut Hand,
         notes: &mut Notes,
-        question: &Question,
+        asked: &Hashed<'_>,
     ) -> Result<u64, StoreRefusal>
+        requires hash { asked.now.hash ≡ hash_of (hashed_of asked.now.question.now) }
         requires hand { IsHand hand.old }
         requires book { hand.old.book.book ≡ self.now.book }
         ensures holds { Holds self.now.book hand.old hand.new }
         ensures seen { SeesMore hand.old.number hand.old.book.log hand.new.book.log }
         ensures places { hand.new.places ≡ hand.old.places }
         ensures costs { Costs notes.old.noted notes.new.noted 4096 0 }
-        ensures room { IfOk result (λ old. (old ≡ top hand.new.book.log) × (IsFull (history hand.new.book.log) question.now → ⊥)) }
-        ensures full { IfErr result (WhyNoRoom question.now (history hand.new.book.log)) }
+        ensures room { IfOk result (λ old. (old ≡ top hand.new.book.log)
+            × (IsFull (history hand.new.book.log) asked.now.question.now → ⊥)) }
+        ensures full { IfErr result (WhyNoRoom asked.now.question.now (history hand.new.book.log)) }
     {
         let mut walk = self.log.walk(hand);
         let old = walk.next;
-        if self.is_full(&mut walk, notes, group(question))? {
+        let group = group_of_hash(asked.hash);
+        if self.is_full(&mut walk, notes, group)? {
             return Err(StoreRefusal::GenerationFull);
         }
         Ok(old)
@@ -257,12 +266,15 @@ impl SharedCache {
         requires book { hand.old.book.book ≡ self.now.book }
         requires shelf { shelf.now.tag ≡ numbers_of self.now.book }
         requires place { hand.old.places ≤ place }
+        requires hash { wanted.now.hash ≡ hash_of (hashed_of wanted.now.question.now) }
         ensures holds { Holds self.now.book hand.old hand.new }
         ensures seen { SeesMore hand.old.number hand.old.book.log hand.new.book.log }
         ensures shown { IfOk result (λ ready. Shows shelf.now ready.0) }
         ensures ready { IfOk result (λ ready. (ready.1.book ≡ self.now.book)
             × IsReady self.now.book hand.new.book.log hand.old.number ready.0.value ready.1.nib) }
-        ensures made { IfOk result (λ ready. Says ready.0.value wanted.now.question.now (arc_value wanted.now.answer.now) wanted.now.moment) }
+        ensures made { IfOk result
+            (λ ready. Says ready.0.value wanted.now.question.now
+            (arc_value wanted.now.answer.now) wanted.now.moment) }
     {
         if place >= MOST_PLACES {
             return Err(AllocError);
@@ -275,7 +287,7 @@ impl SharedCache {
             .claim(hand, place, wanted.question, wanted.answer, wanted.moment);
         let node = Node {
             node,
-            tag: hash(wanted.question),
+            tag: wanted.hash,
             link,
             question,
             answer,
@@ -288,8 +300,8 @@ impl SharedCache {
         }
     }
 
-    /// A node on the shelf at the place that its number says. Where it lands elsewhere it is given up, and one more is
-    /// tried, at the place after that.
+    /// A node on the shelf at the place that its number says. Where it lands elsewhere it is given
+    /// up, and one more is tried, at the place after that.
     fn make_ready<R: Wait>(
         &self,
         rt: &R,
@@ -300,12 +312,15 @@ impl SharedCache {
         requires hand { IsHand hand.old }
         requires book { hand.old.book.book ≡ self.now.book }
         requires shelf { shelf.now.tag ≡ numbers_of self.now.book }
+        requires hash { wanted.now.hash ≡ hash_of (hashed_of wanted.now.question.now) }
         ensures holds { Holds self.now.book hand.old hand.new }
         ensures seen { SeesMore hand.old.number hand.old.book.log hand.new.book.log }
         ensures shown { IfOk result (λ ready. Shows shelf.now ready.0) }
         ensures ready { IfOk result (λ ready. (ready.1.book ≡ self.now.book)
             × IsReady self.now.book hand.new.book.log hand.old.number ready.0.value ready.1.nib) }
-        ensures made { IfOk result (λ ready. Says ready.0.value wanted.now.question.now (arc_value wanted.now.answer.now) wanted.now.moment) }
+        ensures made { IfOk result
+            (λ ready. Says ready.0.value wanted.now.question.now
+            (arc_value wanted.now.answer.now) wanted.now.moment) }
     {
         let place = hand.places;
         let (pushed, pen) = self.shelve(rt, shelf, hand, place, wanted)?;
@@ -335,20 +350,23 @@ impl SharedCache {
     ) -> bool
         requires hand { IsHand hand.old }
         requires book { (hand.old.book.book ≡ self.now.book) × (pen.old.book ≡ self.now.book) }
-        requires ready { IsReady self.now.book hand.old.book.log hand.old.number node.now pen.old.nib }
+        requires ready { IsReady self.now.book hand.old.book.log hand.old.number
+            node.now pen.old.nib }
         requires sound { IsSound (store_in hand.old.number node.now) }
         requires room { HadRoom hand.old.book.log old node.now.question }
         ensures holds { Holds self.now.book hand.old hand.new }
         ensures costs { Costs notes.old.noted notes.new.noted 0 1 }
         ensures counted { notes.new.noted.tries ≡ notes.old.noted.tries + 1 }
         ensures placed { MatchBool result
-            (EndsWith (store_in hand.old.number node.now) (history hand.old.book.log) (history hand.new.book.log))
+            (EndsWith (store_in hand.old.number node.now) (history hand.old.book.log)
+            (history hand.new.book.log))
             (SeesMore hand.old.number hand.old.book.log hand.new.book.log) }
         ensures lost { MatchBool result (Unit {0})
             ((seen : List Noticed) → IsPrefix seen hand.old.book.log → top seen ≡ old
             → length (history seen) < length (history hand.new.book.log)) }
         ensures again { MatchBool result (Unit {0})
-            ((pen.new.book ≡ self.now.book) × IsReady self.now.book hand.new.book.log hand.old.number node.now pen.new.nib) }
+            ((pen.new.book ≡ self.now.book)
+            × IsReady self.now.book hand.new.book.log hand.old.number node.now pen.new.nib) }
     {
         rival.between(number);
         *notes = notes.with_try();
@@ -377,20 +395,27 @@ impl SharedCache {
         requires book { (hand.old.book.book ≡ self.now.book) × (pen.book ≡ self.now.book) }
         requires ready { IsReady self.now.book hand.old.book.log hand.old.number node.now pen.nib }
         requires sound { IsSound (store_in hand.old.number node.now) }
+        requires tagged { node.now.tag ≡ hash_of (hashed_of node.now.question) }
         requires room { HadRoom hand.old.book.log old node.now.question }
         ensures holds { Holds self.now.book hand.old hand.new }
         ensures costs { Costs notes.old.noted notes.new.noted (15 * 4096) 16 }
         ensures competed { MatchResult result
-            (λ _. EndsWith (store_in hand.old.number node.now) (history hand.old.book.log) (history hand.new.book.log))
+            (λ _. EndsWith (store_in hand.old.number node.now) (history hand.old.book.log)
+            (history hand.new.book.log))
             (λ _. SeesMore hand.old.number hand.old.book.log hand.new.book.log) }
-        ensures lost { IfErr result (λ refusal. (seen : List Noticed) → IsPrefix seen hand.old.book.log → top seen ≡ old
+        ensures lost { IfErr result (λ refusal. (seen : List Noticed)
+            → IsPrefix seen hand.old.book.log → top seen ≡ old
             → WhyLost node.now.question (history seen) (history hand.new.book.log) refusal) }
     {
         if self.attempt(hand, notes, node, &mut pen, old, 1, rival) {
             return Ok(());
         }
+        let asked = Hashed {
+            question: &node.question,
+            hash: node.tag,
+        };
         'tries: for number in 2..TRIES + 1 {
-            let old = self.room(hand, notes, &node.question)?;
+            let old = self.room(hand, notes, &asked)?;
             if self.attempt(hand, notes, node, &mut pen, old, number, rival) {
                 return Ok(());
             }
@@ -409,15 +434,26 @@ impl SharedCache {
     ) -> Result<(), StoreRefusal>
         requires hand { IsHand hand.old }
         requires book { hand.old.book.book ≡ self.now.book }
-        requires sound { IsSound (store_by hand.old.number wanted.now.question.now (arc_value wanted.now.answer.now) wanted.now.moment) }
+        requires sound { IsSound
+            (store_by hand.old.number wanted.now.question.now
+            (arc_value wanted.now.answer.now) wanted.now.moment) }
+        requires hash { wanted.now.hash ≡ hash_of (hashed_of wanted.now.question.now) }
         ensures holds { Holds self.now.book hand.old hand.new }
         ensures costs { Costs notes.old.noted notes.new.noted (16 * 4096) 16 }
         ensures put { MatchResult result
-            (λ _. EndsWith (store_by hand.old.number wanted.now.question.now (arc_value wanted.now.answer.now) wanted.now.moment) (history hand.old.book.log) (history hand.new.book.log))
+            (λ _. EndsWith (store_by hand.old.number wanted.now.question.now
+            (arc_value wanted.now.answer.now) wanted.now.moment) (history hand.old.book.log)
+            (history hand.new.book.log))
             (λ _. SeesMore hand.old.number hand.old.book.log hand.new.book.log) }
-        ensures lost { IfErr result (WhyLost wanted.now.question.now (history hand.old.book.log) (history hand.new.book.log)) }
+        ensures lost { IfErr result
+            (WhyLost wanted.now.question.now (history hand.old.book.log)
+            (history hand.new.book.log)) }
     {
-        let old = self.room(hand, notes, wanted.question)?;
+        let asked = Hashed {
+            question: wanted.question,
+            hash: wanted.hash,
+        };
+        let old = self.room(hand, notes, &asked)?;
         let Some(shelf) = self.shelves.get(hand.number as usize) else {
             return Err(StoreRefusal::Memory);
         };
@@ -425,7 +461,8 @@ impl SharedCache {
         self.compete(hand, notes, shelf.value(&pushed), pen, old, rival)
     }
 
-    /// As `store`, with something that comes between the load of the head and the exchange of each try. For tests.
+    /// As `store`, with something that comes between the load of the head and the exchange of each
+    /// try. For tests.
     pub fn store_against<R: Wait, V: Rival>(
         &self,
         rt: &R,
@@ -443,9 +480,11 @@ impl SharedCache {
         ensures offered { seat.new.seat.offered
             ≡ seat.old.seat.offered ++ offer_of question.now (arc_value answer.now) now ∷ [] }
         ensures stored { OnOk result
-            (IsStored seat.old.seat seat.new.seat (offer_of question.now (arc_value answer.now) now)) }
+            (IsStored seat.old.seat seat.new.seat
+            (offer_of question.now (arc_value answer.now) now)) }
         ensures refused { IfErr result
-            (IsRefused seat.old.seat seat.new.seat (offer_of question.now (arc_value answer.now) now)) }
+            (IsRefused seat.old.seat seat.new.seat
+            (offer_of question.now (arc_value answer.now) now)) }
     {
         seat.notes = seat.notes.with(question, answer, now);
         if answer.life() == 0 {
@@ -453,6 +492,7 @@ impl SharedCache {
         }
         let wanted = Wanted {
             question,
+            hash: hash(question),
             answer,
             moment: now,
         };
@@ -461,7 +501,8 @@ impl SharedCache {
         stored
     }
 
-    /// Afterwards the seat has seen what the notice tells, and what came since: one load of the head. Takes no memory.
+    /// Afterwards the seat has seen what the notice tells, and what came since: one load of the
+    /// head. Takes no memory.
     pub fn learn(&self, seat: &mut Seat, notice: &Notice)
         requires made_here { Belongs self.now seat.old }
         requires told_here { notice.now.cache ≡ self.now }
@@ -498,7 +539,8 @@ impl AnswerBook for SharedCache {
         ensures goes_on { GoesOn seat.old.seat seat.new.seat }
         ensures stores_nothing { StoresNothing seat.old.seat seat.new.seat }
         ensures takes { Takes seat.old seat.new 4096 0 }
-        ensures found { IfOk result (λ found. option_map arc_value found ≡ cached seat.new.seat.seen question.now now) }
+        ensures found { IfOk result
+            (λ found. option_map arc_value found ≡ cached seat.new.seat.seen question.now now) }
     {
         let mut walk = self.log.walk(&mut seat.hand);
         log_keeps_its_rule(&seat.hand.book);
@@ -524,9 +566,11 @@ impl AnswerBook for SharedCache {
         ensures offered { seat.new.seat.offered
             ≡ seat.old.seat.offered ++ offer_of question.now (arc_value answer.now) now ∷ [] }
         ensures stored { OnOk result
-            (IsStored seat.old.seat seat.new.seat (offer_of question.now (arc_value answer.now) now)) }
+            (IsStored seat.old.seat seat.new.seat
+            (offer_of question.now (arc_value answer.now) now)) }
         ensures refused { IfErr result
-            (IsRefused seat.old.seat seat.new.seat (offer_of question.now (arc_value answer.now) now)) }
+            (IsRefused seat.old.seat seat.new.seat
+            (offer_of question.now (arc_value answer.now) now)) }
     {
         self.store_against(rt, seat, question, answer, now, &mut NoRival)
     }

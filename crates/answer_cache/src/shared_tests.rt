@@ -37,7 +37,8 @@ impl<'a, R: Wait> Model for Other<'a, R> {
 
     ghost view = { λ _. tt };
 
-    ghost invariant = { λ it. Belongs it.cache.now it.seat × (kind_of (arc_value it.answer).records ≡ it.question.kind) };
+    ghost invariant = { λ it. Belongs it.cache.now it.seat
+        × (kind_of (arc_value it.answer).records ≡ it.question.kind) };
 }
 
 impl<'a, R: Wait> Rival for Other<'a, R> {
@@ -55,8 +56,9 @@ impl<'a, R: Wait> Rival for Other<'a, R> {
     }
 }
 
-/// What a store against another seat says that stores the same question in the tries up to a last one, how many tries
-/// there were, and the life of what is found then: 20 for the store, 10 for the other's.
+/// What a store against another seat says that stores the same question in the tries up to a last
+/// one, how many tries there were, and the life of what is found then: 20 for the store, 10 for the
+/// other's.
 fn against<R: Wait + AllocGlobal>(
     rt: &R,
     last: u8,
@@ -127,8 +129,8 @@ fn question_at(alloc: Global, number: usize) -> Option<Question> {
     Some(Question { name, kind })
 }
 
-/// What a seat has done: how many of its stores were taken, and the life of the last one for each question, 0 where
-/// there was none.
+/// What a seat has done: how many of its stores were taken, and the life of the last one for each
+/// question, 0 where there was none.
 #[derive(Drop)]
 struct Work {
     seat: Seat,
@@ -147,7 +149,8 @@ fn store_at(
     requires { Belongs cache.now seat.old }
     ensures made_here { Belongs cache.now seat.new }
     ensures number { seat.new.seat.number ≡ seat.old.seat.number }
-    ensures taken { IfSome result (λ said. OnOk said (length seat.new.seat.own ≡ length seat.old.seat.own + 1)) }
+    ensures taken { IfSome result
+        (λ said. OnOk said (length seat.new.seat.own ≡ length seat.old.seat.own + 1)) }
     ensures refused { IfSome result (λ said. OnErr said (seat.new.seat.own ≡ seat.old.seat.own)) }
 {
     let question = question_at(rt.alloc(), number)?;
@@ -155,8 +158,9 @@ fn store_at(
     Some(cache.store(rt, seat, &question, &answer, Moment::new(100)?))
 }
 
-/// Stores the questions in turn, each answer with a life of its own. Each store is taken, or is refused since its group
-/// is full or since other seats were faster. Those taken stand in the history once each.
+/// Stores the questions in turn, each answer with a life of its own. Each store is taken, or is
+/// refused since its group is full or since other seats were faster. Those taken stand in the
+/// history once each.
 fn store_in_turn(
     rt: &(impl Wait + AllocGlobal),
     cache: &SharedCache,
@@ -196,17 +200,20 @@ fn work_by_two<R: Threads + Wait + AllocGlobal + Sync>(
     requires second { HasStored cache.now (number + 1) 0 second }
     requires number { number < 3 }
     ensures first { IfSome result (λ done. HasStored cache.now number done.0.taken done.0.seat) }
-    ensures second { IfSome result (λ done. HasStored cache.now (number + 1) done.1.taken done.1.seat) }
+    ensures second { IfSome result
+        (λ done. HasStored cache.now (number + 1) done.1.taken done.1.seat) }
 {
     let (first, second) = join(
         rt,
         || -> Option<Work>
             requires { HasStored cache.now number 0 first × (number < 3) }
-            ensures { IfSome result (λ done. HasStored cache.entry.now number done.taken done.seat) }
+            ensures { IfSome result
+                (λ done. HasStored cache.entry.now number done.taken done.seat) }
         { store_in_turn(rt, cache, first, number) },
         || -> Option<Work>
             requires { HasStored cache.now (number + 1) 0 second × (number < 3) }
-            ensures { IfSome result (λ done. HasStored cache.entry.now (number + 1) done.taken done.seat) }
+            ensures { IfSome result
+                (λ done. HasStored cache.entry.now (number + 1) done.taken done.seat) }
         { store_in_turn(rt, cache, second, number + 1) },
     );
     Some((first?, second?))
@@ -215,8 +222,10 @@ fn work_by_two<R: Threads + Wait + AllocGlobal + Sync>(
 /// The four seats of a new cache.
 fn four_of(cache: &SharedCache, mut seats: Vec<Seat>) -> Option<((Seat, Seat), (Seat, Seat))>
     requires { seats.items ≡ map (new_seat cache.now) (range_with_len 0 4) }
-    ensures left { IfSome result (λ four. HasStored cache.now 0 0 four.0.0 × HasStored cache.now 1 0 four.0.1) }
-    ensures right { IfSome result (λ four. HasStored cache.now 2 0 four.1.0 × HasStored cache.now 3 0 four.1.1) }
+    ensures left { IfSome result (λ four. HasStored cache.now 0 0 four.0.0
+        × HasStored cache.now 1 0 four.0.1) }
+    ensures right { IfSome result (λ four. HasStored cache.now 2 0 four.1.0
+        × HasStored cache.now 3 0 four.1.1) }
 {
     let fourth = seats.pop()?;
     let third = seats.pop()?;
@@ -264,8 +273,8 @@ struct Joined {
     lasts: [[u32; QUESTIONS]; 4],
 }
 
-/// Lets the first seat learn what all have seen, and each other one what that has seen then. The history has as many
-/// stores as were taken.
+/// Lets the first seat learn what all have seen, and each other one what that has seen then. The
+/// history has as many stores as were taken.
 fn join_all(cache: &SharedCache, left: (Work, Work), right: (Work, Work)) -> Joined
     requires four { cache.now.seats ≡ 4 }
     requires first { HasStored cache.now 0 left.0.taken left.0.seat }
@@ -273,7 +282,8 @@ fn join_all(cache: &SharedCache, left: (Work, Work), right: (Work, Work)) -> Joi
     requires third { HasStored cache.now 2 right.0.taken right.0.seat }
     requires fourth { HasStored cache.now 3 right.1.taken right.1.seat }
     ensures made_here { Belongs cache.now result.seat }
-    ensures all { length result.seat.seat.seen ≡ left.0.taken + left.1.taken + right.0.taken + right.1.taken }
+    ensures all { length result.seat.seat.seen
+        ≡ left.0.taken + left.1.taken + right.0.taken + right.1.taken }
 {
     let (first, second) = left;
     let (third, fourth) = right;

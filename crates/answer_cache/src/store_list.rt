@@ -1,5 +1,6 @@
 //! Stores in the order of time, found by the groups of their questions.
-ghost use Rattle.std.specs.Prelude.{◌≡◌, ◌≢◌, ◌↔◌, ◌+◌, ◌<◌, ◌∷◌, ◌++◌, [], IfErr, IfOk, IsTrue, OnErr, OnOk, None, Some};
+ghost use Rattle.std.specs.Prelude.{◌≡◌, ◌≢◌, ◌↔◌, ◌+◌, ◌<◌, ◌∷◌, ◌++◌, [], IfErr, IfOk, IsTrue};
+ghost use Rattle.std.specs.Prelude.{OnErr, OnOk, None, Some};
 ghost use Rattle.std.specs.Arc.{arc_value};
 ghost use Rattle.std.specs.List.{last_or};
 ghost use Rattle.std.specs.Option.{option_map};
@@ -10,15 +11,12 @@ ghost use Rattle.answer_cache.specs.Lists.{Refuses, Takes, own_store};
 ghost use Rattle.answer_cache.specs.Seats.{offer_of};
 
 use crate::refusal::StoreRefusal;
-use answer_log::{GROUP_COUNT, group};
+use answer_log::{GROUP_COUNT, GROUP_LIMIT, group};
 use dns_answers::{Answer, Moment};
 use dns_message::{Question, same_questions_are_equal};
 use std::alloc::{AllocError, Global};
 use std::marker::Model;
 use std::sync::Arc;
-
-/// How many stores of one group there can be.
-const GROUP_LIMIT: usize = 64;
 
 /// A store, and the place of the one before it in its group.
 #[derive(Drop)]
@@ -88,7 +86,8 @@ impl StoreList {
 
     /// The last store of a question.
     fn last_of(&self, question: &Question) -> Option<&Entry>
-        ensures { last_or None (stores_of question.now self.now) ≡ option_map (λ entry. store_in entry.now) result }
+        ensures { last_or None (stores_of question.now self.now)
+            ≡ option_map (λ entry. store_in entry.now) result }
     {
         same_questions_are_equal();
         let group = self.groups[group(question) as usize];
@@ -109,7 +108,8 @@ impl StoreList {
         question: &Question,
         now: Moment,
     ) -> Result<Option<Arc<Answer>>, AllocError>
-        ensures found { IfOk result (λ found. option_map arc_value found ≡ cached self.now question.now now) }
+        ensures found { IfOk result
+            (λ found. option_map arc_value found ≡ cached self.now question.now now) }
         ensures wanted { OnErr result (cached self.now question.now now ≢ None) }
     {
         match self.last_of(question) {
@@ -118,7 +118,8 @@ impl StoreList {
         }
     }
 
-    /// Adds a store behind the others. That its answer lives is looked at first, and then that there is room.
+    /// Adds a store behind the others. That its answer lives is looked at first, and then that
+    /// there is room.
     pub(crate) fn add(
         &mut self,
         question: &Question,
@@ -128,9 +129,11 @@ impl StoreList {
         requires { kind_of (arc_value answer.now).records ≡ question.now.kind }
         ensures added { OnOk result (self.new ≡ self.old
             ++ own_store (offer_of question.now (arc_value answer.now) now) ∷ []) }
-        ensures taken { OnOk result (Takes self.old (offer_of question.now (arc_value answer.now) now)) }
+        ensures taken { OnOk result
+            (Takes self.old (offer_of question.now (arc_value answer.now) now)) }
         ensures unchanged { OnErr result (self.new ≡ self.old) }
-        ensures refused { IfErr result (Refuses self.old (offer_of question.now (arc_value answer.now) now)) }
+        ensures refused { IfErr result
+            (Refuses self.old (offer_of question.now (arc_value answer.now) now)) }
     {
         if answer.life() == 0 {
             return Err(StoreRefusal::Lifeless);

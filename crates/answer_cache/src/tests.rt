@@ -84,7 +84,8 @@ fn groups(rt: HostRuntime) {
     }
 }
 
-/// A store of A a.example. by its life and moment, or none; then the moment of a lookup, and the life that it finds.
+/// A store of A a.example. by its life and moment, or none; then the moment of a lookup, and the
+/// life that it finds.
 type Row = (Option<(u32, u64)>, u64, Option<u32>);
 
 const ROWS: [Row; 4] = [
@@ -116,7 +117,8 @@ fn does_as_rows_say<B: AnswerBook>(
     true
 }
 
-/// Whether a book takes 64 stores of a group and no more, but none of life 0, and those of another group.
+/// Whether a book takes 64 stores of a group and no more, but none of life 0, and those of another
+/// group.
 fn is_full_at_64<B: AnswerBook>(
     rt: &(impl Wait + AllocGlobal),
     book: &B,
@@ -173,7 +175,8 @@ fn shared_cache(rt: HostRuntime) -> Result<(), Fail> {
     Ok(())
 }
 
-/// What the first seat finds when the second one has stored, before it has learned of it and afterwards.
+/// What the first seat finds when the second one has stored, before it has learned of it and
+/// afterwards.
 fn found_by_the_first(
     rt: &(impl Wait + AllocGlobal),
     cache: &SharedCache,
@@ -182,7 +185,8 @@ fn found_by_the_first(
 ) -> Option<[Option<u32>; 2]>
     requires { Belongs cache.now first.old × Belongs cache.now second.old }
     ensures own { first.new.seat.own ≡ first.old.seat.own }
-    ensures stored { IfSome result (λ _. length second.new.seat.own ≡ length second.old.seat.own + 1) }
+    ensures stored { IfSome result
+        (λ _. length second.new.seat.own ≡ length second.old.seat.own + 1) }
     ensures told { IfSome result (λ _. IsPrefix second.new.seat.seen first.new.seat.seen) }
 {
     let question = question_of(rt.alloc(), Kind::A)?;

@@ -6,10 +6,10 @@ use Rattle.answer_log.specs.declared.event.Event.{Event}
 use Rattle.answer_log.specs.declared.event.Counted.{Counted}
 use Rattle.answer_log.specs.declared.event.Event.TheVariants.{Named}
 use Rattle.answer_log.specs.Counts.{count}
-use Rattle.answer_log.specs.Logs.{seat_of, In, Quiet}
+use Rattle.answer_log.specs.Logs.{seat_of, In}
 use Rattle.answer_log.specs.Rules.{node_at}
 use Rattle.answer_log.specs.Steps.{NamesBelow, Rose, Kept, IsTaken, linked_to, node_of}
-use Rattle.answer_log.proofs.Logs.{in-cases, quiet-in}
+use Rattle.answer_log.proofs.Logs.{Quiet, in-cases, quiet-in}
 use Rattle.answer_log.proofs.Counting.{count-same}
 
 abbrev Was : Event → List Event → Counted → Type 0

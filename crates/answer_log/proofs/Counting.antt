@@ -6,9 +6,10 @@ use Rattle.std.proofs.lemmas.Bool.Decides.{nat_tests}
 use Rattle.logbook.specs.Pages.{Cell, cell}
 use Rattle.answer_log.specs.declared.event.Event.{Event}
 use Rattle.answer_log.specs.declared.event.Counted.{Counted}
-use Rattle.answer_log.specs.Logs.{seat_of, Quiet}
+use Rattle.answer_log.specs.Logs.{seat_of}
 use Rattle.answer_log.specs.Counts.{plus_if, count, counts, counts_from, Counts}
 use Rattle.answer_log.proofs.Cells.{same-cell}
+use Rattle.answer_log.proofs.Logs.{Quiet}
 
 test-same : (m n : ℕ) (b : Bool) → (m == n) ≡ b → m ≡ n → b ≡ true
 test-same m n true is e = refl

@@ -29,7 +29,8 @@ front-history stores more it = record {
 }
 
 -- what holds of each store that was placed
-all-placed : (P : Store → Type 0) (log : List Event) → ((node : ℕ) (store : Store) (link : ℕ) → In (Placed node store link) log → P store) → All P (history log)
+all-placed : (P : Store → Type 0) (log : List Event) → ((node : ℕ) (store : Store) (link : ℕ) → In (Placed node store link) log → P store)
+    → All P (history log)
 all-placed P [] each = All-nil P
 all-placed P (Opened seats ∷ log) each = all-placed P log (λ node store link i. each node store link (inr i))
 all-placed P (Asks seat count ∷ log) each = all-placed P log (λ node store link i. each node store link (inr i))

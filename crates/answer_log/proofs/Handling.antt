@@ -1,5 +1,6 @@
 -- What a seat has, as its log grows.
-use Rattle.std.proofs.Common.{◌≡◌, ◌≢◌, ℕ, suc, ◌+◌, ◌<◌, ◌≤◌, ◌==◌, inl, inr, Bool, true, false, List, [], ◌∷◌, ◌++◌, length, refl, ap, sym, ◌∙◌, subst, arith, append_assoc, length-append, MatchBool}
+use Rattle.std.proofs.Common.{◌≡◌, ◌≢◌, ℕ, suc, ◌+◌, ◌<◌, ◌≤◌, ◌==◌, inl, inr, Bool, true, false, List, [], ◌∷◌, ◌++◌, length, refl, ap}
+use Rattle.std.proofs.Common.{sym, ◌∙◌, subst, arith, append_assoc, length-append, MatchBool}
 use Rattle.std.proofs.lemmas.Bool.{ne_eqb}
 use Rattle.std.proofs.lemmas.List.{append-nil}
 use Rattle.std.proofs.lemmas.List.Elements.{filter-append}
@@ -8,7 +9,7 @@ use Rattle.logbook.specs.Pages.{Nib, Book, Named as Word}
 use Rattle.answer_log.specs.Counts.{count}
 use Rattle.answer_log.specs.Hands.{EndsWith, IsHand, IsNamed, SeesMore}
 use Rattle.answer_log.specs.Histories.{mine}
-use Rattle.answer_log.specs.Logs.{seat_of, seats_in, history, top, top_from, Quiet, In}
+use Rattle.answer_log.specs.Logs.{seat_of, seats_in, history, top, top_from, In}
 use Rattle.answer_log.specs.Rules.{node_at}
 use Rattle.answer_log.specs.Steps.{Adds, Fits, NamesBelow, Same, Stays}
 use Rattle.answer_log.specs.declared.event.Event.{Event}
@@ -17,7 +18,7 @@ use Rattle.answer_log.specs.declared.hand.Hand.{Hand}
 use Rattle.answer_log.specs.declared.store.Store.{Store}
 use Rattle.answer_log.specs.declared.tally.Tally.{Tally}
 use Rattle.answer_log.proofs.Counting.{count-same, count-here}
-use Rattle.answer_log.proofs.Logs.{history-append, seats-append, top-append, quiet-in, in-cases, in-left, last_placed, prefix_trans}
+use Rattle.answer_log.proofs.Logs.{Quiet, history-append, seats-append, top-append, quiet-in, in-cases, in-left, last_placed, prefix_trans}
 
 -- a log that is quiet of a seat has no stores of it
 own-quiet : (seat : ℕ) (events : List Event) → Quiet seat events → mine (history events) seat ≡ []
@@ -38,14 +39,16 @@ pub history-prefix : (old new : List Event) → IsPrefix old new → IsPrefix (h
 history-prefix old new p = (history p.0, sym (history-append old p.0) ∙ ap history p.1)
 
 -- what was named stays named
-named-on : (old new : List Event) → IsPrefix old new → (book : Book) (node : ℕ) (store : Store) (word : Word) → IsNamed book old node store word → IsNamed book new node store word
+named-on : (old new : List Event) → IsPrefix old new → (book : Book) (node : ℕ) (store : Store) (word : Word)
+    → IsNamed book old node store word → IsNamed book new node store word
 named-on old new p book node store word it =
     let I : List Event → Type 0 = λ log. In (Named node store word.key) log in record {
       link = it.link;
       named = subst I p.1 (in-left (Named node store word.key) old p.0 it.named);
     }
 
-names_on : (old more new : List Event) (seat place : ℕ) → old ++ more ≡ new → Quiet seat more → NamesBelow seat place old → NamesBelow seat place new
+names_on : (old more new : List Event) (seat place : ℕ) → old ++ more ≡ new → Quiet seat more → NamesBelow seat place old
+    → NamesBelow seat place new
 names_on old more new seat place whole quiet low n x l i same =
     let I : List Event → Type 0 = λ e. In (Named n x l) e in
     elim (in-cases (Named n x l) old more (subst I (sym whole) i)) [
@@ -63,15 +66,18 @@ below_on : (h k : Hand) → IsHand h → k.number ≡ h.number → k.seats ≡ h
 below_on h k hand number seats = let below = hand.below in omega arith
 
 -- a hand whose book has grown, with nothing of its seat
-hand_quiet : (h : Hand) (more new : List Event) → IsHand h → h.book.log ++ more ≡ new → count h.number new ≡ h.tally.count → Quiet h.number more
+hand_quiet : (h : Hand) (more new : List Event) → IsHand h → h.book.log ++ more ≡ new → count h.number new ≡ h.tally.count
+    → Quiet h.number more
 hand_quiet h more new hand grown same = count-same h.number h.book.log more new grown (same ∙ sym hand.counted)
 
-fits_on : (h k : Hand) → IsHand h → k.number ≡ h.number → k.book.names ≡ h.book.names → Stays h.tally k.tally → Fits k.tally k.book.names k.number
+fits_on : (h k : Hand) → IsHand h → k.number ≡ h.number → k.book.names ≡ h.book.names → Stays h.tally k.tally
+    → Fits k.tally k.book.names k.number
 fits_on h k hand number names stays =
     let F : ℕ → Type 0 = λ n. n < 64 in
     (stays.0, ap (λ n. n ∷ []) stays.1 ∙ (hand.fits.1 ∙ sym names), stays.2 ∙ (hand.fits.2 ∙ sym number), subst F (sym number) hand.fits.3)
 
-pub hand_on : (h k : Hand) (more : List Event) → IsHand h → k.number ≡ h.number → k.seats ≡ h.seats → k.places ≡ h.places → k.book.names ≡ h.book.names → Same h.tally k.tally (count h.number k.book.log) → h.book.log ++ more ≡ k.book.log
+pub hand_on : (h k : Hand) (more : List Event) → IsHand h → k.number ≡ h.number → k.seats ≡ h.seats → k.places ≡ h.places
+    → k.book.names ≡ h.book.names → Same h.tally k.tally (count h.number k.book.log) → h.book.log ++ more ≡ k.book.log
     → IsHand k
 hand_on h k more hand number seats places names same grown =
     let N : ℕ → Type 0 = λ n. NamesBelow n k.places k.book.log in
@@ -80,17 +86,28 @@ hand_on h k more hand number seats places names same grown =
       below = below_on h k hand number seats;
       fits = fits_on h k hand number names same.0;
       counted = ap (λ n. count n k.book.log) number ∙ (same.2 ∙ sym same.1);
-      names = subst N (sym number) (subst M (sym places) (names_on h.book.log more k.book.log h.number h.places grown (hand_quiet h more k.book.log hand grown same.2) hand.names));
+      names = subst N (sym number)
+          (subst M (sym places)
+          (names_on h.book.log more k.book.log h.number h.places grown (hand_quiet h more k.book.log hand grown same.2) hand.names));
     }
 
-pub hand_sees : (h : Hand) (new : List Event) → IsHand h → IsPrefix h.book.log new → count h.number new ≡ h.tally.count → SeesMore h.number h.book.log new
-hand_sees h new hand p same = record { later = p; stores = history-prefix h.book.log new p; names = named-on h.book.log new p; own = own-more h.number h.book.log p.0 new p.1 (hand_quiet h p.0 new hand p.1 same) }
+pub hand_sees : (h : Hand) (new : List Event) → IsHand h → IsPrefix h.book.log new → count h.number new ≡ h.tally.count
+    → SeesMore h.number h.book.log new
+hand_sees h new hand p same = record {
+  later = p;
+  stores = history-prefix h.book.log new p;
+  names = named-on h.book.log new p;
+  own =
+      own-more h.number h.book.log p.0 new p.1 (hand_quiet h p.0 new hand p.1 same);
+}
 
 -- till the event nothing of the seat had come
-adds_quiet : (h : Hand) (e : Event) (new : List Event) → IsHand h → (a : Adds e h.tally h.book.log new) → seat_of e ≡ h.number → Quiet h.number a.0
+adds_quiet : (h : Hand) (e : Event) (new : List Event) → IsHand h → (a : Adds e h.tally h.book.log new) → seat_of e ≡ h.number
+    → Quiet h.number a.0
 adds_quiet h e new hand a seat = hand_quiet h a.0 (h.book.log ++ a.0) hand refl (ap (λ n. count n (h.book.log ++ a.0)) (sym seat) ∙ a.2)
 
-names_new : (log : List Event) (e : Event) (seat place : ℕ) → NamesBelow seat place log → ((n : ℕ) (x : Store) (l : ℕ) → e ≡ Named n x l → n < node_at seat place) → NamesBelow seat place (log ++ e ∷ [])
+names_new : (log : List Event) (e : Event) (seat place : ℕ) → NamesBelow seat place log
+    → ((n : ℕ) (x : Store) (l : ℕ) → e ≡ Named n x l → n < node_at seat place) → NamesBelow seat place (log ++ e ∷ [])
 names_new log e seat place low new n x l i same =
     elim (in-cases (Named n x l) log (e ∷ []) i) [
       | inl j ↦ low n x l j same
@@ -101,16 +118,19 @@ pub names_more : (seat p q : ℕ) (log : List Event) → p ≤ q → NamesBelow 
 names_more seat p q log le low n x l i same = let h = low n x l i same in omega arith
 
 -- a hand after an event of its seat
-pub hand_adds : (h k : Hand) (e : Event) → IsHand h → Adds e h.tally h.book.log k.book.log → k.number ≡ h.number → k.seats ≡ h.seats → h.places ≤ k.places → k.book.names ≡ h.book.names → Stays h.tally k.tally → k.tally.count ≡ h.tally.count + 1 → seat_of e ≡ h.number
+pub hand_adds : (h k : Hand) (e : Event) → IsHand h → Adds e h.tally h.book.log k.book.log → k.number ≡ h.number → k.seats ≡ h.seats
+    → h.places ≤ k.places → k.book.names ≡ h.book.names → Stays h.tally k.tally → k.tally.count ≡ h.tally.count + 1 → seat_of e ≡ h.number
     → ((n : ℕ) (x : Store) (l : ℕ) → e ≡ Named n x l → n < node_at h.number k.places)
     → IsHand k
 hand_adds h k e hand a number seats places names stays more seat new =
     let quiet = adds_quiet h e k.book.log hand a seat in
     let N : ℕ → Type 0 = λ n. NamesBelow n k.places k.book.log in
     let L : List Event → Type 0 = λ l. NamesBelow h.number k.places l in
-    let low = names_on h.book.log a.0 (h.book.log ++ a.0) h.number k.places refl quiet (names_more h.number h.places k.places h.book.log places hand.names) in
+    let low = names_on h.book.log a.0 (h.book.log ++ a.0) h.number k.places refl quiet
+    (names_more h.number h.places k.places h.book.log places hand.names) in
     let was : count h.number (h.book.log ++ a.0) ≡ h.tally.count = ap (λ n. count n (h.book.log ++ a.0)) (sym seat) ∙ a.2 in
-    let one : count h.number k.book.log ≡ suc (count h.number (h.book.log ++ a.0)) = ap (count h.number) a.1 ∙ count-here h.number (h.book.log ++ a.0) e seat in
+    let one : count h.number k.book.log ≡ suc (count h.number (h.book.log ++ a.0)) =
+    ap (count h.number) a.1 ∙ count-here h.number (h.book.log ++ a.0) e seat in
     let all : count h.number k.book.log ≡ k.tally.count = omega (arith, one, was, more) in record {
       seats = seats_on h k (a.0 ++ e ∷ []) hand seats (sym (append_assoc h.book.log a.0 (e ∷ [])) ∙ sym a.1);
       below = below_on h k hand number seats;
@@ -120,7 +140,8 @@ hand_adds h k e hand a number seats places names stays more seat new =
     }
 
 -- what a named event leaves of the stores
-pub named_sees : (h : Hand) (new : List Event) (n : ℕ) (x : Store) (l : ℕ) → IsHand h → x.seat ≡ h.number → Adds (Named n x l) h.tally h.book.log new → SeesMore h.number h.book.log new
+pub named_sees : (h : Hand) (new : List Event) (n : ℕ) (x : Store) (l : ℕ) → IsHand h → x.seat ≡ h.number
+    → Adds (Named n x l) h.tally h.book.log new → SeesMore h.number h.book.log new
 named_sees h new n x l hand same a =
     let old : List Event = h.book.log in
     let quiet = adds_quiet h (Named n x l) new hand a same in
@@ -134,7 +155,8 @@ named_sees h new n x l hand same a =
     }
 
 -- what a placed event leaves of the stores
-placed_sees : (h : Hand) (new : List Event) (n : ℕ) (x : Store) (l : ℕ) → IsHand h → x.seat ≡ h.number → Adds (Placed n x l) h.tally h.book.log new → EndsWith x (history h.book.log) (history new)
+placed_sees : (h : Hand) (new : List Event) (n : ℕ) (x : Store) (l : ℕ) → IsHand h → x.seat ≡ h.number
+    → Adds (Placed n x l) h.tally h.book.log new → EndsWith x (history h.book.log) (history new)
 placed_sees h new n x l hand same a =
     let old : List Event = h.book.log in
     let quiet = adds_quiet h (Placed n x l) new hand a same in
@@ -153,13 +175,17 @@ grows old new p ne =
       | inl h ↦ absurd (ne (sym h.0 ∙ (sym (top-append 0 old p.0) ∙ ap top p.1)))
       | inr h ↦
           (let node : ℕ = top_from (top old) p.0 in
-          let more : history p.0 ≡ history h.before ++ h.store ∷ history h.after = ap history h.split ∙ history-append h.before (Placed node h.store h.link ∷ h.after) in
-          let n : length (history p.0) ≡ length (history h.before) + length (h.store ∷ history h.after) = ap length more ∙ length-append (history h.before) (h.store ∷ history h.after) in
-          let m : length (history (old ++ p.0)) ≡ length (history old) + length (history p.0) = ap length (history-append old p.0) ∙ length-append (history old) (history p.0) in
+          let more : history p.0 ≡ history h.before ++ h.store ∷ history h.after =
+          ap history h.split ∙ history-append h.before (Placed node h.store h.link ∷ h.after) in
+          let n : length (history p.0) ≡ length (history h.before) + length (h.store ∷ history h.after) =
+          ap length more ∙ length-append (history h.before) (h.store ∷ history h.after) in
+          let m : length (history (old ++ p.0)) ≡ length (history old) + length (history p.0) =
+          ap length (history-append old p.0) ∙ length-append (history old) (history p.0) in
           omega arith)
     ])
 
-pub named_low : (seat place m : ℕ) (y : Store) (k : ℕ) → m ≡ node_at seat place → (n : ℕ) (x : Store) (l : ℕ) → Named m y k ≡ Named n x l → n < node_at seat (place + 1)
+pub named_low : (seat place m : ℕ) (y : Store) (k : ℕ) → m ≡ node_at seat place → (n : ℕ) (x : Store) (l : ℕ) → Named m y k ≡ Named n x l
+    → n < node_at seat (place + 1)
 named_low seat place m y k is n x l q = let e : m ≡ n = cc (q) in omega arith
 
 placed_low : (seat place m : ℕ) (y : Store) (k : ℕ) (n : ℕ) (x : Store) (l : ℕ) → Placed m y k ≡ Named n x l → n < node_at seat place
@@ -167,24 +193,29 @@ placed_low seat place m y k n x l q = absurd (cc (q))
 
 -- what a try says
 abbrev pub Tried : Bool → Hand → List Event → Tally → ℕ → Store → ℕ → ℕ → Nib → Nib → Type 0
-Tried won h new tally n x l old before after = MatchBool won (Adds (Placed n x l) h.tally h.book.log new × (tally.count ≡ h.tally.count + 1))
+Tried won h new tally n x l old before after =
+    MatchBool won (Adds (Placed n x l) h.tally h.book.log new × (tally.count ≡ h.tally.count + 1))
     ((old ≢ top new) × (after ≡ before) × Same h.tally tally (count x.seat new))
 
 module _ (h : Hand) (n : ℕ) (x : Store) (l old : ℕ) (before after : Nib) (hand : IsHand h) (seat : x.seat ≡ h.number) where
-  pub tried_hand : (k : Hand) → k.number ≡ h.number → k.seats ≡ h.seats → k.places ≡ h.places → k.book.names ≡ h.book.names → Stays h.tally k.tally → IsPrefix h.book.log k.book.log
+  pub tried_hand : (k : Hand) → k.number ≡ h.number → k.seats ≡ h.seats → k.places ≡ h.places → k.book.names ≡ h.book.names
+      → Stays h.tally k.tally → IsPrefix h.book.log k.book.log
       → (won : Bool) → Tried won h k.book.log k.tally n x l old before after → IsHand k
   tried_hand k number seats places names stays pre true m =
       hand_adds h k (Placed n x l) hand m.0 number seats (omega (arith, places)) names stays m.1 seat (placed_low h.number k.places n x l)
   tried_hand k number seats places names stays pre false m =
       hand_on h k pre.0 hand number seats places names (m.2.0, m.2.1, ap (λ s. count s k.book.log) (sym seat) ∙ m.2.2) pre.1
 
-  pub tried_sees : (new : List Event) (tally : Tally) → IsPrefix h.book.log new → (won : Bool) → Tried won h new tally n x l old before after
+  pub tried_sees : (new : List Event) (tally : Tally) → IsPrefix h.book.log new → (won : Bool)
+      → Tried won h new tally n x l old before after
       → MatchBool won (EndsWith x (history h.book.log) (history new)) (SeesMore h.number h.book.log new)
   tried_sees new tally pre true m = placed_sees h new n x l hand seat m.0
   tried_sees new tally pre false m = hand_sees h new hand pre (ap (λ s. count s new) (sym seat) ∙ m.2.2)
 
-  pub tried_lost : (new : List Event) (tally : Tally) → IsPrefix h.book.log new → (won : Bool) → Tried won h new tally n x l old before after
-      → MatchBool won (Unit {0}) ((seen : List Event) → IsPrefix seen h.book.log → top seen ≡ old → length (history seen) < length (history new))
+  pub tried_lost : (new : List Event) (tally : Tally) → IsPrefix h.book.log new → (won : Bool)
+      → Tried won h new tally n x l old before after
+      → MatchBool won (Unit {0}) ((seen : List Event) → IsPrefix seen h.book.log → top seen ≡ old
+      → length (history seen) < length (history new))
   tried_lost new tally pre true m = tt
   tried_lost new tally pre false m = λ seen later last.
       let T : ℕ → Type 0 = λ node. node ≢ top new in grows seen new (prefix_trans seen h.book.log new later pre) (subst T (sym last) m.0)

@@ -5,7 +5,7 @@ use Rattle.logbook.specs.Pages.{Cell, cell}
 use Rattle.answer_log.specs.declared.store.Store.{Store}
 use Rattle.answer_log.specs.declared.event.Event.{Event}
 use Rattle.answer_log.specs.declared.event.Event.TheVariants.{Asks, Named, Opened, Placed}
-use Rattle.answer_log.specs.Logs.{seat_of, seats_in, history, top_from, top, Linked, Quiet, In, Unplaced, Once}
+use Rattle.answer_log.specs.Logs.{seat_of, seats_in, history, top_from, top, Linked, In, Unplaced, Once}
 
 pub history-append : (xs ys : List Event) → history (xs ++ ys) ≡ history xs ++ history ys
 history-append [] ys = refl
@@ -57,6 +57,11 @@ linked-map cs cs' p (Asks s t ∷ xs) k h = linked-map cs cs' p xs k h
 linked-map cs cs' p (Named n x l ∷ xs) k h = linked-map cs cs' p xs k h
 linked-map cs cs' p (Placed n x l ∷ xs) k h = (h.0, k l p h.0 h.1, linked-map cs cs' n xs k h.2)
 
+-- no event is of the seat
+abbrev pub Quiet : ℕ → List Event → Type 0
+Quiet seat [] = Unit {0}
+Quiet seat (event ∷ log) = (seat_of event ≢ seat) × Quiet seat log
+
 -- no event of the seat is in a log that is quiet
 pub quiet-in : (s : ℕ) (xs : List Event) (e : Event) → Quiet s xs → In e xs → seat_of e ≢ s
 quiet-in s [] e h i = absurd i
@@ -93,7 +98,14 @@ abbrev pub LastPlaced : ℕ → List Event → Type 0
 LastPlaced p log = ((top_from p log ≡ p) × (history log ≡ [])) ⊎ Last log (top_from p log)
 
 last-later : (e : Event) (p : ℕ) (xs : List Event) (node : ℕ) → Last xs node → Last (e ∷ xs) node
-last-later e p xs node h = record { before = e ∷ h.before; store = h.store; link = h.link; after = h.after; split = ap (λ w. e ∷ w) h.split; none = h.none }
+last-later e p xs node h = record {
+  before = e ∷ h.before;
+  store = h.store;
+  link = h.link;
+  after = h.after;
+  split = ap (λ w. e ∷ w) h.split;
+  none = h.none;
+}
 
 pub last_placed : (p : ℕ) (xs : List Event) → LastPlaced p xs
 last_placed p [] = inl (refl, refl)
@@ -170,7 +182,8 @@ same-top v r log p once some same =
           ∙ sym (append_assoc v h.before (Placed m h.store h.link ∷ h.after))) in
           let I : List Event → Type 0 = λ w. In (Placed m h.store h.link) w in
           elim (last_placed 0 v) [
-            | inl k ↦ absurd (some m h.store h.link (subst I (sym all) (in-here (Placed m h.store h.link) (v ++ h.before) h.after)) (n ∙ k.0))
+            | inl k ↦ absurd (some m h.store h.link (subst I (sym all) (in-here (Placed m h.store h.link) (v ++ h.before) h.after))
+                (n ∙ k.0))
             | inr k ↦
                 (let whole : log ≡ k.before ++ Placed (top v) k.store k.link ∷ (k.after ++ r) = sym p
                 ∙ (ap (λ w. w ++ r) k.split ∙ append_assoc k.before (Placed (top v) k.store k.link ∷ k.after) r) in

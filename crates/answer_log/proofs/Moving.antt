@@ -18,7 +18,8 @@ use Rattle.answer_log.specs.Steps.{IsPlaced, Looks, Follows, Claims, Tries}
 use Rattle.answer_log.proofs.Counting.{counts_keep, counts_add, kept_answer, more_answer}
 use Rattle.answer_log.proofs.Growing.{history-more}
 use Rattle.answer_log.proofs.Logs.{unplaced-of, once-named, once-placed, same-top, in-linked, history-append}
-use Rattle.answer_log.proofs.Logs.{seats-append, seat-append, seat-prefix, top-append, linked-right, linked-append, linked-map, in-left, in-cases}
+use Rattle.answer_log.proofs.Logs.{seats-append, seat-append, seat-prefix, top-append, linked-right, linked-append, linked-map, in-left}
+use Rattle.answer_log.proofs.Logs.{in-cases}
 use Rattle.answer_log.proofs.Cells.{cell-adds, home-in, same-cell, idle, keep-else, keeps-low, apart, keeps-out, keeps-trans, keeps-adds}
 
 abbrev pub shown : List Event → List Event
@@ -75,7 +76,10 @@ look_moves v ask low cs log kept pre away =
         tt,
         kept-same cs log 0 (cell cs 0).0 (head-home cs log kept) refl kept,
         inr (r, refl, refl, counts_keep ask log low),
-        (subst T (sym (append-nil log)) (ap (λ (c : Cell). c.0) kept.head), (r, refl, (ap (count (seat_of ask)) (sym (append-nil log)), refl))),
+        (
+          subst T (sym (append-nil log)) (ap (λ (c : Cell). c.0) kept.head),
+          (r, refl, (ap (count (seat_of ask)) (sym (append-nil log)), refl)),
+        ),
       ),
     )
 
@@ -129,12 +133,21 @@ kept-named cs log n x l places kept none is some =
       ];
       named = λ m y k i. elim (in-cases (Named m y k) log (e ∷ []) i) [
         | inl j ↦ (let it = kept.named m y k j in (seat-append y.seat log (e ∷ []) it.0, it.1))
-        | inr j ↦ elim j [ inl q ↦ new-named n m x y l k places (seats_in (log ++ e ∷ [])) q is (seat-append x.seat log (e ∷ []) some) | inr z ↦ absurd z ]
+        | inr j ↦ elim j [
+          | inl q ↦
+              new-named n m x y l k places (seats_in (log ++ e ∷ [])) q is (seat-append x.seat log (e ∷ []) some)
+          | inr z ↦ absurd z
+        ]
       ];
       unique = λ m y z k j a b. elim (in-cases (Named m y k) log (e ∷ []) a) [
         | inl c ↦ elim (in-cases (Named m z j) log (e ∷ []) b) [
           | inl d ↦ kept.unique m y z k j c d
-          | inr d ↦ elim d [ inl q ↦ (let w : n ≡ m = cc (q) in let I : ℕ → Type 0 = λ r. In (Named r y k) log in absurd (none y k (subst I (sym w) c))) | inr z ↦ absurd z ]
+          | inr d ↦ elim d [
+            | inl q ↦
+                (let w : n ≡ m = cc (q) in let I : ℕ → Type 0 = λ r. In (Named r y k) log in absurd (none y k (subst I (sym w) c)))
+            | inr z ↦
+                absurd z
+          ]
         ]
         | inr c ↦ elim c [
           | inl q ↦ elim (in-cases (Named m z j) log (e ∷ []) b) [
@@ -177,7 +190,8 @@ has n (Asks s t ∷ log) = has-later n (Asks s t) log (λ y k q. absurd (cc (q))
 has n (Named m x l ∷ log) = has-when n m x l log (m == n) refl (has n log)
 has n (Placed m x l ∷ log) = has-later n (Placed m x l) log (λ y k q. absurd (cc (q))) (has n log)
 
-claim_goes : (v : List Event) (places n : ℕ) (x : Store) → n ≡ node_at x.seat places → x.seat < 64 → x.seat < seats_in v → (cs : List Cell) (log : List Event)
+claim_goes : (v : List Event) (places n : ℕ) (x : Store) → n ≡ node_at x.seat places → x.seat < 64 → x.seat < seats_in v
+    → (cs : List Cell) (log : List Event)
     → IsKept cs log → IsPrefix v log → 1 < length cs → Has n log
     → Goes IsKept shown (Counts (Named n x 0)) 1 (v, (no_nib, None)) (λ n. either (n == 0) 0 n)
     (Claims (step 1 0 0 (Named n x 0)) (v, (no_nib, None))) cs log
@@ -197,9 +211,22 @@ claim_goes v places n x is some low cs log kept pre long h =
             [],
             Some r,
             tt,
-            (let Q : List Event → Type 0 = λ w. IsKept (cs' ++ (0, false) ∷ []) w in subst Q (sym (append-nil log)) (kept-adds cs' log kept')),
+            (let Q : List Event → Type 0 = λ w. IsKept (cs' ++ (0, false) ∷ []) w in
+                subst Q (sym (append-nil log)) (kept-adds cs' log kept')),
             inr (r, refl, refl, counts_keep (Named n x 0) log some),
-            (length cs, long, refl, (r, refl, inr ((ap (count x.seat) (sym (append-nil log)), refl), (p.0, p.1, subst I (sym (append-nil log)) p.2, below, m.1)))),
+            (
+              length cs,
+              long,
+              refl,
+              (
+                r,
+                refl,
+                inr (
+                  (ap (count x.seat) (sym (append-nil log)), refl),
+                  (p.0, p.1, subst I (sym (append-nil log)) p.2, below, m.1),
+                ),
+              ),
+            ),
           ))
       | inr none ↦
           (let r : Counted = more_answer (count x.seat log) in
@@ -250,7 +277,12 @@ kept-placed cs log pen n x kept out named some value sound room =
     let there : cell cs' pen.key ≡ (pen.value, true) = get_or-set_same cs1 pen.key (pen.value, true) (0, false) in_time in
     let stays = keeps-trans cs cs1 cs' (keeps-low cs 0 n (omega arith)) (keeps-out cs1 pen.key pen.value out1) in
     let link : cell cs' l ≡ (top log, true) = there ∙ ap (λ (m : ℕ). (m, true)) value in
-    let old : (m : ℕ) (y : Store) (k : ℕ) → In (Named m y k) (log ++ e ∷ []) → In (Named m y k) log = (λ m y k i. elim (in-cases (Named m y k) log (e ∷ []) i) [ inl j ↦ j | inr j ↦ elim j [ inl q ↦ absurd (cc (q)) | inr z ↦ absurd z ] ]) in
+    let old : (m : ℕ) (y : Store) (k : ℕ) → In (Named m y k) (log ++ e ∷ []) → In (Named m y k) log =
+    (λ m y k i. elim (in-cases (Named m y k) log (e ∷ []) i) [
+      | inl j ↦ j
+      | inr j ↦
+          elim j [ inl q ↦ absurd (cc (q)) | inr z ↦ absurd z ]
+    ]) in
     let low : x.seat < seats_in log = (kept.named n x l named).0 in record {
       seats = let same = seats-append log (e ∷ []) (omega arith) in let few = kept.seats in omega arith;
       head = zero' ∙ sym (ap (λ (m : ℕ). (m, true)) (top-append 0 log (e ∷ [])));
@@ -303,7 +335,8 @@ module _ (v seen : List Event) (pen : Nib) (n : ℕ) (x : Store) (old : ℕ) (ri
         e ∷ [],
         Some r,
         right,
-        rw b (kept-placed cs log pen n x kept (away right) (subst N pre.1 (in-left (Named n x pen.key) v pre.0 named)) some tops sound (subst G (sym same) room)),
+        rw b (kept-placed cs log pen n x kept (away right) (subst N pre.1 (in-left (Named n x pen.key) v pre.0 named)) some tops sound
+            (subst G (sym same) room)),
         inr (r, refl, refl, counts_add (Placed n x 0) e log refl low),
         (r, refl, rw b (refl, (pre.0, ap (λ w. w ++ e ∷ []) (sym pre.1), ap (count x.seat) (sym pre.1)))),
       )
@@ -316,10 +349,19 @@ module _ (v seen : List Event) (pen : Nib) (n : ℕ) (x : Store) (old : ℕ) (ri
         tt,
         rw b (kept-same cs log 0 (cell cs 0).0 (ap (λ (c : Cell). c.1) kept.head) refl kept),
         inr (r, refl, refl, counts_keep (Placed n x 0) log low),
-        (r, refl, rw b (subst T (sym (append-nil log)) (ap (λ (c : Cell). c.0) kept.head), refl, (ap (count x.seat) (sym (append-nil log)), refl))),
+        (
+          r,
+          refl,
+          rw b (
+            subst T (sym (append-nil log)) (ap (λ (c : Cell). c.0) kept.head),
+            refl,
+            (ap (count x.seat) (sym (append-nil log)), refl),
+          ),
+        ),
       )
 
-  pub try_moves : Moves IsKept shown (Counts (Placed n x 0)) 0 (v, (pen, None)) (λ m. either (m == old) n m) (Tries (step 0 old n (Placed n x 0)) (v, (pen, None)))
+  pub try_moves : Moves IsKept shown (Counts (Placed n x 0)) 0 (v, (pen, None)) (λ m. either (m == old) n m)
+      (Tries (step 0 old n (Placed n x 0)) (v, (pen, None)))
   try_moves cs log kept pre away = (
     home-in cs 0 (head-home cs log kept),
     head-home cs log kept,

@@ -15,7 +15,8 @@ pub at-end : (walk : Walk) (left : List Store) → IsLog walk.seen.log → walk.
 at-end walk left log none it = elim (last_placed 0 it.front) [
   | inl h ↦ it.stores ∙ h.1
   | inr h ↦
-      (let whole = it.split ∙ (ap (λ events. events ++ it.back) h.split ∙ append_assoc h.before (Placed (top it.front) h.store h.link ∷ h.after) it.back) in
+      (let whole = it.split
+      ∙ (ap (λ events. events ++ it.back) h.split ∙ append_assoc h.before (Placed (top it.front) h.store h.link ∷ h.after) it.back) in
       absurd (log.nodes h.before (h.after ++ it.back) (top it.front) h.store h.link whole (sym it.at ∙ none)))
 ]
 
@@ -37,13 +38,17 @@ is-next walk left some it = elim (last_placed 0 it.front) [
         after = h.after ++ it.back;
         store = h.store;
         link = h.link;
-        whole = subst W (sym it.at) (it.split ∙ (ap (λ events. events ++ it.back) h.split ∙ append_assoc h.before (Placed (top it.front) h.store h.link ∷ h.after) it.back));
-        stores = it.stores ∙ (ap history h.split ∙ (history-append h.before (Placed (top it.front) h.store h.link ∷ h.after) ∙ ap (λ stores. history h.before ++ h.store ∷ stores) h.none));
+        whole = subst W (sym it.at) (it.split
+            ∙ (ap (λ events. events ++ it.back) h.split ∙ append_assoc h.before (Placed (top it.front) h.store h.link ∷ h.after) it.back));
+        stores = it.stores ∙ (ap history h.split
+            ∙ (history-append h.before (Placed (top it.front) h.store h.link ∷ h.after)
+            ∙ ap (λ stores. history h.before ++ h.store ∷ stores) h.none));
       })
 ]
 
 -- the walk has passed it
-pub passed : (walk new : Walk) (left : List Store) (store : Store) → (it : Next walk left) → it.store ≡ store → IsPrefix walk.seen.log new.seen.log
+pub passed : (walk new : Walk) (left : List Store) (store : Store) → (it : Next walk left) → it.store ≡ store
+    → IsPrefix walk.seen.log new.seen.log
     → new.next ≡ top it.before → (rest : List Store) × (left ≡ rest ++ store ∷ []) × Ahead new rest
 passed walk new left store it same later at =
     let L : Store → Type 0 = λ s. left ≡ history it.before ++ s ∷ [] in (
@@ -52,7 +57,8 @@ passed walk new left store it same later at =
       record {
         front = it.before;
         back = Placed walk.next it.store it.link ∷ (it.after ++ later.0);
-        split = sym later.1 ∙ (ap (λ events. events ++ later.0) it.whole ∙ append_assoc it.before (Placed walk.next it.store it.link ∷ it.after) later.0);
+        split = sym later.1 ∙ (ap (λ events. events ++ later.0) it.whole
+            ∙ append_assoc it.before (Placed walk.next it.store it.link ∷ it.after) later.0);
         at = at;
         stores = refl;
       },

@@ -1,5 +1,6 @@
 -- How many events of each seat a log has, and who holds these counts.
-use Rattle.std.specs.Prelude.{◌≡◌, ℕ, zero, suc, ◌<◌, ◌==◌, Bool, true, false, List, [], ◌∷◌, length}
+use Rattle.std.specs.Prelude.{◌≡◌, ℕ, zero, suc, ◌<◌, ◌==◌, Bool, true, false, List, [], ◌∷◌}
+use Rattle.std.specs.Prelude.{length}
 use base.Fml.{Fml, ftrue, fsep}
 use base.Share.{quarter}
 use Rattle.logbook.specs.Pages.{Cell, cell}
@@ -60,9 +61,11 @@ keeps_counts names log = roster (first_name names) 0 (counts log)
 
 abbrev pub gains_count : List ℕ → List Event → Counted → Fml
 gains_count names about r =
-    fsep (tally_owns true (first_name names) (first_seat about) r.after) (fact (first_count about ≡ r.before))
+    fsep (tally_owns true (first_name names) (first_seat about) r.after)
+    (fact (first_count about ≡ r.before))
 
--- The step found the asking seat at one count and leaves it at another, and the other seats as they were
+-- The step found the asking seat at one count and leaves it at another, and the other seats as they
+-- were
 pub record Counts (ask : Event) (old new : List Event) (r : Counted) : Type 0 where
   pub seat : (seat_of ask) < length (counts old)
   pub here : cell (counts old) (seat_of ask) ≡ (r.before, true)

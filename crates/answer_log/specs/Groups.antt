@@ -14,7 +14,8 @@ hash_of octets = fold hash_more 2166136261 octets
 
 -- what is hashed: the name without pointers, and the two octets of the type
 abbrev pub hashed_of : Question → List ℕ
-hashed_of question = wire_of question.name ++ (kind_code question.kind / 256) ∷ (kind_code question.kind % 256) ∷ []
+hashed_of question = wire_of question.name ++ (kind_code question.kind / 256)
+    ∷ (kind_code question.kind % 256) ∷ []
 
 -- one of 64
 abbrev pub group_of : Question → ℕ

@@ -14,8 +14,8 @@ use Rattle.answer_log.specs.declared.hand.Hand.{Hand}
 use Rattle.answer_log.specs.declared.hand.Hands.{Hands}
 use Rattle.answer_log.specs.declared.store.Store.{Store}
 
--- The seat is one of those that the log was opened for. It has the count of its events in what it has seen, and its
--- nodes stand below the next place.
+-- The seat is one of those that the log was opened for. It has the count of its events in what it
+-- has seen, and its nodes stand below the next place.
 pub record IsHand (hand : Hand) : Type 0 where
   pub seats : seats_in hand.book.log ≡ hand.seats
   pub below : hand.number < hand.seats
@@ -41,7 +41,8 @@ pub record AreHands (hands : Hands) : Type 0 where
   pub log : hands.seen.log ≡ Opened hands.seats ∷ []
 
 -- the log names the node so
-pub record IsNamed (book : Book) (log : List Event) (node : ℕ) (store : Store) (word : Word) : Type 0 where
+pub record IsNamed (book : Book) (log : List Event) (node : ℕ) (store : Store)
+    (word : Word) : Type 0 where
   pub link : word ≡ word_at book word.key
   pub named : In (Named node store word.key) log
 

@@ -19,7 +19,8 @@ living now store = if nat_lt now (store.moment + store.answer.life) then Some st
 
 -- the answer of the last store of a question; none where that has expired, or there is none
 abbrev pub cached : List Store → Question → ℕ → Option AnswerValue
-cached history question now = option_and_then (living now) (last_or None (stores_of question history))
+cached history question now =
+    option_and_then (living now) (last_or None (stores_of question history))
 
 -- the stores whose questions are in a group
 abbrev pub in_group : ℕ → List Store → List Store

@@ -43,18 +43,15 @@ top_from last (Placed node store link ∷ log) = top_from node log
 abbrev pub top : List Event → ℕ
 top log = top_from 0 log
 
--- The link of each placed node is at home, and holds the node that was placed before it. Cells 0 and 1 are no links.
+-- The link of each placed node is at home, and holds the node that was placed before it. Cells 0
+-- and 1 are no links.
 abbrev pub Linked : List Cell → ℕ → List Event → Type 0
 Linked cells last [] = Unit {0}
 Linked cells last (Opened seats ∷ log) = Linked cells last log
 Linked cells last (Asks seat count ∷ log) = Linked cells last log
 Linked cells last (Named node store link ∷ log) = Linked cells last log
-Linked cells last (Placed node store link ∷ log) = (1 < link) × (cell cells link ≡ (last, true)) × Linked cells node log
-
--- no event is of the seat
-abbrev pub Quiet : ℕ → List Event → Type 0
-Quiet seat [] = Unit {0}
-Quiet seat (event ∷ log) = (seat_of event ≢ seat) × Quiet seat log
+Linked cells last (Placed node store link ∷ log) = (1 < link) × (cell cells link ≡ (last, true))
+    × Linked cells node log
 
 abbrev pub In : Event → List Event → Type 0
 In event [] = ⊥

@@ -18,7 +18,8 @@ pub record IsKept (cells : List Cell) (log : List Event) : Type 0 where
   pub idle : cell cells 1 ≡ (0, true)
   pub linked : Linked cells 0 log
   -- what is placed was named so
-  pub twins : (node : ℕ) (store : Store) (link : ℕ) → In (Placed node store link) log → In (Named node store link) log
+  pub twins : (node : ℕ) (store : Store) (link : ℕ) → In (Placed node store link) log
+      → In (Named node store link) log
   pub named : (node : ℕ) (store : Store) (link : ℕ) → In (Named node store link) log
       → (store.seat < seats_in log) × ((place : ℕ) × (node ≡ node_at store.seat place))
   -- a node has one store and one link

@@ -1,5 +1,6 @@
 -- What each step of the log says.
-use Rattle.std.specs.Prelude.{◌≡◌, ℕ, ◌+◌, ◌<◌, ◌==◌, ◌⊎◌, true, List, [], ◌∷◌, ◌++◌, MatchBool, Some}
+use Rattle.std.specs.Prelude.{◌≡◌, ℕ, ◌+◌, ◌<◌, ◌==◌, ◌⊎◌, true, List, [], ◌∷◌, ◌++◌, MatchBool}
+use Rattle.std.specs.Prelude.{Some}
 use Rattle.std.specs.Arc.{arc_value}
 use Rattle.dns_answers.specs.Values.{AnswerValue}
 use Rattle.dns_message.specs.declared.question.Question.{Question}
@@ -17,7 +18,8 @@ use Rattle.answer_log.specs.declared.store.Draft.{Draft}
 use Rattle.answer_log.specs.declared.tally.Tally.{Tally}
 
 abbrev pub store_by : ℕ → Question → AnswerValue → ℕ → Store
-store_by seat question answer moment = record { seat = seat; question = question; answer = answer; moment = moment }
+store_by seat question answer moment =
+    record { seat = seat; question = question; answer = answer; moment = moment }
 
 abbrev pub store_of : Draft → Store
 store_of draft = store_by draft.seat draft.question.now (arc_value draft.answer.now) draft.moment
@@ -42,7 +44,8 @@ pub record HadRoom (log : List Event) (node : ℕ) (question : Question) : Type 
 
 -- the tally is that of the seat, in the log of these names
 abbrev pub Fits : Tally → List ℕ → ℕ → Type 0
-Fits tally names seat = (tally.held ≡ true) × (tally.name ∷ [] ≡ names) × (tally.seat ≡ seat) × (seat < 64)
+Fits tally names seat = (tally.held ≡ true) × (tally.name ∷ [] ≡ names) × (tally.seat ≡ seat)
+    × (seat < 64)
 
 -- the tally is as it was but for its count
 abbrev pub Stays : Tally → Tally → Type 0
@@ -52,8 +55,8 @@ Stays old new = (new.held ≡ true) × (new.name ≡ old.name) × (new.seat ≡ 
 abbrev pub Same : Tally → Tally → ℕ → Type 0
 Same old new number = Stays old new × (new.count ≡ old.count) × (number ≡ old.count)
 
--- The log is what was seen, what came since, and then the event. Till then the log had as many events of its seat as
--- the tally says.
+-- The log is what was seen, what came since, and then the event. Till then the log had as many
+-- events of its seat as the tally says.
 abbrev pub Adds : Event → Tally → List Event → List Event → Type 0
 Adds event tally before after = (more : List Event) × (after ≡ (before ++ more) ++ event ∷ [])
     × (count (seat_of event) (before ++ more) ≡ tally.count)
@@ -79,7 +82,8 @@ Looks s v found w = (found ≡ top w.0) × Says w (Kept (seat_of s.ask) w.0)
 -- the link of a placed node leads to the one placed before it
 abbrev pub Follows : Step Event → View Event Counted → ℕ → View Event Counted → Type 0
 Follows s v found w =
-    (before after : List Event) (node : ℕ) (store : Store) → v.0 ≡ before ++ Placed node store s.key ∷ after
+    (before after : List Event) (node : ℕ) (store : Store)
+    → v.0 ≡ before ++ Placed node store s.key ∷ after
     → found ≡ top before
 
 abbrev pub linked_to : Event → ℕ → Event
@@ -99,15 +103,16 @@ abbrev pub IsTaken : ℕ → List Event → Type 0
 IsTaken node log = (store : Store) × (link : ℕ) × In (Named node store link) log × (store.seat < 64)
     × ((place : ℕ) × (node ≡ node_at store.seat place))
 
--- A cell is made. The node was new and is named with that cell as its link, or it was named already and nothing is
--- added.
+-- A cell is made. The node was new and is named with that cell as its link, or it was named already
+-- and nothing is added.
 abbrev pub Claims : Step Event → View Event Counted → ℕ → View Event Counted → Type 0
 Claims s v found w = (link : ℕ) × (1 < link) × (w.1.0 ≡ nib may_make link 0)
     × Says w (λ counted. Rose (linked_to s.ask link) v.0 w.0 counted
     ⊎ (Kept (seat_of s.ask) w.0 counted × IsTaken (node_of s.ask) w.0))
 
--- The head was the one expected, and the node is placed; or it was another, which is the last one, and nothing is
--- added.
+-- The head was the one expected, and the node is placed; or it was another, which is the last one,
+-- and nothing is added.
 abbrev pub Tries : Step Event → View Event Counted → ℕ → View Event Counted → Type 0
-Tries s v found w = Says w (λ counted. MatchBool (found == s.old) (Rose (linked_to s.ask v.1.0.key) v.0 w.0 counted)
+Tries s v found w = Says w
+    (λ counted. MatchBool (found == s.old) (Rose (linked_to s.ask v.1.0.key) v.0 w.0 counted)
     ((found ≡ top w.0) × (w.1.0 ≡ v.1.0) × Kept (seat_of s.ask) w.0 counted))

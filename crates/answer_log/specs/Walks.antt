@@ -5,8 +5,8 @@ use Rattle.answer_log.specs.declared.event.Event.{Event}
 use Rattle.answer_log.specs.declared.store.Store.{Store}
 use Rattle.answer_log.specs.declared.walk.Walk.{Walk}
 
--- The nodes ahead of a walk are those that were placed up to some moment. These are their stores, and the next node is the
--- last one.
+-- The nodes ahead of a walk are those that were placed up to some moment. These are their stores,
+-- and the next node is the last one.
 pub record Ahead (walk : Walk) (left : List Store) : Type 0 where
   pub front : List Event
   pub back : List Event

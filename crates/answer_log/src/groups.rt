@@ -1,11 +1,14 @@
 //! The group of a question.
-ghost use Rattle.std.specs.Prelude.{◌≡◌, ◌<◌};
+ghost use Rattle.std.specs.Prelude.{◌≡◌, ◌<◌, ◌%◌};
 ghost use Rattle.answer_log.specs.Groups.{group_of, hash_more, hash_of, hashed_of};
 
 use dns_message::Question;
 
 /// How many groups there are.
 pub const GROUP_COUNT: u8 = 64;
+
+/// How many stores of one group there can be.
+pub const GROUP_LIMIT: usize = 64;
 
 /// The hash with one octet more (FNV-1a, 32 bits).
 fn hash_more(hash: u32, octet: u8) -> u32
@@ -28,12 +31,20 @@ pub fn hash(question: &Question) -> u32
     hash_more(hash_more(hash, high), low)
 }
 
-/// The group of a question, from 0 to 63: that of all questions whose name and type have the same hash, modulo 64.
-/// Stores of one group are kept together. Takes no memory.
+/// The group of a question, from 0 to 63: that of all questions whose name and type have the same
+/// hash, modulo 64. Stores of one group are kept together. Takes no memory.
 #[must_use]
 pub fn group(question: &Question) -> u8
     ensures group { result ≡ group_of question.now }
     ensures below { result < 64 }
 {
-    (hash(question) % u32::from(GROUP_COUNT)) as u8
+    group_of_hash(hash(question))
+}
+
+/// The group of all questions with a hash.
+#[must_use]
+pub fn group_of_hash(hash: u32) -> u8
+    ensures { result ≡ hash % 64 }
+{
+    (hash % u32::from(GROUP_COUNT)) as u8
 }

@@ -5,8 +5,11 @@ ghost use Rattle.answer_log.specs.Hands.{AreHands, IsNew};
 use crate::steps::Book;
 use crate::tally::{Tallies, Tally};
 
-/// What a seat has at the log: its number, how many seats there are, the place of its next node, its count, and what it
-/// has seen.
+/// How many seats a log can have.
+pub const MOST_SEATS: u64 = 64;
+
+/// What a seat has at the log: its number, how many seats there are, the place of its next node,
+/// its count, and what it has seen.
 #[derive(Drop)]
 pub struct Hand {
     pub number: u64,

@@ -1,13 +1,16 @@
-//! The log that seats share: a history of stores, and the atomic steps that read it and let it grow.
+//! The log that seats share: a history of stores, and the atomic steps that read it and let it
+//! grow.
 //!
-//! A store says which answer a question had at a moment, and which seat stored it. The log is the list of all events
-//! so far, in the order of time. The first event says how many seats there are. Each other one names a node for a
-//! store, or places a node that was named. The history is the list of the stores whose nodes were placed, the oldest
-//! first. Nothing leaves the log, so what was seen of it stays true.
+//! A store says which answer a question had at a moment, and which seat stored it. The log is the
+//! list of all events so far, in the order of time. The first event says how many seats there are.
+//! Each other one names a node for a store, or places a node that was named. The history is the
+//! list of the stores whose nodes were placed, the oldest first. Nothing leaves the log, so what
+//! was seen of it stays true.
 //!
-//! No value of the log is made, and what a program has is words. The head holds the number of the node placed last,
-//! and the link of each placed node holds the number of the one placed before it. 0 is the number of no node. A seat
-//! numbers its nodes by its own number and a place: node 1 + seat + 64 * place.
+//! No value of the log is made, and what a program has is words. The head holds the number of the
+//! node placed last, and the link of each placed node holds the number of the one placed before it.
+//! 0 is the number of no node. A seat numbers its nodes by its own number and a place: node 1 +
+//! seat + 64 * place.
 //!
 //! ```text
 //!  events   Opened 2, Named 1 a, Placed 1 a, Named 2 b, Named 65 c, Placed 2 b, Placed 65 c, Named 66 d
@@ -24,21 +27,27 @@
 //!
 //! A step is of one of seven kinds. Four of them read or write one word that others may read:
 //!
-//! - a load of the head: `Log::walk`, and `Log::learn`, which first takes over what another has seen;
+//! - a load of the head: `Log::walk`, and `Log::learn`, which first takes over what another has
+//!   seen;
 //! - a load of a link: `Walk::pass`;
-//! - a store into the link of a node that is not placed yet: `Word::store`, by the pen that `Log::claim` gives;
-//! - an exchange of the head, from the node that the link holds to the new one: `Log::place`. It fails where the head
-//!   has another node by then, and the seat may try again with that one in its link.
+//! - a store into the link of a node that is not placed yet: `Word::store`, by the pen that
+//!   `Log::claim` gives;
+//! - an exchange of the head, from the node that the link holds to the new one: `Log::place`. It
+//!   fails where the head has another node by then, and the seat may try again with that one in its
+//!   link.
 //!
 //! Three say who may write which word:
 //!
-//! - the two words are made, and the seats have their counts of events: `Log::open`, before any other step;
-//! - a link is made and its node is named, by an exchange of 0 with 0 on the idle word: `Log::claim`;
-//! - the link of a placed node is given over to the log, and nobody writes it again: within the exchange of
-//!   `Log::place`.
+//! - the two words are made, and the seats have their counts of events: `Log::open`, before any
+//!   other step;
+//! - a link is made and its node is named, by an exchange of 0 with 0 on the idle word:
+//!   `Log::claim`;
+//! - the link of a placed node is given over to the log, and nobody writes it again: within the
+//!   exchange of `Log::place`.
 //!
-//! Each seat has a `Hand`, which `Hands::deal` gives: how many events the seat has in the log, and what it has seen.
-//! Nobody else adds an event of that seat, so a seat knows that its next node has no name yet.
+//! Each seat has a `Hand`, which `Hands::deal` gives: how many events the seat has in the log, and
+//! what it has seen. Nobody else adds an event of that seat, so a seat knows that its next node has
+//! no name yet.
 //!
 //! ```text
 //! let (log, mut hands) = Log::open(2);                                 // for two seats
@@ -49,12 +58,13 @@
 //! let placed = log.place(&mut hand, &mut pen, walk.next, &draft, &link);     // false: another node came in between
 //! ```
 //!
-//! A `Walk` goes from the node placed last to the first one. It says which node is next, and whoever finds that node passes
-//! its link.
+//! A `Walk` goes from the node placed last to the first one. It says which node is next, and
+//! whoever finds that node passes its link.
 //!
-//! Read `specs/Histories.antt` and `specs/Logs.antt` first: what a history answers, and what events say of it. Then
-//! `specs/Rules.antt`, what holds at each moment, `specs/Steps.antt`, what each step says, and `specs/Hands.antt`,
-//! what a seat has, and `specs/Walks.antt`, what is ahead of a walk.
+//! Read `specs/Histories.antt` and `specs/Logs.antt` first: what a history answers, and what events
+//! say of it. Then `specs/Rules.antt`, what holds at each moment, `specs/Steps.antt`, what each
+//! step says, and `specs/Hands.antt`, what a seat has, and `specs/Walks.antt`, what is ahead of a
+//! walk.
 #![tactic(auto)]
 
 mod event;
@@ -67,8 +77,8 @@ mod tally;
 mod walk;
 
 pub use event::{Counted, Event};
-pub use groups::{GROUP_COUNT, group, hash};
-pub use hand::{Hand, Hands};
+pub use groups::{GROUP_COUNT, GROUP_LIMIT, group, group_of_hash, hash};
+pub use hand::{Hand, Hands, MOST_SEATS};
 pub use log::{Claimed, Log, histories_are_one, log_keeps_its_rule};
 pub use steps::{Book, Pen, Word};
 pub use store::{Draft, Store};

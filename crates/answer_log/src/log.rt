@@ -12,7 +12,7 @@ ghost use Rattle.answer_log.specs.Walks.{Ahead};
 ghost use Rattle.answer_log.specs.declared.event.Event.{Event as Noted};
 
 use crate::event::Event;
-use crate::hand::{Hand, Hands};
+use crate::hand::{Hand, Hands, MOST_SEATS};
 use crate::steps::{Book, Pen, Word, claim_node, place, top_node};
 use crate::store::Draft;
 use crate::tally::Tallies;
@@ -51,7 +51,8 @@ impl Model for Log {
 
     ghost view = { λ log. log.head.book };
 
-    ghost invariant = { λ log. (log.head ≡ word_at log.head.book 0) × (log.idle ≡ word_at log.head.book 1) };
+    ghost invariant = { λ log. (log.head ≡ word_at log.head.book 0)
+        × (log.idle ≡ word_at log.head.book 1) };
 }
 
 /// A node that was named, its link, and what writes the link.
@@ -94,7 +95,8 @@ impl Log {
         ensures book { hand.new.book.book ≡ self.now }
         ensures seen { SeesMore hand.old.number hand.old.book.log hand.new.book.log }
         ensures places { hand.new.places ≡ hand.old.places }
-        ensures walk { (result.seen.book ≡ self.now) × (result.seen.log ≡ hand.new.book.log) × (result.next ≡ top hand.new.book.log) }
+        ensures walk { (result.seen.book ≡ self.now) × (result.seen.log ≡ hand.new.book.log)
+            × (result.next ≡ top hand.new.book.log) }
         ensures ahead { Ahead result (history hand.new.book.log) }
     {
         let next = top_node(&self.head, &mut hand.book, &mut hand.tally, hand.number);
@@ -119,8 +121,8 @@ impl Log {
         let _node = top_node(&self.head, &mut hand.book, &mut hand.tally, hand.number);
     }
 
-    /// Names the node of a place for a store, and makes its link: one exchange on the idle word. A place is named
-    /// once, so it is none below those that the seat has used.
+    /// Names the node of a place for a store, and makes its link: one exchange on the idle word. A
+    /// place is named once, so it is none below those that the seat has used.
     pub fn claim(
         &self,
         hand: &mut Hand,
@@ -143,7 +145,7 @@ impl Log {
         ensures pen { (result.pen.book ≡ self.now) × (result.pen.nib.right ≡ may_write)
             × (result.pen.nib.key ≡ result.link.key) × (1 < result.link.key) }
     {
-        let node = 1 + hand.number + 64 * place;
+        let node = 1 + hand.number + MOST_SEATS * place;
         let draft = Draft {
             node,
             seat: hand.number,
@@ -157,8 +159,8 @@ impl Log {
         Claimed { node, link, pen }
     }
 
-    /// Tries to place a node on top of the node `old`, which its link holds: one exchange of the head. Says whether
-    /// the node was placed. It was not where the head had another node by then.
+    /// Tries to place a node on top of the node `old`, which its link holds: one exchange of the
+    /// head. Says whether the node was placed. It was not where the head had another node by then.
     pub fn place(
         &self,
         hand: &mut Hand,
@@ -172,8 +174,10 @@ impl Log {
         requires seat { draft.now.seat ≡ hand.old.number }
         requires room { HadRoom hand.old.book.log old draft.now.question.now }
         requires sound { IsSound (store_of draft.now) }
-        requires named { IsNamed self.now hand.old.book.log draft.now.node (store_of draft.now) link.now }
-        requires pen { (pen.old.book ≡ self.now) × (pen.old.nib.right ≡ may_write) × (pen.old.nib.key ≡ link.now.key)
+        requires named { IsNamed self.now hand.old.book.log
+            draft.now.node (store_of draft.now) link.now }
+        requires pen { (pen.old.book ≡ self.now) × (pen.old.nib.right ≡ may_write)
+            × (pen.old.nib.key ≡ link.now.key)
             × (pen.old.nib.value ≡ old) × (1 < link.now.key) }
         ensures hand { IsHand hand.new }
         ensures number { (hand.new.number ≡ hand.old.number) × (hand.new.seats ≡ hand.old.seats) }
@@ -186,7 +190,8 @@ impl Log {
             ((seen : List Noted) → IsPrefix seen hand.old.book.log → top seen ≡ old
             → length (history seen) < length (history hand.new.book.log)) }
         ensures pen { MatchBool result (Unit {0})
-            ((pen.new.book ≡ self.now) × (pen.new.nib.right ≡ may_write) × (pen.new.nib.key ≡ link.now.key)) }
+            ((pen.new.book ≡ self.now) × (pen.new.nib.right ≡ may_write)
+            × (pen.new.nib.key ≡ link.now.key)) }
     {
         place(
             &self.head,
@@ -200,7 +205,8 @@ impl Log {
     }
 }
 
-/// A law: each log that was seen has a history of at most 4096 sound stores of its seats, 64 in a group, and no node 0.
+/// A law: each log that was seen has a history of at most 4096 sound stores of its seats, 64 in a
+/// group, and no node 0.
 pub fn log_keeps_its_rule(book: &Book)
     ensures { IsLog book.now.log }
 {
@@ -211,7 +217,8 @@ pub fn log_keeps_its_rule(book: &Book)
 /// A law: of two histories that were seen of one book, one goes on with the other.
 pub fn histories_are_one(one: &Book, other: &Book)
     requires { one.now.book ≡ other.now.book }
-    ensures { IsPrefix (history one.now.log) (history other.now.log) ⊎ IsPrefix (history other.now.log) (history one.now.log) }
+    ensures { IsPrefix (history one.now.log) (history other.now.log)
+        ⊎ IsPrefix (history other.now.log) (history one.now.log) }
 {
     let mut probe = one.again();
     probe.learn(other);

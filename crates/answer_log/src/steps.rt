@@ -1,5 +1,6 @@
 //! The atomic steps of the log, each with what it says.
-ghost use Rattle.std.specs.Prelude.{◌≡◌, ◌≢◌, ℕ, ◌+◌, ◌<◌, ◌∷◌, ◌++◌, [], List, MatchBool, Some, true};
+ghost use Rattle.std.specs.Prelude.{◌≡◌, ◌≢◌, ℕ, ◌+◌, ◌<◌, ◌∷◌, ◌++◌, [], List, MatchBool, Some};
+ghost use Rattle.std.specs.Prelude.{true};
 ghost use mathlib.Core.List.{IsPrefix};
 ghost use Rattle.logbook.specs.Pages.{nib, may_make, may_write};
 ghost use Rattle.answer_log.specs.Counts.{count, first_name, first_seat, first_count};
@@ -114,14 +115,15 @@ impl<'a> Plain<Draft<'a>, Event, Counted> for Try {
 fn settle(tally: &mut Tally, deal: Deal)
     requires { (counted : Number) × (deal.state ≡ Some counted) }
     ensures { (counted : Number) → deal.state ≡ Some counted
-        → (tally.new.held ≡ true) × (tally.new.name ≡ first_name deal.names) × (tally.new.seat ≡ first_seat deal.about)
+        → (tally.new.held ≡ true) × (tally.new.name ≡ first_name deal.names)
+        × (tally.new.seat ≡ first_seat deal.about)
         × (tally.new.count ≡ counted.after) × (first_count deal.about ≡ counted.before) }
 {
     tally.back(deal.into_gain());
 }
 
-/// A load of the head: the node placed last, 0 where there is none. Till then the log had as many events of the seat
-/// as the tally says.
+/// A load of the head: the node placed last, 0 where there is none. Till then the log had as many
+/// events of the seat as the tally says.
 pub(crate) fn top_node(head: &Word, book: &mut Book, tally: &mut Tally, seat: u64) -> u64
     requires head { head.now ≡ word_at book.old.book 0 }
     requires fits { Fits tally.old book.old.names seat }
@@ -136,8 +138,9 @@ pub(crate) fn top_node(head: &Word, book: &mut Book, tally: &mut Tally, seat: u6
     found
 }
 
-/// The node placed before a placed node, 0 where there is none: one load of its link. The log that `named` has seen
-/// names the node with that link. The store that was placed is the one that was named.
+/// The node placed before a placed node, 0 where there is none: one load of its link. The log that
+/// `named` has seen names the node with that link. The store that was placed is the one that was
+/// named.
 pub(crate) fn node_before(link: &Word, named: &Book, node: u64, book: &mut Book) -> u64
     requires books { named.now.book ≡ book.old.book }
     requires named { (store : Store) × IsNamed named.now.book named.now.log node store link.now }
@@ -156,7 +159,8 @@ pub(crate) fn node_before(link: &Word, named: &Book, node: u64, book: &mut Book)
     link.load::<Follow, Nothing>(book, &mut offer)
 }
 
-/// An exchange of 0 with 0 on the idle word, which makes the cell of a link, with its pen, and names the node.
+/// An exchange of 0 with 0 on the idle word, which makes the cell of a link, with its pen, and
+/// names the node.
 pub(crate) fn claim_node(
     idle: &Word,
     book: &mut Book,
@@ -170,10 +174,12 @@ pub(crate) fn claim_node(
     requires below { NamesBelow draft.now.seat place book.old.log }
     requires node { draft.now.node ≡ node_at draft.now.seat place }
     requires seat { draft.now.seat < seats_in book.old.log }
-    ensures book { (book.new.book ≡ book.old.book) × (book.new.names ≡ book.old.names) × (result.book ≡ book.old.book) }
+    ensures book { (book.new.book ≡ book.old.book) × (book.new.names ≡ book.old.names)
+        × (result.book ≡ book.old.book) }
     ensures pen { (1 < result.nib.key) × (result.nib ≡ nib may_make result.nib.key 0) }
     ensures tally { Stays tally.old tally.new × (tally.new.count ≡ tally.old.count + 1) }
-    ensures adds { Adds (Named draft.now.node (store_of draft.now) result.nib.key) tally.old book.old.log book.new.log }
+    ensures adds { Adds (Named draft.now.node (store_of draft.now) result.nib.key)
+        tally.old book.old.log book.new.log }
 {
     let mut deal = tally.bid::<Draft<'_>, Claim>(draft);
     let mut pen = book.no_pen();
@@ -182,7 +188,8 @@ pub(crate) fn claim_node(
     pen
 }
 
-/// An exchange of the head: tries to place a node before the node `old`, which the pen has written into its link.
+/// An exchange of the head: tries to place a node before the node `old`, which the pen has written
+/// into its link.
 pub(crate) fn place(
     head: &Word,
     book: &mut Book,
@@ -194,16 +201,20 @@ pub(crate) fn place(
 ) -> bool
     requires head { head.now ≡ word_at book.old.book 0 }
     requires fits { Fits tally.old book.old.names draft.now.seat }
-    requires pen { (pen.old.book ≡ book.old.book) × (pen.old.nib.right ≡ may_write) × (pen.old.nib.key ≡ link.now.key)
+    requires pen { (pen.old.book ≡ book.old.book) × (pen.old.nib.right ≡ may_write)
+        × (pen.old.nib.key ≡ link.now.key)
         × (pen.old.nib.value ≡ old) }
     requires room { HadRoom book.old.log old draft.now.question.now }
     requires sound { IsSound (store_of draft.now) }
-    requires named { In (Named draft.now.node (store_of draft.now) link.now.key) book.old.log × (1 < link.now.key) }
-    ensures book { (book.new.book ≡ book.old.book) × (book.new.names ≡ book.old.names) × (pen.new.book ≡ pen.old.book) }
+    requires named { In (Named draft.now.node (store_of draft.now) link.now.key) book.old.log
+        × (1 < link.now.key) }
+    ensures book { (book.new.book ≡ book.old.book) × (book.new.names ≡ book.old.names)
+        × (pen.new.book ≡ pen.old.book) }
     ensures later { IsPrefix book.old.log book.new.log }
     ensures tally { Stays tally.old tally.new }
     ensures tried { MatchBool result
-        (Adds (Placed draft.now.node (store_of draft.now) link.now.key) tally.old book.old.log book.new.log
+        (Adds (Placed draft.now.node (store_of draft.now) link.now.key)
+        tally.old book.old.log book.new.log
         × (tally.new.count ≡ tally.old.count + 1))
         ((old ≢ top book.new.log) × (pen.new.nib ≡ pen.old.nib)
         × Same tally.old tally.new (count draft.now.seat book.new.log)) }

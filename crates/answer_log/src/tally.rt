@@ -2,7 +2,8 @@
 ghost use Rattle.std.specs.Prelude.{◌≡◌, ℕ, ◌+◌, ◌-◌, ◌<◌, [], ◌∷◌, None, Some, Bool, true, false};
 ghost use Rattle.answer_log.specs.Logs.{seat_of};
 ghost use Rattle.answer_log.specs.declared.event.Event.TheVariants.{Opened};
-ghost use Rattle.answer_log.specs.Counts.{first_name, first_seat, first_count, holding, tally_owns, tallies_own};
+ghost use Rattle.answer_log.specs.Counts.{first_name, first_seat, first_count, holding, tally_owns};
+ghost use Rattle.answer_log.specs.Counts.{tallies_own};
 
 use crate::event::{Counted, Event};
 use logbook::{Gain, Gained, Offer, Plain, Rule, Start};
@@ -66,9 +67,11 @@ impl Model for Tallies {
 pub(crate) type Deal = Offer<Event, Counted, Law, Back>;
 
 impl Tallies {
-    /// The counts of 64 seats, and what the rule keeps of them when a log opens for so many of them.
-    pub fn open(seats: u64) -> (Start<Event, Counted, Law>, Tallies)
-        ensures start { (result.0.names ≡ result.1.name ∷ []) × (result.0.shown ≡ Opened seats ∷ []) }
+    /// The counts of 64 seats, and what the rule keeps of them when a log opens for so many of
+    /// them.
+    pub(crate) fn open(seats: u64) -> (Start<Event, Counted, Law>, Tallies)
+        ensures start { (result.0.names ≡ result.1.name ∷ [])
+            × (result.0.shown ≡ Opened seats ∷ []) }
         ensures all { (result.1.next ≡ 0) × (result.1.left ≡ 64) }
     {
         let _ = seats;
@@ -83,9 +86,10 @@ impl Tallies {
     }
 
     /// The first of them.
-    pub fn take(&mut self) -> Tally
+    pub(crate) fn take(&mut self) -> Tally
         requires { 0 < self.old.left }
-        ensures tally { (result.name ≡ self.old.name) × (result.seat ≡ self.old.next) × (result.count ≡ 0)
+        ensures tally { (result.name ≡ self.old.name) × (result.seat ≡ self.old.next)
+            × (result.count ≡ 0)
             × (result.held ≡ true) }
         ensures rest { (self.new.name ≡ self.old.name) × (self.new.next ≡ self.old.next + 1)
             × (self.new.left ≡ self.old.left - 1) }
@@ -97,8 +101,9 @@ impl Tallies {
 }
 
 impl Tally {
-    /// Hands the count to a step, which says what it is and may raise it. What the step asks is read off `about`.
-    pub fn bid<X, M: Plain<X, Event, Counted>>(&mut self, about: &X) -> Deal
+    /// Hands the count to a step, which says what it is and may raise it. What the step asks is
+    /// read off `about`.
+    pub(crate) fn bid<X, M: Plain<X, Event, Counted>>(&mut self, about: &X) -> Deal
         requires { (self.old.held ≡ true) × (seat_of (M.ask about.now) ≡ self.old.seat) }
         ensures { (result.names ≡ self.old.name ∷ []) × (result.ask ≡ M.ask about.now)
             × (result.about ≡ holding self.old.seat self.old.count) × (result.state ≡ None) }
@@ -109,8 +114,9 @@ impl Tally {
     }
 
     /// Takes the count back.
-    pub fn back(&mut self, gained: Gained<Event, Counted, Back>)
-        ensures tally { (self.new.name ≡ first_name gained.names) × (self.new.seat ≡ first_seat gained.about)
+    pub(crate) fn back(&mut self, gained: Gained<Event, Counted, Back>)
+        ensures tally { (self.new.name ≡ first_name gained.names)
+            × (self.new.seat ≡ first_seat gained.about)
             × (self.new.count ≡ gained.answer.after) × (self.new.held ≡ true) }
         ensures told { first_count gained.about ≡ gained.answer.before }
     {

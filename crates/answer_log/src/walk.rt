@@ -7,7 +7,8 @@ ghost use Rattle.answer_log.specs.declared.store.Store.{Store};
 use crate::log::log_keeps_its_rule;
 use crate::steps::{Book, Word, node_before};
 
-/// A walk from the node placed last to the first one: what it has seen, and the next node, 0 at the end.
+/// A walk from the node placed last to the first one: what it has seen, and the next node, 0 at the
+/// end.
 #[derive(Drop)]
 pub struct Walk {
     pub seen: Book,
@@ -33,10 +34,13 @@ impl Walk {
         requires books { named.now.book ≡ self.old.seen.book }
         requires node { self.old.next ≢ 0 }
         requires ahead { (left : List Store) × Ahead self.old left }
-        requires named { (store : Store) × IsNamed named.now.book named.now.log self.old.next store link.now }
+        requires named { (store : Store)
+            × IsNamed named.now.book named.now.log self.old.next store link.now }
         ensures book { self.new.seen.book ≡ self.old.seen.book }
-        ensures passed { (store : Store) (left : List Store) → IsNamed named.now.book named.now.log self.old.next store link.now
-            → Ahead self.old left → (rest : List Store) × (left ≡ rest ++ store ∷ []) × Ahead self.new rest }
+        ensures passed { (store : Store) (left : List Store)
+            → IsNamed named.now.book named.now.log self.old.next store link.now
+            → Ahead self.old left → (rest : List Store) × (left ≡ rest ++ store ∷ [])
+            × Ahead self.new rest }
     {
         self.next = node_before(link, named, self.next, &mut self.seen);
     }

@@ -18,11 +18,18 @@ returns-clause-all c =
     let later = prefix-trans first second all two.goes_on.seen three.goes_on.seen in
     let of-first = stores-in cache 0 c.args.left.0.taken c.args.left.0.seat c.learn-6.new.seat all c.requires.first
     (prefix-trans start first all one.goes_on.seen later) ([], append-nil all)
-    (record { number = three.goes_on.number ∙ (two.goes_on.number ∙ one.goes_on.number); seen = prefix-trans start first all one.goes_on.seen later })
-    (record { own = three.stores_nothing.own ∙ (two.stores_nothing.own ∙ one.stores_nothing.own); offered = three.stores_nothing.offered ∙ (two.stores_nothing.offered ∙ one.stores_nothing.offered) })
+    (record {
+      number = three.goes_on.number ∙ (two.goes_on.number ∙ one.goes_on.number);
+      seen = prefix-trans start first all one.goes_on.seen later;
+    })
+    (record {
+      own = three.stores_nothing.own ∙ (two.stores_nothing.own ∙ one.stores_nothing.own);
+      offered = three.stores_nothing.offered ∙ (two.stores_nothing.offered ∙ one.stores_nothing.offered);
+    })
     three.stays.is in
     let of-second = stores-in cache 1 c.args.left.1.taken c.args.left.1.seat c.learn-7.new.seat all c.requires.second
-    (rw c.notice.ensures.1 at (prefix-trans c.notice.result.seen first all one.told later)) (rw c.notice-notice.ensures.1 at c.learn-7.ensures.told)
+    (rw c.notice.ensures.1 at (prefix-trans c.notice.result.seen first all one.told later))
+    (rw c.notice-notice.ensures.1 at c.learn-7.ensures.told)
     c.learn-7.ensures.goes_on c.learn-7.ensures.stores_nothing c.learn-7.ensures.stays.is in
     let of-third = stores-in cache 2 c.args.right.0.taken c.args.right.0.seat c.learn-8.new.seat all c.requires.third
     (rw c.notice-2.ensures.1 at (prefix-trans c.notice-2.result.seen second all two.told three.goes_on.seen))

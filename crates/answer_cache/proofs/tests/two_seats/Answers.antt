@@ -5,9 +5,12 @@ use Rattle.answer_cache.proofs.tests.two_seats.Goals as goal
 
 pub returns-clause-first : goal.returns-clause-first
 returns-clause-first c =
-    let all = All-pop (Belongs c.in-Ok.cache) c.in-Ok.seats.items c.pop.new.self.items (Some c.in_ok-second.second) c.in_ok-second.ensures.items c.in-Ok.ensures.belong in
-    (All-pop (Belongs c.in-Ok.cache) c.pop.new.self.items c.pop-2.new.self.items (Some c.in_ok-first.first) c.in_ok-first.ensures.items all.0).1
+    let all = All-pop (Belongs c.in-Ok.cache) c.in-Ok.seats.items c.pop.new.self.items
+    (Some c.in_ok-second.second) c.in_ok-second.ensures.items c.in-Ok.ensures.belong in
+    (All-pop (Belongs c.in-Ok.cache) c.pop.new.self.items c.pop-2.new.self.items
+    (Some c.in_ok-first.first) c.in_ok-first.ensures.items all.0).1
 
 pub returns-clause-second : goal.returns-clause-second
 returns-clause-second c =
-    (All-pop (Belongs c.in-Ok.cache) c.in-Ok.seats.items c.pop.new.self.items (Some c.in_ok-second.second) c.in_ok-second.ensures.items c.in-Ok.ensures.belong).1
+    (All-pop (Belongs c.in-Ok.cache) c.in-Ok.seats.items c.pop.new.self.items
+    (Some c.in_ok-second.second) c.in_ok-second.ensures.items c.in-Ok.ensures.belong).1

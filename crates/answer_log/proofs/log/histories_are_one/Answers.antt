@@ -9,4 +9,5 @@ returns c =
     let one = c.args.one.now.log in
     let other = c.args.other.now.log in
     let all = c.learn.new.self.log in
-    one-front (history one) (history other) (history all) (history-prefix one all (rw (← c.again-probe.ensures) it.2)) (history-prefix other all it.3)
+    one-front (history one) (history other) (history all) (history-prefix one all (rw (← c.again-probe.ensures) it.2))
+    (history-prefix other all it.3)

@@ -18,5 +18,11 @@ compare_exchange-found-requires c =
       sym (ap (λ w. w.book) h),
       p.0 ∙ sym (ap (λ w. w.book) h),
       d.0 ∙ c.requires.fits.1,
-      rw (ap (λ w. w.key) h, d.1, d.3) (try_moves c.args.book.now.log room.seen c.args.pen.now.nib draft.node (store_of draft) c.args.old p.1 (subst P (sym p.2) c.requires.named.0) (subst L (sym p.2) c.requires.named.1) p.3 room.later room.top room.room c.requires.sound c.requires.fits.3),
+      rw (
+        ap (λ w. w.key) h,
+        d.1,
+        d.3,
+      ) (try_moves c.args.book.now.log room.seen c.args.pen.now.nib draft.node (store_of draft) c.args.old p.1
+          (subst P (sym p.2) c.requires.named.0) (subst L (sym p.2) c.requires.named.1) p.3 room.later room.top room.room c.requires.sound
+          c.requires.fits.3),
     )

@@ -29,14 +29,17 @@ returns-in_err-old-clause-competed g c =
     let i = c.tries.invariant in
     let S : ℕ → Type 0 = λ n. SeesMore n c.tries.hand.book.log c.room.new.hand.book.log in
     let e = err_from_is_err_and c.from_residual.result c.from_residual.ensures.1 in
-    rw e.1 (sees-trans h.number h.book.log c.tries.hand.book.log c.room.new.hand.book.log i.seen (subst S i.number.0 c.in_err-old.ensures.seen))
+    rw e.1 (sees-trans h.number h.book.log c.tries.hand.book.log c.room.new.hand.book.log i.seen
+    (subst S i.number.0 c.in_err-old.ensures.seen))
 
 pub attempt-requires-in-tries-clause-ready : goal.attempt-requires-in-tries-clause-ready
 attempt-requires-in-tries-clause-ready g c =
     let i = c.tries.invariant in
     let k = c.room.new.hand in
     let R : ℕ → Type 0 = λ n. IsReady c.args.self.now.book k.book.log n c.args.node.now c.tries.pen.nib in
-    subst R (sym c.in_ok-old.ensures.holds.number) (ready-on c.args.self.now.book c.tries.hand.book.log k.book.log c.tries.hand.number c.args.node.now c.tries.pen.nib c.in_ok-old.ensures.seen i.ready)
+    subst R (sym c.in_ok-old.ensures.holds.number)
+    (ready-on c.args.self.now.book c.tries.hand.book.log k.book.log c.tries.hand.number c.args.node.now c.tries.pen.nib
+    c.in_ok-old.ensures.seen i.ready)
 
 pub tries-preserved : goal.tries-preserved
 tries-preserved g c =
@@ -55,15 +58,19 @@ tries-preserved g c =
       number = (it.holds.number ∙ number, it.holds.seats ∙ (c.in_ok-old.ensures.holds.seats ∙ i.number.1));
       book = (it.holds.same, lost.again.0);
       ready = subst R (sym it.holds.number) lost.again.1;
-      seen = sees-trans h.number h.book.log k.book.log t.hand.book.log (sees-trans h.number h.book.log c.tries.hand.book.log k.book.log i.seen (subst S i.number.0 c.in_ok-old.ensures.seen)) (subst U number lost.placed);
+      seen = sees-trans h.number h.book.log k.book.log t.hand.book.log
+          (sees-trans h.number h.book.log c.tries.hand.book.log k.book.log i.seen (subst S i.number.0 c.in_ok-old.ensures.seen))
+          (subst U number lost.placed);
       count = λ seen later last.
           let so = i.count seen later last in
           let less = lost.lost k.book.log ([], append-nil k.book.log) (sym c.in_ok-old.ensures.room.0) in
-          let on = longer (history c.tries.hand.book.log) (history k.book.log) 1 (history t.hand.book.log) c.in_ok-old.ensures.seen.stores (let l = less in omega arith) in
+          let on = longer (history c.tries.hand.book.log) (history k.book.log) 1 (history t.hand.book.log) c.in_ok-old.ensures.seen.stores
+          (let l = less in omega arith) in
           omega arith;
       costs =
           let n = c.tries.number in
           let l = i.least in
           costs.within _ _ ((n - 2) * 4096 + 4096 + 0) ((n + 1 - 2) * 4096) ((n - 1) + 0 + 1) (n + 1 - 1) (omega arith) (omega arith)
-          (costs.both _ c.room.new.notes.noted _ ((n - 2) * 4096 + 4096) 0 ((n - 1) + 0) 1 (costs.both _ c.tries.notes.noted _ ((n - 2) * 4096) 4096 (n - 1) 0 i.costs c.in_ok-old.ensures.costs) it.costs);
+          (costs.both _ c.room.new.notes.noted _ ((n - 2) * 4096 + 4096) 0 ((n - 1) + 0) 1
+          (costs.both _ c.tries.notes.noted _ ((n - 2) * 4096) 4096 (n - 1) 0 i.costs c.in_ok-old.ensures.costs) it.costs);
     }

@@ -10,7 +10,8 @@ pub returns-in_default-clause-full : goal.returns-in_default-clause-full
 returns-in_default-clause-full c =
     let it = c.links.invariant.counts in
     let met = rw c.in_default.is at c.in_ok-node.ensures.met in
-    let room = count-ends c.args.group (history c.args.walk.now.seen.log) c.links.walk c.links.count c.links._link it (met it.left it.ahead) in
+    let room = count-ends c.args.group (history c.args.walk.now.seen.log) c.links.walk c.links.count c.links._link it
+    (met it.left it.ahead) in
     ((λ wrong. absurd (cc (wrong))), (λ full. absurd (omega arith)))
 
 pub returns-then-count-eq-GROUP_LIMIT-clause-full : goal.returns-then-count-eq-GROUP_LIMIT-clause-full
@@ -18,7 +19,8 @@ returns-then-count-eq-GROUP_LIMIT-clause-full c =
     let it = c.links.invariant.counts in
     let met = rw c.in-Some.is at c.in_ok-node.ensures.met in
     let here = met it.left it.ahead in
-    let full = count-full c.args.group (history c.args.walk.now.seen.log) c.links.walk c.links.count c.links._link it here.0 (store_in here.1 c.in-Some.node.now) here.2 (sym c.is_in.ensures ∙ c.if-is_in.true) c.if-count-eq-GROUP_LIMIT.true in
+    let full = count-full c.args.group (history c.args.walk.now.seen.log) c.links.walk c.links.count c.links._link it here.0
+    (store_in here.1 c.in-Some.node.now) here.2 (sym c.is_in.ensures ∙ c.if-is_in.true) c.if-count-eq-GROUP_LIMIT.true in
     ((λ _. full), (λ _. refl))
 
 pub returns-then-count-eq-GROUP_LIMIT-clause-costs : goal.returns-then-count-eq-GROUP_LIMIT-clause-costs
@@ -26,8 +28,10 @@ returns-then-count-eq-GROUP_LIMIT-clause-costs c =
     let it = c.links.invariant in
     let met = rw c.in-Some.is at c.in_ok-node.ensures.met in
     let here = met it.counts.left it.counts.ahead in
-    let few = count-within c.args.group (history c.args.walk.now.seen.log) c.links.walk c.links.count c.links._link it.counts here.0 (store_in here.1 c.in-Some.node.now) here.2 c.log_keeps_its_rule.ensures.size in
-    costs.within _ _ (c.links._link + 1) 4096 0 0 few (omega arith) (costs.both _ c.links.notes.noted _ c.links._link 1 0 0 it.costs c.in_ok-node.ensures.link)
+    let few = count-within c.args.group (history c.args.walk.now.seen.log) c.links.walk c.links.count c.links._link it.counts here.0
+    (store_in here.1 c.in-Some.node.now) here.2 c.log_keeps_its_rule.ensures.size in
+    costs.within _ _ (c.links._link + 1) 4096 0 0 few (omega arith)
+    (costs.both _ c.links.notes.noted _ c.links._link 1 0 0 it.costs c.in_ok-node.ensures.link)
 
 pub links-preserved : goal.links-preserved
 links-preserved c =
@@ -36,8 +40,13 @@ links-preserved c =
     let here = met it.counts.left it.counts.ahead in record {
       book = c.in_ok-node.ensures.book;
       counts = elim c.if-is_in.branch [
-        | then-is_in+else-count-eq-GROUP_LIMIT w ↦ rw w.count-is (count-one c.args.group (history c.args.walk.now.seen.log) c.links.walk c.links.count c.links._link it.counts here.0 (store_in here.1 c.in-Some.node.now) here.2 c.step.new.walk (sym c.is_in.ensures ∙ w.if-is_in.true) w.if-count-eq-GROUP_LIMIT.false here.3)
-        | else-is_in w ↦ rw w.count-is (count-none c.args.group (history c.args.walk.now.seen.log) c.links.walk c.links.count c.links._link it.counts here.0 (store_in here.1 c.in-Some.node.now) here.2 c.step.new.walk (sym c.is_in.ensures ∙ w.if-is_in.false) here.3)
+        | then-is_in+else-count-eq-GROUP_LIMIT w ↦ rw w.count-is
+            (count-one c.args.group (history c.args.walk.now.seen.log) c.links.walk c.links.count c.links._link it.counts here.0
+            (store_in here.1 c.in-Some.node.now) here.2 c.step.new.walk (sym c.is_in.ensures
+            ∙ w.if-is_in.true) w.if-count-eq-GROUP_LIMIT.false here.3)
+        | else-is_in w ↦ rw w.count-is
+            (count-none c.args.group (history c.args.walk.now.seen.log) c.links.walk c.links.count c.links._link it.counts here.0
+            (store_in here.1 c.in-Some.node.now) here.2 c.step.new.walk (sym c.is_in.ensures ∙ w.if-is_in.false) here.3)
       ];
       costs = costs.both _ c.links.notes.noted _ c.links._link 1 0 0 it.costs c.in_ok-node.ensures.link;
     }

@@ -21,8 +21,10 @@ step-requires-clause-ahead c = let it = c.links.invariant.searches in (it.left, 
 pub returns-in_err-step-clause-costs : goal.returns-in_err-step-clause-costs
 returns-in_err-step-clause-costs c =
     let it = c.links.invariant in
-    let few = short c.args.question.now (history c.args.walk.now.seen.log) c.links.walk c.links._link it.searches c.log_keeps_its_rule.ensures.size in
-    costs.within _ _ c.links._link 4096 0 0 few (omega arith) (costs.same _ c.links.notes.noted _ c.links._link 0 c.in_err-step.ensures.failed it.costs)
+    let few = short c.args.question.now (history c.args.walk.now.seen.log) c.links.walk c.links._link it.searches
+    c.log_keeps_its_rule.ensures.size in
+    costs.within _ _ c.links._link 4096 0 0 few (omega arith)
+    (costs.same _ c.links.notes.noted _ c.links._link 0 c.in_err-step.ensures.failed it.costs)
 
 pub returns-in-None-clause-last : goal.returns-in-None-clause-last
 returns-in-None-clause-last c =
@@ -34,23 +36,29 @@ pub returns-in-None-clause-costs : goal.returns-in-None-clause-costs
 returns-in-None-clause-costs c =
     let it = c.links.invariant in
     let none = rw c.in-None.is at c.in_ok-step.ensures.none in
-    let few = short c.args.question.now (history c.args.walk.now.seen.log) c.links.walk c.links._link it.searches c.log_keeps_its_rule.ensures.size in
+    let few = short c.args.question.now (history c.args.walk.now.seen.log) c.links.walk c.links._link it.searches
+    c.log_keeps_its_rule.ensures.size in
     costs.within _ _ c.links._link 4096 0 0 few (omega arith) (costs.same _ c.links.notes.noted _ c.links._link 0 none it.costs)
 
 pub returns-in-Some-clause-last : goal.returns-in-Some-clause-last
 returns-in-Some-clause-last c =
     let it = c.links.invariant.searches in
     let met = rw c.in-Some.is at c.in_ok-step.ensures.met in
-    let here = met it.left it.ahead in
-    (here.1, finds c.args.question.now (history c.args.walk.now.seen.log) c.links.walk c.links._link it here.0 (store_in here.1 c.in-Some.node.now) here.2 (sym c.is_of.ensures ∙ c.if-is_of.true))
+    let here = met it.left it.ahead in (
+      here.1,
+      finds c.args.question.now (history c.args.walk.now.seen.log) c.links.walk c.links._link it here.0
+          (store_in here.1 c.in-Some.node.now) here.2 (sym c.is_of.ensures ∙ c.if-is_of.true),
+    )
 
 pub returns-in-Some-clause-costs : goal.returns-in-Some-clause-costs
 returns-in-Some-clause-costs c =
     let it = c.links.invariant in
     let met = rw c.in-Some.is at c.in_ok-step.ensures.met in
     let here = met it.searches.left it.searches.ahead in
-    let few = within c.args.question.now (history c.args.walk.now.seen.log) c.links.walk c.links._link it.searches here.0 (store_in here.1 c.in-Some.node.now) here.2 c.log_keeps_its_rule.ensures.size in
-    costs.within _ _ (c.links._link + 1) 4096 0 0 few (omega arith) (costs.both _ c.links.notes.noted _ c.links._link 1 0 0 it.costs c.in_ok-step.ensures.link)
+    let few = within c.args.question.now (history c.args.walk.now.seen.log) c.links.walk c.links._link it.searches here.0
+    (store_in here.1 c.in-Some.node.now) here.2 c.log_keeps_its_rule.ensures.size in
+    costs.within _ _ (c.links._link + 1) 4096 0 0 few (omega arith)
+    (costs.both _ c.links.notes.noted _ c.links._link 1 0 0 it.costs c.in_ok-step.ensures.link)
 
 pub links-preserved : goal.links-preserved
 links-preserved c =
@@ -58,12 +66,14 @@ links-preserved c =
     let met = rw c.in-Some.is at c.in_ok-step.ensures.met in
     let here = met it.searches.left it.searches.ahead in record {
       book = c.in_ok-step.ensures.book;
-      searches = goes-on c.args.question.now (history c.args.walk.now.seen.log) c.links.walk c.links._link it.searches here.0 (store_in here.1 c.in-Some.node.now) c.step.new.walk here.2 (sym c.is_of.ensures ∙ c.if-is_of.false) here.3;
+      searches = goes-on c.args.question.now (history c.args.walk.now.seen.log) c.links.walk c.links._link it.searches here.0
+          (store_in here.1 c.in-Some.node.now) c.step.new.walk here.2 (sym c.is_of.ensures ∙ c.if-is_of.false) here.3;
       costs = costs.both _ c.links.notes.noted _ c.links._link 1 0 0 it.costs c.in_ok-step.ensures.link;
     }
 
 pub unreachable-requires : goal.unreachable-requires
 unreachable-requires c =
-    let few = short c.args.question.now (history c.args.walk.now.seen.log) c.links.walk c.links._link c.links.invariant.searches c.log_keeps_its_rule.ensures.size in
+    let few = short c.args.question.now (history c.args.walk.now.seen.log) c.links.walk c.links._link c.links.invariant.searches
+    c.log_keeps_its_rule.ensures.size in
     let past = c.links-test.false in
     absurd (omega arith)

@@ -12,7 +12,8 @@ returns-in_err-pushed-clause-put g c =
     let h = c.args.hand.now in
     let e = err_from_is_err_and c.from_residual-in_err-pushed.result c.from_residual-in_err-pushed.ensures.1 in
     let S : ℕ → Type 0 = λ n. SeesMore n c.room.new.hand.book.log c.make_ready.new.hand.book.log in
-    rw e.1 (sees-trans h.number h.book.log c.room.new.hand.book.log c.make_ready.new.hand.book.log c.room.ensures.seen (subst S c.room.ensures.holds.number c.make_ready.ensures.seen))
+    rw e.1 (sees-trans h.number h.book.log c.room.new.hand.book.log c.make_ready.new.hand.book.log c.room.ensures.seen
+    (subst S c.room.ensures.holds.number c.make_ready.ensures.seen))
 
 pub returns-clause-put : goal.returns-clause-put
 returns-clause-put g c =
@@ -22,7 +23,10 @@ returns-clause-put g c =
     let node = c.in_ok-pushed.pushed.value in
     let S : ℕ → Type 0 = λ n. SeesMore n c.room.new.hand.book.log k.book.log in
     let number = c.make_ready.ensures.holds.number ∙ c.room.ensures.holds.number in
-    let sees = sees-trans h.number h.book.log c.room.new.hand.book.log k.book.log c.room.ensures.seen (subst S c.room.ensures.holds.number c.make_ready.ensures.seen) in
+    let sees = sees-trans h.number h.book.log c.room.new.hand.book.log k.book.log c.room.ensures.seen
+    (subst S c.room.ensures.holds.number c.make_ready.ensures.seen) in
     let its = rw c.value.ensures at c.compete.ensures.competed in
-    put-on c.compete.result h.number k.number (store_in k.number node) (store_by h.number w.question.now (arc_value w.answer.now) w.moment) h.book.log k.book.log c.compete.new.hand.book.log
-    number (store-is k.number h.number node w.question.now (arc_value w.answer.now) w.moment number c.in_ok-pushed.ensures.made) refl sees its
+    put-on c.compete.result h.number k.number (store_in k.number node)
+    (store_by h.number w.question.now (arc_value w.answer.now) w.moment) h.book.log k.book.log c.compete.new.hand.book.log
+    number (store-is k.number h.number node w.question.now (arc_value w.answer.now) w.moment number c.in_ok-pushed.ensures.made) refl sees
+    its

@@ -10,6 +10,7 @@ returns-clause-met c left ahead =
     let it = c.in-Some-node.ensures in
     let store = store_in it.1.seat node in
     let N : Book × ℕ → Type 0 = λ at. IsNamed at.0 node.seen.log at.1 store node.link in
-    let named : IsNamed node.seen.book node.seen.log c.args.walk.now.next store node.link = subst N (λ i. (sym it.1.same i, (it.0 ∙ c.in-Some.ensures.node.0) i)) it.1.named in
+    let named : IsNamed node.seen.book node.seen.log c.args.walk.now.next store node.link =
+    subst N (λ i. (sym it.1.same i, (it.0 ∙ c.in-Some.ensures.node.0) i)) it.1.named in
     let passed = c.pass.ensures.passed store left named ahead in
     (passed.0, it.1.seat, passed.1, passed.2)

@@ -42,7 +42,12 @@ returns-clause-named c =
     let store : Store = store_by h.number c.args.question.now (arc_value c.args.answer.now) c.args.moment in
     let I : List Event → Type 0 = λ log. In (Named node store t.result.nib.key) log in
     let K : ℕ → Type 0 = λ k. In (Named node store k) t.new.book.log in record {
-      link = λ i. record { tracked = (link.ensures.0 i).tracked; key = link.result.key; book = ((ap (λ w. w.book) link.ensures.0) ∙ (t.ensures.book.2 ∙ c.requires.book)) i };
+      link = λ i. record {
+        tracked = (link.ensures.0 i).tracked;
+        key = link.result.key;
+        book =
+            ((ap (λ w. w.book) link.ensures.0) ∙ (t.ensures.book.2 ∙ c.requires.book)) i;
+      };
       named = subst K (sym (ap (λ w. w.key) link.ensures.0))
           (subst I (sym a.1) (in-here (Named node store t.result.nib.key) (h.book.log ++ a.0) []));
     }

@@ -12,5 +12,9 @@ returns-clause-passed c store left named ahead =
     let old = c.args.self.now in
     let b = c.node_before-self in
     let it = is-next old left c.requires.node ahead in
-    passed old record { seen = b.new.book; next = b.result } left store it (b.ensures.store it.before it.after store it.store it.link it.whole named) b.ensures.later
+    passed old record {
+      seen = b.new.book;
+      next =
+          b.result;
+    } left store it (b.ensures.store it.before it.after store it.store it.link it.whole named) b.ensures.later
     (b.ensures.before it.before it.after it.store it.link it.whole)
