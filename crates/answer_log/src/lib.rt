@@ -52,10 +52,10 @@
 //! ```text
 //! let (log, mut hands) = Log::open(2);                                 // for two seats
 //! let mut hand = hands.deal();
-//! let walk = log.walk(&mut hand);                                      // from the node placed last to the first one
+//! let walk = log.walk(&mut hand);                                      // along the placed nodes
 //! let Claimed { node, link, mut pen } = log.claim(&mut hand, 0, &question, &answer, moment);
 //! link.store(&mut pen, walk.next);
-//! let placed = log.place(&mut hand, &mut pen, walk.next, &draft, &link);     // false: another node came in between
+//! let placed = log.place(&mut hand, &mut pen, walk.next, &draft, &link);   // or it lost
 //! ```
 //!
 //! A `Walk` goes from the node placed last to the first one. It says which node is next, and

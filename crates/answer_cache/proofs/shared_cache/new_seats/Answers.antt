@@ -1,5 +1,5 @@
-use Rattle.std.proofs.Common.{◌+◌, ◌++◌, ◌∷◌, [], ap, sym, ◌∙◌}
-use Rattle.answer_cache.specs.Shared.{cache_view}
+use Rattle.std.proofs.Common.{List, ◌+◌, ◌++◌, ◌∷◌, [], ap, sym, ◌∙◌}
+use Rattle.answer_cache.specs.Shared.{SharedView, cache_view}
 use Rattle.answer_cache.proofs.Seating.{new-view, seats-more}
 use Rattle.answer_cache.proofs.shared_cache.new_seats.Goals as goal
 
@@ -13,5 +13,6 @@ seats-preserved c =
       hands = dealt.hands;
       next = (dealt.next ∙ ap (λ n. n + 1) i.next.0, dealt.seats ∙ i.next.1);
       book = dealt.book ∙ i.book;
-      made = c.in_ok-push.ensures.items ∙ ((λ j. i.made j ++ seat j ∷ []) ∙ sym (seats-more cache c.seats._seat));
+      made = ◌∙◌ {A = List SharedView} c.in_ok-push.ensures.items
+          (◌∙◌ {A = List SharedView} (λ j. i.made j ++ seat j ∷ []) (sym (seats-more cache c.seats._seat)));
     }
