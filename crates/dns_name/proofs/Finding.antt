@@ -15,10 +15,12 @@ pub record Finding (message : List ℕ) (at p s limit : ℕ) (octets : List ℕ)
       → (name : List (List ℕ)) × LabelsAt message at at name (unwrap_or after end) × (wire_of name ≡ octets ++ wire_of labels)
   -- every name that stands there goes on here
   pub back : (name : List (List ℕ)) (end : ℕ) → LabelsAt message at at name end
-      → (labels : List (List ℕ)) × (there : ℕ) × LabelsAt message p s labels there × (there ≤ limit) × (wire_of name ≡ octets ++ wire_of labels) × (unwrap_or after there ≡ end)
+      → (labels : List (List ℕ)) × (there : ℕ) × LabelsAt message p s labels there × (there ≤ limit)
+      × (wire_of name ≡ octets ++ wire_of labels) × (unwrap_or after there ≡ end)
 
 -- the label in front of the others moves to the octets
-moved : (n : ℕ) (octets octets' first : List ℕ) (others labels name : List (List ℕ)) → wire_of name ≡ octets ++ wire_of labels → labels ≡ first ∷ others → length first ≡ n
+moved : (n : ℕ) (octets octets' first : List ℕ) (others labels name : List (List ℕ)) → wire_of name ≡ octets ++ wire_of labels
+    → labels ≡ first ∷ others → length first ≡ n
     → octets' ≡ octets ++ n ∷ first → wire_of name ≡ octets' ++ wire_of others
 moved n octets octets' first others labels name e labels-is n-is octets'-is = rw (e, labels-is, n-is, octets'-is, append_assoc) refl
 
@@ -28,8 +30,10 @@ begun message at = record {
   back = λ name end here. (name, end, here, ends_within message here, refl, refl);
 }
 
-module _ (message : List ℕ) (at p s limit : ℕ) (octets : List ℕ) (after : Option ℕ) (so_far : Finding message at p s limit octets after) where
-  pub past_label : (n : ℕ) (octets' : List ℕ) → OctetAt message p n → 0 < n → n ≤ 63 → octets' ≡ octets ++ n ∷ small_letters (slice_range message (p + 1) (p + 1 + n))
+module _ (message : List ℕ) (at p s limit : ℕ) (octets : List ℕ) (after : Option ℕ)
+    (so_far : Finding message at p s limit octets after) where
+  pub past_label : (n : ℕ) (octets' : List ℕ) → OctetAt message p n → 0 < n → n ≤ 63
+      → octets' ≡ octets ++ n ∷ small_letters (slice_range message (p + 1) (p + 1 + n))
       → Finding message at (p + 1 + n) s limit octets' after
   past_label n octets' here some short octets'-is =
       let first : List ℕ = small_letters (slice_range message (p + 1) (p + 1 + n)) in
@@ -66,29 +70,34 @@ module _ (message : List ℕ) (at p s limit : ℕ) (octets : List ℕ) (after : 
       (k.0, record { labels = k.1; short = omega arith }, sym k.2)
 
   -- no name stands there
-  pub none_here : ((labels : List (List ℕ)) (end : ℕ) → LabelsAt message p s labels end → limit < end) → (name : List (List ℕ)) (end : ℕ) → NameAt message at at name end → ⊥
+  pub none_here : ((labels : List (List ℕ)) (end : ℕ) → LabelsAt message p s labels end → limit < end) → (name : List (List ℕ)) (end : ℕ)
+      → NameAt message at at name end → ⊥
   none_here none name end there =
       let k = so_far.back name end there.labels in
       omega (arith, none k.0 k.1 k.2, k.3)
 
-  pub no_offset : (high low : ℕ) → OctetAt message p (192 + high) → OctetAt message (p + 1) low → s ≤ 256 * high + low → (name : List (List ℕ)) (end : ℕ) → NameAt message at at name end → ⊥
+  pub no_offset : (high low : ℕ) → OctetAt message p (192 + high) → OctetAt message (p + 1) low → s ≤ 256 * high + low
+      → (name : List (List ℕ)) (end : ℕ) → NameAt message at at name end → ⊥
   no_offset high low here here' forward name end there =
       let k = so_far.back name end there.labels in
       let h = from_pointer message p s high low here here' k.2 in
       omega (arith, h.1)
 
-  pub no_room : (n : ℕ) → OctetAt message p n → 0 < n → n ≤ 63 → 255 < length octets + n + 2 → (name : List (List ℕ)) (end : ℕ) → NameAt message at at name end → ⊥
+  pub no_room : (n : ℕ) → OctetAt message p n → 0 < n → n ≤ 63 → 255 < length octets + n + 2 → (name : List (List ℕ)) (end : ℕ)
+      → NameAt message at at name end → ⊥
   no_room n here some short long name end there =
       let k = so_far.back name end there.labels in
       let h = from_label message p s n here some short k.2 in
       let first : List ℕ = small_letters (slice_range message (p + 1) (p + 1 + n)) in
       let n-is : length first ≡ n = length-label message p n (omega (arith, ends_later message h.2, ends_within message h.2)) in
       let len = ap length k.4 ∙ length-append octets (wire_of k.0) in
-      let len' : length (wire_of k.0) ≡ suc (length (first ++ wire_of h.0)) = ap (λ (labels : List (List ℕ)). length (wire_of labels)) h.1 in
+      let len' : length (wire_of k.0) ≡ suc (length (first ++ wire_of h.0)) =
+      ap (λ (labels : List (List ℕ)). length (wire_of labels)) h.1 in
       omega (arith, there.short, len, len', length-append first (wire_of h.0), wire_of-some h.0)
 
   -- the name of these octets and a closing 0
-  pub read : OctetAt message p 0 → p + 1 ≤ limit → length octets ≤ 254 → (name : List (List ℕ)) → wire_of name ≡ octets ++ 0 ∷ [] → NameAt message at at name (unwrap_or after (p + 1))
+  pub read : OctetAt message p 0 → p + 1 ≤ limit → length octets ≤ 254 → (name : List (List ℕ)) → wire_of name ≡ octets ++ 0 ∷ []
+      → NameAt message at at name (unwrap_or after (p + 1))
   read here within short name spelled =
       let k = found here within short in
       let same : k.0 ≡ name = same_labels k.0 name (sym (spelled ∙ k.2)) in

@@ -6,7 +6,8 @@ use Rattle.dns_name.specs.Places.{OctetAt, LabelsAt, root, label, pointer}
 use Rattle.dns_name.specs.Pieces.{LabelPiece, NothingAt}
 use Rattle.dns_name.proofs.Runs.{ends_later, from_label}
 
-pub OctetAt-longer : (octets message : List ℕ) (p octet : ℕ) → octets ≡ take (length octets) message → OctetAt octets p octet → OctetAt message p octet
+pub OctetAt-longer : (octets message : List ℕ) (p octet : ℕ) → octets ≡ take (length octets) message → OctetAt octets p octet
+    → OctetAt message p octet
 OctetAt-longer octets message p octet front here =
     let len : length octets ≤ length message = omega (arith, ap length front, length-take (length octets) message) in
     let lt : p < length octets = here.within in
@@ -18,7 +19,8 @@ OctetAt-longer octets message p octet front here =
 pub nothing_past : (octets : List ℕ) (p : ℕ) → length octets ≤ p → NothingAt octets p
 nothing_past octets p past message s end labels front here = omega (arith, ends_later message here)
 
-no_such_octet : (message : List ℕ) {p s end octet : ℕ} {labels : List (List ℕ)} → OctetAt message p octet → 63 < octet → octet < 192 → LabelsAt message p s labels end → ⊥
+no_such_octet : (message : List ℕ) {p s end octet : ℕ} {labels : List (List ℕ)} → OctetAt message p octet → 63 < octet → octet < 192
+    → LabelsAt message p s labels end → ⊥
 no_such_octet message here low high (root o e) = omega (arith, here.is, o.is)
 no_such_octet message here low high (label n o some short f rest) = omega (arith, here.is, o.is)
 no_such_octet message here low high (pointer a b there o o' back rest before e) = omega (arith, here.is, o.is)
@@ -32,7 +34,8 @@ nothing_cut octets p n here some short cut message s end labels front there =
     let k = from_label message p s n (OctetAt-longer octets message p n front here) some short there in
     omega (arith, ends_later message k.2)
 
-end_of_pointer : (message : List ℕ) {p s end octet : ℕ} {labels : List (List ℕ)} → OctetAt message p octet → 192 ≤ octet → LabelsAt message p s labels end → end ≡ p + 2
+end_of_pointer : (message : List ℕ) {p s end octet : ℕ} {labels : List (List ℕ)} → OctetAt message p octet → 192 ≤ octet
+    → LabelsAt message p s labels end → end ≡ p + 2
 end_of_pointer message here high (root o e) = absurd (omega (arith, here.is, o.is))
 end_of_pointer message here high (label n o some short f rest) = absurd (omega (arith, here.is, o.is))
 end_of_pointer message here high (pointer a b there o o' back rest before e) = e
@@ -42,7 +45,8 @@ nothing_half octets p octet here high half message s end labels front there =
     omega (arith, end_of_pointer message (OctetAt-longer octets message p octet front here) high there)
 
 -- the octets from p on are a first one and others
-module _ (octets : List ℕ) (p : ℕ) (behind : List ℕ) (first : ℕ) (others : List ℕ) (from_p : behind ≡ slice_range octets p (length octets)) (cut : behind ≡ first ∷ others) where
+module _ (octets : List ℕ) (p : ℕ) (behind : List ℕ) (first : ℕ) (others : List ℕ) (from_p : behind ≡ slice_range octets p (length octets))
+    (cut : behind ≡ first ∷ others) where
   tail : drop p octets ≡ first ∷ others
   tail = sym (between_to_end octets p (length octets) (omega arith)) ∙ sym from_p ∙ cut
 
@@ -64,10 +68,12 @@ module _ (octets : List ℕ) (p : ℕ) (behind : List ℕ) (first : ℕ) (others
   pub second_there : (second : ℕ) → 0 < length others → second ≡ get_or others 0 0 → OctetAt octets (p + 1) second
   second_there second some e = record {
     within = omega (arith, length-others);
-    is = ap (λ (k : ℕ). get_or octets k 0) (sym (add-zero (p + 1))) ∙ sym (get_or-drop (p + 1) octets 0 0) ∙ ap (λ (l : List ℕ). get_or l 0 0) others_there ∙ sym e;
+    is = ap (λ (k : ℕ). get_or octets k 0) (sym (add-zero (p + 1))) ∙ sym (get_or-drop (p + 1) octets 0 0) ∙ ap
+        (λ (l : List ℕ). get_or l 0 0) others_there ∙ sym e;
   }
 
-  pub label_there : (text : List ℕ) → 0 < first → first ≤ 63 → first ≤ length others → text ≡ slice_range others 0 first → LabelPiece octets p text
+  pub label_there : (text : List ℕ) → 0 < first → first ≤ 63 → first ≤ length others → text ≡ slice_range others 0 first
+      → LabelPiece octets p text
   label_there text some short within e =
       let len : length text ≡ first = ap length e ∙ length-take (first - 0) others ∙ omega arith in
       let size : p + 1 + first - (p + 1) ≡ first - 0 = omega arith in
@@ -88,15 +94,26 @@ front_of message limit le =
 
 module _ (message : List ℕ) (limit p : ℕ) (le : limit ≤ length message) where
   pub OctetAt-front : (octet : ℕ) → OctetAt (take limit message) p octet → OctetAt message p octet × (p < limit)
-  OctetAt-front octet here =
-      (OctetAt-longer (take limit message) message p octet (front_of message limit le) here, omega (arith, here.within, length-take limit message))
+  OctetAt-front octet here = (
+    OctetAt-longer (take limit message) message p octet (front_of message limit le) here,
+    omega (arith, here.within, length-take limit message),
+  )
 
   pub LabelPiece-front : (text : List ℕ) → LabelPiece (take limit message) p text → LabelPiece message p text
   LabelPiece-front text piece =
       let n : ℕ = length text in
-      let whole : p + 1 + n ≤ limit = omega (arith, ap length piece.is, length-take (p + 1 + n - (p + 1)) (drop (p + 1) (take limit message)), length-drop (p + 1) (take limit message), length-take limit message, piece.some) in
+      let whole : p + 1 + n ≤ limit =
+      omega (
+        arith,
+        ap length piece.is,
+        length-take (p + 1 + n - (p + 1)) (drop (p + 1) (take limit message)),
+        length-drop (p + 1) (take limit message),
+        length-take limit message,
+        piece.some,
+      ) in
       let longer : slice_range (take limit message) (p + 1) (p + 1 + n) ≡ slice_range message (p + 1) (p + 1 + n) =
-      between_is (take limit message) (p + 1) (p + 1 + n) ∙ ap (drop (p + 1)) (take-take (p + 1 + n) limit message whole) ∙ sym (between_is message (p + 1) (p + 1 + n)) in
+      between_is (take limit message) (p + 1) (p + 1 + n) ∙ ap (drop (p + 1)) (take-take (p + 1 + n) limit message whole) ∙ sym
+      (between_is message (p + 1) (p + 1 + n)) in
       record {
         some = piece.some;
         short = piece.short;
@@ -104,6 +121,7 @@ module _ (message : List ℕ) (limit p : ℕ) (le : limit ≤ length message) wh
         is = piece.is ∙ longer;
       }
 
-  pub nothing_within : NothingAt (take limit message) p → (s end : ℕ) (labels : List (List ℕ)) → LabelsAt message p s labels end → limit < end
+  pub nothing_within : NothingAt (take limit message) p → (s end : ℕ) (labels : List (List ℕ)) → LabelsAt message p s labels end
+      → limit < end
   nothing_within nothing s end labels here =
       omega (arith, nothing message s end labels (front_of message limit le) here, length-take-le limit message le)

@@ -30,19 +30,29 @@ IsLabel-small label is = record {
 -- ---- two labels in front of a name
 
 module _ (service proto : List ℕ) (name : List (List ℕ)) where
-  pub length-prefixed : length (wire_of (small_letters service ∷ small_letters proto ∷ name)) ≡ 2 + length service + length proto + length (wire_of name)
+  pub length-prefixed : length (wire_of (small_letters service ∷ small_letters proto ∷ name))
+      ≡ 2 + length service + length proto + length (wire_of name)
   length-prefixed =
       let text = small_letters proto ++ wire_of name in
-      omega (arith, length-append (small_letters service) (length (small_letters proto) ∷ text), length-append (small_letters proto) (wire_of name), length-map service to_ascii_lowercase, length-map proto to_ascii_lowercase)
+      omega (
+        arith,
+        length-append (small_letters service) (length (small_letters proto) ∷ text),
+        length-append (small_letters proto) (wire_of name),
+        length-map service to_ascii_lowercase,
+        length-map proto to_ascii_lowercase,
+      )
 
-  pub first_octets : (octets octets' text : List ℕ) → octets ≡ [] → text ≡ service → octets' ≡ octets ++ length text ∷ small_letters text → octets' ≡ length service ∷ small_letters service
+  pub first_octets : (octets octets' text : List ℕ) → octets ≡ [] → text ≡ service → octets' ≡ octets ++ length text ∷ small_letters text
+      → octets' ≡ length service ∷ small_letters service
   first_octets octets octets' text none same pushed = rw (pushed, none, same) refl
 
-  pub prefixed_octets : (octets octets' : List ℕ) → octets ≡ length service ∷ small_letters service → octets' ≡ octets ++ length proto ∷ small_letters proto
+  pub prefixed_octets : (octets octets' : List ℕ) → octets ≡ length service ∷ small_letters service
+      → octets' ≡ octets ++ length proto ∷ small_letters proto
       → octets' ++ wire_of name ≡ wire_of (small_letters service ∷ small_letters proto ∷ name)
   prefixed_octets octets octets' one two = rw (two, one) (simp (append_assoc, length-map))
 
-  pub IsName-prefixed : IsTextLabel service → IsTextLabel proto → IsName name → 2 + length service + length proto + length (wire_of name) ≤ 255 → IsName (small_letters service ∷ small_letters proto ∷ name)
+  pub IsName-prefixed : IsTextLabel service → IsTextLabel proto → IsName name
+      → 2 + length service + length proto + length (wire_of name) ≤ 255 → IsName (small_letters service ∷ small_letters proto ∷ name)
   IsName-prefixed is is' is'' short = record {
     each = (IsLabel-small service is, (IsLabel-small proto is', is''.each));
     short = omega (arith, length-prefixed);
@@ -57,20 +67,26 @@ spelled labels = flat_map (λ (label : List ℕ). length label ∷ label) labels
 pub spelled-closed : (labels : List (List ℕ)) → spelled labels ++ 0 ∷ [] ≡ wire_of labels
 spelled-closed [] = refl
 spelled-closed (label ∷ labels) =
-    append_assoc (length label ∷ label) (spelled labels) (0 ∷ []) ∙ ap (λ (octets : List ℕ). length label ∷ label ++ octets) (spelled-closed labels)
+    append_assoc (length label ∷ label) (spelled labels) (0 ∷ []) ∙ ap
+    (λ (octets : List ℕ). length label ∷ label ++ octets) (spelled-closed labels)
 
 -- ---- the text of a name, label by label
 
 module _ (octets text whole : List ℕ) where
-  pub next_text : (labels : List (List ℕ)) (text' label others : List ℕ) → AllByRecursion IsLabel labels → octets ≡ wire_of labels → text ++ flat_map label_text labels ≡ whole
-      → (octets ≡ wire_of [] → ⊥) → ((l : List ℕ) (ls : List (List ℕ)) → IsLabel l → octets ≡ wire_of (l ∷ ls) → (label ≡ l) × (others ≡ wire_of ls)) → text' ≡ text ++ label_text label
-      → (labels' : List (List ℕ)) × AllByRecursion IsLabel labels' × (others ≡ wire_of labels') × (text' ++ flat_map label_text labels' ≡ whole)
+  pub next_text : (labels : List (List ℕ)) (text' label others : List ℕ) → AllByRecursion IsLabel labels → octets ≡ wire_of labels
+      → text ++ flat_map label_text labels ≡ whole
+      → (octets ≡ wire_of [] → ⊥)
+      → ((l : List ℕ) (ls : List (List ℕ)) → IsLabel l → octets ≡ wire_of (l ∷ ls) → (label ≡ l) × (others ≡ wire_of ls))
+      → text' ≡ text ++ label_text label
+      → (labels' : List (List ℕ)) × AllByRecursion IsLabel labels' × (others ≡ wire_of labels')
+      × (text' ++ flat_map label_text labels' ≡ whole)
   next_text [] text' label others each e so_far none some pushed = absurd (none e)
   next_text (l ∷ ls) text' label others each e so_far none some pushed =
       let k = some l ls each.0 e in
       (ls, each.1, k.1, rw (pushed, k.0) (append_assoc text (label_text l) (flat_map label_text ls) ∙ so_far))
 
-  pub last_text : (labels : List (List ℕ)) → AllByRecursion IsLabel labels → octets ≡ wire_of labels → text ++ flat_map label_text labels ≡ whole
+  pub last_text : (labels : List (List ℕ)) → AllByRecursion IsLabel labels → octets ≡ wire_of labels
+      → text ++ flat_map label_text labels ≡ whole
       → ((l : List ℕ) (ls : List (List ℕ)) → IsLabel l → octets ≡ wire_of (l ∷ ls) → ⊥) → text ≡ whole
   last_text [] each e so_far none = sym (append-nil text) ∙ so_far
   last_text (l ∷ ls) each e so_far none = absurd (none l ls each.0 e)
@@ -78,55 +94,75 @@ module _ (octets text whole : List ℕ) where
 spelled-append : (a b : List (List ℕ)) → spelled (a ++ b) ≡ spelled a ++ spelled b
 spelled-append [] b = refl
 spelled-append (label ∷ a) b =
-    ap (λ (octets : List ℕ). length label ∷ label ++ octets) (spelled-append a b) ∙ sym (append_assoc (length label ∷ label) (spelled a) (spelled b))
+    ap (λ (octets : List ℕ). length label ∷ label ++ octets) (spelled-append a b) ∙ sym
+    (append_assoc (length label ∷ label) (spelled a) (spelled b))
 
 pub length-small : (labels : List (List ℕ)) → length (wire_of (map small_letters labels)) ≡ length (wire_of labels)
 length-small [] = refl
 length-small (label ∷ labels) =
-    omega (arith, length-append (small_letters label) (wire_of (map small_letters labels)), length-append label (wire_of labels), length-map label to_ascii_lowercase, length-small labels)
+    omega (
+      arith,
+      length-append (small_letters label) (wire_of (map small_letters labels)),
+      length-append label (wire_of labels),
+      length-map label to_ascii_lowercase,
+      length-small labels,
+    )
 
 one_spelled : (label : List ℕ) → spelled (label ∷ []) ≡ length label ∷ label
 one_spelled label = append-nil (length label ∷ label)
 
 -- ---- the labels of a text, one after the other
 
-module _ (labels : List (List ℕ)) (count : ℕ) (label : List ℕ) (within : count < length labels) (is : label ≡ get_or labels count label) where
+module _ (labels : List (List ℕ)) (count : ℕ) (label : List ℕ) (within : count < length labels)
+    (is : label ≡ get_or labels count label) where
   here : drop count labels ≡ label ∷ drop (count + 1) labels
   here = drop_more labels count label within ∙ ap (λ (l : List ℕ). l ∷ drop (count + 1) labels) (sym is)
 
-  pub has_fault : (fault : NameRefusal) → labels_fault (drop count labels) ≡ labels_fault labels → label_fault label ≡ Some fault → dotted_fault labels ≡ Some fault
+  pub has_fault : (fault : NameRefusal) → labels_fault (drop count labels) ≡ labels_fault labels → label_fault label ≡ Some fault
+      → dotted_fault labels ≡ Some fault
   has_fault fault faultless bad = rw (← faultless, here, bad) refl
 
-  pub goes_on : labels_fault (drop count labels) ≡ labels_fault labels → label_fault label ≡ None → labels_fault (drop (count + 1) labels) ≡ labels_fault labels
+  pub goes_on : labels_fault (drop count labels) ≡ labels_fault labels → label_fault label ≡ None
+      → labels_fault (drop (count + 1) labels) ≡ labels_fault labels
   goes_on faultless good =
       let one : labels_fault (drop count labels) ≡ labels_fault (drop (count + 1) labels) = rw (here, good) refl in
       sym one ∙ faultless
 
-  pub spelled-more : spelled (map small_letters (take (count + 1) labels)) ≡ spelled (map small_letters (take count labels)) ++ length label ∷ small_letters label
+  pub spelled-more : spelled (map small_letters (take (count + 1) labels))
+      ≡ spelled (map small_letters (take count labels)) ++ length label ∷ small_letters label
   spelled-more =
-      let more : take (count + 1) labels ≡ take count labels ++ label ∷ [] = take_more labels count label within ∙ ap (λ (l : List ℕ). take count labels ++ l ∷ []) (sym is) in
+      let more : take (count + 1) labels ≡ take count labels ++ label ∷ [] =
+      take_more labels count label within ∙ ap (λ (l : List ℕ). take count labels ++ l ∷ []) (sym is) in
       let mapped = ap (map small_letters) more ∙ map-append small_letters (take count labels) (label ∷ []) in
-      ap spelled mapped ∙ spelled-append (map small_letters (take count labels)) (small_letters label ∷ []) ∙ ap (λ (octets : List ℕ). spelled (map small_letters (take count labels)) ++ octets) (one_spelled (small_letters label) ∙ ap (λ (n : ℕ). n ∷ small_letters label) (length-map label to_ascii_lowercase))
+      ap spelled mapped ∙ spelled-append (map small_letters (take count labels)) (small_letters label ∷ []) ∙ ap
+      (λ (octets : List ℕ). spelled (map small_letters (take count labels)) ++ octets)
+      (one_spelled (small_letters label) ∙ ap (λ (n : ℕ). n ∷ small_letters label) (length-map label to_ascii_lowercase))
 
-  pub length-spelled-more : length (spelled (map small_letters (take (count + 1) labels))) ≡ length (spelled (map small_letters (take count labels))) + 1 + length label
+  pub length-spelled-more : length (spelled (map small_letters (take (count + 1) labels)))
+      ≡ length (spelled (map small_letters (take count labels))) + 1 + length label
   length-spelled-more =
       let before : List ℕ = spelled (map small_letters (take count labels)) in
       omega (arith, ap length spelled-more, length-append before (length label ∷ small_letters label), length-map label to_ascii_lowercase)
 
-module _ (labels : List (List ℕ)) (count : ℕ) (all : count ≡ length labels) (faultless : labels_fault (drop count labels) ≡ labels_fault labels) where
+module _ (labels : List (List ℕ)) (count : ℕ) (all : count ≡ length labels)
+    (faultless : labels_fault (drop count labels) ≡ labels_fault labels) where
   no_labels_fault : labels_fault labels ≡ None
   no_labels_fault = sym faultless ∙ ap labels_fault (drop_all count labels (omega arith))
 
-  pub dotted-closed : (octets : List ℕ) → octets ≡ spelled (map small_letters (take count labels)) → octets ++ 0 ∷ [] ≡ wire_of (map small_letters labels)
+  pub dotted-closed : (octets : List ℕ) → octets ≡ spelled (map small_letters (take count labels))
+      → octets ++ 0 ∷ [] ≡ wire_of (map small_letters labels)
   dotted-closed octets e = rw (e, take_all count labels (omega arith)) (spelled-closed (map small_letters labels))
 
-  pub dotted_short : (octets : List ℕ) → octets ≡ spelled (map small_letters (take count labels)) → length octets ≤ 254 → dotted_fault labels ≡ None
+  pub dotted_short : (octets : List ℕ) → octets ≡ spelled (map small_letters (take count labels)) → length octets ≤ 254
+      → dotted_fault labels ≡ None
   dotted_short octets e short =
-      let len : length (wire_of labels) ≡ length octets + 1 = sym (length-small labels) ∙ ap length (sym (dotted-closed octets e)) ∙ length-append octets (0 ∷ []) in
+      let len : length (wire_of labels) ≡ length octets + 1 =
+      sym (length-small labels) ∙ ap length (sym (dotted-closed octets e)) ∙ length-append octets (0 ∷ []) in
       rw no_labels_fault (grind (arith, nat_tests, len))
 
   pub dotted_long : 254 < length (spelled (map small_letters (take count labels))) → dotted_fault labels ≡ Some LongName
   dotted_long long =
       let octets = spelled (map small_letters (take count labels)) in
-      let len : length (wire_of labels) ≡ length octets + 1 = sym (length-small labels) ∙ ap length (sym (dotted-closed octets refl)) ∙ length-append octets (0 ∷ []) in
+      let len : length (wire_of labels) ≡ length octets + 1 =
+      sym (length-small labels) ∙ ap length (sym (dotted-closed octets refl)) ∙ length-append octets (0 ∷ []) in
       rw no_labels_fault (grind (arith, nat_tests, len))

@@ -114,7 +114,8 @@ closing text =
 
 -- ---- texts and names
 
-pub TextOf-parted : (text : List ℕ) → dotted_fault (parted (without_closing_dot text)) ≡ None → TextOf (map small_letters (parted (without_closing_dot text))) text
+pub TextOf-parted : (text : List ℕ) → dotted_fault (parted (without_closing_dot text)) ≡ None
+    → TextOf (map small_letters (parted (without_closing_dot text))) text
 TextOf-parted text none =
     let front : List ℕ = without_closing_dot text in
     let k = option_or_none (labels_fault (parted front)) (length_fault (parted front)) none in
@@ -124,7 +125,8 @@ TextOf-parted text none =
       | inl e ↦ inl (e ∙ sym back)
       | inr e ↦ inr (e ∙ ap (λ (t : List ℕ). t ++ 46 ∷ []) (sym back))
     ] in
-    dotted (parted front) (omega (arith, length-slice_split (λ (octet : ℕ). octet == 46) front)) (labels_from_none (parted front) k.0) is refl (rw length-small (short_from_none (parted front) k.1))
+    dotted (parted front) (omega (arith, length-slice_split (λ (octet : ℕ). octet == 46) front))
+    (labels_from_none (parted front) k.0) is refl (rw length-small (short_from_none (parted front) k.1))
 
 -- what a text of a name is
 pub record Named (name : List (List ℕ)) (text : List ℕ) : Type 0 where
@@ -132,11 +134,14 @@ pub record Named (name : List (List ℕ)) (text : List ℕ) : Type 0 where
   pub faultless : dotted_fault (parted (without_closing_dot text)) ≡ None
   pub is : name ≡ map small_letters (parted (without_closing_dot text))
 
-parts_of : (written : List (List ℕ)) (text : List ℕ) → 0 < length written → AllByRecursion IsTextLabel written → IsDotted written text → parted (without_closing_dot text) ≡ written
-parts_of written text some each (inl e) = rw (e, without_dot-label (joined written) (joined_ends written some each)) (parted-joined written some each)
+parts_of : (written : List (List ℕ)) (text : List ℕ) → 0 < length written → AllByRecursion IsTextLabel written → IsDotted written text
+    → parted (without_closing_dot text) ≡ written
+parts_of written text some each (inl e) =
+    rw (e, without_dot-label (joined written) (joined_ends written some each)) (parted-joined written some each)
 parts_of written text some each (inr e) = rw (e, without_dot-dot (joined written)) (parted-joined written some each)
 
-no_lone_dot : (written : List (List ℕ)) (text : List ℕ) → 0 < length written → AllByRecursion IsTextLabel written → IsDotted written text → text ≡ 46 ∷ [] → ⊥
+no_lone_dot : (written : List (List ℕ)) (text : List ℕ) → 0 < length written → AllByRecursion IsTextLabel written → IsDotted written text
+    → text ≡ 46 ∷ [] → ⊥
 no_lone_dot written text some each (inl e) dot =
     let ends = joined_ends written some each in
     let is : joined written ≡ 46 ∷ [] = sym e ∙ dot in
@@ -151,8 +156,14 @@ named name text (root e) = inl (refl, e)
 named name text (dotted written some each is name-is short) =
     let parts = parts_of written text some each is in
     let dot = bytes_eq-Decides text (46 ∷ []) in
-    let none : bytes_eq text (46 ∷ []) ≡ false = elim (cases_Bool (bytes_eq text (46 ∷ []))) [ inl yes' ↦ absurd (no_lone_dot written text some each is (dot.0 yes')) | inr no' ↦ no' ] in
-    let len : length (wire_of written) ≤ 255 = omega (arith, length-small written, ap (λ (n : List (List ℕ)). length (wire_of n)) name-is) in
+    let none : bytes_eq text (46 ∷ []) ≡ false =
+    elim (cases_Bool (bytes_eq text (46 ∷ []))) [
+      | inl yes' ↦ absurd
+          (no_lone_dot written text some each is (dot.0 yes'))
+      | inr no' ↦ no'
+    ] in
+    let len : length (wire_of written) ≤ 255 =
+    omega (arith, length-small written, ap (λ (n : List (List ℕ)). length (wire_of n)) name-is) in
     inr (record {
       no_dot = none;
       faultless = rw (parts, no_labels_fault written each) (no_length_fault written len);
@@ -189,10 +200,12 @@ plain_labels (label ∷ labels) each plain = (plain_label label each.0 plain.0, 
 all_small : (labels : List (List ℕ)) → AllByRecursion IsLabel labels → labels ≡ map small_letters labels
 all_small [] each = refl
 all_small (label ∷ labels) each =
-    ap (λ (first : List ℕ). first ∷ labels) (sym each.0.small) ∙ ap (λ (others : List (List ℕ)). small_letters label ∷ others) (all_small labels each.1)
+    ap (λ (first : List ℕ). first ∷ labels) (sym each.0.small) ∙ ap
+    (λ (others : List (List ℕ)). small_letters label ∷ others) (all_small labels each.1)
 
 pub TextOf-written : (name : List (List ℕ)) → IsName name → IsPlain name → TextOf name (text_of name)
 TextOf-written [] is plain = root refl
 TextOf-written (label ∷ labels) is plain =
     let name : List (List ℕ) = label ∷ labels in
-    dotted name (omega arith) (plain_labels name is.each plain) (inr (written_labels name (omega arith) plain)) (all_small name is.each) is.short
+    dotted name (omega arith) (plain_labels name is.each plain) (inr (written_labels name (omega arith) plain))
+    (all_small name is.each) is.short

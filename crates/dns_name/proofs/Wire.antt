@@ -21,18 +21,22 @@ same_labels (x ∷ xs) [] e =
 same_labels (x ∷ xs) (y ∷ ys) e =
     let heads : length x ≡ length y = cc in
     let tails : x ++ wire_of xs ≡ y ++ wire_of ys = cc in
-    let first : x ≡ y = sym (take_at x (wire_of xs) (length y) heads) ∙ ap (take (length y)) tails ∙ take_at y (wire_of ys) (length y) refl in
-    let others : wire_of xs ≡ wire_of ys = sym (drop_at x (wire_of xs) (length y) heads) ∙ ap (drop (length y)) tails ∙ drop_at y (wire_of ys) (length y) refl in
+    let first : x ≡ y =
+    sym (take_at x (wire_of xs) (length y) heads) ∙ ap (take (length y)) tails ∙ take_at y (wire_of ys) (length y) refl in
+    let others : wire_of xs ≡ wire_of ys =
+    sym (drop_at x (wire_of xs) (length y) heads) ∙ ap (drop (length y)) tails ∙ drop_at y (wire_of ys) (length y) refl in
     let rest = same_labels xs ys others in
     cc
 
-first_labels-wire_of : (n : ℕ) (labels : List (List ℕ)) → AllByRecursion IsLabel labels → length (wire_of labels) ≤ n → first_labels n (wire_of labels) ≡ labels
+first_labels-wire_of : (n : ℕ) (labels : List (List ℕ)) → AllByRecursion IsLabel labels → length (wire_of labels) ≤ n
+    → first_labels n (wire_of labels) ≡ labels
 first_labels-wire_of zero labels each le = absurd (omega (arith, wire_of-some labels))
 first_labels-wire_of (suc n) [] each le = refl
 first_labels-wire_of (suc n) ([] ∷ labels) each le = absurd (omega (arith, each.0.some))
 first_labels-wire_of (suc n) ((x ∷ xs) ∷ labels) each le =
     let first : take (suc (length xs)) ((x ∷ xs) ++ wire_of labels) ≡ x ∷ xs = take_at (x ∷ xs) (wire_of labels) (suc (length xs)) refl in
-    let behind : drop (suc (length xs)) ((x ∷ xs) ++ wire_of labels) ≡ wire_of labels = drop_at (x ∷ xs) (wire_of labels) (suc (length xs)) refl in
+    let behind : drop (suc (length xs)) ((x ∷ xs) ++ wire_of labels) ≡ wire_of labels =
+    drop_at (x ∷ xs) (wire_of labels) (suc (length xs)) refl in
     let rest = first_labels-wire_of n labels each.1 (omega (arith, length-append xs (wire_of labels))) in
     cc (ap (first_labels n) behind)
 
@@ -48,7 +52,8 @@ IsWire-from_name octets labels name e =
       whole = ap wire_of back ∙ sym e;
     }
 
-pub root_has_one : (octets : List ℕ) (labels : List (List ℕ)) → IsWire octets → labels_of octets ≡ labels → (length octets ≡ 1 → labels ≡ []) × (labels ≡ [] → length octets ≡ 1)
+pub root_has_one : (octets : List ℕ) (labels : List (List ℕ)) → IsWire octets → labels_of octets ≡ labels
+    → (length octets ≡ 1 → labels ≡ []) × (labels ≡ [] → length octets ≡ 1)
 root_has_one octets [] wire e = (λ _. refl, λ _. omega (arith, ap length (sym wire.whole ∙ ap wire_of e)))
 root_has_one octets (label ∷ labels) wire e =
     let long = sym wire.whole ∙ ap wire_of e in

@@ -14,7 +14,7 @@ pub record IsLabel (label : List ℕ) : Type 0 where
   pub short : length label ≤ 63
   pub small : small_letters label ≡ label
 
--- the octets without pointers: each label behind its length, and 0 for the root
+-- the octets without pointers: each label after its length, and 0 for the root
 abbrev pub wire_of : List (List ℕ) → List ℕ
 wire_of [] = 0 ∷ []
 wire_of (label ∷ labels) = length label ∷ label ++ wire_of labels

@@ -4,7 +4,7 @@ use Rattle.dns_name.specs.Places.{OctetAt, LabelsAt}
 use Rattle.dns_name.specs.declared.message.Piece.{Piece}
 use Rattle.dns_name.specs.declared.message.Piece.TheVariants.{Root, Label, Pointer}
 
--- a whole label behind its length
+-- a whole label after its length
 pub record LabelPiece (octets : List ℕ) (place : ℕ) (label : List ℕ) : Type 0 where
   pub some : 0 < length label
   pub short : length label ≤ 63
@@ -24,6 +24,9 @@ PieceAt octets place Root = OctetAt octets place 0
 PieceAt octets place (Label label) = LabelPiece octets place label.now
 PieceAt octets place (Pointer offset) = PointerPiece octets place offset
 
--- in a message that begins with these octets no run of labels goes on at the place and ends within them
+-- in a message that begins with these octets no run of labels goes on at the place and ends within
+-- them
 abbrev pub NothingAt : List ℕ → ℕ → Type 0
-NothingAt octets place = (message : List ℕ) (s end : ℕ) (labels : List (List ℕ)) → octets ≡ take (length octets) message → LabelsAt message place s labels end → length octets < end
+NothingAt octets place = (message : List ℕ) (s end : ℕ) (labels : List (List ℕ))
+    → octets ≡ take (length octets) message → LabelsAt message place s labels end
+    → length octets < end

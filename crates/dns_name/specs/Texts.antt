@@ -20,14 +20,16 @@ pub record IsTextLabel (label : List ℕ) : Type 0 where
   pub octets : IsTrue (list_all is_text_octet label)
   pub short : length label ≤ 63
 
--- labels with dots between them, and one behind the last at will
+-- labels with dots between them, and optionally one after the last
 abbrev pub IsDotted : List (List ℕ) → List ℕ → Type 0
-IsDotted labels text = (text ≡ join_with_byte 46 labels) ⊎ (text ≡ join_with_byte 46 labels ++ 46 ∷ [])
+IsDotted labels text = (text ≡ join_with_byte 46 labels)
+    ⊎ (text ≡ join_with_byte 46 labels ++ 46 ∷ [])
 
 -- a text of a name: its labels in letters of any case, or a dot alone for the root
 pub data TextOf : List (List ℕ) → List ℕ → Type 0 where
   root : {text : List ℕ} → text ≡ 46 ∷ [] → TextOf [] text
-  dotted : {name : List (List ℕ)} {text : List ℕ} (written : List (List ℕ)) → 0 < length written → AllByRecursion IsTextLabel written
+  dotted : {name : List (List ℕ)} {text : List ℕ} (written : List (List ℕ)) → 0 < length written
+      → AllByRecursion IsTextLabel written
       → IsDotted written text
       → name ≡ map small_letters written
       → length (wire_of name) ≤ 255
@@ -57,7 +59,8 @@ length_fault labels = if nat_lt 255 (length (wire_of labels)) then Some LongName
 
 -- the text without its closing dot, if it has one
 abbrev pub without_closing_dot : List ℕ → List ℕ
-without_closing_dot text = if slice_index text (length text - 1) == 46 then take (length text - 1) text else text
+without_closing_dot text =
+    if slice_index text (length text - 1) == 46 then take (length text - 1) text else text
 
 -- the labels as dots part them
 abbrev pub parted : List ℕ → List (List ℕ)
@@ -68,11 +71,14 @@ abbrev pub dotted_fault : List (List ℕ) → Option NameRefusal
 dotted_fault labels = option_or (labels_fault labels) (length_fault labels)
 
 abbrev pub text_fault : List ℕ → Option NameRefusal
-text_fault text = if bytes_eq text (46 ∷ []) then None else dotted_fault (parted (without_closing_dot text))
+text_fault text =
+    if bytes_eq text (46 ∷ []) then None else dotted_fault (parted (without_closing_dot text))
 
 -- with two labels in front of a name
 abbrev pub prefix_fault : List ℕ → List ℕ → List (List ℕ) → Option NameRefusal
-prefix_fault service proto name = option_or (label_fault service) (option_or (label_fault proto) (length_fault (service ∷ proto ∷ name)))
+prefix_fault service proto name =
+    option_or (label_fault service)
+    (option_or (label_fault proto) (length_fault (service ∷ proto ∷ name)))
 
 -- ---- the text that is written
 

@@ -39,7 +39,8 @@ impl Draft {
     /// Whether a further label of so many octets leaves room for the closing 0.
     pub(crate) fn has_room(&self, label: usize) -> bool
         requires { label ≤ 63 }
-        ensures { MatchBool result (length self.now.octets.items + label + 2 ≤ 255) (255 < length self.now.octets.items + label + 2) }
+        ensures { MatchBool result (length self.now.octets.items + label + 2 ≤ 255)
+            (255 < length self.now.octets.items + label + 2) }
     {
         self.octets.len() + label + 2 <= NAME_LIMIT
     }
@@ -48,7 +49,8 @@ impl Draft {
     pub(crate) fn push(&mut self, label: &[u8])
         requires short { length label.now ≤ 63 }
         requires room { length self.old.octets.items + length label.now + 2 ≤ 255 }
-        ensures { self.new.octets.items ≡ self.old.octets.items ++ (length label.now ∷ small_letters label.now) }
+        ensures { self.new.octets.items
+            ≡ self.old.octets.items ++ (length label.now ∷ small_letters label.now) }
     {
         self.octets.push(label.len() as u8);
         push_small(&mut self.octets, label);
@@ -56,7 +58,8 @@ impl Draft {
 
     /// The name of the labels so far and those of `others`, the octets of a name.
     pub(crate) fn finish(&self, alloc: Global, others: &[u8]) -> Result<Name, AllocError>
-        requires { (labels : List (List ℕ)) × IsName labels × (self.now.octets.items ++ others.now ≡ wire_of labels) }
+        requires { (labels : List (List ℕ)) × IsName labels
+            × (self.now.octets.items ++ others.now ≡ wire_of labels) }
         ensures { IfOk result (λ name. wire_of name ≡ self.now.octets.items ++ others.now) }
     {
         let mut octets = Vec::with_capacity(alloc, self.octets.len() + others.len())?;

@@ -1,4 +1,4 @@
-//! Laws of names. A call of one does nothing: its contract tells its caller the law.
+//! Laws of names. A call of one does nothing; its contract states the law.
 ghost use Rattle.std.specs.Prelude.{◌≡◌, ◌↔◌, IsTrue, ◌+◌, ◌<◌, ◌≤◌, ◌++◌, ℕ, List, length, take};
 ghost use Rattle.dns_name.specs.Labels.{IsName, same_name, wire_of};
 ghost use Rattle.dns_name.specs.Places.{NameAt};
@@ -6,23 +6,28 @@ ghost use Rattle.dns_name.specs.Texts.{IsPlain, TextOf, text_of};
 
 /// At one place of a message stands at most one name, with one place after it.
 pub fn one_name_at_a_place()
-    ensures { (message : List ℕ) (p s end end' : ℕ) (name name' : List (List ℕ)) → NameAt message p s name end → NameAt message p s name' end'
+    ensures { (message : List ℕ) (p s end end' : ℕ) (name name' : List (List ℕ))
+        → NameAt message p s name end → NameAt message p s name' end'
         → (name ≡ name') × (end ≡ end') }
 {}
 
-/// A name that begins a run of labels rests on the octets before its end, and on no others: it stands in each
-/// message that has them.
+/// A name that begins a run of labels rests on the octets before its end, and on no others: it
+/// stands in each message that has them.
 pub fn name_rests_before_its_end()
-    ensures within { (message : List ℕ) (p end : ℕ) (name : List (List ℕ)) → NameAt message p p name end → (p < end) × (end ≤ length message) }
-    ensures name { (message : List ℕ) (p end : ℕ) (name : List (List ℕ)) → NameAt message p p name end → IsName name }
-    ensures local { (message other : List ℕ) (p end : ℕ) (name : List (List ℕ)) → NameAt message p p name end → take end message ≡ take end other
+    ensures within { (message : List ℕ) (p end : ℕ) (name : List (List ℕ))
+        → NameAt message p p name end → (p < end) × (end ≤ length message) }
+    ensures name { (message : List ℕ) (p end : ℕ) (name : List (List ℕ))
+        → NameAt message p p name end → IsName name }
+    ensures local { (message other : List ℕ) (p end : ℕ) (name : List (List ℕ))
+        → NameAt message p p name end → take end message ≡ take end other
         → NameAt other p p name end }
 {}
 
 /// A name that is written without pointers is read again, whatever stands before and after it.
 pub fn written_name_is_read()
     ensures { (front back : List ℕ) (name : List (List ℕ)) → IsName name
-        → NameAt (front ++ wire_of name ++ back) (length front) (length front) name (length front + length (wire_of name)) }
+        → NameAt (front ++ wire_of name ++ back) (length front) (length front) name
+        (length front + length (wire_of name)) }
 {}
 
 /// Names of the same octets have the same labels.
@@ -30,7 +35,8 @@ pub fn octets_determine_name()
     ensures { (name other : List (List ℕ)) → wire_of name ≡ wire_of other → name ≡ other }
 {}
 
-/// The text that is written for a name of letters, digits, `_` and `-` is a text of that name: so it is read again.
+/// The text that is written for a name of letters, digits, `_` and `-` is a text of that name: so
+/// it is read again.
 pub fn written_text_is_read()
     ensures { (name : List (List ℕ)) → IsName name → IsPlain name → TextOf name (text_of name) }
 {}

@@ -37,15 +37,17 @@ fn piece_at(octets: &[u8], place: usize) -> Option<Piece<'_>>
     }
 }
 
-/// Reads the name at place `at` of a message, and gives the place after it: after its closing 0, or after its first
-/// pointer. A pointer leads to a run of labels that lies, its closing 0 or pointer included, before the run that
-/// the pointer closes.
+/// Reads the name at place `at` of a message, and gives the place after it: after its closing 0, or
+/// after its first pointer. A pointer leads to a run of labels that lies, its closing 0 or pointer
+/// included, before the run that the pointer closes.
 pub fn read_name(alloc: Global, bytes: &[u8], at: usize) -> Result<(Name, usize), NameReadRefusal>
     // What is read is the name that stands there.
     ensures found { IfOk result (λ found. NameAt bytes.now at at found.0 found.1) }
-    // A name that stands there is read, unless memory is refused: so `Malformed` comes only where none does.
+    // A name that stands there is read, unless memory is refused: so `Malformed` comes only where
+    // none does.
     ensures read { (name : List (List ℕ)) (end : ℕ) → NameAt bytes.now at at name end
-        → MatchResult result (λ found. (found.0 ≡ name) × (found.1 ≡ end)) (λ refusal. refusal ≡ NameReadRefusal.Memory) }
+        → MatchResult result (λ found. (found.0 ≡ name) × (found.1 ≡ end))
+        (λ refusal. refusal ≡ NameReadRefusal.Memory) }
     // Memory is asked for where a name stands, and nowhere else.
     ensures memory { result ≡ Err NameReadRefusal.Memory
         → (name : List (List ℕ)) × (end : ℕ) × NameAt bytes.now at at name end }
@@ -82,12 +84,13 @@ pub fn read_name(alloc: Global, bytes: &[u8], at: usize) -> Result<(Name, usize)
     }
 }
 
-/// Appends the octets of a name without pointers. After an error `out` is as before; where it has room for them, there is
-/// none.
+/// Appends the octets of a name without pointers. After an error `out` is as before; where it has
+/// room for them, there is none.
 pub fn write_name(name: &Name, out: &mut Vec<u8>) -> Result<(), AllocError>
     ensures ok { OnOk result (out.new.items ≡ out.old.items ++ wire_of name.now) }
     ensures err { OnErr result (out.new.items ≡ out.old.items) }
-    ensures room { vec_len out.old + length (wire_of name.now) ≤ vec_capacity out.old → IsOk result }
+    ensures room { vec_len out.old + length (wire_of name.now) ≤ vec_capacity out.old
+        → IsOk result }
 {
     out.extend_from_slice(name.wire())
 }

@@ -6,11 +6,11 @@ use std::alloc::{AllocError, Global};
 use std::hash::{Hash, Hasher};
 use std::marker::Model;
 
-/// A domain name (RFC 1035 2.3): labels of 1 to 63 octets, with capitals of ASCII as small letters, and at most
-/// 255 octets in all. The root has no label.
+/// A domain name (RFC 1035 2.3): labels of 1 to 63 octets, with capitals of ASCII as small letters,
+/// and at most 255 octets in all. The root has no label.
 ///
-/// It is kept as its octets on the wire, so that reading, writing and comparing need no work on labels: each label
-/// behind its length, and a closing 0.
+/// It is kept as its octets on the wire, so that reading, writing and comparing need no work on
+/// labels: each label after its length, and a closing 0.
 #[derive(Debug, Drop)]
 pub struct Name {
     octets: Vec<u8>,
@@ -32,7 +32,8 @@ impl Model for Name {
 pub(crate) fn first_label(octets: &[u8]) -> Option<(&[u8], &[u8])>
     ensures shorter { IfSome result (λ parts. length parts.1.now < length octets.now) }
     ensures none { octets.now ≡ wire_of [] → result ≡ None }
-    ensures some { (label : List ℕ) (labels : List (List ℕ)) → IsLabel label → octets.now ≡ wire_of (label ∷ labels)
+    ensures some { (label : List ℕ) (labels : List (List ℕ)) → IsLabel label
+        → octets.now ≡ wire_of (label ∷ labels)
         → IsSomeAnd result (λ parts. (parts.0.now ≡ label) × (parts.1.now ≡ wire_of labels)) }
 {
     let (length, behind) = octets.split_first()?;
@@ -79,8 +80,8 @@ impl Name {
         Ok(Name { octets })
     }
 
-    /// The name without its first label, as the domain of a host (RFC 1034 3.1). The root has none, and no memory is asked
-    /// for there.
+    /// The name without its first label, as the domain of a host (RFC 1034 3.1). The root has none,
+    /// and no memory is asked for there.
     pub fn parent(&self) -> Result<Option<Name>, AllocError>
         ensures value { IfOk result (λ parent. parent ≡ parent_of self.now) }
         ensures root { self.now ≡ [] → result ≡ Ok None }

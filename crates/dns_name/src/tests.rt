@@ -36,7 +36,7 @@ const TEXTS: &[TextRow] = &[
         Err(NameRefusal::BadOctet),
     ),
     ("a\\046b", Err(NameRefusal::BadOctet)),
-    // 255 octets, 256, 258, and an octet that no text has behind these
+    // 255 octets, 256, 258, and an octet that no text has after these
     (
         "abcdefghijklmnopqrstuvwxyz0123456789abcdefghijklmnopqrstuvwxyz0.abcdefghijklmnopqrstuvwxyz\
         0123456789abcdefghijklmnopqrstuvwxyz0.abcdefghijklmnopqrstuvwxyz0123456789abcdefghijklmnopq\
@@ -183,7 +183,7 @@ const PLACES: &[PlaceRow] = &[
     (b"\xc0\x02\x00", 0, None),
     (b"\x01a\xc0\x00", 0, None),
     (b"\x01a\xc0\x00", 2, None),
-    // A run that ends behind the place from which a pointer leads to it.
+    // A run that ends after the place from which a pointer leads to it.
     (b"\x03a\xc0\x00\x00", 2, None),
     (b"\x01a\x01b\xc0\x02\x00", 4, None),
     (b"\x02ab\xc0\x00\x00\x01x\xc0\x00", 6, None),
@@ -215,7 +215,8 @@ const PLACES: &[PlaceRow] = &[
     (
         b"\x3fxxxxxxxxxxxxxxxxxxxxxxxxxxxxxxxxxxxxxxxxxxxxxxxxxxxxxxxxxxxxxxx\x3fxxxxxxxxxxxxxxxxxx\
         xxxxxxxxxxxxxxxxxxxxxxxxxxxxxxxxxxxxxxxxxxxxx\x3fxxxxxxxxxxxxxxxxxxxxxxxxxxxxxxxxxxxxxxxxxx\
-        xxxxxxxxxxxxxxxxxxxxx\x3exxxxxxxxxxxxxxxxxxxxxxxxxxxxxxxxxxxxxxxxxxxxxxxxxxxxxxxxxxxxxx\x00",
+        xxxxxxxxxxxxxxxxxxxxx\x3exxxxxxxxxxxxxxxxxxxxxxxxxxxxxxxxxxxxxxxxxxxxxxxxxxxxxxxxxxxxxx\
+        \x00",
         0,
         None,
     ),
@@ -250,7 +251,7 @@ fn places(rt: HostRuntime) {
     }
 }
 
-/// 8,193 pointers behind a root, each to the one before it.
+/// 8,193 pointers after a root, each to the one before it.
 fn pointers(alloc: Global) -> Option<Vec<u8>> {
     let mut message = vec![in alloc; 0, 0xc0, 0].ok()?;
     for place in 1..8193u16 {
@@ -274,7 +275,7 @@ fn chain_of_pointers(rt: HostRuntime) {
     assert!(rt; message.is_some_and(|message| leads_to_root(rt.alloc(), &message)));
 }
 
-/// The octets of a copy of a name, written behind two others.
+/// The octets of a copy of a name, written after two others.
 fn written(alloc: Global, text: &str) -> Option<Vec<u8>> {
     let name = Name::from_text(alloc, text).ok()?;
     let copy = name.try_clone().ok()?;

@@ -47,7 +47,9 @@ fn check_label(label: &[u8]) -> Result<(), NameRefusal>
 /// The labels of a text without its closing dot.
 fn draft_of(text: &[u8]) -> Result<Draft, NameRefusal>
     ensures refused { result_err result ≡ spec.dotted_fault (spec.parted text.now) }
-    ensures labels { IfOk result (λ draft. draft.octets.items ++ 0 ∷ [] ≡ wire_of (map small_letters (spec.parted text.now))) }
+    ensures labels { IfOk result
+        (λ draft. draft.octets.items ++ 0 ∷ []
+        ≡ wire_of (map small_letters (spec.parted text.now))) }
 {
     let mut draft = Draft::new();
     let mut fits = true;
@@ -91,7 +93,8 @@ fn push_octet(text: &mut String, octet: u8) -> Result<(), AllocError>
 
 /// Adds a label and a dot to a text.
 fn push_label(text: &mut String, label: &[u8]) -> Result<(), AllocError>
-    ensures { OnOk result (string_bytes text.new ≡ string_bytes text.old ++ spec.label_text label.now) }
+    ensures { OnOk result
+        (string_bytes text.new ≡ string_bytes text.old ++ spec.label_text label.now) }
 {
     for octet in label {
         push_octet(text, *octet)?;
@@ -100,11 +103,12 @@ fn push_label(text: &mut String, label: &[u8]) -> Result<(), AllocError>
 }
 
 impl Name {
-    /// The name of a text: labels of letters, digits, `_` and `-`, parted by dots, with one closing dot at will. A
-    /// dot alone is the root.
+    /// The name of a text: labels of letters, digits, `_` and `-`, parted by dots, with an optional
+    /// closing dot. A dot alone is the root.
     ///
-    /// Each label is checked from the left, for no octet, then for another octet, then for more than 63; after all
-    /// labels the name, for more than 255 octets on the wire. Memory is taken for a name alone.
+    /// Each label is checked from the left, for no octet, then for another octet, then for more
+    /// than 63; after all labels the name, for more than 255 octets on the wire. Memory is taken
+    /// for a name alone.
     pub fn from_text(alloc: Global, text: &str) -> Result<Name, NameRefusal>
         // What is named is a name of the text.
         ensures found { IfOk result (λ name. spec.TextOf name text.now) }
@@ -113,7 +117,9 @@ impl Name {
             → MatchResult result (λ found. found ≡ name) (λ refusal. refusal ≡ NameRefusal.Memory) }
         // Each other refusal comes exactly where it is the text's fault.
         ensures fault { IfSome (spec.text_fault text.now) (λ fault. result ≡ Err fault) }
-        ensures refused { IfErr result (λ refusal. (refusal ≡ NameRefusal.Memory) ⊎ (spec.text_fault text.now ≡ Some refusal)) }
+        ensures refused { IfErr result
+            (λ refusal. (refusal ≡ NameRefusal.Memory)
+            ⊎ (spec.text_fault text.now ≡ Some refusal)) }
     {
         let text = text.as_bytes();
         if text == b".".as_slice() {
@@ -123,13 +129,18 @@ impl Name {
         Ok(draft.finish(alloc, &[0])?)
     }
 
-    /// The name with two labels in front, as `_sip` and `_udp` in front of a domain (RFC 2782). They are checked as
-    /// those of a text; so a dot in one of them is `BadOctet`.
+    /// The name with two labels in front, as `_sip` and `_udp` in front of a domain (RFC 2782).
+    /// They are checked as those of a text; so a dot in one of them is `BadOctet`.
     pub fn prefixed(&self, service: &str, proto: &str) -> Result<Name, NameRefusal>
-        ensures named { IfOk result (λ name. name ≡ small_letters service.now ∷ small_letters proto.now ∷ self.now) }
-        // Each refusal but that of memory comes exactly where it is a fault of the labels or of their length.
-        ensures fault { IfSome (spec.prefix_fault service.now proto.now self.now) (λ fault. result ≡ Err fault) }
-        ensures refused { IfErr result (λ refusal. (refusal ≡ NameRefusal.Memory) ⊎ (spec.prefix_fault service.now proto.now self.now ≡ Some refusal)) }
+        ensures named { IfOk result
+            (λ name. name ≡ small_letters service.now ∷ small_letters proto.now ∷ self.now) }
+        // Each refusal but that of memory comes exactly where it is a fault of the labels or of
+        // their length.
+        ensures fault { IfSome (spec.prefix_fault service.now proto.now self.now)
+            (λ fault. result ≡ Err fault) }
+        ensures refused { IfErr result
+            (λ refusal. (refusal ≡ NameRefusal.Memory)
+            ⊎ (spec.prefix_fault service.now proto.now self.now ≡ Some refusal)) }
     {
         let service = service.as_bytes();
         let proto = proto.as_bytes();
@@ -145,8 +156,8 @@ impl Name {
         Ok(draft.finish(self.allocator(), others)?)
     }
 
-    /// The text of the name: each label with a dot after it; the root is a dot alone. An octet that is no small
-    /// letter, digit, `_` or `-` is `\` and three decimal digits (RFC 1035 5.1).
+    /// The text of the name: each label with a dot after it; the root is a dot alone. An octet that
+    /// is no small letter, digit, `_` or `-` is `\` and three decimal digits (RFC 1035 5.1).
     pub fn text(&self) -> Result<String, AllocError>
         ensures { IfOk result (λ text. string_bytes text ≡ spec.text_of self.now) }
     {

@@ -3,7 +3,8 @@ ghost use Rattle.std.specs.Prelude.{◌≡◌};
 
 use std::marker::Model;
 
-/// What names an entry, from its insertion until it is taken out. No other entry of the list ever has the same id.
+/// What names an entry, from its insertion until it is taken out. No other entry of the list ever
+/// has the same id.
 #[derive(Clone, Copy, Debug, PartialEq, Eq)]
 pub struct PendingId {
     serial: u64,

@@ -1,10 +1,12 @@
-//! A list of items that wait for their deadlines, as questions do that were sent and have no reply yet.
+//! A list of items that wait for their deadlines, as questions do that were sent and have no reply
+//! yet.
 //!
-//! The entries stand by deadline, and of one deadline in the order in which they got it. An entry is known by its id, which
-//! no other entry of the list ever has. A deadline is a number, and a list knows no clock: who has it says what time it is.
+//! The entries stand by deadline, and of one deadline in the order in which they got it. An entry
+//! is known by its id, which no other entry of the list ever has. A deadline is a number, and a
+//! list knows no clock: who has it says what time it is.
 //!
-//! A list has a limit. It makes the room for so many entries when it is made, and its calls but `insert` take no memory and
-//! always answer.
+//! A list has a limit. It makes the room for so many entries when it is made, and its calls but
+//! `insert` take no memory and always answer.
 //!
 //! ```text
 //! let mut list = PendingList::new(alloc, 3, 0)?;
@@ -16,7 +18,8 @@
 //! list.remove(x);                                   // x
 //! ```
 //!
-//! Read `specs/Pending.antt` first: `placed` says where an entry is put, and `moved` what another deadline does.
+//! Read `specs/Pending.antt` first: `placed` says where an entry is put, and `moved` what another
+//! deadline does.
 #![tactic(auto)]
 
 mod entry;

@@ -7,11 +7,12 @@ ghost use Rattle.pending_list.specs.Pending.{Precedes, has_id};
 use crate::entry::Entry;
 use crate::id::PendingId;
 
-/// The place behind all entries whose deadlines are not greater than this one.
+/// The place after all entries whose deadlines are not greater than this one.
 pub(crate) fn place_behind<T>(entries: &[Entry<T>], deadline: u64) -> usize
     requires { AllPairs Precedes entries.now }
     ensures within { result ≤ length entries.now }
-    ensures divides { IsPartitionPoint (λ it. nat_le it.deadline deadline ≡ true) (λ it. nat_le it.deadline deadline ≡ false) entries.now result }
+    ensures divides { IsPartitionPoint (λ it. nat_le it.deadline deadline ≡ true)
+        (λ it. nat_le it.deadline deadline ≡ false) entries.now result }
 {
     entries.partition_point(|entry| entry.deadline <= deadline)
 }

@@ -23,7 +23,8 @@ impl<'a, T> Model for Walk<'a, T> {
 impl<'a, T> Iterator for Walk<'a, T> {
     type Item = (PendingId, u64, &'a T);
 
-    ghost next_gives = { YieldsFirstBy (λ it. record { id = it.0; deadline = it.1; item = it.2.now }) (λ rest. rest) };
+    ghost next_gives = { YieldsFirstBy
+        (λ it. record { id = it.0; deadline = it.1; item = it.2.now }) (λ rest. rest) };
 
     ghost remaining = { item_count (λ rest. rest) };
 

@@ -22,7 +22,8 @@ returns-in_err-get-in-1-to-63 c =
     let missing = c.in_err-get-in-1-to-63.ensures.lookup in
     let here = first_there c.args.octets.now c.args.place c.in_ok-behind.behind.now first c.in_ok-first.behind.now from_p cut in
     let size = length-others c.args.octets.now c.args.place c.in_ok-behind.behind.now first c.in_ok-first.behind.now from_p cut in
-    rw c.from_residual-in_err-get-in-1-to-63.ensures (nothing_cut c.args.octets.now c.args.place first here (omega arith) (omega arith) (omega arith))
+    rw c.from_residual-in_err-get-in-1-to-63.ensures
+    (nothing_cut c.args.octets.now c.args.place first here (omega arith) (omega arith) (omega arith))
 
 pub returns-in_ok-get-in-1-to-63 : goal.returns-in_ok-get-in-1-to-63
 returns-in_ok-get-in-1-to-63 c =
@@ -30,7 +31,8 @@ returns-in_ok-get-in-1-to-63 c =
     let cut = c.in_ok-first.ensures.cases.0 in
     let first = c.in_ok-first.first.now in
     let got = c.in_ok-get-in-1-to-63.ensures.lookup.0 in
-    label_there c.args.octets.now c.args.place c.in_ok-behind.behind.now first c.in_ok-first.behind.now from_p cut c.in_ok-get-in-1-to-63.field-0.now (omega arith) (omega arith) (omega arith) (rw (← c.from.ensures) got.2)
+    label_there c.args.octets.now c.args.place c.in_ok-behind.behind.now first c.in_ok-first.behind.now from_p cut
+    c.in_ok-get-in-1-to-63.field-0.now (omega arith) (omega arith) (omega arith) (rw (← c.from.ensures) got.2)
 
 pub returns-in-64-to-191 : goal.returns-in-64-to-191
 returns-in-64-to-191 c =

@@ -14,5 +14,6 @@ invariant-loop-label l =
       can_next : (goal.iterator-loop-label).can_next l.label-iterator;
       is_finite : (goal.iterator-loop-label).is_finite l.label-iterator;
       faultless : labels_fault (drop count labels) ≡ labels_fault labels;
-      drafted : MatchBool l.fits (l.draft.octets.items ≡ spelled (map small_letters (take count labels))) (254 < length (spelled (map small_letters (take count labels))));
+      drafted : MatchBool l.fits (l.draft.octets.items ≡ spelled (map small_letters (take count labels)))
+          (254 < length (spelled (map small_letters (take count labels))));
     }

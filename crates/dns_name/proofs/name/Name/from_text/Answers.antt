@@ -39,7 +39,8 @@ no_dot c = rw (c.as_bytes-text.ensures.value, c.as_slice.ensures) at (sym c.if-e
 pub returns-in_err-draft-clause-read : goal.returns-in_err-draft-clause-read
 returns-in_err-draft-clause-read c = λ name text_of.
     let text : List ℕ = c.args.text.now in
-    let front : c.without_closing_dot.result.now ≡ without_closing_dot text = c.without_closing_dot.ensures ∙ ap without_closing_dot c.as_bytes-text.ensures.value in
+    let front : c.without_closing_dot.result.now ≡ without_closing_dot text =
+    c.without_closing_dot.ensures ∙ ap without_closing_dot c.as_bytes-text.ensures.value in
     let fault = rw front at c.in_err-draft.ensures.refused in
     let lone = no_dot (goal.at.returns-in_err-draft-clause-read c).Else-eq in
     elim (named name text text_of) [
@@ -47,9 +48,11 @@ returns-in_err-draft-clause-read c = λ name text_of.
       | inr n ↦ (let no : Some c.in_err-draft.field-0.0 ≡ None = fault ∙ n.faultless in absurd cc)
     ]
 
-drafted : (c : In_ok-draft) → (dotted_fault (parted (without_closing_dot c.args.text.now)) ≡ None) × (c.in_ok-draft.draft.octets.items ++ 0 ∷ [] ≡ wire_of (map small_letters (parted (without_closing_dot c.args.text.now))))
+drafted : (c : In_ok-draft) → (dotted_fault (parted (without_closing_dot c.args.text.now)) ≡ None)
+    × (c.in_ok-draft.draft.octets.items ++ 0 ∷ [] ≡ wire_of (map small_letters (parted (without_closing_dot c.args.text.now))))
 drafted c =
-    let front : c.without_closing_dot.result.now ≡ without_closing_dot c.args.text.now = c.without_closing_dot.ensures ∙ ap without_closing_dot c.as_bytes-text.ensures.value in
+    let front : c.without_closing_dot.result.now ≡ without_closing_dot c.args.text.now =
+    c.without_closing_dot.ensures ∙ ap without_closing_dot c.as_bytes-text.ensures.value in
     (sym (rw front at c.in_ok-draft.ensures.refused), rw front at c.in_ok-draft.ensures.labels)
 
 pub finish-requires-2 : goal.finish-requires-2
@@ -58,7 +61,8 @@ finish-requires-2 c =
     let parts : List (List ℕ) = parted (without_closing_dot c.args.text.now) in
     (map small_letters parts, IsName-small parts k.0, k.1)
 
-found : (c : In_ok-draft) (name : List (List ℕ)) → wire_of name ≡ c.in_ok-draft.draft.octets.items ++ 0 ∷ [] → name ≡ map small_letters (parted (without_closing_dot c.args.text.now))
+found : (c : In_ok-draft) (name : List (List ℕ)) → wire_of name ≡ c.in_ok-draft.draft.octets.items ++ 0 ∷ []
+    → name ≡ map small_letters (parted (without_closing_dot c.args.text.now))
 found c name spelled = same_labels name (map small_letters (parted (without_closing_dot c.args.text.now))) (spelled ∙ (drafted c).1)
 
 pub returns-clause-found : goal.returns-clause-found

@@ -4,7 +4,8 @@ use Rattle.dns_name.proofs.Wire.{same_test, same_name-decides}
 use Rattle.dns_name.proofs.name.NamePartialEq.eq.Goals as goal
 
 pub returns-clause-value : goal.returns-clause-value
-returns-clause-value c = same_test c.args.self.now c.args.other.now c.eq.result (rw (c.wire.ensures.value, c.wire-2.ensures.value) at c.eq.ensures)
+returns-clause-value c =
+    same_test c.args.self.now c.args.other.now c.eq.result (rw (c.wire.ensures.value, c.wire-2.ensures.value) at c.eq.ensures)
 
 pub returns-clause-same : goal.returns-clause-same
 returns-clause-same c =
