@@ -10,18 +10,22 @@ use Rattle.dns_message.specs.Places.{NumberAt, OctetsAt, AllAt, none, next}
 pub one_number : (w : Width) (message : List ℕ) (p n n' : ℕ) → NumberAt w message p n → NumberAt w message p n' → n ≡ n'
 one_number w message p n n' a b = sym a.is ∙ b.is
 
-pub one_text : (message : List ℕ) (p : ℕ) (octets octets' : List ℕ) (end : ℕ) → OctetsAt message p octets end → OctetsAt message p octets' end → octets ≡ octets'
+pub one_text : (message : List ℕ) (p : ℕ) (octets octets' : List ℕ) (end : ℕ) → OctetsAt message p octets end
+    → OctetsAt message p octets' end → octets ≡ octets'
 one_text message p octets octets' end a b = sym a.are ∙ b.are
 
 -- the octet in front stands at the place
-pub first_octet : (message : List ℕ) (p octet : ℕ) (octets : List ℕ) (end : ℕ) → OctetsAt message p (octet ∷ octets) end → slice_index message p ≡ octet
+pub first_octet : (message : List ℕ) (p octet : ℕ) (octets : List ℕ) (end : ℕ) → OctetsAt message p (octet ∷ octets) end
+    → slice_index message p ≡ octet
 first_octet message p octet octets end at =
     let front = λ (l : List ℕ). get_or l 0 0 in
-    let there : get_or (drop p (take end message)) 0 0 ≡ get_or (take end message) p 0 = get_or-drop p (take end message) 0 0 ∙ ap (λ (n : ℕ). get_or (take end message) n 0) (omega arith) in
+    let there : get_or (drop p (take end message)) 0 0 ≡ get_or (take end message) p 0 =
+    get_or-drop p (take end message) 0 0 ∙ ap (λ (n : ℕ). get_or (take end message) n 0) (omega arith) in
     sym (get_or-take end message p 0 (omega (arith, at.size))) ∙ sym there ∙ sym (ap front (between_is message p end)) ∙ ap front at.are
 
 -- and the others behind it
-pub other_octets : (message : List ℕ) (p octet : ℕ) (octets : List ℕ) (end : ℕ) → OctetsAt message p (octet ∷ octets) end → OctetsAt message (p + 1) octets end
+pub other_octets : (message : List ℕ) (p octet : ℕ) (octets : List ℕ) (end : ℕ) → OctetsAt message p (octet ∷ octets) end
+    → OctetsAt message (p + 1) octets end
 other_octets message p octet octets end at = record {
   size = omega (arith, at.size);
   within = at.within;
@@ -29,11 +33,13 @@ other_octets message p octet octets end at = record {
 }
 
 -- an octet in front of others stands there with them
-pub octets_behind : (message : List ℕ) (p octet : ℕ) (octets : List ℕ) (end : ℕ) → slice_index message p ≡ octet → OctetsAt message (p + 1) octets end → OctetsAt message p (octet ∷ octets) end
+pub octets_behind : (message : List ℕ) (p octet : ℕ) (octets : List ℕ) (end : ℕ) → slice_index message p ≡ octet
+    → OctetsAt message (p + 1) octets end → OctetsAt message p (octet ∷ octets) end
 octets_behind message p octet octets end first others =
     let front : get_or (take end message) p 0 ≡ octet = get_or-take end message p 0 (omega (arith, others.size)) ∙ first in
     let next : suc p ≡ p + 1 = omega arith in
-    let behind : drop (suc p) (take end message) ≡ octets = ap (λ (n : ℕ). drop n (take end message)) next ∙ sym (between_is message (p + 1) end) ∙ others.are in
+    let behind : drop (suc p) (take end message) ≡ octets =
+    ap (λ (n : ℕ). drop n (take end message)) next ∙ sym (between_is message (p + 1) end) ∙ others.are in
     let here = drop-cons (take end message) p 0 (omega (arith, others.size, others.within, length-take end message)) in
     record {
       size = omega (arith, others.size);
@@ -46,19 +52,24 @@ octets_behind message p octet octets end first others =
 pub take_less : (message other : List ℕ) (limit n : ℕ) → take limit message ≡ take limit other → n ≤ limit → take n message ≡ take n other
 take_less message other limit n same le = sym (take-take n limit message le) ∙ ap (take n) same ∙ take-take n limit other le
 
-pub within_too : (message other : List ℕ) (limit n : ℕ) → take limit message ≡ take limit other → n ≤ limit → n ≤ length message → n ≤ length other
+pub within_too : (message other : List ℕ) (limit n : ℕ) → take limit message ≡ take limit other → n ≤ limit → n ≤ length message
+    → n ≤ length other
 within_too message other limit n same le le' = omega (arith, ap length same, length-take limit message, length-take limit other)
 
-pub same_range : (message other : List ℕ) (limit i j : ℕ) → take limit message ≡ take limit other → j ≤ limit → slice_range message i j ≡ slice_range other i j
-same_range message other limit i j same le = between_is message i j ∙ ap (drop i) (take_less message other limit j same le) ∙ sym (between_is other i j)
+pub same_range : (message other : List ℕ) (limit i j : ℕ) → take limit message ≡ take limit other → j ≤ limit
+    → slice_range message i j ≡ slice_range other i j
+same_range message other limit i j same le =
+    between_is message i j ∙ ap (drop i) (take_less message other limit j same le) ∙ sym (between_is other i j)
 
-pub NumberAt-other : (w : Width) (message other : List ℕ) (limit p n : ℕ) → take limit message ≡ take limit other → p + byte_len w ≤ limit → NumberAt w message p n → NumberAt w other p n
+pub NumberAt-other : (w : Width) (message other : List ℕ) (limit p n : ℕ) → take limit message ≡ take limit other → p + byte_len w ≤ limit
+    → NumberAt w message p n → NumberAt w other p n
 NumberAt-other w message other limit p n same le at = record {
   within = within_too message other limit (p + byte_len w) same le at.within;
   is = rw (← same_range message other limit p (p + byte_len w) same le) at.is;
 }
 
-pub OctetsAt-other : (message other : List ℕ) (limit p : ℕ) (octets : List ℕ) (end : ℕ) → take limit message ≡ take limit other → end ≤ limit → OctetsAt message p octets end → OctetsAt other p octets end
+pub OctetsAt-other : (message other : List ℕ) (limit p : ℕ) (octets : List ℕ) (end : ℕ) → take limit message ≡ take limit other
+    → end ≤ limit → OctetsAt message p octets end → OctetsAt other p octets end
 OctetsAt-other message other limit p octets end same le at = record {
   size = at.size;
   within = within_too message other limit end same le at.within;
@@ -79,7 +90,8 @@ module _ {X : Type 0} (At : ℕ → X → ℕ → Type 0) where
   AllAt-push after x (next between first others) at = next between first (AllAt-push after x others at)
 
   -- what is so where each begins, and where they end, is so where they all begin
-  pub AllAt-first : (P : ℕ → Type 0) → ((p end : ℕ) (x : X) → At p x end → P p) → {p end : ℕ} {xs : List X} → AllAt At p xs end → P end → P p
+  pub AllAt-first : (P : ℕ → Type 0) → ((p end : ℕ) (x : X) → At p x end → P p) → {p end : ℕ} {xs : List X} → AllAt At p xs end → P end
+      → P p
   AllAt-first P begins (none e) there = subst P e there
   AllAt-first P begins (next after first others) there = begins _ after _ first
 
@@ -87,11 +99,13 @@ module _ {X : Type 0} (At : ℕ → X → ℕ → Type 0) where
   AllAt-goes_on goes_on (none e) = omega (arith, e)
   AllAt-goes_on goes_on (next after first others) = omega (arith, goes_on _ after _ first, AllAt-goes_on goes_on others)
 
-  pub AllAt-within : (limit : ℕ) → ((p end : ℕ) (x : X) → At p x end → end ≤ limit) → {p end : ℕ} {xs : List X} → AllAt At p xs end → p ≤ limit → end ≤ limit
+  pub AllAt-within : (limit : ℕ) → ((p end : ℕ) (x : X) → At p x end → end ≤ limit) → {p end : ℕ} {xs : List X} → AllAt At p xs end
+      → p ≤ limit → end ≤ limit
   AllAt-within limit within (none e) le = omega (arith, e)
   AllAt-within limit within (next after first others) le = AllAt-within limit within others (within _ after _ first)
 
-  pub AllAt-one : AtMostOne → (p end end' : ℕ) (xs xs' : List X) → AllAt At p xs end → AllAt At p xs' end' → length xs ≡ length xs' → (xs ≡ xs') × (end ≡ end')
+  pub AllAt-one : AtMostOne → (p end end' : ℕ) (xs xs' : List X) → AllAt At p xs end → AllAt At p xs' end' → length xs ≡ length xs'
+      → (xs ≡ xs') × (end ≡ end')
   AllAt-one one p end end' [] [] (none e) (none e') same = (refl, e ∙ sym e')
   AllAt-one one p end end' [] (x' ∷ xs') (none e) (next after first others) same = absurd (omega (arith, same))
   AllAt-one one p end end' (x ∷ xs) [] (next after first others) (none e) same = absurd (omega (arith, same))
@@ -101,7 +115,8 @@ module _ {X : Type 0} (At : ℕ → X → ℕ → Type 0) where
       (rw (k.0, rest.0) refl, rest.1)
 
   -- where fewer were read, the next one stands behind them
-  pub AllAt-next : AtMostOne → (p end end' : ℕ) (xs xs' : List X) → AllAt At p xs end → AllAt At p xs' end' → length xs < length xs' → (x : X) × (after : ℕ) × At end x after
+  pub AllAt-next : AtMostOne → (p end end' : ℕ) (xs xs' : List X) → AllAt At p xs end → AllAt At p xs' end' → length xs < length xs'
+      → (x : X) × (after : ℕ) × At end x after
   AllAt-next one p end end' [] [] (none e) (none e') fewer = absurd (omega (arith, fewer))
   AllAt-next one p end end' [] (x' ∷ xs') (none e) (next after first others) fewer = (x', after, rw e first)
   AllAt-next one p end end' (x ∷ xs) [] (next after first others) (none e) fewer = absurd (omega (arith, fewer))
@@ -109,7 +124,8 @@ module _ {X : Type 0} (At : ℕ → X → ℕ → Type 0) where
       let k = one p after after' x x' first first' in
       AllAt-next one after end end' xs xs' others (rw (k.1) others') (omega (arith, fewer))
 
-pub AllAt-other : {X : Type 0} (At At' : ℕ → X → ℕ → Type 0) (limit : ℕ) → GoesOn At → ((p end : ℕ) (x : X) → At p x end → end ≤ limit → At' p x end)
+pub AllAt-other : {X : Type 0} (At At' : ℕ → X → ℕ → Type 0) (limit : ℕ) → GoesOn At
+    → ((p end : ℕ) (x : X) → At p x end → end ≤ limit → At' p x end)
     → {p end : ℕ} {xs : List X} → AllAt At p xs end → end ≤ limit → AllAt At' p xs end
 AllAt-other At At' limit goes_on move (none e) le = none e
 AllAt-other At At' limit goes_on move (next after first others) le =

@@ -13,11 +13,13 @@ made name code class_code = record { name = name; code = code; class_code = clas
 same_asked : (a b : Asked) → a.name ≡ b.name → a.code ≡ b.code → a.class_code ≡ b.class_code → a ≡ b
 same_asked a b e0 e1 e2 = let same : made a.name a.code a.class_code ≡ made b.name b.code b.class_code = rw (e0, e1, e2) refl in same
 
-pub one_question : OneName → (message : List ℕ) (p end end' : ℕ) (a b : Asked) → QuestionAt message p a end → QuestionAt message p b end' → (a ≡ b) × (end ≡ end')
+pub one_question : OneName → (message : List ℕ) (p end end' : ℕ) (a b : Asked) → QuestionAt message p a end → QuestionAt message p b end'
+    → (a ≡ b) × (end ≡ end')
 one_question one message p end end' a b x y =
     let k = one message p p x.after y.after a.name b.name x.name y.name in
     let code : a.code ≡ b.code = one_number w16 message y.after a.code b.code (rw k.1 at x.code) y.code in
-    let class_code : a.class_code ≡ b.class_code = one_number w16 message (y.after + 2) a.class_code b.class_code (rw k.1 at x.class_code) y.class_code in
+    let class_code : a.class_code ≡ b.class_code =
+    one_number w16 message (y.after + 2) a.class_code b.class_code (rw k.1 at x.class_code) y.class_code in
     (same_asked a b k.0 code class_code, omega (arith, x.ends, y.ends, k.1))
 
 pub question_goes_on : WithinEnd → (message : List ℕ) (p end : ℕ) (a : Asked) → QuestionAt message p a end → p ≤ end
@@ -26,7 +28,8 @@ question_goes_on within message p end a x = omega (arith, (within message p x.af
 pub question_within : (message : List ℕ) (p end : ℕ) (a : Asked) → QuestionAt message p a end → end ≤ length message
 question_within message p end a x = omega (arith, x.ends, x.class_code.within)
 
-pub QuestionAt-other : IsLocal → (message other : List ℕ) (limit : ℕ) → take limit message ≡ take limit other → (p end : ℕ) (a : Asked) → QuestionAt message p a end → end ≤ limit → QuestionAt other p a end
+pub QuestionAt-other : IsLocal → (message other : List ℕ) (limit : ℕ) → take limit message ≡ take limit other → (p end : ℕ) (a : Asked)
+    → QuestionAt message p a end → end ≤ limit → QuestionAt other p a end
 QuestionAt-other local message other limit same p end a x le = record {
   after = x.after;
   name = local message other p x.after a.name x.name (take_less message other limit x.after same (omega (arith, x.ends, le)));
@@ -36,5 +39,6 @@ QuestionAt-other local message other limit same p end a x le = record {
 }
 
 -- a name stands where questions begin, if one stands where they end
-pub questions_named : (message : List ℕ) {p end : ℕ} {questions : List Asked} → AllAt (QuestionAt message) p questions end → NamedAt message end → NamedAt message p
+pub questions_named : (message : List ℕ) {p end : ℕ} {questions : List Asked} → AllAt (QuestionAt message) p questions end
+    → NamedAt message end → NamedAt message p
 questions_named message = AllAt-first (QuestionAt message) (NamedAt message) (λ p end a x. (a.name, x.after, x.name))

@@ -18,25 +18,33 @@ same_record a b e0 e1 e2 = let same : record_of a.owner a.ttl a.rdata ≡ record
 
 -- ---- records
 
-pub one_record : OneName → (message : List ℕ) (p end end' : ℕ) (a b : Record) → RecordAt message p a end → RecordAt message p b end' → (a ≡ b) × (end ≡ end')
+pub one_record : OneName → (message : List ℕ) (p end end' : ℕ) (a b : Record) → RecordAt message p a end → RecordAt message p b end'
+    → (a ≡ b) × (end ≡ end')
 one_record one message p end end' a b x y =
     let k = one message p p x.after y.after a.owner b.owner x.owner y.owner in
     let fixed = rw k.1 at x.fixed in
     let code : x.code ≡ y.code = one_number w16 message y.after x.code y.code fixed.code_at y.fixed.code_at in
-    let class_code : x.class_code ≡ y.class_code = one_number w16 message (y.after + 2) x.class_code y.class_code fixed.class_code_at y.fixed.class_code_at in
+    let class_code : x.class_code ≡ y.class_code =
+    one_number w16 message (y.after + 2) x.class_code y.class_code fixed.class_code_at y.fixed.class_code_at in
     let ttl : a.ttl ≡ b.ttl = one_number w32 message (y.after + 4) a.ttl b.ttl fixed.ttl_at y.fixed.ttl_at in
     let size : x.size ≡ y.size = one_number w16 message (y.after + 8) x.size y.size fixed.size_at y.fixed.size_at in
     let ends : end ≡ end' = omega (arith, x.ends, y.ends, k.1, size) in
-    let rdata = rw (k.1, code, class_code, ends) at x.rdata in
-    (same_record a b k.0 ttl (one_format one (data_format y.code y.class_code) message (y.after + 10) y.code y.class_code end' a.rdata b.rdata rdata y.rdata), ends)
+    let rdata = rw (k.1, code, class_code, ends) at x.rdata in (
+      same_record a b k.0 ttl
+          (one_format one (data_format y.code y.class_code) message
+          (y.after + 10) y.code y.class_code end' a.rdata b.rdata rdata y.rdata),
+      ends,
+    )
 
 pub record_goes_on : WithinEnd → (message : List ℕ) (p end : ℕ) (a : Record) → RecordAt message p a end → p ≤ end
 record_goes_on within message p end a x = omega (arith, (within message p x.after a.owner x.owner).0, x.ends)
 
 pub record_within : WithinEnd → (message : List ℕ) (p end : ℕ) (a : Record) → RecordAt message p a end → end ≤ length message
-record_within within message p end a x = format_within within (data_format x.code x.class_code) message (x.after + 10) x.code x.class_code end a.rdata x.rdata
+record_within within message p end a x =
+    format_within within (data_format x.code x.class_code) message (x.after + 10) x.code x.class_code end a.rdata x.rdata
 
-pub RecordAt-other : WithinEnd → IsLocal → (message other : List ℕ) (limit : ℕ) → take limit message ≡ take limit other → (p end : ℕ) (a : Record) → RecordAt message p a end → end ≤ limit → RecordAt other p a end
+pub RecordAt-other : WithinEnd → IsLocal → (message other : List ℕ) (limit : ℕ) → take limit message ≡ take limit other
+    → (p end : ℕ) (a : Record) → RecordAt message p a end → end ≤ limit → RecordAt other p a end
 RecordAt-other within local message other limit same p end a x le = record {
   after = x.after;
   code = x.code;
@@ -45,14 +53,17 @@ RecordAt-other within local message other limit same p end a x le = record {
   owner = local message other p x.after a.owner x.owner (take_less message other limit x.after same (omega (arith, x.ends, le)));
   fixed = record {
     code_at = NumberAt-other w16 message other limit x.after x.code same (omega (arith, x.ends, le)) x.fixed.code_at;
-    class_code_at = NumberAt-other w16 message other limit (x.after + 2) x.class_code same (omega (arith, x.ends, le)) x.fixed.class_code_at;
+    class_code_at =
+        NumberAt-other w16 message other limit (x.after + 2) x.class_code same (omega (arith, x.ends, le)) x.fixed.class_code_at;
     ttl_at = NumberAt-other w32 message other limit (x.after + 4) a.ttl same (omega (arith, x.ends, le)) x.fixed.ttl_at;
     size_at = NumberAt-other w16 message other limit (x.after + 8) x.size same (omega (arith, x.ends, le)) x.fixed.size_at;
   };
   ends = x.ends;
-  rdata = FormatAt-other within local message other limit same (data_format x.code x.class_code) (x.after + 10) x.code x.class_code end a.rdata x.rdata le;
+  rdata = FormatAt-other within local message other limit same (data_format x.code x.class_code)
+      (x.after + 10) x.code x.class_code end a.rdata x.rdata le;
 }
 
 -- a name stands where records begin, if one stands where they end
-pub records_named : (message : List ℕ) {p end : ℕ} {records : List Record} → AllAt (RecordAt message) p records end → NamedAt message end → NamedAt message p
+pub records_named : (message : List ℕ) {p end : ℕ} {records : List Record} → AllAt (RecordAt message) p records end → NamedAt message end
+    → NamedAt message p
 records_named message = AllAt-first (RecordAt message) (NamedAt message) (λ p end a x. (a.owner, x.after, x.owner))

@@ -21,7 +21,8 @@ use Rattle.dns_message.proofs.Names.{IsReadAgain}
 use Rattle.dns_message.proofs.WrittenOctets.{length-two_octets, length-four_octets, length-srv_octets, length-naptr_octets, length-soa_octets}
 use Rattle.dns_message.proofs.WrittenPlaces.{Stands, Stands-at, Stands-first, Stands-second, octets_at, index_at, two_at, four_at, name_at}
 
-string_at : (message : List ℕ) (place : ℕ) (string : List ℕ) → length string ≤ 255 → Stands message place (string_octets string) → CharStringAt message place string (place + length (string_octets string))
+string_at : (message : List ℕ) (place : ℕ) (string : List ℕ) → length string ≤ 255 → Stands message place (string_octets string)
+    → CharStringAt message place string (place + length (string_octets string))
 unfolding string_octets
 string_at message place string short s = record { short = short; stands = octets_at message place (length string ∷ string) s }
 
@@ -35,7 +36,8 @@ pub record Parts (message : List ℕ) (place : ℕ) (xs ys : List ℕ) : Type 0 
 pub parts : (message : List ℕ) (place : ℕ) (xs ys : List ℕ) → Stands message place (xs ++ ys) → Parts message place xs ys
 parts message place xs ys s = record { first = Stands-first message place xs ys s; others = Stands-second message place xs ys s }
 
-srv_at : IsReadAgain → (message : List ℕ) (place : ℕ) (server : SrvRecord) → SrvFits server → Stands message place (srv_octets server) → SrvAt message place server (place + length (srv_octets server))
+srv_at : IsReadAgain → (message : List ℕ) (place : ℕ) (server : SrvRecord) → SrvFits server → Stands message place (srv_octets server)
+    → SrvAt message place server (place + length (srv_octets server))
 unfolding srv_octets
 srv_at again message place server fits s =
     let priority : List ℕ = two_octets server.priority in
@@ -48,15 +50,18 @@ srv_at again message place server fits s =
     let sizes : length (priority ++ weight) ≡ 4 = simp (length-append, length-two_octets) in
     let sizes' : length (priority ++ weight ++ port) ≡ 6 = simp (length-append, length-two_octets) in
     let there = name_at again message (place + 6) server.target fits.target (Stands-at (place + 6) (omega (arith, sizes')) p3.others) in
-    let end : place + 6 + length target ≡ place + length (priority ++ weight ++ port ++ target) = omega (arith, sizes', length-append (priority ++ weight ++ port) target) in
+    let end : place + 6 + length target ≡ place + length (priority ++ weight ++ port ++ target) =
+    omega (arith, sizes', length-append (priority ++ weight ++ port) target) in
     record {
       priority = two_at message place server.priority fits.priority p1.first;
-      weight = two_at message (place + 2) server.weight fits.weight (Stands-at (place + 2) (omega (arith, length-two_octets server.priority)) p1.others);
+      weight = two_at message (place + 2) server.weight fits.weight
+          (Stands-at (place + 2) (omega (arith, length-two_octets server.priority)) p1.others);
       port = two_at message (place + 4) server.port fits.port (Stands-at (place + 4) (omega (arith, sizes)) p2.others);
       target = rw end at there;
     }
 
-naptr_at : IsReadAgain → (message : List ℕ) (place : ℕ) (rule : NaptrRecord) → NaptrFits rule → Stands message place (naptr_octets rule) → NaptrAt message place rule (place + length (naptr_octets rule))
+naptr_at : IsReadAgain → (message : List ℕ) (place : ℕ) (rule : NaptrRecord) → NaptrFits rule → Stands message place (naptr_octets rule)
+    → NaptrAt message place rule (place + length (naptr_octets rule))
 unfolding naptr_octets
 naptr_at again message place rule fits s =
     let order : List ℕ = two_octets rule.order in
@@ -67,25 +72,30 @@ naptr_at again message place rule fits s =
     let replacement : List ℕ = wire_of rule.replacement in
     let p1 = parts message place order (preference ++ (flags ++ (services ++ (regexp ++ replacement)))) (simp append_assoc at s) in
     let p2 = parts message (place + length order) preference (flags ++ (services ++ (regexp ++ replacement))) p1.others in
-    let flags_start : place + 4 ≡ place + length order + length preference = omega (arith, length-two_octets rule.order, length-two_octets rule.preference) in
+    let flags_start : place + 4 ≡ place + length order + length preference =
+    omega (arith, length-two_octets rule.order, length-two_octets rule.preference) in
     let p3 = parts message (place + 4) flags (services ++ (regexp ++ replacement)) (Stands-at (place + 4) flags_start p2.others) in
     let p4 = parts message (place + 4 + length flags) services (regexp ++ replacement) p3.others in
     let p5 = parts message (place + 4 + length flags + length services) regexp replacement p4.others in
-    let there = name_at again message (place + 4 + length flags + length services + length regexp) rule.replacement fits.replacement p5.others in
-    let end : place + 4 + length flags + length services + length regexp + length replacement ≡ place + length (naptr_octets rule) = simp (length-append, length-two_octets) (omega arith) in
+    let there = name_at again message
+    (place + 4 + length flags + length services + length regexp) rule.replacement fits.replacement p5.others in
+    let end : place + 4 + length flags + length services + length regexp + length replacement ≡ place + length (naptr_octets rule) =
+    simp (length-append, length-two_octets) (omega arith) in
     record {
       services_start = place + 4 + length flags;
       regexp_start = place + 4 + length flags + length services;
       replacement_start = place + 4 + length flags + length services + length regexp;
       order = two_at message place rule.order fits.order p1.first;
-      preference = two_at message (place + 2) rule.preference fits.preference (Stands-at (place + 2) (omega (arith, length-two_octets rule.order)) p2.first);
+      preference = two_at message (place + 2) rule.preference fits.preference
+          (Stands-at (place + 2) (omega (arith, length-two_octets rule.order)) p2.first);
       flags = string_at message (place + 4) rule.flags fits.flags p3.first;
       services = string_at message (place + 4 + length flags) rule.services fits.services p4.first;
       regexp = string_at message (place + 4 + length flags + length services) rule.regexp fits.regexp p5.first;
       replacement = rw end at there;
     }
 
-soa_at : IsReadAgain → (message : List ℕ) (place : ℕ) (authority : SoaRecord) → SoaFits authority → Stands message place (soa_octets authority) → SoaAt message place authority (place + length (soa_octets authority))
+soa_at : IsReadAgain → (message : List ℕ) (place : ℕ) (authority : SoaRecord) → SoaFits authority
+    → Stands message place (soa_octets authority) → SoaAt message place authority (place + length (soa_octets authority))
 unfolding soa_octets
 soa_at again message place authority fits s =
     let mname : List ℕ = wire_of authority.mname in
@@ -99,9 +109,12 @@ soa_at again message place authority fits s =
     let p1 = parts message place mname (rname ++ (serial ++ (refresh ++ (retry ++ (expire ++ minimum))))) (simp append_assoc at s) in
     let p2 = parts message (place + length mname) rname (serial ++ (refresh ++ (retry ++ (expire ++ minimum)))) p1.others in
     let p3 = parts message start serial (refresh ++ (retry ++ (expire ++ minimum))) p2.others in
-    let p4 = parts message (start + 4) refresh (retry ++ (expire ++ minimum)) (Stands-at (start + 4) (omega (arith, length-four_octets authority.serial)) p3.others) in
-    let p5 = parts message (start + 8) retry (expire ++ minimum) (Stands-at (start + 8) (omega (arith, length-four_octets authority.refresh)) p4.others) in
-    let p6 = parts message (start + 12) expire minimum (Stands-at (start + 12) (omega (arith, length-four_octets authority.retry)) p5.others) in
+    let p4 = parts message (start + 4) refresh (retry ++ (expire ++ minimum))
+    (Stands-at (start + 4) (omega (arith, length-four_octets authority.serial)) p3.others) in
+    let p5 = parts message (start + 8) retry (expire ++ minimum)
+    (Stands-at (start + 8) (omega (arith, length-four_octets authority.refresh)) p4.others) in
+    let p6 = parts message (start + 12) expire minimum
+    (Stands-at (start + 12) (omega (arith, length-four_octets authority.retry)) p5.others) in
     record {
       rname_start = place + length mname;
       numbers_start = start;
@@ -111,7 +124,8 @@ soa_at again message place authority fits s =
       refresh = four_at message (start + 4) authority.refresh fits.refresh p4.first;
       retry = four_at message (start + 8) authority.retry fits.retry p5.first;
       expire = four_at message (start + 12) authority.expire fits.expire p6.first;
-      minimum = four_at message (start + 16) authority.minimum fits.minimum (Stands-at (start + 16) (omega (arith, length-four_octets authority.expire)) p6.others);
+      minimum = four_at message (start + 16) authority.minimum fits.minimum
+          (Stands-at (start + 16) (omega (arith, length-four_octets authority.expire)) p6.others);
       ends = simp (length-append, length-four_octets) (omega arith);
     }
 
@@ -137,7 +151,8 @@ rdata_at again message place (Soa authority) fits s = (authority, refl, soa_at a
 rdata_at again message place (Other other) fits s =
     rw fits.format (other.octets, refl, record { short = fits.short; stands = octets_at message place other.octets s })
 
-pub record_at : IsReadAgain → (message : List ℕ) (place : ℕ) (entry : Record) → RecordFits entry → Stands message place (record_octets entry) → RecordAt message place entry (place + length (record_octets entry))
+pub record_at : IsReadAgain → (message : List ℕ) (place : ℕ) (entry : Record) → RecordFits entry
+    → Stands message place (record_octets entry) → RecordAt message place entry (place + length (record_octets entry))
 unfolding record_octets
 record_at again message place entry fits s =
     let owner : List ℕ = wire_of entry.owner in
@@ -149,11 +164,15 @@ record_at again message place entry fits s =
     let after : ℕ = place + length owner in
     let p1 = parts message place owner (code ++ (class_code ++ (ttl ++ (size ++ rdata)))) (simp append_assoc at s) in
     let p2 = parts message after code (class_code ++ (ttl ++ (size ++ rdata))) p1.others in
-    let p3 = parts message (after + 2) class_code (ttl ++ (size ++ rdata)) (Stands-at (after + 2) (omega (arith, length-two_octets (rdata_code entry.rdata))) p2.others) in
-    let p4 = parts message (after + 4) ttl (size ++ rdata) (Stands-at (after + 4) (omega (arith, length-two_octets (rdata_class entry.rdata))) p3.others) in
+    let p3 = parts message (after + 2) class_code (ttl ++ (size ++ rdata))
+    (Stands-at (after + 2) (omega (arith, length-two_octets (rdata_code entry.rdata))) p2.others) in
+    let p4 = parts message (after + 4) ttl (size ++ rdata)
+    (Stands-at (after + 4) (omega (arith, length-two_octets (rdata_class entry.rdata))) p3.others) in
     let p5 = parts message (after + 8) size rdata (Stands-at (after + 8) (omega (arith, length-four_octets entry.ttl)) p4.others) in
-    let there = rdata_at again message (after + 10) entry.rdata fits.rdata (Stands-at (after + 10) (omega (arith, length-two_octets (length rdata))) p5.others) in
-    let end : after + 10 + length rdata ≡ place + length (record_octets entry) = simp (length-append, length-two_octets, length-four_octets) (omega arith) in
+    let there = rdata_at again message (after + 10) entry.rdata fits.rdata
+    (Stands-at (after + 10) (omega (arith, length-two_octets (length rdata))) p5.others) in
+    let end : after + 10 + length rdata ≡ place + length (record_octets entry) =
+    simp (length-append, length-two_octets, length-four_octets) (omega arith) in
     record {
       after = after;
       code = rdata_code entry.rdata;
@@ -170,7 +189,8 @@ record_at again message place entry fits s =
       rdata = rw end at there;
     }
 
-pub question_at : IsReadAgain → (message : List ℕ) (place : ℕ) (asked : Asked) → QuestionFits asked → Stands message place (question_octets asked) → QuestionAt message place asked (place + length (question_octets asked))
+pub question_at : IsReadAgain → (message : List ℕ) (place : ℕ) (asked : Asked) → QuestionFits asked
+    → Stands message place (question_octets asked) → QuestionAt message place asked (place + length (question_octets asked))
 unfolding question_octets
 question_at again message place asked fits s =
     let name : List ℕ = wire_of asked.name in
@@ -183,7 +203,8 @@ question_at again message place asked fits s =
       after = after;
       name = name_at again message place asked.name fits.name p1.first;
       code = two_at message after asked.code fits.code p2.first;
-      class_code = two_at message (after + 2) asked.class_code fits.class_code (Stands-at (after + 2) (omega (arith, length-two_octets asked.code)) p2.others);
+      class_code = two_at message (after + 2) asked.class_code fits.class_code
+          (Stands-at (after + 2) (omega (arith, length-two_octets asked.code)) p2.others);
       ends = simp (length-append, length-two_octets) (omega arith);
     }
 
@@ -211,7 +232,8 @@ pub record CountsStand (message : List ℕ) (a b c d : ℕ) : Type 0 where
   pub authority : NumberAt w16 message 8 c
   pub additional : NumberAt w16 message 10 d
 
-pub counts_at : (message : List ℕ) (a b c d : ℕ) → a < 2 ^ 16 → b < 2 ^ 16 → c < 2 ^ 16 → d < 2 ^ 16 → Stands message 4 (count_octets a b c d) → CountsStand message a b c d
+pub counts_at : (message : List ℕ) (a b c d : ℕ) → a < 2 ^ 16 → b < 2 ^ 16 → c < 2 ^ 16 → d < 2 ^ 16
+    → Stands message 4 (count_octets a b c d) → CountsStand message a b c d
 unfolding count_octets
 counts_at message a b c d fits_a fits_b fits_c fits_d s =
     let p1 = parts message 4 (two_octets a) (two_octets b ++ (two_octets c ++ two_octets d)) (simp append_assoc at s) in

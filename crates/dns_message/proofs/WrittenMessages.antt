@@ -20,23 +20,30 @@ use Rattle.dns_message.proofs.WrittenOctets.{length-header_octets, length-count_
 use Rattle.dns_message.proofs.WrittenPlaces.{Stands, Stands-at, all_at}
 use Rattle.dns_message.proofs.WrittenLayouts.{parts, header_at, counts_at, question_at, record_at}
 
-message_at : IsReadAgain → (octets : List ℕ) (message : Message) → MessageFits message → length (plain message) ≤ 65535 → Stands octets 0 (plain message) → MessageAt octets message (length (plain message))
+message_at : IsReadAgain → (octets : List ℕ) (message : Message) → MessageFits message → length (plain message) ≤ 65535
+    → Stands octets 0 (plain message) → MessageAt octets message (length (plain message))
 unfolding plain
 message_at again octets message fits short s =
     let header : List ℕ = header_octets message.header in
-    let counts : List ℕ = count_octets (length message.questions) (length message.answers) (length message.authority) (length message.additional) in
+    let counts : List ℕ =
+    count_octets (length message.questions) (length message.answers) (length message.authority) (length message.additional) in
     let questions : List ℕ = flat_map question_octets message.questions in
     let answers : List ℕ = flat_map record_octets message.answers in
     let authority : List ℕ = flat_map record_octets message.authority in
     let additional : List ℕ = flat_map record_octets message.additional in
     let p1 = parts octets 0 header (counts ++ (questions ++ (answers ++ (authority ++ additional)))) (simp append_assoc at s) in
-    let p2 = parts octets 4 counts (questions ++ (answers ++ (authority ++ additional))) (Stands-at 4 (omega (arith, length-header_octets message.header)) p1.others) in
-    let eight = length-count_octets (length message.questions) (length message.answers) (length message.authority) (length message.additional) in
+    let p2 = parts octets 4 counts (questions ++ (answers ++ (authority ++ additional)))
+    (Stands-at 4 (omega (arith, length-header_octets message.header)) p1.others) in
+    let eight = length-count_octets (length message.questions) (length message.answers) (length message.authority)
+    (length message.additional) in
     let p3 = parts octets 12 questions (answers ++ (authority ++ additional)) (Stands-at 12 (omega (arith, eight)) p2.others) in
     let p4 = parts octets (12 + length questions) answers (authority ++ additional) p3.others in
     let p5 = parts octets (12 + length questions + length answers) authority additional p4.others in
     let fit = counts_fit message 65535 short in
-    let numbers = counts_at octets (length message.questions) (length message.answers) (length message.authority) (length message.additional) (omega (arith, fit.questions)) (omega (arith, fit.answers)) (omega (arith, fit.authority)) (omega (arith, fit.additional)) p2.first in
+    let numbers =
+    counts_at octets (length message.questions) (length message.answers) (length message.authority) (length message.additional)
+    (omega (arith, fit.questions)) (omega (arith, fit.answers)) (omega (arith, fit.authority))
+    (omega (arith, fit.additional)) p2.first in
     let records = all_at octets record_octets RecordFits (RecordAt octets) (record_at again octets) in
     let last = records message.additional (12 + length questions + length answers + length authority) fits.additional p5.others in
     record {
@@ -48,7 +55,8 @@ message_at again octets message fits short s =
       answers_start = 12 + length questions;
       authority_start = 12 + length questions + length answers;
       additional_start = 12 + length questions + length answers + length authority;
-      questions = all_at octets question_octets QuestionFits (QuestionAt octets) (question_at again octets) message.questions 12 fits.questions p3.first;
+      questions = all_at octets question_octets QuestionFits (QuestionAt octets)
+          (question_at again octets) message.questions 12 fits.questions p3.first;
       answers = records message.answers (12 + length questions) fits.answers p4.first;
       authority = records message.authority (12 + length questions + length answers) fits.authority p5.first;
       additional = rw (← length-plain message) at last;
@@ -56,12 +64,16 @@ message_at again octets message fits short s =
 
 pub plain_spells : IsReadAgain → (message : Message) → MessageFits message → length (plain message) ≤ 65535 → Spells (plain message) message
 plain_spells again message fits short =
-    message_at again (plain message) message fits short (record { front = []; back = []; is = sym (append-nil (plain message)); before = refl })
+    message_at again (plain message) message fits short
+    (record { front = []; back = []; is = sym (append-nil (plain message)); before = refl })
 
-pub plain_spells-front : IsReadAgain → (message : Message) (back : List ℕ) → MessageFits message → length (plain message) ≤ 65535 → Spells (take (length (plain message)) (plain message ++ back)) message
-plain_spells-front again message back fits short = rw (take_at (plain message) back (length (plain message)) refl) (plain_spells again message fits short)
+pub plain_spells-front : IsReadAgain → (message : Message) (back : List ℕ) → MessageFits message → length (plain message) ≤ 65535
+    → Spells (take (length (plain message)) (plain message ++ back)) message
+plain_spells-front again message back fits short =
+    rw (take_at (plain message) back (length (plain message)) refl) (plain_spells again message fits short)
 
-pub spelled : IsReadAgain → (octets : List ℕ) (message : Message) → octets ≡ plain message → MessageFits message → length (plain message) ≤ 65535 → Spells octets message
+pub spelled : IsReadAgain → (octets : List ℕ) (message : Message) → octets ≡ plain message → MessageFits message
+    → length (plain message) ≤ 65535 → Spells octets message
 spelled again octets message e fits short = rw e (plain_spells again message fits short)
 
 pub both_ok : {T E : Type 0} (r : Result T E) (P Q R : T → Type 0) → ((x : T) → P x → Q x → R x) → IfOk r P → IfOk r Q → IfOk r R
@@ -70,9 +82,11 @@ both_ok (Err e) P Q R from p q = tt
 
 -- ---- a message without records
 
-few_questions : (questions : List Asked) → AllByRecursion QuestionFits questions → length questions ≤ 1 → length (flat_map question_octets questions) ≤ 259
+few_questions : (questions : List Asked) → AllByRecursion QuestionFits questions → length questions ≤ 1
+    → length (flat_map question_octets questions) ≤ 259
 few_questions [] each few = omega arith
-few_questions (asked ∷ []) each few = omega (arith, length-append (question_octets asked) [], length-question_octets asked, each.0.name.short)
+few_questions (asked ∷ []) each few =
+    omega (arith, length-append (question_octets asked) [], length-question_octets asked, each.0.name.short)
 few_questions (asked ∷ second ∷ others) each few = absurd (omega (arith, few))
 
 pub cut_short : (message : Message) → MessageFits (cut message) → length message.questions ≤ 1 → length (plain (cut message)) ≤ 512
@@ -88,9 +102,11 @@ pub fitted-whole : (message : Message) → length (plain message) ≤ 512 → fi
 fitted-whole message short = rw (le-leb (length (plain message)) 512 short) refl
 
 pub query_octets : (id : ℕ) (question : Question)
-    → header_octets (query_of id question).header ++ count_octets 1 0 0 0 ++ question_octets (asked_of question) ≡ plain (query_of id question)
+    → header_octets (query_of id question).header ++ count_octets 1 0 0 0 ++ question_octets (asked_of question)
+    ≡ plain (query_of id question)
 unfolding plain
 query_octets id question = simp append-nil
 
 pub query_short : (id : ℕ) (question : Question) → MessageFits (query_of id question) → length (plain (query_of id question)) ≤ 65535
-query_short id question fits = omega (arith, length-plain (query_of id question), few_questions (asked_of question ∷ []) fits.questions (omega arith))
+query_short id question fits =
+    omega (arith, length-plain (query_of id question), few_questions (asked_of question ∷ []) fits.questions (omega arith))

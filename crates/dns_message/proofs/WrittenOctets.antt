@@ -29,11 +29,13 @@ pub length-srv_octets : (server : SrvRecord) → length (srv_octets server) ≡ 
 unfolding srv_octets
 length-srv_octets server = simp (length-append, length-two_octets) (omega arith)
 
-pub length-naptr_octets : (rule : NaptrRecord) → length (naptr_octets rule) ≡ 7 + length rule.flags + length rule.services + length rule.regexp + length (wire_of rule.replacement)
+pub length-naptr_octets : (rule : NaptrRecord)
+    → length (naptr_octets rule) ≡ 7 + length rule.flags + length rule.services + length rule.regexp + length (wire_of rule.replacement)
 unfolding naptr_octets
 length-naptr_octets rule = simp (length-append, length-two_octets, length-string_octets) (omega arith)
 
-pub length-soa_octets : (authority : SoaRecord) → length (soa_octets authority) ≡ length (wire_of authority.mname) + length (wire_of authority.rname) + 20
+pub length-soa_octets : (authority : SoaRecord)
+    → length (soa_octets authority) ≡ length (wire_of authority.mname) + length (wire_of authority.rname) + 20
 unfolding soa_octets
 length-soa_octets authority = simp (length-append, length-four_octets) (omega arith)
 
@@ -41,7 +43,8 @@ pub length-question_octets : (asked : Asked) → length (question_octets asked) 
 unfolding question_octets
 length-question_octets asked = simp (length-append, length-two_octets) (omega arith)
 
-pub length-record_octets : (entry : Record) → length (record_octets entry) ≡ length (wire_of entry.owner) + 10 + length (rdata_octets entry.rdata)
+pub length-record_octets : (entry : Record)
+    → length (record_octets entry) ≡ length (wire_of entry.owner) + 10 + length (rdata_octets entry.rdata)
 unfolding record_octets
 length-record_octets entry = simp (length-append, length-two_octets, length-four_octets) (omega arith)
 
@@ -54,19 +57,28 @@ unfolding count_octets
 length-count_octets questions answers authority additional = simp (length-append, length-two_octets)
 
 -- there are no fewer octets than parts
-pub length-flat_map-least : {X : Type 0} (octets_of : X → List ℕ) → ((x : X) → 0 < length (octets_of x)) → (xs : List X) → length xs ≤ length (flat_map octets_of xs)
+pub length-flat_map-least : {X : Type 0} (octets_of : X → List ℕ) → ((x : X) → 0 < length (octets_of x)) → (xs : List X)
+    → length xs ≤ length (flat_map octets_of xs)
 length-flat_map-least octets_of some [] = omega arith
-length-flat_map-least octets_of some (x ∷ xs) = omega (arith, some x, length-append (octets_of x) (flat_map octets_of xs), length-flat_map-least octets_of some xs)
+length-flat_map-least octets_of some (x ∷ xs) =
+    omega (arith, some x, length-append (octets_of x) (flat_map octets_of xs), length-flat_map-least octets_of some xs)
 
 -- those of the parts before one and of that one are among those of all parts
 pub length-flat_map-item : {X : Type 0} (octets_of : X → List ℕ) (xs : List X) (i : ℕ) (x : X) → i < length xs → x ≡ get_or xs i x
     → length (flat_map octets_of (take i xs)) + length (octets_of x) ≤ length (flat_map octets_of xs)
 length-flat_map-item octets_of [] i x lt is = absurd (omega (arith, lt))
-length-flat_map-item octets_of (y ∷ ys) zero x lt is = omega (arith, ap (λ z. length (octets_of z)) is, length-append (octets_of y) (flat_map octets_of ys))
+length-flat_map-item octets_of (y ∷ ys) zero x lt is =
+    omega (arith, ap (λ z. length (octets_of z)) is, length-append (octets_of y) (flat_map octets_of ys))
 length-flat_map-item octets_of (y ∷ ys) (suc i) x lt is =
-    omega (arith, length-append (octets_of y) (flat_map octets_of ys), length-append (octets_of y) (flat_map octets_of (take i ys)), length-flat_map-item octets_of ys i x (omega (arith, lt)) is)
+    omega (
+      arith,
+      length-append (octets_of y) (flat_map octets_of ys),
+      length-append (octets_of y) (flat_map octets_of (take i ys)),
+      length-flat_map-item octets_of ys i x (omega (arith, lt)) is,
+    )
 
-pub length-plain : (message : Message) → length (plain message) ≡ 12 + length (flat_map question_octets message.questions) + length (flat_map record_octets message.answers)
+pub length-plain : (message : Message)
+    → length (plain message) ≡ 12 + length (flat_map question_octets message.questions) + length (flat_map record_octets message.answers)
     + length (flat_map record_octets message.authority) + length (flat_map record_octets message.additional)
 unfolding plain
 length-plain message = simp (length-append, length-header_octets, length-count_octets) (omega arith)
@@ -77,16 +89,20 @@ take-next : {X : Type 0} (xs : List X) (i : ℕ) (x : X) → i < length xs → x
 take-next xs i x lt is = (take_at_read xs i x lt).1 ∙ ap (λ y. take i xs ++ y ∷ []) (sym is)
 
 -- the octets of the parts before the next one, and those of that one behind them
-pub octets-next : {X : Type 0} (octets_of : X → List ℕ) (front before after : List ℕ) (xs : List X) (i : ℕ) (x : X) → i < length xs → x ≡ get_or xs i x
-    → before ≡ front ++ flat_map octets_of (take i xs) → after ≡ before ++ octets_of x → after ≡ front ++ flat_map octets_of (take (i + 1) xs)
+pub octets-next : {X : Type 0} (octets_of : X → List ℕ) (front before after : List ℕ) (xs : List X) (i : ℕ) (x : X) → i < length xs
+    → x ≡ get_or xs i x
+    → before ≡ front ++ flat_map octets_of (take i xs) → after ≡ before ++ octets_of x
+    → after ≡ front ++ flat_map octets_of (take (i + 1) xs)
 octets-next octets_of front before after xs i x lt is so_far more =
-    more ∙ ap (λ l. l ++ octets_of x) so_far ∙ flat_map_more octets_of front (take i xs) x ∙ ap (λ l. front ++ flat_map octets_of l) (sym (take-next xs i x lt is))
+    more ∙ ap (λ l. l ++ octets_of x) so_far ∙ flat_map_more octets_of front (take i xs) x ∙ ap
+    (λ l. front ++ flat_map octets_of l) (sym (take-next xs i x lt is))
 
 all-push : {X : Type 0} (P : X → Type 0) (xs : List X) (x : X) → AllByRecursion P xs → P x → AllByRecursion P (xs ++ x ∷ [])
 all-push P [] x all here = (here, tt)
 all-push P (y ∷ ys) x all here = (all.0, all-push P ys x all.1 here)
 
-pub all-next : {X : Type 0} (P : X → Type 0) (xs : List X) (i : ℕ) (x : X) → i < length xs → x ≡ get_or xs i x → AllByRecursion P (take i xs) → P x → AllByRecursion P (take (i + 1) xs)
+pub all-next : {X : Type 0} (P : X → Type 0) (xs : List X) (i : ℕ) (x : X) → i < length xs → x ≡ get_or xs i x
+    → AllByRecursion P (take i xs) → P x → AllByRecursion P (take (i + 1) xs)
 all-next P xs i x lt is all here = rw (take-next xs i x lt is) (all-push P (take i xs) x all here)
 
 -- ---- the counts of a message fit where its octets do
@@ -109,4 +125,5 @@ counts_fit message limit short =
       additional = omega (arith, size, length-flat_map-least record_octets some' message.additional);
     }
 
-pub ruleset lengths = (length-srv_octets, length-naptr_octets, length-soa_octets, length-question_octets, length-record_octets, length-plain)
+pub ruleset lengths =
+    (length-srv_octets, length-naptr_octets, length-soa_octets, length-question_octets, length-record_octets, length-plain)

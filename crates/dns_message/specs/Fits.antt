@@ -1,5 +1,5 @@
--- What the types of a message's parts keep, so that octets can say it: numbers that fit, names, and strings and
--- addresses of their length.
+-- What the types of a message's parts keep, so that octets can say it: numbers that fit, names, and
+-- strings and addresses of their length.
 use Rattle.std.specs.Prelude.{◌≡◌, ◌^◌, ◌<◌, ◌≤◌, length}
 use Rattle.std.specs.List.{AllByRecursion}
 use Rattle.dns_name.specs.Labels.{IsName}

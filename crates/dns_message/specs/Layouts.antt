@@ -15,7 +15,8 @@ use Rattle.dns_message.specs.declared.srv.SrvRecord.{SrvRecord}
 -- ---- what a record's data has
 
 -- so many octets of an address (RFC 1035 3.4.1, 3596 2.2)
-pub record AddressAt (size : ℕ) (message : List ℕ) (place : ℕ) (octets : List ℕ) (end : ℕ) : Type 0 where
+pub record AddressAt (size : ℕ) (message : List ℕ) (place : ℕ) (octets : List ℕ)
+    (end : ℕ) : Type 0 where
   pub size_is : length octets ≡ size
   pub stands : OctetsAt message place octets end
 
@@ -57,7 +58,8 @@ pub record SoaAt (message : List ℕ) (place : ℕ) (authority : SoaRecord) (end
   pub ends : end ≡ numbers_start + 20
 
 -- of any other type or class: the octets as they stand
-pub record OtherAt (message : List ℕ) (place code class_code : ℕ) (octets : List ℕ) (end : ℕ) : Type 0 where
+pub record OtherAt (message : List ℕ) (place code class_code : ℕ) (octets : List ℕ)
+    (end : ℕ) : Type 0 where
   pub short : length octets ≤ 65535
   pub stands : OctetsAt message place octets end
 
@@ -78,7 +80,8 @@ FormatAt format.Cname message place code class_code rdata end =
 FormatAt format.Soa message place code class_code rdata end =
     (authority : SoaRecord) × (rdata ≡ Soa authority) × SoaAt message place authority end
 FormatAt format.Other message place code class_code rdata end =
-    (octets : List ℕ) × (rdata ≡ Other (record { code = code; class_code = class_code; octets = octets }))
+    (octets : List ℕ)
+    × (rdata ≡ Other (record { code = code; class_code = class_code; octets = octets }))
     × OtherAt message place code class_code octets end
 
 -- RDATA of this type and class stands from a place to another

@@ -13,8 +13,8 @@ use Rattle.dns_message.specs.declared.refusal.Part.TheVariants.{Header, Question
 use Rattle.dns_message.specs.declared.refusal.MessageRefusal.{MessageRefusal}
 use Rattle.dns_message.specs.declared.refusal.MessageRefusal.TheVariants.{TooLong, Malformed, Memory}
 
--- The octets before this end are the header, the questions and the records of the message, one after the
--- other. Names may end in pointers, which count from the first octet.
+-- The octets before this end are the header, the questions and the records of the message, one
+-- after the other. Names may end in pointers, which count from the first octet.
 pub record MessageAt (octets : List ℕ) (message : Message) (end : ℕ) : Type 0 where
   pub header : HeaderAt octets message.header
   pub question_count : NumberAt w16 octets 4 (length message.questions)

@@ -21,5 +21,6 @@ NamedAt message place = (name : List (List ℕ)) × (end : ℕ) × NameAt messag
 -- what stands one after the other from a place to another
 pub data AllAt {X : Type 0} (At : ℕ → X → ℕ → Type 0) : ℕ → List X → ℕ → Type 0 where
   none : {place end : ℕ} → end ≡ place → AllAt At place [] end
-  next : {place end : ℕ} {first : X} {others : List X} (after : ℕ) → At place first after → AllAt At after others end
+  next : {place end : ℕ} {first : X} {others : List X} (after : ℕ) → At place first after
+      → AllAt At after others end
       → AllAt At place (first ∷ others) end

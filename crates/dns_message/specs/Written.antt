@@ -89,7 +89,8 @@ question_octets asked = wire_of asked.name ++ two_octets asked.code ++ two_octet
 -- NAME, TYPE, CLASS, TTL, RDLENGTH and RDATA (RFC 1035 4.1.3)
 unfoldable pub record_octets : Record → List ℕ
 record_octets entry =
-    wire_of entry.owner ++ two_octets (rdata_code entry.rdata) ++ two_octets (rdata_class entry.rdata)
+    wire_of entry.owner ++ two_octets (rdata_code entry.rdata)
+    ++ two_octets (rdata_class entry.rdata)
     ++ four_octets entry.ttl
     ++ two_octets (length (rdata_octets entry.rdata)) ++ rdata_octets entry.rdata
 

@@ -1,4 +1,4 @@
-//! Laws of messages. A call of one does nothing: its contract tells its caller the law.
+//! Laws of messages. A call of one does nothing; its contract states the law.
 ghost use Rattle.std.specs.Prelude.{◌≡◌, ◌↔◌, IsTrue, ◌≤◌, ◌++◌, ℕ, List, length, take};
 ghost use Rattle.dns_message.specs.Fits.{MessageFits};
 ghost use Rattle.dns_message.specs.Messages.{Spells};
@@ -13,16 +13,19 @@ use dns_name::{
 
 /// In front of octets stands at most one message.
 pub fn one_message_in_front()
-    ensures { (bytes : List ℕ) (end end' : ℕ) (message message' : Message) → Spells (take end bytes) message
+    ensures { (bytes : List ℕ) (end end' : ℕ) (message message' : Message)
+        → Spells (take end bytes) message
         → Spells (take end' bytes) message' → message ≡ message' }
 {
     one_name_at_a_place();
     name_rests_before_its_end();
 }
 
-/// A message that is written without pointers is read again, whatever follows it, where all is at most 65,535 octets.
+/// A message that is written without pointers is read again, whatever follows it, where all is at
+/// most 65,535 octets.
 pub fn written_message_is_read()
-    ensures { (message : Message) (back : List ℕ) → MessageFits message → length (plain message ++ back) ≤ 65535
+    ensures { (message : Message) (back : List ℕ) → MessageFits message
+        → length (plain message ++ back) ≤ 65535
         → Spells (take (length (plain message)) (plain message ++ back)) message }
 {
     written_name_is_read();
@@ -30,7 +33,8 @@ pub fn written_message_is_read()
 
 /// The test of `==` holds of a question and itself alone.
 pub fn same_questions_are_equal()
-    ensures { (question other : Question) → IsTrue (same_question question other) ↔ (question ≡ other) }
+    ensures { (question other : Question) → IsTrue (same_question question other)
+        ↔ (question ≡ other) }
 {
     same_names_are_equal();
 }

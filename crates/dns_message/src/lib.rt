@@ -1,20 +1,22 @@
 //! DNS messages (RFC 1035 section 4).
 //!
-//! A message is read where octets begin with one, and nothing else is taken for one: octets begin with at most one
-//! message, and `read_message` gives that one, with each name spelled out, or says in which part of the octets there
-//! is none. It gives up for want of memory alone, and takes memory only for what it has read. Records of types A,
-//! AAAA, CNAME, SOA, SRV and NAPTR in class IN have their data as values; all other data is kept as it stands.
-//! `message_in` gives the same message, or nothing, to who need not know why there is none.
+//! A message is read where octets begin with one, and nothing else is taken for one: octets begin
+//! with at most one message, and `read_message` gives that one, with each name spelled out, or says
+//! in which part of the octets there is none. It gives up for want of memory alone, and takes
+//! memory only for what it has read. Records of types A, AAAA, CNAME, SOA, SRV and NAPTR in class
+//! IN have their data as values; all other data is kept as it stands. `message_in` gives the same
+//! message, or nothing, to who need not know why there is none.
 //!
-//! Queries and replies are written without pointers, and what is written is read again as the same message. A reply that
-//! does not fit into a datagram of 512 octets is cut to its question.
+//! Queries and replies are written without pointers, and what is written is read again as the same
+//! message. A reply that does not fit into a datagram of 512 octets is cut to its question.
 //!
 //! ```text
 //! let query = write_query(alloc, 0x1234, &question)?;
 //! let message = read_message(alloc, octets)?;
 //! for record in message.answers.as_slice() {
 //!     if let Rdata::Srv(server) = &record.rdata {
-//!         println!(rt; "{} at {} for {} seconds", server.target.text()?, server.port, record.ttl)?;
+//!         let target = server.target.text()?;
+//!         println!(rt; "{target} at {} for {} seconds", server.port, record.ttl)?;
 //!     }
 //! }
 //! ```

@@ -42,17 +42,19 @@ pub fn read_message(alloc: Global, bytes: &[u8]) -> Result<Message, MessageRefus
     // What is read stands in front of the octets.
     ensures found { IfOk result (λ found.
         (end : ℕ) × (end ≤ length bytes.now) × Spells (take end bytes.now) found) }
-    // A message that stands in front of them is read, unless memory is refused: so `Malformed` comes
-    // only where none does.
+    // A message that stands in front of them is read, unless memory is refused: so `Malformed`
+    // comes only where none does.
     ensures read { (end : ℕ) (found : message.Message) → Spells (take end bytes.now) found
         → length bytes.now ≤ 65535
-        → MatchResult result (λ found'. found' ≡ found) (λ refusal. refusal ≡ MessageRefusal.Memory) }
+        → MatchResult result (λ found'. found' ≡ found)
+        (λ refusal. refusal ≡ MessageRefusal.Memory) }
     ensures malformed { (part : part.Part) → result ≡ Err (MessageRefusal.Malformed part)
         → (end : ℕ) (message : message.Message) → Spells (take end bytes.now) message → ⊥ }
     // Each refusal tells what is so of the octets, and these two come exactly there.
     ensures refused { IfErr result (λ refusal. RefusedWhere refusal bytes.now) }
     ensures too_long { (result ≡ Err MessageRefusal.TooLong) ↔ (65535 < length bytes.now) }
-    ensures header { (result ≡ Err (MessageRefusal.Malformed Part.Header)) ↔ (length bytes.now < 12) }
+    ensures header { (result ≡ Err (MessageRefusal.Malformed Part.Header))
+        ↔ (length bytes.now < 12) }
 {
     one_name_at_a_place();
     name_rests_before_its_end();
@@ -85,10 +87,13 @@ pub fn read_message(alloc: Global, bytes: &[u8]) -> Result<Message, MessageRefus
     })
 }
 
-/// The message in front of these octets, for who need not know why there is none: `None` where they begin with no
-/// message, or are more than 65,535. What stands after its counted questions and records is ignored (RFC 1035 4.1).
+/// The message in front of these octets, for who need not know why there is none: `None` where they
+/// begin with no message, or are more than 65,535. What stands after its counted questions and
+/// records is ignored (RFC 1035 4.1).
 pub fn message_in(alloc: Global, octets: &[u8]) -> Result<Option<Message>, AllocError>
-    ensures read { IfOk result (λ it. MatchOption it ((it : message.Message) → Begins octets.now it → ⊥) (Begins octets.now)) }
+    ensures read { IfOk result
+        (λ it. MatchOption it ((it : message.Message) → Begins octets.now it → ⊥)
+        (Begins octets.now)) }
     // Memory is asked for only where a name stands after the header.
     ensures wanted_short { OnErr result (length octets.now ≤ 65535) }
     ensures wanted_name { OnErr result (NamedAt octets.now 12) }

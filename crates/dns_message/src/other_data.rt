@@ -29,7 +29,8 @@ impl Model for OtherData {
 }
 
 impl OtherData {
-    /// Data of a type and class, unless that has a variant of its own or there are more than 65,535 octets.
+    /// Data of a type and class, unless that has a variant of its own or there are more than 65,535
+    /// octets.
     pub fn new(code: u16, class_code: u16, octets: Vec<u8>) -> Option<OtherData>
         ensures made { IsSome result ↔ CanBeOther code class_code octets.items }
         ensures is { IfSome result (λ other. other

@@ -78,8 +78,11 @@ impl Hash for Question {
     ghost hash_input = { λ question. fed.slice fed.u8 (wire_of question.name) };
 
     ghost respects_eq = { λ it other same.
-        (fed.same_Alike (λ name. fed.slice fed.u8 (wire_of name)) (pointwise_decides bytes_decides)).fed it.name other.name
-        (and_parts (same_name it.name other.name) (nat_eq (kind_code it.kind) (kind_code other.kind)) same).0 };
+        (fed.same_Alike
+        (λ name. fed.slice fed.u8 (wire_of name))
+        (pointwise_decides bytes_decides)).fed it.name other.name
+        (and_parts (same_name it.name other.name)
+        (nat_eq (kind_code it.kind) (kind_code other.kind)) same).0 };
 
     fn hash<H: Hasher>(&self, state: &mut H) {
         self.name.hash(state)
@@ -143,7 +146,8 @@ fn questions_at(
 ) -> Result<(Vec<Asked>, usize), EntryRefusal>
     ensures found { IfOk result (λ found. AllAt (QuestionAt bytes.now) place found.0.items found.1
         × (length found.0.items ≡ count)) }
-    ensures read { (questions : List asked.Asked) (end : ℕ) → AllAt (QuestionAt bytes.now) place questions end
+    ensures read { (questions : List asked.Asked) (end : ℕ)
+        → AllAt (QuestionAt bytes.now) place questions end
         → length questions ≡ count
         → MatchResult result (λ found. (found.0.items ≡ questions) × (found.1 ≡ end))
         (λ refusal. refusal ≡ EntryRefusal.Memory) }
@@ -170,12 +174,14 @@ pub(crate) fn question_section_at(
 ) -> Result<(Section<Asked>, usize), MessageRefusal>
     ensures found { IfOk result (λ found. AllAt (QuestionAt bytes.now) place found.0 found.1
         × (length found.0 ≡ count)) }
-    ensures read { (questions : List asked.Asked) (end : ℕ) → AllAt (QuestionAt bytes.now) place questions end
+    ensures read { (questions : List asked.Asked) (end : ℕ)
+        → AllAt (QuestionAt bytes.now) place questions end
         → length questions ≡ count
         → MatchResult result (λ found. (found.0 ≡ questions) × (found.1 ≡ end))
         (λ refusal. refusal ≡ MessageRefusal.Memory) }
     ensures refused { IfErr result (λ refusal. IsOfPart refusal Part.Questions) }
-    ensures memory { IfErr result (λ refusal. refusal ≡ MessageRefusal.Memory → NamedAt bytes.now place) }
+    ensures memory { IfErr result
+        (λ refusal. refusal ≡ MessageRefusal.Memory → NamedAt bytes.now place) }
 {
     match questions_at(alloc, bytes, place, count) {
         Ok((questions, after)) => Ok((Section::from_vec(questions), after)),

@@ -94,7 +94,8 @@ fn records_at(
 ) -> Result<(Vec<Record>, usize), EntryRefusal>
     ensures found { IfOk result (λ found. AllAt (RecordAt bytes.now) place found.0.items found.1
         × (length found.0.items ≡ count)) }
-    ensures read { (entries : List resource.Record) (end : ℕ) → AllAt (RecordAt bytes.now) place entries end
+    ensures read { (entries : List resource.Record) (end : ℕ)
+        → AllAt (RecordAt bytes.now) place entries end
         → length entries ≡ count
         → MatchResult result (λ found. (found.0.items ≡ entries) × (found.1 ≡ end))
         (λ refusal. refusal ≡ EntryRefusal.Memory) }
@@ -122,12 +123,14 @@ pub(crate) fn record_section_at(
 ) -> Result<(Section<Record>, usize), MessageRefusal>
     ensures found { IfOk result (λ found. AllAt (RecordAt bytes.now) place found.0 found.1
         × (length found.0 ≡ count)) }
-    ensures read { (entries : List resource.Record) (end : ℕ) → AllAt (RecordAt bytes.now) place entries end
+    ensures read { (entries : List resource.Record) (end : ℕ)
+        → AllAt (RecordAt bytes.now) place entries end
         → length entries ≡ count
         → MatchResult result (λ found. (found.0 ≡ entries) × (found.1 ≡ end))
         (λ refusal. refusal ≡ MessageRefusal.Memory) }
     ensures refused { IfErr result (λ refusal. IsOfPart refusal part) }
-    ensures memory { IfErr result (λ refusal. refusal ≡ MessageRefusal.Memory → NamedAt bytes.now place) }
+    ensures memory { IfErr result
+        (λ refusal. refusal ≡ MessageRefusal.Memory → NamedAt bytes.now place) }
 {
     match records_at(alloc, bytes, place, count) {
         Ok((records, after)) => Ok((Section::from_vec(records), after)),

@@ -46,7 +46,7 @@ impl SoaRecord {
     }
 }
 
-/// The numbers behind the names of a start of authority.
+/// The numbers after the names of a start of authority.
 #[derive(Clone, Copy)]
 struct Numbers {
     serial: u32,

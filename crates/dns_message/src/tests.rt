@@ -16,7 +16,8 @@ pub(crate) const QUERY: &[u8] =
 
 /// Its reply of 192.0.2.7: the owner of the record is a pointer to the name of the question.
 pub(crate) const REPLY: &[u8] =
-    b"\x12\x34\x81\x80\x00\x01\x00\x01\x00\x00\x00\x00\x01a\x07example\x00\x00\x01\x00\x01\xc0\x0c\x00\x01\x00\x01\x00\x00\x01\x2c\x00\x04\xc0\x00\x02\x07";
+    b"\x12\x34\x81\x80\x00\x01\x00\x01\x00\x00\x00\x00\x01a\x07example\x00\x00\x01\x00\x01\xc0\x0c\
+    \x00\x01\x00\x01\x00\x00\x01\x2c\x00\x04\xc0\x00\x02\x07";
 
 /// Octets with some of them changed.
 fn changed(alloc: Global, octets: &[u8], at: usize, to: &[u8]) -> Option<Vec<u8>> {
@@ -87,7 +88,7 @@ fn broken(rt: HostRuntime) {
     }
 }
 
-/// The number of answers of a message of so many octets, all 0 but for this count: behind the
+/// The number of answers of a message of so many octets, all 0 but for this count: after the
 /// header each 11 of them are a record.
 fn answers_in(alloc: Global, count: u16, size: usize) -> Option<Result<usize, MessageRefusal>> {
     let octets = vec![in alloc; 0u8; size].ok()?;

@@ -18,7 +18,7 @@ use std::alloc::{AllocError, Global};
 /// The most octets of a message in one datagram of UDP (RFC 1035 4.2.1).
 const DATAGRAM_LIMIT: usize = 512;
 
-/// How many octets of a datagram are left behind the message, if it fits.
+/// How many octets of a datagram are left after the message, if it fits.
 #[tactic(auto, using(crate::proofs::WrittenOctets::lengths))]
 fn room_behind(message: &Message) -> Option<usize>
     ensures { MatchOption result (512 < length (plain message.now))
@@ -80,9 +80,9 @@ fn write_cut(alloc: Global, message: &Message) -> Result<Vec<u8>, AllocError>
     Ok(octets)
 }
 
-/// The octets of a reply for a datagram of UDP, without pointers: the message itself, where it has at most 512 octets,
-/// and else its header with TC set and its question, without records (RFC 1035 4.1.1, 4.2.1, 2181 9). The three bits
-/// of Z are 0.
+/// The octets of a reply for a datagram of UDP, without pointers: the message itself, where it has
+/// at most 512 octets, and else its header with TC set and its question, without records (RFC 1035
+/// 4.1.1, 4.2.1, 2181 9). The three bits of Z are 0.
 pub fn write_reply(alloc: Global, message: &Message) -> Result<Vec<u8>, AllocError>
     requires opcode { message.now.header.opcode < 16 }
     requires rcode { message.now.header.rcode < 16 }
@@ -98,7 +98,8 @@ pub fn write_reply(alloc: Global, message: &Message) -> Result<Vec<u8>, AllocErr
     }
 }
 
-/// The octets of a query: the question in class IN, with RD set and no records (RFC 1035 4.1.1, 4.1.2).
+/// The octets of a query: the question in class IN, with RD set and no records (RFC 1035 4.1.1,
+/// 4.1.2).
 pub fn write_query(alloc: Global, id: u16, question: &Question) -> Result<Vec<u8>, AllocError>
     ensures written { IfOk result (λ octets. octets.items ≡ plain (query_of id question.now)) }
     ensures spells { IfOk result (λ octets. Spells octets.items (query_of id question.now)) }

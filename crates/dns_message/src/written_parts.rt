@@ -1,4 +1,5 @@
-//! The header, the questions and the records of a message as they are written, without pointers (RFC 1035 4.1).
+//! The header, the questions and the records of a message as they are written, without pointers
+//! (RFC 1035 4.1).
 ghost use Rattle.std.specs.Prelude.{◌≡◌, ◌+◌, ◌<◌, ◌≤◌, ◌++◌, ℕ, length, OnOk, MatchOption};
 ghost use Rattle.std.specs.List.{AllByRecursion, flat_map};
 ghost use Rattle.dns_message.specs.Fits.{HeaderFits, QuestionFits, RecordFits};
@@ -18,7 +19,8 @@ use std::alloc::AllocError;
 #[tactic(auto, using(crate::proofs::WrittenOctets::lengths))]
 pub(crate) fn question_length(name: &Name) -> usize
     ensures is { (code class_code : ℕ) → result
-        ≡ length (question_octets (record { name = name.now; code = code; class_code = class_code })) }
+        ≡ length (question_octets
+        (record { name = name.now; code = code; class_code = class_code })) }
     ensures short { result ≤ 259 }
 {
     usize::from(name_length(name)) + 4
@@ -32,7 +34,7 @@ fn record_length(entry: &Record) -> usize
     usize::from(name_length(&entry.owner)) + 10 + usize::from(data_length(&entry.rdata))
 }
 
-/// How many octets are left of this room behind these questions, if they fit.
+/// How many octets are left of this room after these questions, if they fit.
 pub(crate) fn room_behind_questions(room: usize, questions: &[Asked]) -> Option<usize>
     ensures { MatchOption result (room < length (flat_map question_octets questions.now))
         (λ left. left + length (flat_map question_octets questions.now) ≡ room) }
@@ -44,7 +46,7 @@ pub(crate) fn room_behind_questions(room: usize, questions: &[Asked]) -> Option<
     Some(room)
 }
 
-/// How many octets are left of this room behind these records, if they fit.
+/// How many octets are left of this room after these records, if they fit.
 pub(crate) fn room_behind_records(room: usize, records: &[Record]) -> Option<usize>
     ensures { MatchOption result (room < length (flat_map record_octets records.now))
         (λ left. left + length (flat_map record_octets records.now) ≡ room) }
@@ -133,7 +135,8 @@ pub(crate) fn push_question(
 ) -> Result<(), AllocError>
     ensures ok { OnOk result (out.new.items ≡ out.old.items
         ++ question_octets (record { name = name.now; code = code; class_code = class_code })) }
-    ensures fits { OnOk result (QuestionFits (record { name = name.now; code = code; class_code = class_code })) }
+    ensures fits { OnOk result
+        (QuestionFits (record { name = name.now; code = code; class_code = class_code })) }
 {
     push_name(name, out)?;
     push_u16(code, out)?;
@@ -142,7 +145,8 @@ pub(crate) fn push_question(
 
 /// Appends questions.
 pub(crate) fn push_questions(questions: &[Asked], out: &mut Vec<u8>) -> Result<(), AllocError>
-    ensures ok { OnOk result (out.new.items ≡ out.old.items ++ flat_map question_octets questions.now) }
+    ensures ok { OnOk result
+        (out.new.items ≡ out.old.items ++ flat_map question_octets questions.now) }
     ensures fits { OnOk result (AllByRecursion QuestionFits questions.now) }
 {
     for asked in questions {

@@ -70,7 +70,7 @@ const ROWS: &[Row] = &[
         answers: "a.example. 300 A 192.0.2.7\n",
         ..NONE
     },
-    // an octet behind the message means nothing, nor do the three bits of Z
+    // an octet after the message means nothing, nor do the three bits of Z
     Row {
         octets: b"\x124\x81\x80\x00\x01\x00\x01\x00\x00\x00\x00\x01a\x07example\x00\x00\x01\x00\x01\
         \xc0\x0c\x00\x01\x00\x01\x00\x00\x01\x2c\x00\x04\xc0\x00\x02\x07\xff",

@@ -259,7 +259,7 @@ fn read_and_written(rt: HostRuntime) {
 }
 
 /// The octets of a reply with 19 addresses, and those that are written of what is read of them with
-/// three more behind them.
+/// three more after them.
 fn twice_written(alloc: Global) -> Option<(Vec<u8>, Vec<u8>)> {
     let octets = many_addresses(alloc, 19)?;
     let mut longer = many_addresses(alloc, 19)?;

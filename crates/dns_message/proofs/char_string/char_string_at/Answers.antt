@@ -16,7 +16,8 @@ this c =
     let size : length octets ≡ c.from-size.result = omega (arith, part.0.3) in
     record {
       short = omega (arith, size, value, c.type_inv.bytes c.args.place);
-      stands = octets_behind bytes c.args.place (length octets) octets (c.args.place + 1 + c.from-size.result) (sym (size ∙ value)) (record { size = omega (arith, size); within = part.0.1; are = sym part.0.2 });
+      stands = octets_behind bytes c.args.place (length octets) octets (c.args.place + 1 + c.from-size.result) (sym (size ∙ value))
+          (record { size = omega (arith, size); within = part.0.1; are = sym part.0.2 });
     }
 
 pub returns-clause-found : goal.returns-clause-found
@@ -25,7 +26,11 @@ returns-clause-found c = rw c.in_ok-octets-2.ensures.items (this (goal.at.return
 pub returns-in_err-octets-2-clause-memory : goal.returns-in_err-octets-2-clause-memory
 returns-in_err-octets-2-clause-memory c =
     let p = err_from_is_err_and c.from_residual-in_err-octets-2.result c.from_residual-in_err-octets-2.ensures.1 in
-    rw p.1 (λ _. (c.in_ok-octets.octets.now, c.args.place + 1 + c.from-size.result, this (goal.at.returns-in_err-octets-2-clause-memory c).In_ok-octets))
+    rw p.1 (λ _. (
+      c.in_ok-octets.octets.now,
+      c.args.place + 1 + c.from-size.result,
+      this (goal.at.returns-in_err-octets-2-clause-memory c).In_ok-octets,
+    ))
 
 pub returns-clause-read : goal.returns-clause-read
 returns-clause-read c = λ string end x.
@@ -35,7 +40,8 @@ returns-clause-read c = λ string end x.
     let others = other_octets bytes c.args.place (length string) string end stands in
     let first = rw c.in_ok-ok_or.ensures.ok_part at c.get.ensures.lookup in
     let part = rw c.in_ok-octets.ensures.ok_part at c.get-2.ensures.lookup in
-    let size : c.from-size.result ≡ length string = c.from-size.ensures ∙ first.4 (omega arith) 0 ∙ first_octet bytes c.args.place (length string) string end stands in
+    let size : c.from-size.result ≡ length string =
+    c.from-size.ensures ∙ first.4 (omega arith) 0 ∙ first_octet bytes c.args.place (length string) string end stands in
     let ends : start + c.from-size.result ≡ end = omega (arith, size, stands.size) in
     let octets : c.in_ok-octets.octets.now ≡ string = part.0.2 ∙ ap (slice_range bytes start) ends ∙ others.are in
     (c.in_ok-octets-2.ensures.items ∙ octets, ends)

@@ -12,7 +12,11 @@ returns c =
     record {
       within = omega arith;
       id = c.in_ok-id.ensures;
-      high = record { opcode = omega arith; is = rw high-is (high_octet c.in_ok-high.field-0.now (omega (arith, high-is, c.type_inv.bytes 2))) };
+      high = record {
+        opcode = omega arith;
+        is =
+            rw high-is (high_octet c.in_ok-high.field-0.now (omega (arith, high-is, c.type_inv.bytes 2)));
+      };
       low = record {
         z = c.in_ok-low.field-0.now / 16 % 8;
         free = omega arith;

@@ -14,9 +14,11 @@ header : (c : In_ok-header) → HeaderAt c.args.bytes.now c.in_ok-header.header 
 header c = rw c.in_ok-header.ensures.ok_part at c.header_at.ensures
 
 -- what is said to stand in front of the octets stands there, with the counts that were read
-whole : (c : In_ok-header) (found : Message) (end : ℕ) → Spells (take end c.args.bytes.now) found → MessageAt c.args.bytes.now found (length (take end c.args.bytes.now)) × IsCounted c.in_ok-header.counts found
+whole : (c : In_ok-header) (found : Message) (end : ℕ) → Spells (take end c.args.bytes.now) found
+    → MessageAt c.args.bytes.now found (length (take end c.args.bytes.now)) × IsCounted c.in_ok-header.counts found
 whole c found end spelled =
-    let there = MessageAt-whole c.name_rests_before_its_end.ensures.within c.name_rests_before_its_end.ensures.local c.args.bytes.now found end spelled in
+    let there = MessageAt-whole c.name_rests_before_its_end.ensures.within c.name_rests_before_its_end.ensures.local
+    c.args.bytes.now found end spelled in
     (there, counted c.args.bytes.now c.in_ok-header.counts found _ (header c).1 there)
 
 abbrev message_read : In_ok-additional → Message
@@ -29,7 +31,8 @@ message_read c = record {
 }
 
 -- what was read stands there
-this : (c : In_ok-additional) → HeaderAt c.args.bytes.now c.in_ok-header.header × CountsAt c.args.bytes.now c.in_ok-header.counts → MessageAt c.args.bytes.now (message_read c) c.in_ok-additional.field-0-1
+this : (c : In_ok-additional) → HeaderAt c.args.bytes.now c.in_ok-header.header × CountsAt c.args.bytes.now c.in_ok-header.counts
+    → MessageAt c.args.bytes.now (message_read c) c.in_ok-additional.field-0-1
 this c read =
     let questions = c.in_ok-questions.ensures.found in
     let answers = c.in_ok-answers.ensures.found in
@@ -62,7 +65,8 @@ returns-clause-found c =
 pub returns-clause-read : goal.returns-clause-read
 returns-clause-read c = λ end found spelled short.
     let at = goal.at.returns-clause-read c in
-    one_message c.one_name_at_a_place.ensures c.args.bytes.now (message_read at.In_ok-additional) found c.in_ok-additional.field-0-1 (length (take end c.args.bytes.now)) (this at.In_ok-additional (header at.In_ok-header)) (whole at.In_ok-header found end spelled).0
+    one_message c.one_name_at_a_place.ensures c.args.bytes.now (message_read at.In_ok-additional) found c.in_ok-additional.field-0-1
+    (length (take end c.args.bytes.now)) (this at.In_ok-additional (header at.In_ok-header)) (whole at.In_ok-header found end spelled).0
 
 -- ---- where reading stops, it stops for want of memory
 
@@ -94,7 +98,8 @@ returns-in_err-additional-clause-read c = λ end found spelled short.
     let e1 = c.in_ok-answers.ensures.read found.answers w.0.authority_start (rw e0.1 w.0.answers) w.1.answers in
     let e2 = c.in_ok-authority.ensures.read found.authority w.0.additional_start (rw e1.1 w.0.authority) w.1.authority in
     let p = err_from_is_err_and c.from_residual-in_err-additional.result c.from_residual-in_err-additional.ensures.1 in
-    rw p.1 (p.2 ∙ c.in_err-additional.ensures.read found.additional (length (take end c.args.bytes.now)) (rw e2.1 w.0.additional) w.1.additional)
+    rw p.1 (p.2 ∙ c.in_err-additional.ensures.read found.additional (length (take end c.args.bytes.now))
+    (rw e2.1 w.0.additional) w.1.additional)
 
 -- ---- which part it was
 
@@ -130,7 +135,8 @@ returns-in_err-answers-clause-refused c =
     (λ is. (
       c.in_ok-questions.place,
       record { questions = c.in_ok-questions.questions; count = rw questions.1 counts.questions; stand = questions.0 },
-      λ end there. no_records bytes 6 c.in_ok-header.counts.answers c.in_ok-questions.place end Answers refusal counts.answers c.in_err-answers.ensures.read is there,
+      λ end there. no_records bytes 6 c.in_ok-header.counts.answers c.in_ok-questions.place end Answers refusal counts.answers
+          c.in_err-answers.ensures.read is there,
     )))
 
 pub returns-in_err-authority-clause-refused : goal.returns-in_err-authority-clause-refused
@@ -148,7 +154,8 @@ returns-in_err-authority-clause-refused c =
       c.in_ok-answers.place,
       record { questions = c.in_ok-questions.questions; count = rw questions.1 counts.questions; stand = questions.0 },
       record { records = c.in_ok-answers.answers; count = rw answers.1 counts.answers; stand = answers.0 },
-      λ end there. no_records bytes 8 c.in_ok-header.counts.authority c.in_ok-answers.place end Authority refusal counts.authority c.in_err-authority.ensures.read is there,
+      λ end there. no_records bytes 8 c.in_ok-header.counts.authority c.in_ok-answers.place end Authority refusal counts.authority
+          c.in_err-authority.ensures.read is there,
     )))
 
 pub returns-in_err-additional-clause-refused : goal.returns-in_err-additional-clause-refused
@@ -161,7 +168,8 @@ returns-in_err-additional-clause-refused c =
     let refusal = c.in_err-additional.field-0.0 in
     let p = err_from_is_err_and c.from_residual-in_err-additional.result c.from_residual-in_err-additional.ensures.1 in
     rw (p.1, p.2) (refused_where bytes Additional refusal c.in_err-additional.ensures.refused
-    (λ is. questions_named bytes questions.0 (records_named bytes answers.0 (records_named bytes authority.0 (c.in_err-additional.ensures.memory is))))
+    (λ is. questions_named bytes questions.0
+    (records_named bytes answers.0 (records_named bytes authority.0 (c.in_err-additional.ensures.memory is))))
     (λ is. (
       c.in_ok-questions.place,
       c.in_ok-answers.place,
@@ -169,5 +177,6 @@ returns-in_err-additional-clause-refused c =
       record { questions = c.in_ok-questions.questions; count = rw questions.1 counts.questions; stand = questions.0 },
       record { records = c.in_ok-answers.answers; count = rw answers.1 counts.answers; stand = answers.0 },
       record { records = c.in_ok-authority.authority; count = rw authority.1 counts.authority; stand = authority.0 },
-      λ end there. no_records bytes 10 c.in_ok-header.counts.additional c.in_ok-authority.place end Additional refusal counts.additional c.in_err-additional.ensures.read is there,
+      λ end there. no_records bytes 10 c.in_ok-header.counts.additional c.in_ok-authority.place end Additional refusal counts.additional
+          c.in_err-additional.ensures.read is there,
     )))

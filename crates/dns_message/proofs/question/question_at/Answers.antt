@@ -25,7 +25,8 @@ returns-clause-found c = this c
 
 pub returns-clause-read : goal.returns-clause-read
 returns-clause-read c = λ question end there.
-    one_question c.one_name_at_a_place.ensures c.args.bytes.now c.args.place (c.in_ok-name.place + 4) end (question_read c) question (this c) there
+    one_question c.one_name_at_a_place.ensures c.args.bytes.now c.args.place (c.in_ok-name.place + 4) end (question_read c) question
+    (this c) there
 
 pub returns-in_err-name-clause-read : goal.returns-in_err-name-clause-read
 returns-in_err-name-clause-read c = λ question end there.

@@ -14,7 +14,8 @@ pub returns-in_err-question-clause-read : goal.returns-in_err-question-clause-re
 returns-in_err-question-clause-read c = λ questions end there count.
     let l = c.loop in
     let one = one_question c.one_name_at_a_place.ensures c.args.bytes.now in
-    let here = AllAt-next (QuestionAt c.args.bytes.now) one c.args.place l.place end l.questions.items questions l.invariant.so_far there (omega (arith, count)) in
+    let here = AllAt-next (QuestionAt c.args.bytes.now) one c.args.place l.place end l.questions.items questions l.invariant.so_far there
+    (omega (arith, count)) in
     let p = err_from_is_err_and c.from_residual.result c.from_residual.ensures.1 in
     rw p.1 (p.2 ∙ c.in_err-question.ensures.read here.0 here.1 here.2)
 
@@ -22,7 +23,8 @@ pub loop-preserved : goal.loop-preserved
 loop-preserved c =
     let l = c.loop in
     rw c.in_ok-push.ensures.items (record {
-      so_far = AllAt-push (QuestionAt c.args.bytes.now) c.in_ok-question.after c.in_ok-question.question l.invariant.so_far c.in_ok-question.ensures.found;
+      so_far = AllAt-push
+          (QuestionAt c.args.bytes.now) c.in_ok-question.after c.in_ok-question.question l.invariant.so_far c.in_ok-question.ensures.found;
       count = length_push l.questions.items c.in_ok-question.question ∙ omega arith;
     })
 
@@ -30,7 +32,8 @@ pub returns-clause-read : goal.returns-clause-read
 returns-clause-read c = λ questions end there count.
     let l = c.loop in
     let one = one_question c.one_name_at_a_place.ensures c.args.bytes.now in
-    AllAt-one (QuestionAt c.args.bytes.now) one c.args.place l.place end l.questions.items questions l.invariant.so_far there (omega (arith, count))
+    AllAt-one (QuestionAt c.args.bytes.now) one c.args.place l.place end l.questions.items questions l.invariant.so_far there
+    (omega (arith, count))
 
 pub returns-in_err-question-clause-memory : goal.returns-in_err-question-clause-memory
 returns-in_err-question-clause-memory c =

@@ -14,7 +14,8 @@ pub returns-in_err-entry-clause-read : goal.returns-in_err-entry-clause-read
 returns-in_err-entry-clause-read c = λ entries end there count.
     let l = c.loop in
     let one = one_record c.one_name_at_a_place.ensures c.args.bytes.now in
-    let here = AllAt-next (RecordAt c.args.bytes.now) one c.args.place l.place end l.records.items entries l.invariant.so_far there (omega (arith, count)) in
+    let here = AllAt-next (RecordAt c.args.bytes.now) one c.args.place l.place end l.records.items entries l.invariant.so_far there
+    (omega (arith, count)) in
     let p = err_from_is_err_and c.from_residual.result c.from_residual.ensures.1 in
     rw p.1 (p.2 ∙ c.in_err-entry.ensures.read here.0 here.1 here.2)
 
@@ -22,7 +23,8 @@ pub loop-preserved : goal.loop-preserved
 loop-preserved c =
     let l = c.loop in
     rw c.in_ok-push.ensures.items (record {
-      so_far = AllAt-push (RecordAt c.args.bytes.now) c.in_ok-entry.after c.in_ok-entry.entry l.invariant.so_far c.in_ok-entry.ensures.found;
+      so_far = AllAt-push
+          (RecordAt c.args.bytes.now) c.in_ok-entry.after c.in_ok-entry.entry l.invariant.so_far c.in_ok-entry.ensures.found;
       count = length_push l.records.items c.in_ok-entry.entry ∙ omega arith;
     })
 
@@ -30,7 +32,8 @@ pub returns-clause-read : goal.returns-clause-read
 returns-clause-read c = λ entries end there count.
     let l = c.loop in
     let one = one_record c.one_name_at_a_place.ensures c.args.bytes.now in
-    AllAt-one (RecordAt c.args.bytes.now) one c.args.place l.place end l.records.items entries l.invariant.so_far there (omega (arith, count))
+    AllAt-one (RecordAt c.args.bytes.now) one c.args.place l.place end l.records.items entries l.invariant.so_far there
+    (omega (arith, count))
 
 pub returns-in_err-entry-clause-memory : goal.returns-in_err-entry-clause-memory
 returns-in_err-entry-clause-memory c =

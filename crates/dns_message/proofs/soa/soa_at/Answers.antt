@@ -42,7 +42,8 @@ returns-clause-found c = this c
 
 pub returns-clause-read : goal.returns-clause-read
 returns-clause-read c = λ authority end there.
-    one_soa c.one_name_at_a_place.ensures c.args.bytes.now c.args.place (c.in_ok-rname.place + 20) end (start_read c) authority (this c) there
+    one_soa c.one_name_at_a_place.ensures c.args.bytes.now c.args.place (c.in_ok-rname.place + 20) end (start_read c) authority
+    (this c) there
 
 pub returns-in_err-mname-clause-read : goal.returns-in_err-mname-clause-read
 returns-in_err-mname-clause-read c = λ authority end there.

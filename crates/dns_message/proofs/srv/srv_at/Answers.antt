@@ -8,7 +8,14 @@ use Rattle.dns_message.proofs.srv.srv_at.Goals as goal
 use Rattle.dns_message.proofs.srv.srv_at.Goals.{In_ok-target}
 
 abbrev server_read : In_ok-target → SrvRecord
-server_read c = record { priority = c.in_ok-priority.priority; weight = c.in_ok-weight.weight; port = c.in_ok-port.port; target = c.in_ok-target.target }
+server_read c =
+    record {
+      priority = c.in_ok-priority.priority;
+      weight = c.in_ok-weight.weight;
+      port = c.in_ok-port.port;
+      target =
+          c.in_ok-target.target;
+    }
 
 -- what was read stands there
 this : (c : In_ok-target) → SrvAt c.args.bytes.now c.args.place (server_read c) c.in_ok-target.end

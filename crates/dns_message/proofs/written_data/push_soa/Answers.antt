@@ -5,7 +5,16 @@ use Rattle.dns_message.proofs.written_data.push_soa.Goals as goal
 
 pub returns-clause-ok : goal.returns-clause-ok
 unfolding soa_octets
-returns-clause-ok c = on_ok_weaker c.push_u32-5.result (λ e. e ∙ rw (c.in_ok-push_u32-4.ensures.ok, c.in_ok-push_u32-3.ensures.ok, c.in_ok-push_u32-2.ensures.ok, c.in_ok-push_u32.ensures.ok, c.in_ok-push_name-2.ensures.ok, c.in_ok-push_name.ensures.ok) (simp append_assoc)) c.push_u32-5.ensures.ok
+returns-clause-ok c =
+    on_ok_weaker c.push_u32-5.result
+    (λ e. e ∙ rw (
+      c.in_ok-push_u32-4.ensures.ok,
+      c.in_ok-push_u32-3.ensures.ok,
+      c.in_ok-push_u32-2.ensures.ok,
+      c.in_ok-push_u32.ensures.ok,
+      c.in_ok-push_name-2.ensures.ok,
+      c.in_ok-push_name.ensures.ok,
+    ) (simp append_assoc)) c.push_u32-5.ensures.ok
 
 pub returns-clause-fits : goal.returns-clause-fits
 returns-clause-fits c = on_ok_weaker c.push_u32-5.result (λ e. record {

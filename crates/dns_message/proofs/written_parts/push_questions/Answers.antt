@@ -8,6 +8,8 @@ loop-asked-preserved c =
     let l = c.loop-asked in
     let pushed = c.in_ok-push_question.ensures in
     record {
-      so_far = octets-next question_octets c.args.out.now.items l.out.items c.push_question.new.out.items c.args.questions.now l.asked-index c.asked-item.result c.loop-asked-test.true c.asked-item.is l.invariant.so_far pushed.ok;
-      fit = all-next QuestionFits c.args.questions.now l.asked-index c.asked-item.result c.loop-asked-test.true c.asked-item.is l.invariant.fit pushed.fits;
+      so_far = octets-next question_octets c.args.out.now.items l.out.items c.push_question.new.out.items c.args.questions.now
+          l.asked-index c.asked-item.result c.loop-asked-test.true c.asked-item.is l.invariant.so_far pushed.ok;
+      fit = all-next QuestionFits c.args.questions.now l.asked-index c.asked-item.result c.loop-asked-test.true c.asked-item.is
+          l.invariant.fit pushed.fits;
     }

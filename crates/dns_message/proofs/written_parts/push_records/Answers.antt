@@ -8,6 +8,8 @@ loop-entry-preserved c =
     let l = c.loop-entry in
     let pushed = c.in_ok-push_record.ensures in
     record {
-      so_far = octets-next record_octets c.args.out.now.items l.out.items c.push_record.new.out.items c.args.records.now l.entry-index c.entry-item.result c.loop-entry-test.true c.entry-item.is l.invariant.so_far pushed.ok;
-      fit = all-next RecordFits c.args.records.now l.entry-index c.entry-item.result c.loop-entry-test.true c.entry-item.is l.invariant.fit pushed.fits;
+      so_far = octets-next record_octets c.args.out.now.items l.out.items c.push_record.new.out.items c.args.records.now l.entry-index
+          c.entry-item.result c.loop-entry-test.true c.entry-item.is l.invariant.so_far pushed.ok;
+      fit = all-next RecordFits c.args.records.now l.entry-index c.entry-item.result c.loop-entry-test.true c.entry-item.is l.invariant.fit
+          pushed.fits;
     }
