@@ -21,21 +21,25 @@ colon_in text front rest octets is four =
     let no : false ≡ true = k.1 in
     cc
 
-groups_with_colon : (texts : List (List ℕ)) (text octets four : List ℕ) → AreGroups true texts octets → length octets ≡ 16 → text ≡ join_with_byte 58 texts → V4Text text four → ⊥
+groups_with_colon : (texts : List (List ℕ)) (text octets four : List ℕ) → AreGroups true texts octets → length octets ≡ 16
+    → text ≡ join_with_byte 58 texts → V4Text text four → ⊥
 groups_with_colon [] text octets four are len is other = are
 groups_with_colon (group ∷ []) text octets four (inl are) len is other = omega (arith, ap length are.is, len)
 groups_with_colon (group ∷ []) text octets four (inr are) len is other = omega (arith, four_octets group octets are.1, len)
-groups_with_colon (group ∷ next ∷ texts) text octets four are len is other = colon_in text group (join_with_byte 58 (next ∷ texts)) four is other
+groups_with_colon (group ∷ next ∷ texts) text octets four are len is other =
+    colon_in text group (join_with_byte 58 (next ∷ texts)) four is other
 
 pub apart : (text four six : List ℕ) → V4Text text four → V6Text text six → ⊥
 apart text four six is (whole groups len) = groups_with_colon groups.groups text six four groups.are len groups.joined is
 apart text four six is (shortened left right front end joined one two short same) = colon_in text left (58 ∷ right) four joined is
 
-pub of_ipv4 : (text octets : List ℕ) → ipv4 text ≡ Some octets → (address : Address) → AddressText text address → Some (V4 octets) ≡ Some address
+pub of_ipv4 : (text octets : List ℕ) → ipv4 text ≡ Some octets → (address : Address) → AddressText text address
+    → Some (V4 octets) ≡ Some address
 of_ipv4 text octets e (V4 other) is = ap (λ (o : List ℕ). Some (V4 o)) (same_Some octets other (sym e ∙ ipv4_again text other is))
 of_ipv4 text octets e (V6 other) is = absurd (apart text octets other (ipv4_read text octets e) is)
 
-pub of_ipv6 : (text octets : List ℕ) → ipv4 text ≡ None → ipv6 text ≡ Some octets → (address : Address) → AddressText text address → Some (V6 octets) ≡ Some address
+pub of_ipv6 : (text octets : List ℕ) → ipv4 text ≡ None → ipv6 text ≡ Some octets → (address : Address) → AddressText text address
+    → Some (V6 octets) ≡ Some address
 of_ipv6 text octets none e (V4 other) is = absurd (let no : None ≡ Some other = sym none ∙ ipv4_again text other is in cc)
 of_ipv6 text octets none e (V6 other) is = ap (λ (o : List ℕ). Some (V6 o)) (same_Some octets other (sym e ∙ ipv6_again text other is))
 

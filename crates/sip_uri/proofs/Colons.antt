@@ -12,7 +12,11 @@ around x text None = option_map (with_front (x ∷ [])) (around_colons text)
 around x text (Some right) = Some ([], right)
 
 colons_at : (x : ℕ) (text : List ℕ) (o : Option (List ℕ))
-    → elim o as (λ _. Option (List ℕ × List ℕ)) [ None ↦ option_map (with_front (x ∷ [])) (around_colons text) | Some right ↦ Some ([], right) ] ≡ around x text o
+    → elim o as (λ _. Option (List ℕ × List ℕ)) [
+      | None ↦ option_map (with_front (x ∷ [])) (around_colons text)
+      | Some right ↦ Some
+          ([], right)
+    ] ≡ around x text o
 colons_at x text None = refl
 colons_at x text (Some right) = refl
 
@@ -23,7 +27,8 @@ pub front_nothing : (o : Option (List ℕ × List ℕ)) → option_map (with_fro
 front_nothing None = refl
 front_nothing (Some sides) = refl
 
-pub front_twice : (a b : List ℕ) (o : Option (List ℕ × List ℕ)) → option_map (with_front a) (option_map (with_front b) o) ≡ option_map (with_front (a ++ b)) o
+pub front_twice : (a b : List ℕ) (o : Option (List ℕ × List ℕ))
+    → option_map (with_front a) (option_map (with_front b) o) ≡ option_map (with_front (a ++ b)) o
 front_twice a b None = refl
 front_twice a b (Some sides) = ap (λ (l : List ℕ). Some (l, sides.1)) (sym (append_assoc a b sides.0))
 
@@ -34,7 +39,8 @@ colons_in_front [] = refl
 colons_in_front (x ∷ []) = elim (cases_Bool (eqb x 58)) [ inl is ↦ rw is refl | inr no' ↦ rw no' refl ]
 colons_in_front (x ∷ y ∷ text) = elim (cases_Bool (eqb x 58)) [ inl is ↦ rw is refl | inr no' ↦ rw no' refl ]
 
-module _ (text : List ℕ) (at : ℕ) (so_far : around_colons text ≡ option_map (with_front (take at text)) (around_colons (drop at text))) (within : at < length text) where
+module _ (text : List ℕ) (at : ℕ) (so_far : around_colons text ≡ option_map (with_front (take at text)) (around_colons (drop at text)))
+    (within : at < length text) where
   first : ℕ
   first = get_or text at 0
 
@@ -42,16 +48,23 @@ module _ (text : List ℕ) (at : ℕ) (so_far : around_colons text ≡ option_ma
   unfolding first
   left_is = take_all (length text - at) (drop at text) (omega (arith, length-drop at text)) ∙ drop_more text at 0 within
 
-  so_far_is : (o : Option (List ℕ)) → behind_colons (take (length text - at) (drop at text)) ≡ o → around_colons text ≡ option_map (with_front (take at text)) (around first (drop (at + 1) text) o)
+  so_far_is : (o : Option (List ℕ)) → behind_colons (take (length text - at) (drop at text)) ≡ o
+      → around_colons text ≡ option_map (with_front (take at text)) (around first (drop (at + 1) text) o)
   unfolding first
   so_far_is o e =
       let here : behind_colons (first ∷ drop (at + 1) text) ≡ o = rw left_is at e in
-      let further : around_colons (drop at text) ≡ around first (drop (at + 1) text) o = ap around_colons (drop_more text at 0 within) ∙ colons_are first (drop (at + 1) text) ∙ ap (around first (drop (at + 1) text)) here in
+      let further : around_colons (drop at text) ≡ around first (drop (at + 1) text) o =
+      ap around_colons (drop_more text at 0 within) ∙ colons_are first (drop (at + 1) text) ∙ ap
+      (around first (drop (at + 1) text)) here in
       so_far ∙ ap (option_map (with_front (take at text))) further
 
-  pub colons_here : (right : List ℕ) → behind_colons (take (length text - at) (drop at text)) ≡ Some right → Some (take at text, right) ≡ around_colons text
+  pub colons_here : (right : List ℕ) → behind_colons (take (length text - at) (drop at text)) ≡ Some right
+      → Some (take at text, right) ≡ around_colons text
   colons_here right e = sym (so_far_is (Some right) e ∙ ap (λ (left : List ℕ). Some (left, right)) (append-nil (take at text)))
 
-  pub colons_further : behind_colons (take (length text - at) (drop at text)) ≡ None → around_colons text ≡ option_map (with_front (take (at + 1) text)) (around_colons (drop (at + 1) text))
+  pub colons_further : behind_colons (take (length text - at) (drop at text)) ≡ None
+      → around_colons text ≡ option_map (with_front (take (at + 1) text)) (around_colons (drop (at + 1) text))
   unfolding first
-  colons_further e = so_far_is None e ∙ front_twice (take at text) (first ∷ []) (around_colons (drop (at + 1) text)) ∙ ap (λ (left : List ℕ). option_map (with_front left) (around_colons (drop (at + 1) text))) (sym (take_more text at 0 within))
+  colons_further e =
+      so_far_is None e ∙ front_twice (take at text) (first ∷ []) (around_colons (drop (at + 1) text)) ∙ ap
+      (λ (left : List ℕ). option_map (with_front left) (around_colons (drop (at + 1) text))) (sym (take_more text at 0 within))

@@ -42,7 +42,8 @@ alone octet (x ∷ xs) e =
     ]
 
 -- and of one in which the octet follows what lacks it
-pub at_first : (octet : ℕ) (front rest : List ℕ) → lacks octet front ≡ true → (before octet (front ++ octet ∷ rest) ≡ front) × (behind octet (front ++ octet ∷ rest) ≡ Some rest)
+pub at_first : (octet : ℕ) (front rest : List ℕ) → lacks octet front ≡ true → (before octet (front ++ octet ∷ rest) ≡ front)
+    × (behind octet (front ++ octet ∷ rest) ≡ Some rest)
 at_first octet [] rest e = let is : eqb octet octet ≡ true = grind (arith, nat_tests) in rw is (refl, refl)
 at_first octet (x ∷ xs) rest e =
     elim (cases_Bool (eqb x octet)) [
@@ -50,7 +51,8 @@ at_first octet (x ∷ xs) rest e =
       | inr no' ↦ (let k = at_first octet xs rest (rw no' at e) in rw no' (ap (λ (l : List ℕ). x ∷ l) k.0, k.1))
     ]
 
-pub parts_are : (octet : ℕ) (text : List ℕ) → slice_split (λ (x : ℕ). eqb x octet) text ≡ before octet text ∷ others octet (behind octet text)
+pub parts_are : (octet : ℕ) (text : List ℕ)
+    → slice_split (λ (x : ℕ). eqb x octet) text ≡ before octet text ∷ others octet (behind octet text)
 parts_are octet [] = refl
 parts_are octet (x ∷ xs) =
     elim (cases_Bool (eqb x octet)) [
@@ -58,14 +60,16 @@ parts_are octet (x ∷ xs) =
       | inr no' ↦ rw no' (rw (parts_are octet xs) refl)
     ]
 
-pub parts_more : (octet : ℕ) (text rest : List ℕ) → behind octet text ≡ Some rest → parted octet text ≡ before octet text ∷ parted octet rest
+pub parts_more : (octet : ℕ) (text rest : List ℕ) → behind octet text ≡ Some rest
+    → parted octet text ≡ before octet text ∷ parted octet rest
 parts_more octet text rest e = parts_are octet text ∙ rw e refl
 
 pub parts_last : (octet : ℕ) (text : List ℕ) → behind octet text ≡ None → parted octet text ≡ before octet text ∷ []
 parts_last octet text e = parts_are octet text ∙ rw e refl
 
 -- texts joined by an octet that they lack are the parts again
-pub parts-joined : (octet : ℕ) (texts : List (List ℕ)) → 0 < length texts → AllByRecursion (λ (text : List ℕ). lacks octet text ≡ true) texts
+pub parts-joined : (octet : ℕ) (texts : List (List ℕ)) → 0 < length texts
+    → AllByRecursion (λ (text : List ℕ). lacks octet text ≡ true) texts
     → slice_split (λ (x : ℕ). eqb x octet) (join_with_byte octet texts) ≡ texts
 parts-joined octet [] some each = absurd (omega arith)
 parts-joined octet (text ∷ []) some each =
@@ -74,7 +78,8 @@ parts-joined octet (text ∷ []) some each =
 parts-joined octet (text ∷ second ∷ texts) some each =
     let rest : List ℕ = join_with_byte octet (second ∷ texts) in
     let k = at_first octet text rest each.0 in
-    parts_are octet (text ++ octet ∷ rest) ∙ rw (k.0, k.1) (ap (λ (parts : List (List ℕ)). text ∷ parts) (parts-joined octet (second ∷ texts) (omega arith) each.1))
+    parts_are octet (text ++ octet ∷ rest) ∙ rw (k.0, k.1)
+    (ap (λ (parts : List (List ℕ)). text ∷ parts) (parts-joined octet (second ∷ texts) (omega arith) each.1))
 
 -- ---- a reader that has come to a place
 
@@ -84,7 +89,8 @@ module _ (octet : ℕ) (text : List ℕ) (at : ℕ) where
     pub back : behind octet (drop at text) ≡ behind octet text
 
 module _ (octet : ℕ) (text : List ℕ) (at : ℕ) (passed : Passed octet text at) where
-  pub found_here : at < length text → get_or text at 0 ≡ octet → (take at text ≡ before octet text) × (Some (drop (at + 1) text) ≡ behind octet text)
+  pub found_here : at < length text → get_or text at 0 ≡ octet → (take at text ≡ before octet text)
+      × (Some (drop (at + 1) text) ≡ behind octet text)
   found_here within is =
       let here : drop at text ≡ octet ∷ drop (at + 1) text = drop_more text at 0 within ∙ ap (λ (x : ℕ). x ∷ drop (at + 1) text) is in
       let same : eqb octet octet ≡ true = grind (arith, nat_tests) in
@@ -112,6 +118,7 @@ module _ (octet : ℕ) (text : List ℕ) (at : ℕ) (passed : Passed octet text 
       (sym (append-nil text) ∙ rw (none, whole) at passed.front, rw none at passed.back)
 
 -- a front that lacks the octet, and the octet and what follows it, or nothing
-pub cut_back : (octet : ℕ) (front : List ℕ) (rest : Option (List ℕ)) → lacks octet front ≡ true → (before octet (front ++ back octet rest) ≡ front) × (behind octet (front ++ back octet rest) ≡ rest)
+pub cut_back : (octet : ℕ) (front : List ℕ) (rest : Option (List ℕ)) → lacks octet front ≡ true
+    → (before octet (front ++ back octet rest) ≡ front) × (behind octet (front ++ back octet rest) ≡ rest)
 cut_back octet front None e = let k = alone octet front e in rw append-nil k
 cut_back octet front (Some rest) e = at_first octet front rest e

@@ -28,15 +28,19 @@ module _ (limit : ℕ) (text : List ℕ) (at number : ℕ) (so_far : DecimalSoFa
         let value : decimal_from (10 * number + (digit - 48)) (drop (at + 1) text) ≡ decimal text = rw here at so_far.value in
         grind (arith, nat_tests, value, decimal_grows (10 * number + (digit - 48)) (drop (at + 1) text))
 
-  pub more_decimal : at < length text → is_ascii_digit (get_or text at 0) ≡ true → (digit : ℕ) → digit ≡ get_or text at 0 - 48 → 10 * number + digit ≤ limit → DecimalSoFar limit text (at + 1) (10 * number + digit)
+  pub more_decimal : at < length text → is_ascii_digit (get_or text at 0) ≡ true → (digit : ℕ) → digit ≡ get_or text at 0 - 48
+      → 10 * number + digit ≤ limit → DecimalSoFar limit text (at + 1) (10 * number + digit)
   more_decimal within good digit is small =
-      let digits : (is_ascii_digit (get_or text at 0) && list_all is_ascii_digit (drop (at + 1) text)) ≡ list_all is_ascii_digit text = rw (drop_more text at 0 within) at so_far.digits in
-      let value : decimal_from (10 * number + (get_or text at 0 - 48)) (drop (at + 1) text) ≡ decimal text = rw (drop_more text at 0 within) at so_far.value in
+      let digits : (is_ascii_digit (get_or text at 0) && list_all is_ascii_digit (drop (at + 1) text)) ≡ list_all is_ascii_digit text =
+      rw (drop_more text at 0 within) at so_far.digits in
+      let value : decimal_from (10 * number + (get_or text at 0 - 48)) (drop (at + 1) text) ≡ decimal text =
+      rw (drop_more text at 0 within) at so_far.value in
       record { low = small; digits = rw good at digits; value = rw (← is) at value }
 
 -- at most so much after so many hexadecimal digits
 abbrev pub below_digits : ℕ → ℕ → Type 0
-below_digits at number = (at ≡ 0 → number < 1) × (at ≡ 1 → number < 16) × (at ≡ 2 → number < 256) × (at ≡ 3 → number < 4096) × (number < 65536)
+below_digits at number = (at ≡ 0 → number < 1) × (at ≡ 1 → number < 16) × (at ≡ 2 → number < 256) × (at ≡ 3 → number < 4096)
+    × (number < 65536)
 
 pub record HexadecimalSoFar (text : List ℕ) (at number : ℕ) : Type 0 where
   pub low : below_digits at number
@@ -44,14 +48,19 @@ pub record HexadecimalSoFar (text : List ℕ) (at number : ℕ) : Type 0 where
   pub value : hexadecimal_from number (drop at text) ≡ hexadecimal text
 
 pub none_read : (text : List ℕ) → HexadecimalSoFar text 0 0
-none_read text = record { low = (λ _. omega arith, λ _. omega arith, λ _. omega arith, λ _. omega arith, omega arith); digits = refl; value = refl }
+none_read text =
+    record { low = (λ _. omega arith, λ _. omega arith, λ _. omega arith, λ _. omega arith, omega arith); digits = refl; value = refl }
 
 -- one more digit
 low_more : (at number digit : ℕ) → at < 4 → digit < 16 → below_digits at number → below_digits (at + 1) (16 * number + digit)
-low_more zero number digit within small low = let k = low.0 refl in (λ no. omega arith, λ _. omega arith, λ no. omega arith, λ no. omega arith, omega arith)
-low_more (suc zero) number digit within small low = let k = low.1 refl in (λ no. omega arith, λ no. omega arith, λ _. omega arith, λ no. omega arith, omega arith)
-low_more (suc (suc zero)) number digit within small low = let k = low.2 refl in (λ no. omega arith, λ no. omega arith, λ no. omega arith, λ _. omega arith, omega arith)
-low_more (suc (suc (suc zero))) number digit within small low = let k = low.3 refl in (λ no. omega arith, λ no. omega arith, λ no. omega arith, λ no. omega arith, omega arith)
+low_more zero number digit within small low = let k =
+    low.0 refl in (λ no. omega arith, λ _. omega arith, λ no. omega arith, λ no. omega arith, omega arith)
+low_more (suc zero) number digit within small low = let k =
+    low.1 refl in (λ no. omega arith, λ no. omega arith, λ _. omega arith, λ no. omega arith, omega arith)
+low_more (suc (suc zero)) number digit within small low = let k =
+    low.2 refl in (λ no. omega arith, λ no. omega arith, λ no. omega arith, λ _. omega arith, omega arith)
+low_more (suc (suc (suc zero))) number digit within small low = let k =
+    low.3 refl in (λ no. omega arith, λ no. omega arith, λ no. omega arith, λ no. omega arith, omega arith)
 low_more (suc (suc (suc (suc at)))) number digit within small low = absurd (omega arith)
 
 record Digit (octet digit : ℕ) : Type 0 where
@@ -86,8 +95,14 @@ module _ (text : List ℕ) (at number : ℕ) (so_far : HexadecimalSoFar text at 
     pub digit_more : (digit : ℕ) → hexadecimal_digit (get_or text at 0) ≡ Some digit → HexadecimalSoFar text (at + 1) (16 * number + digit)
     digit_more digit e =
         let k = digit_read (get_or text at 0) digit e in
-        let value : hexadecimal_from (16 * number + digit_value (get_or text at 0)) (drop (at + 1) text) ≡ hexadecimal text = rw (drop_more text at 0 within) at so_far.value in
-        record { low = low_more at number digit (omega arith) k.low so_far.low; digits = rw k.good at digits_are; value = rw k.value at value }
+        let value : hexadecimal_from (16 * number + digit_value (get_or text at 0)) (drop (at + 1) text) ≡ hexadecimal text =
+        rw (drop_more text at 0 within) at so_far.value in
+        record {
+          low = low_more at number digit (omega arith) k.low so_far.low;
+          digits = rw k.good at digits_are;
+          value =
+              rw k.value at value;
+        }
 
     pub no_digit : hexadecimal_digit (get_or text at 0) ≡ None → None ≡ hexadecimal_group text
     no_digit e =

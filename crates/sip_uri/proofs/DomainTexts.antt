@@ -127,7 +127,14 @@ wire_length : (labels : List (List ℕ)) → 0 < length labels → length (wire_
 wire_length [] some = absurd (omega arith)
 wire_length (label ∷ []) some = omega (arith, length-append (small_letters label) (0 ∷ []), length-map label to_ascii_lowercase)
 wire_length (label ∷ next ∷ labels) some =
-    omega (arith, wire_length (next ∷ labels) (omega arith), length-append (small_letters label) (wire_of (map small_letters (next ∷ labels))), length-append label (46 ∷ joined (next ∷ labels)), length-map label to_ascii_lowercase)
+    omega (
+      arith,
+      wire_length (next ∷ labels) (omega arith),
+      length-append (small_letters label) (wire_of (map small_letters (next ∷ labels))),
+      length-append label
+          (46 ∷ joined (next ∷ labels)),
+      length-map label to_ascii_lowercase,
+    )
 
 -- ---- hostnames
 
@@ -151,14 +158,16 @@ hostname_read text e =
     }
 
 front_of : (labels : List (List ℕ)) (text : List ℕ) → AreHostLabels labels → IsDotted labels text → without_closing_dot text ≡ joined labels
-front_of labels text are (inl e) = rw e (without_dot-label (joined labels) (joined_ends labels (some_labels labels are) (each_label labels are)))
+front_of labels text are (inl e) =
+    rw e (without_dot-label (joined labels) (joined_ends labels (some_labels labels are) (each_label labels are)))
 front_of labels text are (inr e) = rw e (without_dot-dot (joined labels))
 
 pub hostname_again : (text : List ℕ) (name : List (List ℕ)) → DomainText text name → (is_hostname text ≡ true) × (name ≡ name_of text)
 hostname_again text name is =
     let some = some_labels is.labels is.are in
     let front = front_of is.labels text is.are is.dotted in
-    let parts : parted 46 (joined is.labels) ≡ is.labels = parts-joined 46 is.labels some (no_dots is.labels (each_label is.labels is.are)) in
+    let parts : parted 46 (joined is.labels) ≡ is.labels =
+    parts-joined 46 is.labels some (no_dots is.labels (each_label is.labels is.are)) in
     let len = wire_length is.labels some in
     let low : length (joined is.labels) ≤ 253 = omega (arith, len, ap (λ (n : List (List ℕ)). length (wire_of n)) is.named, is.short) in
     let size : nat_le (length (joined is.labels)) 253 ≡ true = grind (arith, nat_tests) in
@@ -177,4 +186,5 @@ labels_of_text [] each = tt
 labels_of_text (label ∷ labels) each = (label_of_text label each.0, labels_of_text labels each.1)
 
 pub TextOf-hostname : (text : List ℕ) (name : List (List ℕ)) → DomainText text name → TextOf name text
-TextOf-hostname text name is = dotted is.labels (some_labels is.labels is.are) (labels_of_text is.labels (each_label is.labels is.are)) is.dotted is.named is.short
+TextOf-hostname text name is =
+    dotted is.labels (some_labels is.labels is.are) (labels_of_text is.labels (each_label is.labels is.are)) is.dotted is.named is.short

@@ -61,7 +61,8 @@ OrLater : Option UriRefusal → Type 0
 OrLater None = ⊤
 OrLater (Some fault) = IsLater fault
 
-pub then_later : {A B : Type 0} (r : Result A UriRefusal) (f : A → Result B UriRefusal) → OfLater r → ((x : A) → OfLater (f x)) → OfLater (reader.◌>>=◌ r f)
+pub then_later : {A B : Type 0} (r : Result A UriRefusal) (f : A → Result B UriRefusal) → OfLater r → ((x : A) → OfLater (f x))
+    → OfLater (reader.◌>>=◌ r f)
 then_later (Ok x) f one two = two x
 then_later (Err fault) f one two = one
 
@@ -119,10 +120,13 @@ user_later text = without_later text (before 64 text) (behind 64 text)
 
 place_later : (text : List ℕ) → OfLater (place_of text)
 unfolding place_of
-place_later text = then_later (ok_or (host_in_front text) BadHost) _ (or_later (host_in_front text) BadHost tt) (λ found. then_later (port_of found.1) _ (port_later found.1) (λ port. tt))
+place_later text =
+    then_later (ok_or (host_in_front text) BadHost) _ (or_later (host_in_front text) BadHost tt)
+    (λ found. then_later (port_of found.1) _ (port_later found.1) (λ port. tt))
 
 -- the fault of two steps is that of the first, or a later one
-pub either_of : {A B : Type 0} (r : Result A UriRefusal) (f : A → Result B UriRefusal) → ((x : A) → OfLater (f x)) → (fault : UriRefusal) → reader.◌>>=◌ r f ≡ Err fault → (r ≡ Err fault) ⊎ IsLater fault
+pub either_of : {A B : Type 0} (r : Result A UriRefusal) (f : A → Result B UriRefusal) → ((x : A) → OfLater (f x)) → (fault : UriRefusal)
+    → reader.◌>>=◌ r f ≡ Err fault → (r ≡ Err fault) ⊎ IsLater fault
 either_of (Ok x) f later fault e = inr (rw e at (later x))
 either_of (Err first) f later fault e = inl cc
 
@@ -145,7 +149,8 @@ or_fault None named fault e = cc
 or_fault (Some x) named fault e = absurd cc
 
 -- an answer that hands on a fault of a kind is none of another kind
-pub handed_on : {A : Type 0} (Of : UriRefusal → Type 0) (r : Result A UriRefusal) (x fault other : UriRefusal) → r ≡ Err x → x ≡ fault → Of fault → (Of other → ⊥) → r ≡ Err other → ⊥
+pub handed_on : {A : Type 0} (Of : UriRefusal → Type 0) (r : Result A UriRefusal) (x fault other : UriRefusal) → r ≡ Err x → x ≡ fault
+    → Of fault → (Of other → ⊥) → r ≡ Err other → ⊥
 handed_on Of r x fault other e same is apart e' =
     let here : other ≡ fault = cc in
     apart (rw here is)

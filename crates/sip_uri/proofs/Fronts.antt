@@ -39,7 +39,8 @@ module _ (text : List ℕ) (e : behind_front 91 text ≡ None) where
   pub no_host : plain_host (before 58 text) ≡ None → None ≡ host_in_front text
   no_host none = rw (not_there 91 text refl e, none) refl
 
-  pub host_there : (host : Host) (port : Option (List ℕ)) → plain_host (before 58 text) ≡ Some host → behind 58 text ≡ port → Some (host, port) ≡ host_in_front text
+  pub host_there : (host : Host) (port : Option (List ℕ)) → plain_host (before 58 text) ≡ Some host → behind 58 text ≡ port
+      → Some (host, port) ≡ host_in_front text
   host_there host port some is = rw (not_there 91 text refl e, some, is) refl
 
 pub via_bracketed : (text rest : List ℕ) → behind_front 91 text ≡ Some rest → via.host_in_brackets rest ≡ via_host text
@@ -51,7 +52,8 @@ module _ (text : List ℕ) (e : behind_front 91 text ≡ None) where
   unfolding via_host
   no_via_host none = rw (not_there 91 text refl e, none) refl
 
-  pub via_host_there : (host : Host) (rest : List ℕ) → plain_host (row is_in_host text) ≡ Some host → behind_row is_in_host text ≡ rest → Some (host, rest) ≡ via_host text
+  pub via_host_there : (host : Host) (rest : List ℕ) → plain_host (row is_in_host text) ≡ Some host → behind_row is_in_host text ≡ rest
+      → Some (host, rest) ≡ via_host text
   unfolding via_host
   via_host_there host rest some is = rw (not_there 91 text refl e, some, is) refl
 
@@ -61,6 +63,7 @@ pub quoted : (text rest : List ℕ) → behind_front 34 text ≡ Some rest → b
 unfolding behind_value
 quoted text rest e = rw (there 34 text rest e) refl
 
-pub unquoted : (text : List ℕ) → behind_front 34 text ≡ None → behind_value text ≡ some_value (row is_value_octet text) (behind_row is_value_octet text)
+pub unquoted : (text : List ℕ) → behind_front 34 text ≡ None
+    → behind_value text ≡ some_value (row is_value_octet text) (behind_row is_value_octet text)
 unfolding behind_value
 unquoted text e = rw (not_there 34 text refl e) refl

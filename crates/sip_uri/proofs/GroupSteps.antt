@@ -7,7 +7,8 @@ pub colon_is_ascii : 58 < 128
 colon_is_ascii = omega arith
 
 more_groups : (rest : List ℕ) → 2 ≤ length rest → false ≡ eqb (length (take (length rest - 2) (drop 2 rest))) 0
-    → groups_text rest ≡ hexadecimal_text (get_or rest 0 0 * 256 + get_or rest 1 0) ++ 58 ∷ groups_text (take (length rest - 2) (drop 2 rest))
+    → groups_text rest
+    ≡ hexadecimal_text (get_or rest 0 0 * 256 + get_or rest 1 0) ++ 58 ∷ groups_text (take (length rest - 2) (drop 2 rest))
 more_groups [] two some = absurd (omega arith)
 more_groups (high ∷ []) two some = absurd (omega arith)
 more_groups (high ∷ low ∷ []) two some = absurd (let no : false ≡ true = some in cc)
@@ -24,5 +25,6 @@ group_written rest two some text written longer whole high low is-high is-low e 
     let left : List ℕ = groups_text (take (length rest - 2) (drop 2 rest)) in
     let group : List ℕ = hexadecimal_text (high * 256 + low) in
     let here : groups_text rest ≡ group ++ 58 ∷ left = rw (is-high, is-low) (more_groups rest two some) in
-    ap (λ (t : List ℕ). t ++ left) e' ∙ append_assoc written (58 ∷ []) left ∙ ap (λ (t : List ℕ). t ++ 58 ∷ left) e ∙ append_assoc text group (58 ∷ left)
+    ap (λ (t : List ℕ). t ++ left) e' ∙ append_assoc written (58 ∷ []) left ∙ ap
+    (λ (t : List ℕ). t ++ 58 ∷ left) e ∙ append_assoc text group (58 ∷ left)
     ∙ ap (λ (t : List ℕ). text ++ t) (sym here) ∙ so_far

@@ -25,7 +25,8 @@ joined_octets : (labels : List (List ℕ)) → AreHostLabels labels → list_all
 unfolding is_host_octet
 joined_octets [] are = absurd are
 joined_octets (label ∷ []) are = label_octets label are.0
-joined_octets (label ∷ next ∷ labels) are = all-append is_host_octet label (46 ∷ join_with_byte 46 (next ∷ labels)) (label_octets label are.0) (joined_octets (next ∷ labels) are.1)
+joined_octets (label ∷ next ∷ labels) are =
+    all-append is_host_octet label (46 ∷ join_with_byte 46 (next ∷ labels)) (label_octets label are.0) (joined_octets (next ∷ labels) are.1)
 
 dotted_octets : (labels : List (List ℕ)) (text : List ℕ) → AreHostLabels labels → IsDotted labels text → list_all is_host_octet text ≡ true
 unfolding is_host_octet

@@ -22,13 +22,15 @@ group_octets : (text octets : List ℕ) → GroupText text octets → list_all i
 unfolding is_host_octet
 group_octets text octets is = all_weaker is_ascii_hexdigit is_host_octet (λ x e. grind (arith, nat_tests)) text is.digits
 
-groups_octets : (closing : Bool) (texts : List (List ℕ)) (octets : List ℕ) → AreGroups closing texts octets → list_all is_host_octet (join_with_byte 58 texts) ≡ true
+groups_octets : (closing : Bool) (texts : List (List ℕ)) (octets : List ℕ) → AreGroups closing texts octets
+    → list_all is_host_octet (join_with_byte 58 texts) ≡ true
 unfolding is_host_octet
 groups_octets closing [] octets are = absurd are
 groups_octets closing (text ∷ []) octets (inl is) = group_octets text octets is
 groups_octets closing (text ∷ []) octets (inr four) = v4_octets text octets four.1
 groups_octets closing (text ∷ next ∷ texts) octets are =
-    all-append is_host_octet text (58 ∷ join_with_byte 58 (next ∷ texts)) (group_octets text are.0 are.2) (groups_octets closing (next ∷ texts) are.1 are.3)
+    all-append is_host_octet text (58 ∷ join_with_byte 58 (next ∷ texts)) (group_octets text are.0 are.2)
+    (groups_octets closing (next ∷ texts) are.1 are.3)
 
 side_octets : (closing : Bool) (text octets : List ℕ) → SideText closing text octets → list_all is_host_octet text ≡ true
 side_octets closing text octets (inl none) = rw none.0 refl
@@ -54,18 +56,21 @@ group_brackets text octets is = all_weaker is_ascii_hexdigit (λ (x : ℕ). not 
 
 pub v4_lacks : (octet : ℕ) (text octets : List ℕ) → is_dotted_octet octet ≡ false → V4Text text octets → lacks octet text ≡ true
 unfolding is_dotted_octet
-v4_lacks octet text octets other is = all_weaker is_dotted_octet (λ (x : ℕ). not (eqb x octet)) (λ x e. grind (arith, nat_tests)) text (ipv4_octets text octets is)
+v4_lacks octet text octets other is =
+    all_weaker is_dotted_octet (λ (x : ℕ). not (eqb x octet)) (λ x e. grind (arith, nat_tests)) text (ipv4_octets text octets is)
 
 abbrev lacks_bracket : ℕ → Bool
 lacks_bracket x = not (eqb x 93)
 
-groups_brackets : (closing : Bool) (texts : List (List ℕ)) (octets : List ℕ) → AreGroups closing texts octets → lacks 93 (join_with_byte 58 texts) ≡ true
+groups_brackets : (closing : Bool) (texts : List (List ℕ)) (octets : List ℕ) → AreGroups closing texts octets
+    → lacks 93 (join_with_byte 58 texts) ≡ true
 unfolding is_dotted_octet
 groups_brackets closing [] octets are = absurd are
 groups_brackets closing (text ∷ []) octets (inl is) = group_brackets text octets is
 groups_brackets closing (text ∷ []) octets (inr four) = v4_lacks 93 text octets refl four.1
 groups_brackets closing (text ∷ next ∷ texts) octets are =
-    all-append lacks_bracket text (58 ∷ join_with_byte 58 (next ∷ texts)) (group_brackets text are.0 are.2) (groups_brackets closing (next ∷ texts) are.1 are.3)
+    all-append lacks_bracket text (58 ∷ join_with_byte 58 (next ∷ texts)) (group_brackets text are.0 are.2)
+    (groups_brackets closing (next ∷ texts) are.1 are.3)
 
 side_brackets : (closing : Bool) (text octets : List ℕ) → SideText closing text octets → lacks 93 text ≡ true
 side_brackets closing text octets (inl none) = rw none.0 refl

@@ -6,7 +6,8 @@ use Rattle.sip_uri.specs.Readers.Texts.{is_label, are_labels}
 use Rattle.sip_uri.proofs.Cutting.{others, parts_are}
 
 module _ (text rest : List ℕ) (so_far : are_labels (parted 46 rest) ≡ are_labels (parted 46 text)) where
-  pub last_label : behind 46 rest ≡ None → are_labels (parted 46 text) ≡ is_label (before 46 rest) && is_ascii_alphabetic (slice_index (before 46 rest) 0)
+  pub last_label : behind 46 rest ≡ None
+      → are_labels (parted 46 text) ≡ is_label (before 46 rest) && is_ascii_alphabetic (slice_index (before 46 rest) 0)
   last_label e =
       let parts : parted 46 rest ≡ before 46 rest ∷ [] = parts_are 46 rest ∙ rw e refl in
       sym so_far ∙ rw parts refl
@@ -14,7 +15,8 @@ module _ (text rest : List ℕ) (so_far : are_labels (parted 46 rest) ≡ are_la
   module _ (more : List ℕ) (e : behind 46 rest ≡ Some more) where
     first_label : are_labels (parted 46 text) ≡ is_label (before 46 rest) && are_labels (parted 46 more)
     first_label =
-        let parts : parted 46 rest ≡ before 46 rest ∷ before 46 more ∷ others 46 (behind 46 more) = parts_are 46 rest ∙ rw e (ap (λ (l : List (List ℕ)). before 46 rest ∷ l) (parts_are 46 more)) in
+        let parts : parted 46 rest ≡ before 46 rest ∷ before 46 more ∷ others 46 (behind 46 more) =
+        parts_are 46 rest ∙ rw e (ap (λ (l : List (List ℕ)). before 46 rest ∷ l) (parts_are 46 more)) in
         sym so_far ∙ rw (parts, parts_are 46 more) refl
 
     pub goes_on : is_label (before 46 rest) ≡ true → are_labels (parted 46 more) ≡ are_labels (parted 46 text)

@@ -5,7 +5,8 @@ use Rattle.std.specs.Option.{option_map, option_and_then, option_or}
 use Rattle.std.proofs.lemmas.Bool.{cases_Bool}
 
 -- what an answer of two steps was made of
-pub steps_of : {A B : Type 0} (f : A → Option B) (o : Option A) (y : B) → option_and_then f o ≡ Some y → (x : A) × (o ≡ Some x) × (f x ≡ Some y)
+pub steps_of : {A B : Type 0} (f : A → Option B) (o : Option A) (y : B) → option_and_then f o ≡ Some y → (x : A) × (o ≡ Some x)
+    × (f x ≡ Some y)
 steps_of f None y e = absurd cc
 steps_of f (Some x) y e = (x, refl, e)
 

@@ -26,7 +26,8 @@ keys parts = map part_key parts
 
 -- ---- names that stood before
 
-new_key : (earlier : List (List ℕ)) (part : List ℕ) → stands_in earlier part ≡ false → (k : ℕ) (d : List ℕ) → k < length (keys earlier) → Differ (get_or (keys earlier) k d) (part_key part)
+new_key : (earlier : List (List ℕ)) (part : List ℕ) → stands_in earlier part ≡ false → (k : ℕ) (d : List ℕ) → k < length (keys earlier)
+    → Differ (get_or (keys earlier) k d) (part_key part)
 new_key [] part e k d within same = omega arith
 new_key (other ∷ earlier) part e zero d within same =
     let is = names_same (name_of other) (name_of part) same in
@@ -38,7 +39,9 @@ new_key (other ∷ earlier) part e (suc k) d within same =
       | inr no' ↦ new_key earlier part (rw no' at e) k d (omega arith) same
     ]
 
-key_new : (earlier : List (List ℕ)) (part : List ℕ) → ((k : ℕ) (d : List ℕ) → k < length (keys earlier) → Differ (get_or (keys earlier) k d) (part_key part)) → stands_in earlier part ≡ false
+key_new : (earlier : List (List ℕ)) (part : List ℕ)
+    → ((k : ℕ) (d : List ℕ) → k < length (keys earlier) → Differ (get_or (keys earlier) k d) (part_key part))
+    → stands_in earlier part ≡ false
 key_new [] part new = refl
 key_new (other ∷ earlier) part new =
     let first = names_other (name_of other) (name_of part) (λ same. new 0 [] (omega arith) same) in
@@ -51,14 +54,16 @@ pub record Good (parts : List (List ℕ)) (all : List (List ℕ)) : Type 0 where
   pub each : AllByRecursion Part parts
   pub apart : AllPairs Differ (keys all)
 
-no_fault_behind : (earlier parts : List (List ℕ)) → fault_behind earlier parts ≡ None → AllPairs Differ (keys earlier) → Good parts (earlier ++ parts)
+no_fault_behind : (earlier parts : List (List ℕ)) → fault_behind earlier parts ≡ None → AllPairs Differ (keys earlier)
+    → Good parts (earlier ++ parts)
 no_fault_behind earlier [] e apart = record { each = tt; apart = rw append-nil apart }
 no_fault_behind earlier (part ∷ parts) e apart =
     elim (cases_Bool (is_param part)) [
       | inl good ↦ elim (cases_Bool (stands_in earlier part)) [
         | inl again ↦ (let no : Some RepeatedParam ≡ None = rw (good, again) at e in absurd cc)
         | inr new ↦ (
-            let apart' : AllPairs Differ (keys (earlier ++ part ∷ [])) = rw keys_push (all_pairs_push Differ (keys earlier) (part_key part) apart (new_key earlier part new)) in
+            let apart' : AllPairs Differ (keys (earlier ++ part ∷ [])) =
+            rw keys_push (all_pairs_push Differ (keys earlier) (part_key part) apart (new_key earlier part new)) in
             let rest = no_fault_behind (earlier ++ part ∷ []) parts (rw (good, new) at e) apart' in
             record { each = (good, rest.each); apart = rw append_assoc at rest.apart })
       ]
@@ -68,17 +73,20 @@ no_fault_behind earlier (part ∷ parts) e apart =
 pub none_bad : (parts : List (List ℕ)) → params_fault parts ≡ None → Good parts parts
 none_bad parts e = no_fault_behind [] parts e (λ i j d lt within. absurd (omega arith))
 
-stands_not : (earlier : List (List ℕ)) (part : List ℕ) (parts : List (List ℕ)) → AllPairs Differ (keys (earlier ++ part ∷ parts)) → stands_in earlier part ≡ false
+stands_not : (earlier : List (List ℕ)) (part : List ℕ) (parts : List (List ℕ)) → AllPairs Differ (keys (earlier ++ part ∷ parts))
+    → stands_in earlier part ≡ false
 stands_not earlier part parts apart =
     let all : keys (earlier ++ part ∷ parts) ≡ keys earlier ++ part_key part ∷ keys parts = map-append part_key earlier (part ∷ parts) in
     let apart' : AllPairs Differ (keys earlier ++ part_key part ∷ keys parts) = rw all at apart in
     key_new earlier part (λ k d within same.
-    let long : length (keys earlier) < length (keys earlier ++ part_key part ∷ keys parts) = omega (arith, length-append (keys earlier) (part_key part ∷ keys parts)) in
+    let long : length (keys earlier) < length (keys earlier ++ part_key part ∷ keys parts) =
+    omega (arith, length-append (keys earlier) (part_key part ∷ keys parts)) in
     let one = get_or_append_left (keys earlier) (part_key part ∷ keys parts) d k within in
     let two = get_or_at (keys earlier) (part_key part) (keys parts) d (length (keys earlier)) refl in
     apart' k (length (keys earlier)) d within long (one ∙ same ∙ sym two))
 
-fault_behind_none : (earlier parts : List (List ℕ)) → AllByRecursion Part parts → AllPairs Differ (keys (earlier ++ parts)) → fault_behind earlier parts ≡ None
+fault_behind_none : (earlier parts : List (List ℕ)) → AllByRecursion Part parts → AllPairs Differ (keys (earlier ++ parts))
+    → fault_behind earlier parts ≡ None
 fault_behind_none earlier [] each apart = refl
 fault_behind_none earlier (part ∷ parts) each apart =
     let new = stands_not earlier part parts apart in
@@ -90,10 +98,12 @@ good_none parts good = fault_behind_none [] parts good.each good.apart
 
 -- ---- values
 
-pub value_of-at : (name key : List ℕ) → small_letters name ≡ key → (parts : List (List ℕ)) → value_of name parts ≡ value_at key (map param_of parts)
+pub value_of-at : (name key : List ℕ) → small_letters name ≡ key → (parts : List (List ℕ))
+    → value_of name parts ≡ value_at key (map param_of parts)
 value_of-at name key same [] = refl
 value_of-at name key same (part ∷ parts) =
     elim (cases_Bool (is_same (name_of part) name)) [
       | inl is ↦ (let is' : bytes_eq (small_letters (before 61 part)) key ≡ true = rw same at is in rw (is, is') refl)
-      | inr no' ↦ (let no'' : bytes_eq (small_letters (before 61 part)) key ≡ false = rw same at no' in rw (no', no'') (value_of-at name key same parts))
+      | inr no' ↦ (let no'' : bytes_eq (small_letters (before 61 part)) key ≡ false =
+          rw same at no' in rw (no', no'') (value_of-at name key same parts))
     ]

@@ -31,27 +31,33 @@ module _ (test : List ℕ → Bool) (octet : ℕ) (text rest : List ℕ) (so_far
 -- ---- a name among the first parameters
 
 abbrev pub StandsSoFar : List ℕ → List ℕ → ℕ → List ℕ → ℕ → Type 0
-StandsSoFar params param count rest at = stands_in (take (count - at) (parted 59 rest)) param ≡ stands_in (take count (parted 59 params)) param
+StandsSoFar params param count rest at =
+    stands_in (take (count - at) (parted 59 rest)) param ≡ stands_in (take count (parted 59 params)) param
 
 module _ (params param rest : List ℕ) (count at : ℕ) (so_far : StandsSoFar params param count rest at) (within : at < count) where
   left_is : count - at ≡ suc (count - (at + 1))
   left_is = omega arith
 
-  first_of : (o : Option (List ℕ)) → behind 59 rest ≡ o → is_same (name_of (before 59 rest)) (name_of param) ≡ true → stands_in (take count (parted 59 params)) param ≡ true
+  first_of : (o : Option (List ℕ)) → behind 59 rest ≡ o → is_same (name_of (before 59 rest)) (name_of param) ≡ true
+      → stands_in (take count (parted 59 params)) param ≡ true
   first_of None e same = sym so_far ∙ rw (left_is, parts_last 59 rest e) (rw same refl)
   first_of (Some more) e same = sym so_far ∙ rw (left_is, parts_more 59 rest more e) (rw same refl)
 
   pub stands_here : is_same (name_of (before 59 rest)) (name_of param) ≡ true → stands_in (take count (parted 59 params)) param ≡ true
   stands_here same = first_of (behind 59 rest) refl same
 
-  pub stands_nowhere : behind 59 rest ≡ None → is_same (name_of (before 59 rest)) (name_of param) ≡ false → stands_in (take count (parted 59 params)) param ≡ false
+  pub stands_nowhere : behind 59 rest ≡ None → is_same (name_of (before 59 rest)) (name_of param) ≡ false
+      → stands_in (take count (parted 59 params)) param ≡ false
   stands_nowhere e other =
-      let all : stands_in (take (suc (count - (at + 1))) (before 59 rest ∷ [])) param ≡ false = ap (λ (l : List (List ℕ)). stands_in (before 59 rest ∷ l) param) (take_all (count - (at + 1)) [] (omega arith)) ∙ rw other refl in
+      let all : stands_in (take (suc (count - (at + 1))) (before 59 rest ∷ [])) param ≡ false =
+      ap (λ (l : List (List ℕ)). stands_in (before 59 rest ∷ l) param) (take_all (count - (at + 1)) [] (omega arith)) ∙ rw other refl in
       sym so_far ∙ rw (left_is, parts_last 59 rest e) all
 
-  pub stands_further : (more : List ℕ) → behind 59 rest ≡ Some more → is_same (name_of (before 59 rest)) (name_of param) ≡ false → StandsSoFar params param count more (at + 1)
+  pub stands_further : (more : List ℕ) → behind 59 rest ≡ Some more → is_same (name_of (before 59 rest)) (name_of param) ≡ false
+      → StandsSoFar params param count more (at + 1)
   stands_further more e other =
-      let one : stands_in (take (suc (count - (at + 1))) (before 59 rest ∷ parted 59 more)) param ≡ stands_in (take (count - (at + 1)) (parted 59 more)) param = rw other refl in
+      let one : stands_in (take (suc (count - (at + 1))) (before 59 rest ∷ parted 59 more)) param
+      ≡ stands_in (take (count - (at + 1)) (parted 59 more)) param = rw other refl in
       sym one ∙ rw (left_is, parts_more 59 rest more e) at so_far
 
 -- ---- the faults of parameters
@@ -70,11 +76,13 @@ module _ (params rest : List ℕ) (count : ℕ) (so_far : CheckedSoFar params re
   pub bad_here : is_param (before 59 rest) ≡ false → params_fault (parted 59 params) ≡ Some BadParam
   bad_here bad = bad_at (behind 59 rest) refl bad
 
-  repeated_at : (o : Option (List ℕ)) → behind 59 rest ≡ o → is_param (before 59 rest) ≡ true → stands_in (take count (parted 59 params)) (before 59 rest) ≡ true → params_fault (parted 59 params) ≡ Some RepeatedParam
+  repeated_at : (o : Option (List ℕ)) → behind 59 rest ≡ o → is_param (before 59 rest) ≡ true
+      → stands_in (take count (parted 59 params)) (before 59 rest) ≡ true → params_fault (parted 59 params) ≡ Some RepeatedParam
   repeated_at None e good again = sym so_far.fault ∙ rw (parts_last 59 rest e) (rw (good, again) refl)
   repeated_at (Some more) e good again = sym so_far.fault ∙ rw (parts_more 59 rest more e) (rw (good, again) refl)
 
-  pub repeated_here : is_param (before 59 rest) ≡ true → stands_in (take count (parted 59 params)) (before 59 rest) ≡ true → params_fault (parted 59 params) ≡ Some RepeatedParam
+  pub repeated_here : is_param (before 59 rest) ≡ true → stands_in (take count (parted 59 params)) (before 59 rest) ≡ true
+      → params_fault (parted 59 params) ≡ Some RepeatedParam
   repeated_here good again = repeated_at (behind 59 rest) refl good again
 
   module _ (good : is_param (before 59 rest) ≡ true) (new : stands_in (take count (parted 59 params)) (before 59 rest) ≡ false) where
@@ -88,10 +96,14 @@ module _ (params rest : List ℕ) (count : ℕ) (so_far : CheckedSoFar params re
         let split : take count parts ++ first ∷ parted 59 more ≡ parts = rw (parts_more 59 rest more e) at so_far.split in
         let len : length (take count parts) ≡ count = length-take-le count parts so_far.low in
         let size : count < length parts = omega (arith, ap length split, length-append (take count parts) (first ∷ parted 59 more), len) in
-        let is : get_or parts count [] ≡ first = ap (λ (l : List (List ℕ)). get_or l count []) (sym split) ∙ get_or_at (take count parts) first (parted 59 more) [] count len in
-        let longer : take (count + 1) parts ≡ take count parts ++ first ∷ [] = take_more parts count [] size ∙ ap (λ (l : List ℕ). take count parts ++ l ∷ []) is in
-        let fault : fault_behind (take count parts) (first ∷ parted 59 more) ≡ params_fault parts = rw (parts_more 59 rest more e) at so_far.fault in
-        let step : fault_behind (take count parts) (first ∷ parted 59 more) ≡ fault_behind (take count parts ++ first ∷ []) (parted 59 more) = rw (good, new) refl in
+        let is : get_or parts count [] ≡ first =
+        ap (λ (l : List (List ℕ)). get_or l count []) (sym split) ∙ get_or_at (take count parts) first (parted 59 more) [] count len in
+        let longer : take (count + 1) parts ≡ take count parts ++ first ∷ [] =
+        take_more parts count [] size ∙ ap (λ (l : List ℕ). take count parts ++ l ∷ []) is in
+        let fault : fault_behind (take count parts) (first ∷ parted 59 more) ≡ params_fault parts =
+        rw (parts_more 59 rest more e) at so_far.fault in
+        let step : fault_behind (take count parts) (first ∷ parted 59 more)
+        ≡ fault_behind (take count parts ++ first ∷ []) (parted 59 more) = rw (good, new) refl in
         record {
           split = rw (longer, append_assoc) split;
           low = omega arith;
@@ -105,7 +117,8 @@ abbrev pub ValueSoFar : List ℕ → List ℕ → List ℕ → Type 0
 ValueSoFar params name rest = value_of name (parted 59 rest) ≡ value_of name (parted 59 params)
 
 module _ (params name rest : List ℕ) (so_far : ValueSoFar params name rest) where
-  value_at : (o : Option (List ℕ)) → behind 59 rest ≡ o → is_same (name_of (before 59 rest)) name ≡ true → behind 61 (before 59 rest) ≡ value_of name (parted 59 params)
+  value_at : (o : Option (List ℕ)) → behind 59 rest ≡ o → is_same (name_of (before 59 rest)) name ≡ true
+      → behind 61 (before 59 rest) ≡ value_of name (parted 59 params)
   value_at None e same = sym (sym so_far ∙ rw (parts_last 59 rest e) (rw same refl))
   value_at (Some more) e same = sym (sym so_far ∙ rw (parts_more 59 rest more e) (rw same refl))
 
@@ -115,7 +128,8 @@ module _ (params name rest : List ℕ) (so_far : ValueSoFar params name rest) wh
   pub value_nowhere : behind 59 rest ≡ None → is_same (name_of (before 59 rest)) name ≡ false → value_of name (parted 59 params) ≡ None
   value_nowhere e other = sym so_far ∙ rw (parts_last 59 rest e) (rw other refl)
 
-  pub value_further : (more : List ℕ) → behind 59 rest ≡ Some more → is_same (name_of (before 59 rest)) name ≡ false → ValueSoFar params name more
+  pub value_further : (more : List ℕ) → behind 59 rest ≡ Some more → is_same (name_of (before 59 rest)) name ≡ false
+      → ValueSoFar params name more
   value_further more e other =
       let one : value_of name (before 59 rest ∷ parted 59 more) ≡ value_of name (parted 59 more) = rw other refl in
       sym one ∙ rw (parts_more 59 rest more e) at so_far

@@ -47,7 +47,8 @@ unfolding is_value_of
 some_value name None e = tt
 some_value name (Some value) e = some_read is_param_octet value (both_of (is_some_run is_param_octet value) _ e).0
 
-needs_transport : (name : List ℕ) (value : Option (List ℕ)) → is_valued name value ≡ true → small_letters name ≡ transport_key → IsSome value
+needs_transport : (name : List ℕ) (value : Option (List ℕ)) → is_valued name value ≡ true → small_letters name ≡ transport_key
+    → IsSome value
 needs_transport name None e is =
     let k = both_of (not (is_same name transport_name)) (not (is_same name maddr_name)) e in
     let same = names_same name transport_name is in
@@ -84,15 +85,20 @@ hosted_value name value e is =
     let same = names_same name maddr_name is in
     rw same at k
 
-pub hosted_read : (name : List ℕ) (value : Option (List ℕ)) → is_valued name value ≡ true → small_letters name ≡ maddr_key → IfSome value (λ v. is_some (host v) ≡ true)
+pub hosted_read : (name : List ℕ) (value : Option (List ℕ)) → is_valued name value ≡ true → small_letters name ≡ maddr_key
+    → IfSome value (λ v. is_some (host v) ≡ true)
 hosted_read name None e is = tt
 hosted_read name (Some value) e is = hosted_value name value e is
 
-valued_again : (name : List ℕ) (value : Option (List ℕ)) → IfSome value (λ v. IsSomeRun is_param_octet v) → (small_letters name ≡ transport_key → IsSome value) → (small_letters name ≡ maddr_key → IsSome value)
+valued_again : (name : List ℕ) (value : Option (List ℕ)) → IfSome value (λ v. IsSomeRun is_param_octet v)
+    → (small_letters name ≡ transport_key → IsSome value) → (small_letters name ≡ maddr_key → IsSome value)
     → (small_letters name ≡ maddr_key → IfSome value (λ v. is_some (host v) ≡ true)) → is_valued name value ≡ true
 unfolding is_value_of
 valued_again name None run transport maddr hosted =
-    rw (names_other name transport_name (λ is. let no : false ≡ true = transport is in cc), names_other name maddr_name (λ is. let no : false ≡ true = maddr is in cc)) refl
+    rw (
+      names_other name transport_name (λ is. let no : false ≡ true = transport is in cc),
+      names_other name maddr_name (λ is. let no : false ≡ true = maddr is in cc),
+    ) refl
 valued_again name (Some value) run transport maddr hosted =
     elim (cases_Bool (is_same name maddr_name)) [
       | inl is ↦ rw (some_again is_param_octet refl value run, is, hosted (same_names name maddr_name is)) refl
@@ -111,4 +117,5 @@ part_of param is =
 pub param_again : (param : Param) → IsParam param → IsHosted param → is_param (param_text param) ≡ true
 param_again param is hosted =
     let k = part_of param is in
-    rw (k.0, k.1) (rw (some_again is_param_octet refl param.name is.name) (valued_again param.name param.value is.value is.transport is.maddr hosted))
+    rw (k.0, k.1)
+    (rw (some_again is_param_octet refl param.name is.name) (valued_again param.name param.value is.value is.transport is.maddr hosted))

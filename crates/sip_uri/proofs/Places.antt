@@ -33,15 +33,19 @@ letter_in ((x ∷ label) ∷ []) are e =
       | inl is ↦ grind (arith, nat_tests, letter, is)
       | inr no' ↦ (let no : false ≡ true = rw no' at e in cc)
     ]
-letter_in (label ∷ next ∷ labels) are e = letter_in (next ∷ labels) are.1 (all_of-append is_dotted_octet label (46 ∷ join_with_byte 46 (next ∷ labels)) e).1
+letter_in (label ∷ next ∷ labels) are e =
+    letter_in (next ∷ labels) are.1 (all_of-append is_dotted_octet label (46 ∷ join_with_byte 46 (next ∷ labels)) e).1
 
-dotted_letter : (labels : List (List ℕ)) (text : List ℕ) → AreHostLabels labels → IsDotted labels text → list_all is_dotted_octet text ≡ true → ⊥
+dotted_letter : (labels : List (List ℕ)) (text : List ℕ) → AreHostLabels labels → IsDotted labels text
+    → list_all is_dotted_octet text ≡ true → ⊥
 dotted_letter labels text are (inl is) e = letter_in labels are (rw is at e)
-dotted_letter labels text are (inr is) e = letter_in labels are (all_of-append is_dotted_octet (join_with_byte 46 labels) (46 ∷ []) (rw is at e)).0
+dotted_letter labels text are (inr is) e =
+    letter_in labels are (all_of-append is_dotted_octet (join_with_byte 46 labels) (46 ∷ []) (rw is at e)).0
 
 no_address : (text : List ℕ) (name : List (List ℕ)) (o : Option (List ℕ)) → ipv4 text ≡ o → DomainText text name → ipv4 text ≡ None
 no_address text name None e is = e
-no_address text name (Some octets) e is = absurd (dotted_letter is.labels text is.are is.dotted (ipv4_octets text octets (ipv4_read text octets e)))
+no_address text name (Some octets) e is =
+    absurd (dotted_letter is.labels text is.are is.dotted (ipv4_octets text octets (ipv4_read text octets e)))
 
 -- ---- the octets of hostnames
 
@@ -53,11 +57,13 @@ module _ (octet : ℕ) (other : is_label_octet octet ≡ false) (no_dot : eqb 46
   labels_lack [] are = absurd are
   labels_lack (label ∷ []) are = label_lacks label are.0
   labels_lack (label ∷ next ∷ labels) are =
-      all-append (λ (x : ℕ). not (eqb x octet)) label (46 ∷ join_with_byte 46 (next ∷ labels)) (label_lacks label are.0) (rw no_dot (labels_lack (next ∷ labels) are.1))
+      all-append (λ (x : ℕ). not (eqb x octet)) label (46 ∷ join_with_byte 46 (next ∷ labels)) (label_lacks label are.0)
+      (rw no_dot (labels_lack (next ∷ labels) are.1))
 
   dotted_lacks : (labels : List (List ℕ)) (text : List ℕ) → AreHostLabels labels → IsDotted labels text → lacks octet text ≡ true
   dotted_lacks labels text are (inl is) = rw is (labels_lack labels are)
-  dotted_lacks labels text are (inr is) = rw is (all-append (λ (x : ℕ). not (eqb x octet)) (join_with_byte 46 labels) (46 ∷ []) (labels_lack labels are) (rw no_dot refl))
+  dotted_lacks labels text are (inr is) =
+      rw is (all-append (λ (x : ℕ). not (eqb x octet)) (join_with_byte 46 labels) (46 ∷ []) (labels_lack labels are) (rw no_dot refl))
 
 some_in_labels : (labels : List (List ℕ)) → AreHostLabels labels → 0 < length (join_with_byte 46 labels)
 some_in_labels [] are = absurd are
@@ -66,7 +72,8 @@ some_in_labels (label ∷ next ∷ labels) are = omega (arith, are.0.some, lengt
 
 pub some_in_dotted : (labels : List (List ℕ)) (text : List ℕ) → AreHostLabels labels → IsDotted labels text → 0 < length text
 some_in_dotted labels text are (inl is) = rw is (some_in_labels labels are)
-some_in_dotted labels text are (inr is) = omega (arith, ap length is, length-append (join_with_byte 46 labels) (46 ∷ []), some_in_labels labels are)
+some_in_dotted labels text are (inr is) =
+    omega (arith, ap length is, length-append (join_with_byte 46 labels) (46 ∷ []), some_in_labels labels are)
 
 -- ---- hosts without brackets
 
@@ -75,7 +82,8 @@ plain_read text h e =
     elim (either_of (option_map (λ (octets : List ℕ). V4 octets) (ipv4 text)) _ h e) [
       | inl four ↦ (let k = mapped_from (λ (octets : List ℕ). V4 octets) (ipv4 text) h four in rw (← k.2) (ipv4_read text k.0 k.1))
       | inr none ↦ elim (cases_Bool (is_hostname text)) [
-        | inl is ↦ (let k : Some (Domain (name_of text)) ≡ Some h = rw is at none.1 in rw (← same_Some (Domain (name_of text)) h k) (hostname_read text is))
+        | inl is ↦ (let k : Some (Domain (name_of text)) ≡ Some h =
+            rw is at none.1 in rw (← same_Some (Domain (name_of text)) h k) (hostname_read text is))
         | inr no' ↦ (let no : None ≡ Some h = rw no' at none.1 in absurd cc)
       ]
     ]
@@ -155,7 +163,8 @@ brackets_read text h port e =
     record {
       front = 91 ∷ before 93 text ++ 93 ∷ [];
       is = rw (← same_host) (before 93 text, refl, ipv6_read (before 93 text) six.0 six.1);
-      joined = sym (append_assoc (91 ∷ before 93 text) (93 ∷ []) (back 58 port) ∙ ap (λ (t : List ℕ). 91 ∷ (before 93 text ++ 93 ∷ t)) (sym rest) ∙ ap (λ (t : List ℕ). 91 ∷ t) cut);
+      joined = sym (append_assoc (91 ∷ before 93 text) (93 ∷ []) (back 58 port) ∙ ap
+          (λ (t : List ℕ). 91 ∷ (before 93 text ++ 93 ∷ t)) (sym rest) ∙ ap (λ (t : List ℕ). 91 ∷ t) cut);
     }
 
 pub first_bracket : (text : List ℕ) → eqb (slice_index text 0) 91 ≡ true → text ≡ 91 ∷ drop 1 text
@@ -180,12 +189,14 @@ front_read text h port e =
           })
     ]
 
-pub front_again : (text : List ℕ) (h : Host) (port : Option (List ℕ)) → HostText text h → host_in_front (text ++ back 58 port) ≡ Some (h, port)
+pub front_again : (text : List ℕ) (h : Host) (port : Option (List ℕ)) → HostText text h
+    → host_in_front (text ++ back 58 port) ≡ Some (h, port)
 front_again text (V4 octets) port is = plain_front text (V4 octets) port (plain_v4 text octets is)
 front_again text (Domain name) port is = plain_front text (Domain name) port (plain_domain text name is)
 front_again text (V6 octets) port is =
     let inner : List ℕ = is.0 in
-    let whole' : text ++ back 58 port ≡ 91 ∷ (inner ++ 93 ∷ back 58 port) = ap (λ (t : List ℕ). t ++ back 58 port) is.1 ∙ append_assoc (91 ∷ inner) (93 ∷ []) (back 58 port) in
+    let whole' : text ++ back 58 port ≡ 91 ∷ (inner ++ 93 ∷ back 58 port) =
+    ap (λ (t : List ℕ). t ++ back 58 port) is.1 ∙ append_assoc (91 ∷ inner) (93 ∷ []) (back 58 port) in
     let k = at_first 93 inner (back 58 port) (v6_brackets inner octets is.2) in
     rw whole' (rw k.1 (rw (port_again port, k.0) (rw (ipv6_again inner octets is.2) refl)))
 
@@ -201,7 +212,8 @@ host_read text h e =
     let k = steps_of without_port (host_in_front text) h e in
     let same = no_port k.0.0 h k.0.1 k.2 in
     let placed = front_read text k.0.0 k.0.1 k.1 in
-    let whole' : text ≡ placed.front = placed.joined ∙ ap (λ (o : Option (List ℕ)). placed.front ++ back 58 o) same.1 ∙ append-nil placed.front in
+    let whole' : text ≡ placed.front =
+    placed.joined ∙ ap (λ (o : Option (List ℕ)). placed.front ++ back 58 o) same.1 ∙ append-nil placed.front in
     moved text placed.front h k.0.0 whole' same.0 placed.is
 
 pub host_again : (text : List ℕ) (h : Host) → HostText text h → host text ≡ Some h

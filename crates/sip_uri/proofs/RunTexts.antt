@@ -60,7 +60,8 @@ some_again class percent text is =
     rw size (run_again class percent text is.run)
 
 -- an octet that is of neither the class, `%` nor hexadecimal digits
-pub run_lacks : (class : ℕ → Bool) (octet : ℕ) → class octet ≡ false → is_ascii_hexdigit octet ≡ false → eqb 37 octet ≡ false → (text : List ℕ) → IsRun class text → lacks octet text ≡ true
+pub run_lacks : (class : ℕ → Bool) (octet : ℕ) → class octet ≡ false → is_ascii_hexdigit octet ≡ false → eqb 37 octet ≡ false
+    → (text : List ℕ) → IsRun class text → lacks octet text ≡ true
 run_lacks class octet other digit percent text none = refl
 run_lacks class octet other digit percent text (plain x rest good run) =
     elim (cases_Bool (eqb x octet)) [

@@ -17,9 +17,11 @@ use Rattle.sip_uri.proofs.DomainTexts.{both_of}
 
 -- ---- headers
 
-value_read : (name : List ℕ) (o : Option (List ℕ)) → IsSomeRun is_header_octet name → is_header_value o ≡ true → HeaderText (name ++ back 61 o)
+value_read : (name : List ℕ) (o : Option (List ℕ)) → IsSomeRun is_header_octet name → is_header_value o ≡ true
+    → HeaderText (name ++ back 61 o)
 value_read name None is e = absurd cc
-value_read name (Some value) is e = record { name = name; value = value; joined = refl; is_name = is; is_value = run_read is_header_octet value e }
+value_read name (Some value) is e =
+    record { name = name; value = value; joined = refl; is_name = is; is_value = run_read is_header_octet value e }
 
 header_read : (text : List ℕ) → is_header text ≡ true → HeaderText text
 header_read text e =
@@ -29,7 +31,8 @@ header_read text e =
 header_again : (text : List ℕ) → HeaderText text → is_header text ≡ true
 header_again text is =
     let k = at_first 61 is.name is.value (run_lacks is_header_octet 61 refl refl refl is.name is.is_name.run) in
-    rw is.joined (rw (k.0, k.1) (rw (some_again is_header_octet refl is.name is.is_name) (run_again is_header_octet refl is.value is.is_value)))
+    rw is.joined (rw (k.0, k.1)
+    (rw (some_again is_header_octet refl is.name is.is_name) (run_again is_header_octet refl is.value is.is_value)))
 
 headers_read : (texts : List (List ℕ)) → list_all is_header texts ≡ true → AllByRecursion HeaderText texts
 headers_read [] e = tt
@@ -41,20 +44,28 @@ headers_again : (texts : List (List ℕ)) → AllByRecursion HeaderText texts �
 headers_again [] are = refl
 headers_again (text ∷ texts) are = rw (header_again text are.0) (headers_again texts are.1)
 
-header_lacks : (octet : ℕ) → is_header_octet octet ≡ false → is_ascii_hexdigit octet ≡ false → eqb 37 octet ≡ false → eqb 61 octet ≡ false → (text : List ℕ) → HeaderText text → lacks octet text ≡ true
+header_lacks : (octet : ℕ) → is_header_octet octet ≡ false → is_ascii_hexdigit octet ≡ false → eqb 37 octet ≡ false → eqb 61 octet ≡ false
+    → (text : List ℕ) → HeaderText text → lacks octet text ≡ true
 header_lacks octet other no_digit no_percent no_equals text is =
-    rw is.joined (all-append (λ (x : ℕ). not (eqb x octet)) is.name (61 ∷ is.value) (run_lacks is_header_octet octet other no_digit no_percent is.name is.is_name.run) (rw no_equals (run_lacks is_header_octet octet other no_digit no_percent is.value is.is_value)))
+    rw is.joined (all-append
+    (λ (x : ℕ). not (eqb x octet)) is.name (61 ∷ is.value)
+    (run_lacks is_header_octet octet other no_digit no_percent is.name is.is_name.run)
+    (rw no_equals (run_lacks is_header_octet octet other no_digit no_percent is.value is.is_value)))
 
-headers_lack : (octet : ℕ) → is_header_octet octet ≡ false → is_ascii_hexdigit octet ≡ false → eqb 37 octet ≡ false → eqb 61 octet ≡ false → (texts : List (List ℕ)) → AllByRecursion HeaderText texts
+headers_lack : (octet : ℕ) → is_header_octet octet ≡ false → is_ascii_hexdigit octet ≡ false → eqb 37 octet ≡ false → eqb 61 octet ≡ false
+    → (texts : List (List ℕ)) → AllByRecursion HeaderText texts
     → AllByRecursion (λ (text : List ℕ). lacks octet text ≡ true) texts
 headers_lack octet other no_digit no_percent no_equals [] are = tt
-headers_lack octet other no_digit no_percent no_equals (text ∷ texts) are = (header_lacks octet other no_digit no_percent no_equals text are.0, headers_lack octet other no_digit no_percent no_equals texts are.1)
+headers_lack octet other no_digit no_percent no_equals (text ∷ texts) are =
+    (header_lacks octet other no_digit no_percent no_equals text are.0, headers_lack octet other no_digit no_percent no_equals texts are.1)
 
-joined_lacks : (octet separator : ℕ) → eqb separator octet ≡ false → (texts : List (List ℕ)) → AllByRecursion (λ (text : List ℕ). lacks octet text ≡ true) texts → lacks octet (join_with_byte separator texts) ≡ true
+joined_lacks : (octet separator : ℕ) → eqb separator octet ≡ false → (texts : List (List ℕ))
+    → AllByRecursion (λ (text : List ℕ). lacks octet text ≡ true) texts → lacks octet (join_with_byte separator texts) ≡ true
 joined_lacks octet separator other [] each = refl
 joined_lacks octet separator other (text ∷ []) each = each.0
 joined_lacks octet separator other (text ∷ next ∷ texts) each =
-    all-append (λ (x : ℕ). not (eqb x octet)) text (separator ∷ join_with_byte separator (next ∷ texts)) each.0 (rw other (joined_lacks octet separator other (next ∷ texts) each.1))
+    all-append (λ (x : ℕ). not (eqb x octet)) text (separator ∷ join_with_byte separator (next ∷ texts)) each.0
+    (rw other (joined_lacks octet separator other (next ∷ texts) each.1))
 
 pub headers_no_at : (texts : List (List ℕ)) → AllByRecursion HeaderText texts → lacks 64 (headers_text texts) ≡ true
 headers_no_at [] are = refl
@@ -86,7 +97,9 @@ check_read (Some text) e =
       | inl good ↦ record {
         headers = parted 38 text;
         are = headers_read (parted 38 text) good;
-        text_is = sym (some_headers (parted 38 text) (omega (arith, length-slice_split (λ (x : ℕ). eqb x 38) text)) ∙ ap (λ (t : List ℕ). 63 ∷ t) (join_with_byte-slice_split 38 text));
+        text_is = sym
+            (some_headers (parted 38 text) (omega (arith, length-slice_split (λ (x : ℕ). eqb x 38) text)) ∙ ap
+            (λ (t : List ℕ). 63 ∷ t) (join_with_byte-slice_split 38 text));
       }
       | inr bad ↦ (let no : Err BadHeader ≡ Ok tt = rw bad at e in absurd cc)
     ]
@@ -95,5 +108,6 @@ pub check_again : (texts : List (List ℕ)) → AllByRecursion HeaderText texts 
 unfolding check_headers
 check_again [] are = refl
 check_again (text ∷ texts) are =
-    let cut : parted 38 (join_with_byte 38 (text ∷ texts)) ≡ text ∷ texts = parts-joined 38 (text ∷ texts) (omega arith) (headers_lack 38 refl refl refl refl (text ∷ texts) are) in
+    let cut : parted 38 (join_with_byte 38 (text ∷ texts)) ≡ text ∷ texts =
+    parts-joined 38 (text ∷ texts) (omega arith) (headers_lack 38 refl refl refl refl (text ∷ texts) are) in
     rw (cut, headers_again (text ∷ texts) are) refl

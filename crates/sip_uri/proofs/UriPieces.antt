@@ -31,7 +31,8 @@ use Rattle.sip_uri.proofs.HostTexts.{host_octets}
 use Rattle.sip_uri.proofs.Places.{front_read, front_again}
 use Rattle.sip_uri.proofs.ParamTexts.{same_names, names_same, names_other}
 
-pub bind_of : {A B : Type 0} (f : A → Result B UriRefusal) (r : Result A UriRefusal) (y : B) → reader.◌>>=◌ r f ≡ Ok y → (x : A) × (r ≡ Ok x) × (f x ≡ Ok y)
+pub bind_of : {A B : Type 0} (f : A → Result B UriRefusal) (r : Result A UriRefusal) (y : B) → reader.◌>>=◌ r f ≡ Ok y → (x : A)
+    × (r ≡ Ok x) × (f x ≡ Ok y)
 bind_of f (Ok x) y e = (x, refl, e)
 bind_of f (Err fault) y e = absurd cc
 
@@ -72,7 +73,9 @@ secure_read text secure e =
 secure_again : (text : List ℕ) (secure : Bool) → SchemeText text secure → is_secure text ≡ Some secure
 secure_again text false is = rw (names_same text sip is) refl
 secure_again text true is =
-    let other : is_same text sip ≡ false = names_other text sip (λ same. let no : ◌≡◌ {A = List ℕ} (115 ∷ 105 ∷ 112 ∷ 115 ∷ []) (115 ∷ 105 ∷ 112 ∷ []) = sym is ∙ same in cc) in
+    let other : is_same text sip ≡ false =
+    names_other text sip
+    (λ same. let no : ◌≡◌ {A = List ℕ} (115 ∷ 105 ∷ 112 ∷ 115 ∷ []) (115 ∷ 105 ∷ 112 ∷ []) = sym is ∙ same in cc) in
     rw (other, names_same text sips is) refl
 
 pub record SchemeRead (text : List ℕ) (secure : Bool) (rest : List ℕ) : Type 0 where
@@ -90,14 +93,16 @@ both_are {A} {B} (Some a) (Some b) x y e =
 pub scheme_read : (text : List ℕ) (secure : Bool) (rest : List ℕ) → behind_scheme text ≡ Ok (secure, rest) → SchemeRead text secure rest
 unfolding behind_scheme
 scheme_read text secure rest e =
-    let k = both_are (is_secure (before 58 text)) (behind 58 text) secure rest (from_ok_or (both (is_secure (before 58 text)) (behind 58 text)) BadScheme (secure, rest) e) in
+    let k = both_are (is_secure (before 58 text)) (behind 58 text) secure rest
+    (from_ok_or (both (is_secure (before 58 text)) (behind 58 text)) BadScheme (secure, rest) e) in
     record {
       scheme = before 58 text;
       is = secure_read (before 58 text) secure k.0;
       text_is = sym (rw k.1 at (joined 58 text));
     }
 
-pub scheme_again : (scheme : List ℕ) (secure : Bool) (rest : List ℕ) → SchemeText scheme secure → behind_scheme (scheme ++ 58 ∷ rest) ≡ Ok (secure, rest)
+pub scheme_again : (scheme : List ℕ) (secure : Bool) (rest : List ℕ) → SchemeText scheme secure
+    → behind_scheme (scheme ++ 58 ∷ rest) ≡ Ok (secure, rest)
 unfolding behind_scheme
 scheme_again scheme secure rest is =
     let k = at_first 58 scheme rest (scheme_lacks scheme secure is) in
@@ -105,9 +110,11 @@ scheme_again scheme secure rest is =
 
 -- ---- the user
 
-password_read : (user : List ℕ) (o : Option (List ℕ)) → IsSomeRun is_user_octet user → is_password o ≡ true → UserText ((user ++ back 58 o) ++ 64 ∷ [])
+password_read : (user : List ℕ) (o : Option (List ℕ)) → IsSomeRun is_user_octet user → is_password o ≡ true
+    → UserText ((user ++ back 58 o) ++ 64 ∷ [])
 password_read user None is e = alone user is (rw append-nil refl)
-password_read user (Some password) is e = with_password user password is (run_read is_password_octet password e) (append_assoc user (58 ∷ password) (64 ∷ []))
+password_read user (Some password) is e =
+    with_password user password is (run_read is_password_octet password e) (append_assoc user (58 ∷ password) (64 ∷ []))
 
 user_read : (text : List ℕ) → is_userinfo text ≡ true → UserText (text ++ 64 ∷ [])
 user_read text e =
@@ -119,7 +126,8 @@ pub record UserRead (text rest : List ℕ) : Type 0 where
   pub is : UserText user
   pub text_is : text ≡ user ++ rest
 
-without_read : (text rest : List ℕ) (o : Option (List ℕ)) → behind 64 text ≡ o → without_user text (before 64 text) o ≡ Ok rest → UserRead text rest
+without_read : (text rest : List ℕ) (o : Option (List ℕ)) → behind 64 text ≡ o → without_user text (before 64 text) o ≡ Ok rest
+    → UserRead text rest
 without_read text rest None e read = record { user = []; is = nobody refl; text_is = same_Ok text rest read }
 without_read text rest (Some found) e read =
     elim (cases_Bool (is_userinfo (before 64 text))) [
@@ -155,9 +163,14 @@ module _ (rest : List ℕ) (no_at : lacks 64 rest ≡ true) where
   user_again user (with_password name password run run' is) =
       let k = at_first 58 name password (run_lacks is_user_octet 58 refl refl refl name run.run) in
       let front : List ℕ = name ++ 58 ∷ password in
-      let good : is_userinfo front ≡ true = rw (k.0, k.1) (rw (some_again is_user_octet refl name run) (run_again is_password_octet refl password run')) in
-      let lack : lacks 64 front ≡ true = all-append (λ (x : ℕ). not (eqb x 64)) name (58 ∷ password) (run_lacks is_user_octet 64 refl refl refl name run.run) (run_lacks is_password_octet 64 refl refl refl password run') in
-      let whole : user ++ rest ≡ front ++ 64 ∷ rest = ap (λ (t : List ℕ). t ++ rest) is ∙ append_assoc name (58 ∷ (password ++ 64 ∷ [])) rest ∙ ap (λ (t : List ℕ). name ++ 58 ∷ t) (append_assoc password (64 ∷ []) rest) ∙ sym (append_assoc name (58 ∷ password) (64 ∷ rest)) in
+      let good : is_userinfo front ≡ true =
+      rw (k.0, k.1) (rw (some_again is_user_octet refl name run) (run_again is_password_octet refl password run')) in
+      let lack : lacks 64 front ≡ true =
+      all-append (λ (x : ℕ). not (eqb x 64)) name (58 ∷ password) (run_lacks is_user_octet 64 refl refl refl name run.run)
+      (run_lacks is_password_octet 64 refl refl refl password run') in
+      let whole : user ++ rest ≡ front ++ 64 ∷ rest =
+      ap (λ (t : List ℕ). t ++ rest) is ∙ append_assoc name (58 ∷ (password ++ 64 ∷ [])) rest ∙ ap
+      (λ (t : List ℕ). name ++ 58 ∷ t) (append_assoc password (64 ∷ []) rest) ∙ sym (append_assoc name (58 ∷ password) (64 ∷ rest)) in
       ap behind_user whole ∙ named_again front good lack
 
 -- ---- the port
@@ -187,7 +200,8 @@ number_again text (suc port) is =
     let read : decimal_within 65535 text ≡ Some (suc port) = grind (arith, nat_tests, is.some, is.digits, is.is, is.upto) in
     rw read refl
 
-numbered : (text : List ℕ) (o : Option ℕ) → port_number text ≡ o → (port : Option ℕ) → option_map (λ (p : ℕ). Some p) o ≡ Some port → PortText (58 ∷ text) port
+numbered : (text : List ℕ) (o : Option ℕ) → port_number text ≡ o → (port : Option ℕ) → option_map (λ (p : ℕ). Some p) o ≡ Some port
+    → PortText (58 ∷ text) port
 numbered text None read port e = absurd cc
 numbered text (Some number) read port e =
     let same : Some number ≡ port = same_Some (Some number) port e in
@@ -196,7 +210,8 @@ numbered text (Some number) read port e =
 pub port_read : (digits : Option (List ℕ)) (port : Option ℕ) → port_of digits ≡ Ok port → PortText (back 58 digits) port
 unfolding port_of
 port_read None port e = rw (← same_Ok None port e) refl
-port_read (Some text) port e = numbered text (port_number text) refl port (from_ok_or (option_map (λ (p : ℕ). Some p) (port_number text)) BadPort port e)
+port_read (Some text) port e =
+    numbered text (port_number text) refl port (from_ok_or (option_map (λ (p : ℕ). Some p) (port_number text)) BadPort port e)
 
 pub record PortDigits (text : List ℕ) (port : Option ℕ) : Type 0 where
   pub digits : Option (List ℕ)
@@ -240,20 +255,24 @@ place_read text h port e =
       text_is = placed.joined;
     }
 
-pub place_again : (front end : List ℕ) (h : Host) (port : Option ℕ) → HostText front h → PortText end port → place_of (front ++ end) ≡ Ok (h, port)
+pub place_again : (front end : List ℕ) (h : Host) (port : Option ℕ) → HostText front h → PortText end port
+    → place_of (front ++ end) ≡ Ok (h, port)
 unfolding place_of
 place_again front end h port is is' =
     let digits = port_again end port is' in
-    let found : host_in_front (front ++ end) ≡ Some (h, digits.digits) = ap (λ (t : List ℕ). host_in_front (front ++ t)) digits.text_is ∙ front_again front h digits.digits is in
+    let found : host_in_front (front ++ end) ≡ Some (h, digits.digits) =
+    ap (λ (t : List ℕ). host_in_front (front ++ t)) digits.text_is ∙ front_again front h digits.digits is in
     rw found (rw digits.is refl)
 
 -- ---- octets that stand in no host and no port
 
 pub host_lacks : (octet : ℕ) → is_host_octet octet ≡ false → (text : List ℕ) (h : Host) → HostText text h → lacks octet text ≡ true
 unfolding is_host_octet
-host_lacks octet other text h is = all_weaker is_host_octet (λ (x : ℕ). not (eqb x octet)) (λ x e. grind (arith, nat_tests)) text (host_octets text h is)
+host_lacks octet other text h is =
+    all_weaker is_host_octet (λ (x : ℕ). not (eqb x octet)) (λ x e. grind (arith, nat_tests)) text (host_octets text h is)
 
-pub port_lacks : (octet : ℕ) → eqb 58 octet ≡ false → is_ascii_digit octet ≡ false → (text : List ℕ) (port : Option ℕ) → PortText text port → lacks octet text ≡ true
+pub port_lacks : (octet : ℕ) → eqb 58 octet ≡ false → is_ascii_digit octet ≡ false → (text : List ℕ) (port : Option ℕ) → PortText text port
+    → lacks octet text ≡ true
 port_lacks octet colon other text None is = rw is refl
 port_lacks octet colon other text (Some port) is =
     rw is.1 (rw colon (all_weaker is_ascii_digit (λ (x : ℕ). not (eqb x octet)) (λ x e. grind (arith, nat_tests)) is.0 is.2.digits))

@@ -30,9 +30,12 @@ record Pieces (text : List ℕ) (uri : SipUri) : Type 0 where
   params : ParamsRead (behind 59 (before 63 left)) uri.transport uri.maddr
   headers : HeadersRead (behind 63 left)
 
-pieces_of : (text : List ℕ) (secure : Bool) (rest left : List ℕ) (h : Host) (port : Option ℕ) (transport : Option Spoken) (maddr : Option Host) (uri : SipUri)
-    → behind_scheme text ≡ Ok (secure, rest) → behind_user rest ≡ Ok left → place_of (before 59 (before 63 left)) ≡ Ok (h, port) → said_by (behind 59 (before 63 left)) ≡ Ok (transport, maddr)
-    → check_headers (behind 63 left) ≡ Ok tt → record { secure = secure; host = h; port = port; transport = transport; maddr = maddr } ≡ uri → Pieces text uri
+pieces_of : (text : List ℕ) (secure : Bool) (rest left : List ℕ) (h : Host) (port : Option ℕ) (transport : Option Spoken)
+    (maddr : Option Host) (uri : SipUri)
+    → behind_scheme text ≡ Ok (secure, rest) → behind_user rest ≡ Ok left → place_of (before 59 (before 63 left)) ≡ Ok (h, port)
+    → said_by (behind 59 (before 63 left)) ≡ Ok (transport, maddr)
+    → check_headers (behind 63 left) ≡ Ok tt → record { secure = secure; host = h; port = port; transport = transport; maddr = maddr } ≡ uri
+    → Pieces text uri
 pieces_of text secure rest left h port transport maddr uri one two three four five same =
     rw (← same) (record {
       rest = rest;
@@ -61,11 +64,13 @@ spelled text uri short p =
     let front : List ℕ = before 63 left in
     -- the parameters and the headers
     let cut : (front ++ headers_text p.headers.headers) ≡ left = ap (λ (t : List ℕ). front ++ t) (sym p.headers.text_is) ∙ joined 63 left in
-    let cut' : (before 59 front ++ params_text p.params.params) ≡ front = ap (λ (t : List ℕ). before 59 front ++ t) (sym p.params.text) ∙ joined 59 front in
+    let cut' : (before 59 front ++ params_text p.params.params) ≡ front =
+    ap (λ (t : List ℕ). before 59 front ++ t) (sym p.params.text) ∙ joined 59 front in
     let end : List ℕ = p.place.end in
     let placed : before 59 front ≡ p.place.front ++ end = p.place.text_is in
     let whole : left ≡ p.place.front ++ (end ++ (params_text p.params.params ++ headers_text p.headers.headers)) =
-    sym cut ∙ ap (λ (t : List ℕ). t ++ headers_text p.headers.headers) (sym cut' ∙ ap (λ (t : List ℕ). t ++ params_text p.params.params) placed)
+    sym cut ∙ ap (λ (t : List ℕ). t ++ headers_text p.headers.headers)
+    (sym cut' ∙ ap (λ (t : List ℕ). t ++ params_text p.params.params) placed)
     ∙ append_assoc (p.place.front ++ end) (params_text p.params.params) (headers_text p.headers.headers)
     ∙ append_assoc p.place.front end (params_text p.params.params ++ headers_text p.headers.headers) in
     record {
@@ -75,7 +80,8 @@ spelled text uri short p =
       port = end;
       params = p.params.params;
       headers = p.headers.headers;
-      joined = p.scheme.text_is ∙ ap (λ (t : List ℕ). p.scheme.scheme ++ 58 ∷ t) (p.user.text_is ∙ ap (λ (t : List ℕ). p.user.user ++ t) whole);
+      joined = p.scheme.text_is ∙ ap
+          (λ (t : List ℕ). p.scheme.scheme ++ 58 ∷ t) (p.user.text_is ∙ ap (λ (t : List ℕ). p.user.user ++ t) whole);
       short = short;
       is_scheme = p.scheme.is;
       is_user = p.user.is;
@@ -103,20 +109,25 @@ module _ (text : List ℕ) (uri : SipUri) (is : UriText text uri) where
   left_text : List ℕ
   left_text = front_text ++ headers_text is.headers
 
-  place_lacks : (octet : ℕ) → is_host_octet octet ≡ false → eqb 58 octet ≡ false → is_ascii_digit octet ≡ false → lacks octet place_text ≡ true
+  place_lacks : (octet : ℕ) → is_host_octet octet ≡ false → eqb 58 octet ≡ false → is_ascii_digit octet ≡ false
+      → lacks octet place_text ≡ true
   unfolding place_text
   place_lacks octet other colon digit =
-      all-append (λ (x : ℕ). not (eqb x octet)) is.host is.port (host_lacks octet other is.host uri.host is.is_host) (port_lacks octet colon digit is.port uri.port is.is_port)
+      all-append (λ (x : ℕ). not (eqb x octet)) is.host is.port (host_lacks octet other is.host uri.host is.is_host)
+      (port_lacks octet colon digit is.port uri.port is.is_port)
 
   front_lacks_63 : lacks 63 front_text ≡ true
   unfolding front_text is_host_octet
-  front_lacks_63 = all-append (λ (x : ℕ). not (eqb x 63)) place_text (params_text is.params) (place_lacks 63 refl refl refl) (block_lacks 63 refl refl refl refl refl is.params is.are_params)
+  front_lacks_63 =
+      all-append (λ (x : ℕ). not (eqb x 63)) place_text (params_text is.params) (place_lacks 63 refl refl refl)
+      (block_lacks 63 refl refl refl refl refl is.params is.are_params)
 
   left_lacks_64 : lacks 64 left_text ≡ true
   unfolding left_text front_text is_host_octet
   left_lacks_64 =
       all-append (λ (x : ℕ). not (eqb x 64)) front_text (headers_text is.headers)
-      (all-append (λ (x : ℕ). not (eqb x 64)) place_text (params_text is.params) (place_lacks 64 refl refl refl) (block_lacks 64 refl refl refl refl refl is.params is.are_params))
+      (all-append (λ (x : ℕ). not (eqb x 64)) place_text (params_text is.params) (place_lacks 64 refl refl refl)
+      (block_lacks 64 refl refl refl refl refl is.params is.are_params))
       (headers_no_at is.headers is.are_headers)
 
   cut_headers : (before 63 left_text ≡ front_text) × (behind 63 left_text ≡ headers_of is.headers)
@@ -130,7 +141,10 @@ module _ (text : List ℕ) (uri : SipUri) (is : UriText text uri) where
   whole_text : text ≡ is.scheme ++ 58 ∷ (is.user ++ left_text)
   unfolding left_text front_text place_text
   whole_text =
-      is.joined ∙ ap (λ (t : List ℕ). is.scheme ++ 58 ∷ (is.user ++ t)) (sym (append_assoc (place_text) (params_text is.params) (headers_text is.headers) ∙ append_assoc is.host is.port (params_text is.params ++ headers_text is.headers)))
+      is.joined ∙ ap
+      (λ (t : List ℕ). is.scheme ++ 58 ∷ (is.user ++ t))
+      (sym (append_assoc (place_text) (params_text is.params) (headers_text is.headers) ∙ append_assoc is.host is.port
+      (params_text is.params ++ headers_text is.headers)))
 
   at_place : place_of place_text ≡ Ok (uri.host, uri.port)
   unfolding place_text
@@ -144,7 +158,8 @@ module _ (text : List ℕ) (uri : SipUri) (is : UriText text uri) where
       let three : place_of place_text ≡ Ok (uri.host, uri.port) = at_place in
       let four = said_again is.params uri.transport uri.maddr is.are_params is.apart is.transport is.maddr in
       let five = check_again is.headers is.are_headers in
-      ap uri_parts whole_text ∙ rw one (rw two (rw (cut_headers.0, cut_headers.1) (rw (cut_params.0, cut_params.1) (rw three (rw four (rw five refl))))))
+      ap uri_parts whole_text ∙ rw one
+      (rw two (rw (cut_headers.0, cut_headers.1) (rw (cut_params.0, cut_params.1) (rw three (rw four (rw five refl))))))
 
 -- ---- where its scheme is bad
 
@@ -164,12 +179,14 @@ bad_scheme text e has =
     elim (uri_fault text BadScheme e) [
       | inl front ↦ (
           let again = scheme_again has.scheme has.secure has.rest has.is_scheme in
-          let no : ◌≡◌ {A = Result (Bool × List ℕ) UriRefusal} (Err BadScheme) (Ok (has.secure, has.rest)) = sym front ∙ ap behind_scheme has.joined ∙ again in
+          let no : ◌≡◌ {A = Result (Bool × List ℕ) UriRefusal} (Err BadScheme) (Ok (has.secure, has.rest)) =
+          sym front ∙ ap behind_scheme has.joined ∙ again in
           cc)
       | inr later ↦ later
     ]
 
-scheme_lacks : (text : List ℕ) → (HasScheme text → ⊥) → (o : Option (Bool × List ℕ)) → both (is_secure (before 58 text)) (behind 58 text) ≡ o → behind_scheme text ≡ Err BadScheme
+scheme_lacks : (text : List ℕ) → (HasScheme text → ⊥) → (o : Option (Bool × List ℕ))
+    → both (is_secure (before 58 text)) (behind 58 text) ≡ o → behind_scheme text ≡ Err BadScheme
 unfolding behind_scheme
 scheme_lacks text none None is = rw is refl
 scheme_lacks text none (Some found) is =
@@ -191,11 +208,13 @@ module _ (text : List ℕ) (parts : SipUri) (read : uri_parts text ≡ Ok parts)
   found_is (Ok uri) is short = rw is (uri_read text parts short read)
   found_is (Err refusal) is short = tt
 
-  pub read_is : (r : Result SipUri UriRefusal) → Answer r → (uri : SipUri) → UriText text uri → MatchResult r (λ found. found ≡ uri) (λ refusal. refusal ≡ Memory)
+  pub read_is : (r : Result SipUri UriRefusal) → Answer r → (uri : SipUri) → UriText text uri
+      → MatchResult r (λ found. found ≡ uri) (λ refusal. refusal ≡ Memory)
   read_is (Ok found) is uri spells = is ∙ same_Ok parts uri (sym read ∙ uri_again text uri spells)
   read_is (Err refusal) is uri spells = is.0
 
-  pub memory_is : (r : Result SipUri UriRefusal) → Answer r → length text ≤ 1024 → r ≡ Err Memory → (uri : SipUri) × UriText text uri × IsNamedUri uri
+  pub memory_is : (r : Result SipUri UriRefusal) → Answer r → length text ≤ 1024 → r ≡ Err Memory → (uri : SipUri) × UriText text uri
+      × IsNamedUri uri
   memory_is (Ok found) is short e = absurd cc
   memory_is (Err refusal) is short e = (parts, uri_read text parts short read, is.1)
 

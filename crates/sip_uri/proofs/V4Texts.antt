@@ -39,7 +39,9 @@ ipv4_read text octets e =
     let third : before 46 two.0 ++ 46 ∷ three.0 ≡ two.0 = rw three.1 at (joined 46 two.0) in
     let second : before 46 one.0 ++ 46 ∷ two.0 ≡ one.0 = rw two.1 at (joined 46 one.0) in
     let first : before 46 text ++ 46 ∷ one.0 ≡ text = rw one.1 at (joined 46 text) in
-    numbers (before 46 text) (before 46 one.0) (before 46 two.0) three.0 a.0 b.0 c.0 d.0 (rw (third, second) (sym first)) (number_read _ a.0 a.1) (number_read _ b.0 b.1) (number_read _ c.0 c.1) (number_read _ d.0 d.1) (sym (same_Some (a.0 ∷ b.0 ∷ c.0 ∷ d.0 ∷ []) octets d.2))
+    numbers (before 46 text) (before 46 one.0) (before 46 two.0) three.0 a.0 b.0 c.0 d.0 (rw (third, second) (sym first))
+    (number_read _ a.0 a.1) (number_read _ b.0 b.1) (number_read _ c.0 c.1) (number_read _ d.0 d.1)
+    (sym (same_Some (a.0 ∷ b.0 ∷ c.0 ∷ d.0 ∷ []) octets d.2))
 
 pub ipv4_again : (text octets : List ℕ) → V4Text text octets → ipv4 text ≡ Some octets
 unfolding ipv4
@@ -48,7 +50,17 @@ ipv4_again text octets (numbers first second third fourth a b c d is one two thr
     let k = at_first 46 first (second ++ 46 ∷ (third ++ 46 ∷ fourth)) (digits_lack 46 first dot one.digits) in
     let l = at_first 46 second (third ++ 46 ∷ fourth) (digits_lack 46 second dot two.digits) in
     let m = at_first 46 third fourth (digits_lack 46 third dot three.digits) in
-    rw (is, k.1) (rw (l.1) (rw (m.1) (rw (k.0, l.0, m.0, number_again first a one, number_again second b two, number_again third c three, number_again fourth d four, octets-is) refl)))
+    rw (is, k.1) (rw (l.1)
+    (rw (m.1) (rw (
+      k.0,
+      l.0,
+      m.0,
+      number_again first a one,
+      number_again second b two,
+      number_again third c three,
+      number_again fourth d four,
+      octets-is,
+    ) refl)))
 
 -- ---- the octets of an IPv4 text
 
@@ -58,7 +70,8 @@ is_dotted_octet octet = is_ascii_digit octet || eqb octet 46
 pub ipv4_octets : (text octets : List ℕ) → V4Text text octets → list_all is_dotted_octet text ≡ true
 unfolding is_dotted_octet
 ipv4_octets text octets (numbers first second third fourth a b c d is one two three four octets-is) =
-    let digits : (part : List ℕ) → list_all is_ascii_digit part ≡ true → list_all is_dotted_octet part ≡ true = λ part e. all_weaker is_ascii_digit is_dotted_octet (λ x k. grind (arith, nat_tests)) part e in
+    let digits : (part : List ℕ) → list_all is_ascii_digit part ≡ true → list_all is_dotted_octet part ≡ true =
+    λ part e. all_weaker is_ascii_digit is_dotted_octet (λ x k. grind (arith, nat_tests)) part e in
     let end = all-append is_dotted_octet third (46 ∷ fourth) (digits third three.digits) (digits fourth four.digits) in
     let end' = all-append is_dotted_octet second (46 ∷ (third ++ 46 ∷ fourth)) (digits second two.digits) end in
     rw is (all-append is_dotted_octet first (46 ∷ (second ++ 46 ∷ (third ++ 46 ∷ fourth))) (digits first one.digits) end')

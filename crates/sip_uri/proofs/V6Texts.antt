@@ -27,7 +27,8 @@ group_read text octets e =
       some = grind (arith, nat_tests, read);
       short = grind (arith, nat_tests, read);
       digits = grind (arith, nat_tests, read);
-      is = (let n : k.0 ≡ hexadecimal text = grind (arith, nat_tests, read) in sym k.2 ∙ ap (λ (number : ℕ). number / 256 ∷ number % 256 ∷ []) n);
+      is = (let n : k.0 ≡ hexadecimal text =
+          grind (arith, nat_tests, read) in sym k.2 ∙ ap (λ (number : ℕ). number / 256 ∷ number % 256 ∷ []) n);
     }
 
 group_again : (text octets : List ℕ) → GroupText text octets → group text ≡ Some octets
@@ -35,8 +36,10 @@ group_again text octets is =
     let read : hexadecimal_group text ≡ Some (hexadecimal text) = grind (arith, nat_tests, is.some, is.short, is.digits) in
     rw (read, is.is) refl
 
-digits_lack : (octet : ℕ) (text : List ℕ) → is_ascii_hexdigit octet ≡ false → list_all is_ascii_hexdigit text ≡ true → lacks octet text ≡ true
-digits_lack octet text other digits = all_weaker is_ascii_hexdigit (λ (x : ℕ). not (eqb x octet)) (λ x e. grind (arith, nat_tests)) text digits
+digits_lack : (octet : ℕ) (text : List ℕ) → is_ascii_hexdigit octet ≡ false → list_all is_ascii_hexdigit text ≡ true
+    → lacks octet text ≡ true
+digits_lack octet text other digits =
+    all_weaker is_ascii_hexdigit (λ (x : ℕ). not (eqb x octet)) (λ x e. grind (arith, nat_tests)) text digits
 
 no_ipv4 : (text octets : List ℕ) → GroupText text octets → ipv4 text ≡ None
 unfolding ipv4
@@ -56,7 +59,8 @@ last_again false text octets (inr four) = absurd (let no : false ≡ true = four
 last_again true text octets (inl is) = rw (no_ipv4 text octets is) (group_again text octets is)
 last_again true text octets (inr four) = rw (ipv4_again text octets four.1) refl
 
-groups_read : (closing : Bool) (texts : List (List ℕ)) (octets : List ℕ) → groups closing texts ≡ Some octets → AreGroups closing texts octets
+groups_read : (closing : Bool) (texts : List (List ℕ)) (octets : List ℕ) → groups closing texts ≡ Some octets
+    → AreGroups closing texts octets
 groups_read closing [] octets e = absurd cc
 groups_read closing (text ∷ []) octets e = last_read closing text octets e
 groups_read closing (text ∷ next ∷ texts) octets e =
@@ -64,10 +68,12 @@ groups_read closing (text ∷ next ∷ texts) octets e =
     let others = mapped_from (λ (more : List ℕ). first.0 ++ more) (groups closing (next ∷ texts)) octets first.2 in
     (first.0, others.0, group_read text first.0 first.1, groups_read closing (next ∷ texts) others.0 others.1, sym others.2)
 
-groups_again : (closing : Bool) (texts : List (List ℕ)) (octets : List ℕ) → AreGroups closing texts octets → groups closing texts ≡ Some octets
+groups_again : (closing : Bool) (texts : List (List ℕ)) (octets : List ℕ) → AreGroups closing texts octets
+    → groups closing texts ≡ Some octets
 groups_again closing [] octets are = absurd are
 groups_again closing (text ∷ []) octets are = last_again closing text octets are
-groups_again closing (text ∷ next ∷ texts) octets are = rw (group_again text are.0 are.2, groups_again closing (next ∷ texts) are.1 are.3, are.4) refl
+groups_again closing (text ∷ next ∷ texts) octets are =
+    rw (group_again text are.0 are.2, groups_again closing (next ∷ texts) are.1 are.3, are.4) refl
 
 -- ---- groups with colons between them
 
@@ -77,14 +83,17 @@ IsPart text = (0 < length text) × (lacks 58 text ≡ true)
 
 part_of_ipv4 : (text octets : List ℕ) → V4Text text octets → IsPart text
 unfolding is_dotted_octet
-part_of_ipv4 text octets four =
-    (some_in_ipv4 text octets four, all_weaker is_dotted_octet (λ (x : ℕ). not (eqb x 58)) (λ x e. grind (arith, nat_tests)) text (ipv4_octets text octets four))
+part_of_ipv4 text octets four = (
+  some_in_ipv4 text octets four,
+  all_weaker is_dotted_octet (λ (x : ℕ). not (eqb x 58)) (λ x e. grind (arith, nat_tests)) text (ipv4_octets text octets four),
+)
 
 last_part : (closing : Bool) (text octets : List ℕ) → AreGroups closing (text ∷ []) octets → IsPart text
 last_part closing text octets (inl is) = (is.some, digits_lack 58 text refl is.digits)
 last_part closing text octets (inr four) = part_of_ipv4 text octets four.1
 
-are_parts : (closing : Bool) (texts : List (List ℕ)) (octets : List ℕ) → AreGroups closing texts octets → (0 < length texts) × AllByRecursion IsPart texts
+are_parts : (closing : Bool) (texts : List (List ℕ)) (octets : List ℕ) → AreGroups closing texts octets → (0 < length texts)
+    × AllByRecursion IsPart texts
 are_parts closing [] octets are = absurd are
 are_parts closing (text ∷ []) octets are = (omega arith, (last_part closing text octets are, tt))
 are_parts closing (text ∷ next ∷ texts) octets are =
@@ -120,7 +129,8 @@ last_nothing true = refl
 
 side_again : (closing : Bool) (text octets : List ℕ) → SideText closing text octets → side closing text ≡ Some octets
 side_again closing text octets (inl none) = rw (none.0, none.1) refl
-side_again closing [] octets (inr is) = absurd (let no : None ≡ Some octets = sym (last_nothing closing) ∙ text_again closing [] octets is in cc)
+side_again closing [] octets (inr is) =
+    absurd (let no : None ≡ Some octets = sym (last_nothing closing) ∙ text_again closing [] octets is in cc)
 side_again closing (x ∷ text) octets (inr is) =
     let some : eqb (length (x ∷ text)) 0 ≡ false = grind (arith, nat_tests) in
     rw some (text_again closing (x ∷ text) octets is)
@@ -150,13 +160,16 @@ found_here : (text found left right : List ℕ) → [] ≡ left → found ≡ ri
 found_here text found left right same same' e = rw (← same, ← same') e
 
 module _ (x : ℕ) (text left right : List ℕ) (further : (l r : List ℕ) → around_colons text ≡ Some (l, r) → text ≡ l ++ 58 ∷ 58 ∷ r) where
-  colons_here : (o : Option (List ℕ)) → behind_colons (x ∷ text) ≡ o → around x text o ≡ Some (left, right) → x ∷ text ≡ left ++ 58 ∷ 58 ∷ right
+  colons_here : (o : Option (List ℕ)) → behind_colons (x ∷ text) ≡ o → around x text o ≡ Some (left, right)
+      → x ∷ text ≡ left ++ 58 ∷ 58 ∷ right
   colons_here None none e =
       let k = mapped_from (with_front (x ∷ [])) (around_colons text) (left, right) e in
-      moved x text k.0.0 k.0.1 left right (ap (λ (s : List ℕ × List ℕ). s.0) k.2) (ap (λ (s : List ℕ × List ℕ). s.1) k.2) (further k.0.0 k.0.1 k.1)
+      moved x text k.0.0 k.0.1 left right (ap (λ (s : List ℕ × List ℕ). s.0) k.2) (ap (λ (s : List ℕ × List ℕ). s.1) k.2)
+      (further k.0.0 k.0.1 k.1)
   colons_here (Some found) is e =
       let same : ◌≡◌ {A = List ℕ × List ℕ} ([], found) (left, right) = same_Some ([], found) (left, right) e in
-      found_here (x ∷ text) found left right (ap (λ (s : List ℕ × List ℕ). s.0) same) (ap (λ (s : List ℕ × List ℕ). s.1) same) (behind_read (x ∷ text) found is)
+      found_here (x ∷ text) found left right (ap (λ (s : List ℕ × List ℕ). s.0) same) (ap (λ (s : List ℕ × List ℕ). s.1) same)
+      (behind_read (x ∷ text) found is)
 
 colons_read : (text left right : List ℕ) → around_colons text ≡ Some (left, right) → text ≡ left ++ 58 ∷ 58 ∷ right
 colons_read [] left right e = absurd cc
@@ -193,15 +206,19 @@ past_colon text starts =
     colons_are 58 text ∙ rw k (rw (colon_alone starts.0 starts.1 starts.2) refl)
 
 past_parts : (texts : List (List ℕ)) (rest : List ℕ) → 0 < length texts → AllByRecursion IsPart texts
-    → Starts (join_with_byte 58 texts ++ rest) × (around_colons (join_with_byte 58 texts ++ rest) ≡ option_map (with_front (join_with_byte 58 texts)) (around_colons rest))
+    → Starts (join_with_byte 58 texts ++ rest)
+    × (around_colons (join_with_byte 58 texts ++ rest) ≡ option_map (with_front (join_with_byte 58 texts)) (around_colons rest))
 past_parts [] rest some each = absurd (omega arith)
 past_parts (text ∷ []) rest some each = (part_starts text rest each.0, past_part text rest each.0.1)
 past_parts (text ∷ next ∷ texts) rest some each =
     let others : List ℕ = join_with_byte 58 (next ∷ texts) in
     let k = past_parts (next ∷ texts) rest (omega arith) each.1 in
     let whole' : (text ++ 58 ∷ others) ++ rest ≡ text ++ (58 ∷ (others ++ rest)) = append_assoc text (58 ∷ others) rest in
-    let after : around_colons (58 ∷ (others ++ rest)) ≡ option_map (with_front (58 ∷ others)) (around_colons rest) = past_colon (others ++ rest) k.0 ∙ rw k.1 (front_twice (58 ∷ []) others (around_colons rest)) in
-    (rw whole' (part_starts text (58 ∷ (others ++ rest)) each.0), rw whole' (past_part text (58 ∷ (others ++ rest)) each.0.1 ∙ rw after (front_twice text (58 ∷ others) (around_colons rest))))
+    let after : around_colons (58 ∷ (others ++ rest)) ≡ option_map (with_front (58 ∷ others)) (around_colons rest) =
+    past_colon (others ++ rest) k.0 ∙ rw k.1 (front_twice (58 ∷ []) others (around_colons rest)) in (
+      rw whole' (part_starts text (58 ∷ (others ++ rest)) each.0),
+      rw whole' (past_part text (58 ∷ (others ++ rest)) each.0.1 ∙ rw after (front_twice text (58 ∷ others) (around_colons rest))),
+    )
 
 no_colons : (closing : Bool) (text octets : List ℕ) → GroupsText closing text octets → around_colons text ≡ None
 no_colons closing text octets is =
@@ -218,7 +235,8 @@ colons_again left front right (inr is) =
 
 -- ---- the whole text
 
-around_read : (text octets : List ℕ) (o : Option (List ℕ × List ℕ)) → around_colons text ≡ o → ipv6_around text o ≡ Some octets → V6Text text octets
+around_read : (text octets : List ℕ) (o : Option (List ℕ × List ℕ)) → around_colons text ≡ o → ipv6_around text o ≡ Some octets
+    → V6Text text octets
 around_read text octets None none e =
     let k = steps_of sixteen (groups true (parted 58 text)) octets e in
     let sized = k.2 in
@@ -226,18 +244,21 @@ around_read text octets None none e =
     let same : k.0 ≡ octets = grind (arith, nat_tests, sized) in
     whole (rw same at (text_read true text k.0 k.1)) (rw same at len)
 around_read text octets (Some sides) is e =
-    let k = steps_of (λ (front : List ℕ). option_and_then (λ (end : List ℕ). filled front end) (side true sides.1)) (side false sides.0) octets e in
+    let k = steps_of
+    (λ (front : List ℕ). option_and_then (λ (end : List ℕ). filled front end) (side true sides.1)) (side false sides.0) octets e in
     let m = steps_of (λ (end : List ℕ). filled k.0 end) (side true sides.1) octets k.2 in
     let full = m.2 in
     let short : length k.0 + length m.0 ≤ 14 = grind (arith, nat_tests, full) in
     let same : octets ≡ k.0 ++ replicate (16 - (length k.0 + length m.0)) 0 ++ m.0 = grind (arith, nat_tests, full) in
-    shortened sides.0 sides.1 k.0 m.0 (colons_read text sides.0 sides.1 is) (side_read false sides.0 k.0 k.1) (side_read true sides.1 m.0 m.1) short same
+    shortened sides.0 sides.1 k.0 m.0 (colons_read text sides.0 sides.1 is) (side_read false sides.0 k.0 k.1)
+    (side_read true sides.1 m.0 m.1) short same
 
 pub ipv6_read : (text octets : List ℕ) → ipv6 text ≡ Some octets → V6Text text octets
 ipv6_read text octets e = around_read text octets (around_colons text) refl e
 
 pub ipv6_again : (text octets : List ℕ) → V6Text text octets → ipv6 text ≡ Some octets
-ipv6_again text octets (whole is len) = rw (no_colons true text octets is) (rw (text_again true text octets is) (grind (arith, nat_tests, len)))
+ipv6_again text octets (whole is len) =
+    rw (no_colons true text octets is) (rw (text_again true text octets is) (grind (arith, nat_tests, len)))
 ipv6_again text octets (shortened left right front end is one two short same) =
     let full : filled front end ≡ Some octets = rw same (grind (arith, nat_tests, short)) in
     rw (is, colons_again left front right one) (rw (side_again false left front one, side_again true right end two) full)

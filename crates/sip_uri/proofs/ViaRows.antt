@@ -42,7 +42,8 @@ ended : (class : ℕ → Bool) (text : List ℕ) → Ends class text → (row cl
 ended class [] ends = (refl, refl)
 ended class (x ∷ text) ends = rw ends (refl, refl)
 
-pub row_again : (class : ℕ → Bool) (front text : List ℕ) → list_all class front ≡ true → Ends class text → (row class (front ++ text) ≡ front) × (behind_row class (front ++ text) ≡ text)
+pub row_again : (class : ℕ → Bool) (front text : List ℕ) → list_all class front ≡ true → Ends class text
+    → (row class (front ++ text) ≡ front) × (behind_row class (front ++ text) ≡ text)
 row_again class [] text all ends = ended class text ends
 row_again class (x ∷ front) text all ends =
     elim (cases_Bool (class x)) [
@@ -51,7 +52,8 @@ row_again class (x ∷ front) text all ends =
     ]
 
 -- the same, where nothing follows
-pub row_alone : (class : ℕ → Bool) (front : List ℕ) → list_all class front ≡ true → (row class front ≡ front) × (behind_row class front ≡ [])
+pub row_alone : (class : ℕ → Bool) (front : List ℕ) → list_all class front ≡ true → (row class front ≡ front)
+    × (behind_row class front ≡ [])
 row_alone class front all = rw append-nil at (row_again class front [] all tt)
 
 -- ---- a mark with blanks around it
@@ -64,11 +66,13 @@ pub record MarkRead (mark : ℕ) (text rest : List ℕ) : Type 0 where
   pub joined : text ≡ front ++ mark ∷ (behind ++ rest)
   pub starts : Ends is_blank rest
 
-first_read : (mark : ℕ) (text rest : List ℕ) → behind_first mark text ≡ Some rest → (more : List ℕ) × (text ≡ mark ∷ more) × (behind_row is_blank more ≡ rest)
+first_read : (mark : ℕ) (text rest : List ℕ) → behind_first mark text ≡ Some rest → (more : List ℕ) × (text ≡ mark ∷ more)
+    × (behind_row is_blank more ≡ rest)
 first_read mark [] rest e = absurd cc
 first_read mark (x ∷ text) rest e =
     elim (cases_Bool (eqb x mark)) [
-      | inl is ↦ (let same : x ≡ mark = grind (arith, nat_tests) in (text, ap (λ (y : ℕ). y ∷ text) same, same_Some (behind_row is_blank text) rest (rw is at e)))
+      | inl is ↦ (let same : x ≡ mark =
+          grind (arith, nat_tests) in (text, ap (λ (y : ℕ). y ∷ text) same, same_Some (behind_row is_blank text) rest (rw is at e)))
       | inr no' ↦ (let no : None ≡ Some rest = rw no' at e in absurd cc)
     ]
 
@@ -85,11 +89,14 @@ mark_read mark text rest e =
       behind = row is_blank more;
       front_blank = row_all is_blank text;
       behind_blank = row_all is_blank more;
-      joined = sym (row_and is_blank text) ∙ ap (λ (t : List ℕ). row is_blank text ++ t) (k.1 ∙ ap (λ (t : List ℕ). mark ∷ t) (sym (row_and is_blank more) ∙ ap (λ (t : List ℕ). row is_blank more ++ t) k.2));
+      joined = sym (row_and is_blank text) ∙ ap
+          (λ (t : List ℕ). row is_blank text ++ t)
+          (k.1 ∙ ap (λ (t : List ℕ). mark ∷ t) (sym (row_and is_blank more) ∙ ap (λ (t : List ℕ). row is_blank more ++ t) k.2));
       starts = starts_at (behind_row is_blank more) rest k.2 (behind_ends is_blank more);
     }
 
-pub mark_again : (mark : ℕ) → is_blank mark ≡ false → (front behind rest : List ℕ) → IsBlanks front → IsBlanks behind → Ends is_blank rest → behind_mark mark (front ++ mark ∷ (behind ++ rest)) ≡ Some rest
+pub mark_again : (mark : ℕ) → is_blank mark ≡ false → (front behind rest : List ℕ) → IsBlanks front → IsBlanks behind → Ends is_blank rest
+    → behind_mark mark (front ++ mark ∷ (behind ++ rest)) ≡ Some rest
 unfolding behind_mark
 mark_again mark other front behind rest front_blank behind_blank ends =
     let k = row_again is_blank front (mark ∷ (behind ++ rest)) front_blank other in
@@ -106,12 +113,14 @@ first_none : (mark : ℕ) (text : List ℕ) → Differs mark text → behind_fir
 first_none mark [] other = refl
 first_none mark (x ∷ text) other = rw other refl
 
-pub no_mark : (mark : ℕ) (front text : List ℕ) → IsBlanks front → Ends is_blank text → Differs mark text → behind_mark mark (front ++ text) ≡ None
+pub no_mark : (mark : ℕ) (front text : List ℕ) → IsBlanks front → Ends is_blank text → Differs mark text
+    → behind_mark mark (front ++ text) ≡ None
 unfolding behind_mark
 no_mark mark front text blank ends other = rw (row_again is_blank front text blank ends).1 (first_none mark text other)
 
 -- what begins with an octet of one class does not go on a row of another
-pub begins_apart : (class other : ℕ → Bool) → ((x : ℕ) → class x ≡ true → other x ≡ false) → (front rest : List ℕ) → 0 < length front → list_all class front ≡ true → Ends other (front ++ rest)
+pub begins_apart : (class other : ℕ → Bool) → ((x : ℕ) → class x ≡ true → other x ≡ false) → (front rest : List ℕ) → 0 < length front
+    → list_all class front ≡ true → Ends other (front ++ rest)
 begins_apart class other apart [] rest some all = absurd (omega arith)
 begins_apart class other apart (x ∷ front) rest some all =
     elim (cases_Bool (class x)) [

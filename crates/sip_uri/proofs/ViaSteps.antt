@@ -19,11 +19,13 @@ use Rattle.sip_uri.proofs.ViaRows.{Ends, row_and, row_all, row_again, mark_read,
 abbrev pub NamedSoFar : List ℕ → List ℕ → ℕ → List ℕ → ℕ → Type 0
 NamedSoFar params name count rest at = stands_in (names (count - at) rest) name ≡ stands_in (names count params) name
 
-pub named_further : (params name rest earlier more : List ℕ) (count at : ℕ) → NamedSoFar params name count rest at → at < count → next_param rest ≡ Some (earlier, more)
+pub named_further : (params name rest earlier more : List ℕ) (count at : ℕ) → NamedSoFar params name count rest at → at < count
+    → next_param rest ≡ Some (earlier, more)
     → str_eq_ignore_ascii_case earlier name ≡ false → NamedSoFar params name count more (at + 1)
 named_further params name rest earlier more count at so_far within e other =
     let left : count - at ≡ suc (count - (at + 1)) = omega arith in
-    let one : stands_in (names (suc (count - (at + 1))) rest) name ≡ stands_in (names (count - (at + 1)) more) name = rw e (rw other refl) in
+    let one : stands_in (names (suc (count - (at + 1))) rest) name ≡ stands_in (names (count - (at + 1)) more) name =
+    rw e (rw other refl) in
     sym one ∙ rw left at so_far
 
 -- ---- values
@@ -53,7 +55,12 @@ quoted_read false (x ∷ text) rest e =
         | inl back ↦ (
             let k = quoted_read true text rest (rw (other, back) at e) in
             let same : x ≡ 92 = grind (arith, nat_tests) in
-            record { inner = 92 ∷ k.inner; is = after_escape k.inner k.is; joined = ap (λ (y : ℕ). y ∷ text) same ∙ ap (λ (t : List ℕ). 92 ∷ t) k.joined })
+            record {
+              inner = 92 ∷ k.inner;
+              is = after_escape k.inner k.is;
+              joined =
+                  ap (λ (y : ℕ). y ∷ text) same ∙ ap (λ (t : List ℕ). 92 ∷ t) k.joined;
+            })
         | inr no_back ↦ elim (cases_Bool (eqb x 34)) [
           | inl quote ↦ (
               let same : x ≡ 34 = grind (arith, nat_tests) in
@@ -63,7 +70,8 @@ quoted_read false (x ∷ text) rest e =
               let k = quoted_read false text rest (rw (other, no_back, no_quote) at e) in
               record {
                 inner = x ∷ k.inner;
-                is = character x k.inner (λ s. grind (arith, nat_tests, no_quote, s)) (λ s. grind (arith, nat_tests, no_back, s)) (λ s. grind (arith, nat_tests, other, s)) (λ s. grind (arith, nat_tests, other, s)) k.is;
+                is = character x k.inner (λ s. grind (arith, nat_tests, no_quote, s)) (λ s. grind (arith, nat_tests, no_back, s))
+                    (λ s. grind (arith, nat_tests, other, s)) (λ s. grind (arith, nat_tests, other, s)) k.is;
                 joined = ap (λ (t : List ℕ). x ∷ t) k.joined;
               })
         ]
@@ -77,7 +85,12 @@ quoted_read true (x ∷ text) rest e =
             let k = quoted_read false text rest (rw (other, ascii) at e) in
             record {
               inner = x ∷ k.inner;
-              is = (grind (arith, nat_tests, ascii), (λ s. grind (arith, nat_tests, other, s)), (λ s. grind (arith, nat_tests, other, s)), k.is);
+              is = (
+                grind (arith, nat_tests, ascii),
+                (λ s. grind (arith, nat_tests, other, s)),
+                (λ s. grind (arith, nat_tests, other, s)),
+                k.is,
+              );
               joined = ap (λ (t : List ℕ). x ∷ t) k.joined;
             })
         | inr high ↦ (let no : None ≡ Some rest = rw (other, high) at e in absurd cc)
@@ -131,7 +144,8 @@ value_read text rest e =
           })
     ]
 
-first_no_quote : (value rest : List ℕ) → 0 < length value → list_all is_value_octet value ≡ true → eqb (slice_index (value ++ rest) 0) 34 ≡ false
+first_no_quote : (value rest : List ℕ) → 0 < length value → list_all is_value_octet value ≡ true
+    → eqb (slice_index (value ++ rest) 0) 34 ≡ false
 first_no_quote [] rest some all = absurd (omega arith)
 first_no_quote (x ∷ value) rest some all =
     elim (cases_Bool (is_value_octet x)) [
@@ -171,7 +185,9 @@ valued_read text rest (Some inner) e read =
     record {
       value = mark.front ++ 61 ∷ (mark.behind ++ k.value);
       is = via.valued mark.front mark.behind k.value mark.front_blank mark.behind_blank k.is refl;
-      joined = mark.joined ∙ ap (λ (t : List ℕ). mark.front ++ 61 ∷ (mark.behind ++ t)) k.joined ∙ ap (λ (t : List ℕ). mark.front ++ 61 ∷ t) (sym (append_assoc mark.behind k.value rest)) ∙ sym (append_assoc mark.front (61 ∷ (mark.behind ++ k.value)) rest);
+      joined = mark.joined ∙ ap (λ (t : List ℕ). mark.front ++ 61 ∷ (mark.behind ++ t)) k.joined ∙ ap
+          (λ (t : List ℕ). mark.front ++ 61 ∷ t) (sym (append_assoc mark.behind k.value rest)) ∙ sym
+          (append_assoc mark.front (61 ∷ (mark.behind ++ k.value)) rest);
     }
 
 -- what may follow a parameter: blanks, and then `;` or the end
@@ -197,7 +213,8 @@ module _ (class : ℕ → Bool) (no_mark' : class 59 ≡ false) where
   more_ends more (inl e) = rw e tt
   more_ends more (inr e) = rw e.1 no_mark'
 
-  pub blanks_end : ((x : ℕ) → is_blank x ≡ true → class x ≡ false) → (blanks more : List ℕ) → IsBlanks blanks → Ends class more → Ends class (blanks ++ more)
+  pub blanks_end : ((x : ℕ) → is_blank x ≡ true → class x ≡ false) → (blanks more : List ℕ) → IsBlanks blanks → Ends class more
+      → Ends class (blanks ++ more)
   blanks_end apart [] more are ends = ends
   blanks_end apart (x ∷ blanks) more are ends =
       elim (cases_Bool (is_blank x)) [
@@ -208,16 +225,19 @@ module _ (class : ℕ → Bool) (no_mark' : class 59 ≡ false) where
   pub rest_ends : ((x : ℕ) → is_blank x ≡ true → class x ≡ false) → (rest : List ℕ) → Follows rest → Ends class rest
   rest_ends apart rest f = rw f.joined (blanks_end apart f.blanks f.more f.are (more_ends f.more f.mark))
 
-pub more_differs : (mark : ℕ) → eqb 59 mark ≡ false → (more : List ℕ) → (more ≡ []) ⊎ ((text : List ℕ) × (more ≡ 59 ∷ text)) → Differs mark more
+pub more_differs : (mark : ℕ) → eqb 59 mark ≡ false → (more : List ℕ) → (more ≡ []) ⊎ ((text : List ℕ) × (more ≡ 59 ∷ text))
+    → Differs mark more
 more_differs mark other more (inl e) = rw e tt
 more_differs mark other more (inr e) = rw e.1 other
 
 pub no_mark_follows : (mark : ℕ) → eqb 59 mark ≡ false → (rest : List ℕ) → Follows rest → behind_mark mark rest ≡ None
-no_mark_follows mark other rest f = rw f.joined (no_mark mark f.blanks f.more f.are (more_ends is_blank refl f.more f.mark) (more_differs mark other f.more f.mark))
+no_mark_follows mark other rest f =
+    rw f.joined (no_mark mark f.blanks f.more f.are (more_ends is_blank refl f.more f.mark) (more_differs mark other f.more f.mark))
 
 -- ---- the parameter in front
 
-named_read : (found rest name after : List ℕ) → named found rest ≡ Some (name, after) → (0 < length found) × (found ≡ name) × (behind_valued rest ≡ Some after)
+named_read : (found rest name after : List ℕ) → named found rest ≡ Some (name, after) → (0 < length found) × (found ≡ name)
+    × (behind_valued rest ≡ Some after)
 named_read [] rest name after e = absurd cc
 named_read (x ∷ found) rest name after e =
     let k = mapped_from (λ (t : List ℕ). (x ∷ found, t)) (behind_valued rest) (name, after) e in
@@ -227,42 +247,57 @@ behind_valued_read : (text rest : List ℕ) → behind_valued text ≡ Some rest
 unfolding behind_valued
 behind_valued_read text rest e = valued_read text rest (behind_mark 61 text) refl e
 
-renamed : (text : List ℕ) (keys : List (List ℕ)) (found name : List ℕ) → found ≡ name → ParamsText text (small_letters found ∷ keys) → ParamsText text (small_letters name ∷ keys)
+renamed : (text : List ℕ) (keys : List (List ℕ)) (found name : List ℕ) → found ≡ name → ParamsText text (small_letters found ∷ keys)
+    → ParamsText text (small_letters name ∷ keys)
 renamed text keys found name e are = rw e at are
 
-pub next_read : (text name after : List ℕ) → next_param text ≡ Some (name, after) → (keys : List (List ℕ)) → ParamsText after keys → ParamsText text (small_letters name ∷ keys)
+pub next_read : (text name after : List ℕ) → next_param text ≡ Some (name, after) → (keys : List (List ℕ)) → ParamsText after keys
+    → ParamsText text (small_letters name ∷ keys)
 unfolding next_param
 next_read text name after e keys are =
-    let k = steps_of (λ (rest : List ℕ). named (row is_token_octet rest) (behind_row is_token_octet rest)) (behind_mark 59 text) (name, after) e in
+    let k = steps_of
+    (λ (rest : List ℕ). named (row is_token_octet rest) (behind_row is_token_octet rest)) (behind_mark 59 text) (name, after) e in
     let rest : List ℕ = k.0 in
     let mark = mark_read 59 text rest k.1 in
     let n = named_read (row is_token_octet rest) (behind_row is_token_octet rest) name after k.2 in
     let v = behind_valued_read (behind_row is_token_octet rest) after n.2 in
     let is_name : IsToken (row is_token_octet rest) = record { some = n.0; octets = row_all is_token_octet rest } in
-    let cut : rest ≡ row is_token_octet rest ++ (v.value ++ after) = sym (row_and is_token_octet rest) ∙ ap (λ (t : List ℕ). row is_token_octet rest ++ t) v.joined in
-    let whole : text ≡ mark.front ++ 59 ∷ (mark.behind ++ (row is_token_octet rest ++ (v.value ++ after))) = mark.joined ∙ ap (λ (t : List ℕ). mark.front ++ 59 ∷ (mark.behind ++ t)) cut in
-    renamed text keys (row is_token_octet rest) name n.1 (param text keys mark.front mark.behind (row is_token_octet rest) v.value after mark.front_blank mark.behind_blank is_name v.is are whole)
+    let cut : rest ≡ row is_token_octet rest ++ (v.value ++ after) =
+    sym (row_and is_token_octet rest) ∙ ap (λ (t : List ℕ). row is_token_octet rest ++ t) v.joined in
+    let whole : text ≡ mark.front ++ 59 ∷ (mark.behind ++ (row is_token_octet rest ++ (v.value ++ after))) =
+    mark.joined ∙ ap (λ (t : List ℕ). mark.front ++ 59 ∷ (mark.behind ++ t)) cut in
+    renamed text keys (row is_token_octet rest) name n.1
+    (param text keys mark.front mark.behind
+    (row is_token_octet rest) v.value after mark.front_blank mark.behind_blank is_name v.is are whole)
 
-valued_again : (value rest : List ℕ) → ValueText value → Follows rest → (behind_valued (value ++ rest) ≡ Some rest) × Ends is_token_octet (value ++ rest)
+valued_again : (value rest : List ℕ) → ValueText value → Follows rest → (behind_valued (value ++ rest) ≡ Some rest)
+    × Ends is_token_octet (value ++ rest)
 unfolding behind_valued
 valued_again value rest (without e) f =
     rw e (rw (no_mark_follows 61 refl rest f) refl, rest_ends is_token_octet refl (λ x e. grind (arith, nat_tests, e)) rest f)
 valued_again value rest (via.valued front behind inner front_blank behind_blank is e) f =
-    let whole : value ++ rest ≡ front ++ 61 ∷ (behind ++ (inner ++ rest)) = ap (λ (t : List ℕ). t ++ rest) e ∙ append_assoc front (61 ∷ (behind ++ inner)) rest ∙ ap (λ (t : List ℕ). front ++ 61 ∷ t) (append_assoc behind inner rest) in
+    let whole : value ++ rest ≡ front ++ 61 ∷ (behind ++ (inner ++ rest)) =
+    ap (λ (t : List ℕ). t ++ rest) e ∙ append_assoc front (61 ∷ (behind ++ inner)) rest ∙ ap
+    (λ (t : List ℕ). front ++ 61 ∷ t) (append_assoc behind inner rest) in
     let mark = mark_again 61 refl front behind (inner ++ rest) front_blank behind_blank (value_starts inner rest is) in
     let read = value_again inner rest is (rest_ends is_value_octet refl (λ x e. grind (arith, nat_tests, e)) rest f) in
-    rw whole (rw mark read, blanks_end is_token_octet refl (λ x e. grind (arith, nat_tests, e)) front (61 ∷ (behind ++ (inner ++ rest))) front_blank refl)
+    rw whole (
+      rw mark read,
+      blanks_end is_token_octet refl (λ x e. grind (arith, nat_tests, e)) front (61 ∷ (behind ++ (inner ++ rest))) front_blank refl,
+    )
 
 some_name : (name rest after : List ℕ) → 0 < length name → behind_valued rest ≡ Some after → named name rest ≡ Some (name, after)
 some_name [] rest after some e = absurd (omega arith)
 some_name (x ∷ name) rest after some e = rw e refl
 
-pub next_again : (text front behind name value rest : List ℕ) → IsBlanks front → IsBlanks behind → IsToken name → ValueText value → Follows rest
+pub next_again : (text front behind name value rest : List ℕ) → IsBlanks front → IsBlanks behind → IsToken name → ValueText value
+    → Follows rest
     → text ≡ front ++ 59 ∷ (behind ++ (name ++ (value ++ rest))) → next_param text ≡ Some (name, rest)
 unfolding next_param
 next_again text front behind name value rest front_blank behind_blank is_name is_value f e =
     let v = valued_again value rest is_value f in
-    let starts = begins_apart is_token_octet is_blank (λ x e. grind (arith, nat_tests, e)) name (value ++ rest) is_name.some is_name.octets in
+    let starts = begins_apart is_token_octet is_blank
+    (λ x e. grind (arith, nat_tests, e)) name (value ++ rest) is_name.some is_name.octets in
     let mark = mark_again 59 refl front behind (name ++ (value ++ rest)) front_blank behind_blank starts in
     let r = row_again is_token_octet name (value ++ rest) is_name.octets v.1 in
     rw e (rw mark (rw (r.0, r.1) (some_name name (value ++ rest) rest is_name.some v.0)))
@@ -271,9 +306,20 @@ next_again text front behind name value rest front_blank behind_blank is_name is
 pub shorter_read : (text name after : List ℕ) → next_param text ≡ Some (name, after) → length after < length text
 unfolding next_param
 shorter_read text name after e =
-    let k = steps_of (λ (rest : List ℕ). named (row is_token_octet rest) (behind_row is_token_octet rest)) (behind_mark 59 text) (name, after) e in
+    let k = steps_of
+    (λ (rest : List ℕ). named (row is_token_octet rest) (behind_row is_token_octet rest)) (behind_mark 59 text) (name, after) e in
     let rest : List ℕ = k.0 in
     let mark = mark_read 59 text rest k.1 in
     let n = named_read (row is_token_octet rest) (behind_row is_token_octet rest) name after k.2 in
     let v = behind_valued_read (behind_row is_token_octet rest) after n.2 in
-    omega (arith, ap length mark.joined, length-append mark.front (59 ∷ (mark.behind ++ rest)), length-append mark.behind rest, ap length (row_and is_token_octet rest), length-append (row is_token_octet rest) (behind_row is_token_octet rest), ap length v.joined, length-append v.value after)
+    omega (
+      arith,
+      ap length mark.joined,
+      length-append mark.front (59 ∷ (mark.behind ++ rest)),
+      length-append mark.behind rest,
+      ap length (row_and is_token_octet rest),
+      length-append (row is_token_octet rest)
+          (behind_row is_token_octet rest),
+      ap length v.joined,
+      length-append v.value after,
+    )

@@ -28,7 +28,8 @@ use Rattle.sip_uri.proofs.ViaPlaces.{via_host_read, via_host_again, some_in_host
 -- ---- what is read is spelled
 
 spelled : (text transport after further rest : List ℕ) (h : Host) (port : Option ℕ) (via : Via) → length text ≤ 1024
-    → behind_protocol text ≡ Some (transport, after) → via_host after ≡ Some (h, further) → via_port further ≡ Ok (port, rest) → ViaParams rest
+    → behind_protocol text ≡ Some (transport, after) → via_host after ≡ Some (h, further) → via_port further ≡ Ok (port, rest)
+    → ViaParams rest
     → record { transport = spoken_of transport; host = h; port = port } ≡ via → ViaText text via
 spelled text transport after further rest h port via short one two three params same =
     let p = protocol_read text transport after one in
@@ -52,7 +53,8 @@ spelled text transport after further rest h port via short one two three params 
 params_at : (a b : List ℕ) → b ≡ a → ViaParams a → ViaParams b
 params_at a b e is = rw e is
 
-pub via_read : (text : List ℕ) (via : Via) (rest : List ℕ) → length text ≤ 1024 → via_parts text ≡ Ok (via, rest) → ViaParams rest → ViaText text via
+pub via_read : (text : List ℕ) (via : Via) (rest : List ℕ) → length text ≤ 1024 → via_parts text ≡ Ok (via, rest) → ViaParams rest
+    → ViaText text via
 unfolding via_parts
 via_read text via rest short e params =
     let protocol = bind_of _ (ok_or (behind_protocol text) BadVia) (via, rest) e in
@@ -70,7 +72,8 @@ via_read text via rest short e params =
 
 host_starts : (text rest : List ℕ) (h : Host) → HostText text h → Ends is_blank (text ++ rest)
 unfolding is_host_octet
-host_starts text rest h is = begins_apart is_host_octet is_blank (λ x e. grind (arith, nat_tests, e)) text rest (some_in_host text h is) (host_octets text h is)
+host_starts text rest h is =
+    begins_apart is_host_octet is_blank (λ x e. grind (arith, nat_tests, e)) text rest (some_in_host text h is) (host_octets text h is)
 
 pub via_again : (text : List ℕ) (via : Via) (is : ViaText text via) → via_parts text ≡ Ok (via, is.params)
 unfolding via_parts
@@ -91,13 +94,15 @@ fault_apart fault x e = cc
 
 port_later : (text : List ℕ) (o : Option (List ℕ)) → OfLater (port_in text o)
 port_later text None = tt
-port_later text (Some digits) = or_later (option_map (λ (port : ℕ). (Some port, behind_row is_in_port digits)) (port_number (row is_in_port digits))) BadPort tt
+port_later text (Some digits) =
+    or_later (option_map (λ (port : ℕ). (Some port, behind_row is_in_port digits)) (port_number (row is_in_port digits))) BadPort tt
 
 via_port_later : (text : List ℕ) → OfLater (via_port text)
 unfolding via_port
 via_port_later text = port_later text (behind_mark 58 text)
 
-via_fault : (text : List ℕ) (fault : UriRefusal) → via_parts text ≡ Err fault → (ok_or (behind_protocol text) BadVia ≡ Err fault) ⊎ IsLater fault
+via_fault : (text : List ℕ) (fault : UriRefusal) → via_parts text ≡ Err fault → (ok_or (behind_protocol text) BadVia ≡ Err fault)
+    ⊎ IsLater fault
 unfolding via_parts
 via_fault text =
     either_of (ok_or (behind_protocol text) BadVia) _ (λ protocol.
@@ -117,11 +122,13 @@ bad_protocol text e has =
       | inl front ↦ (
           let again = protocol_found has.protocol has.transport has.rest has.is_protocol in
           let found : behind_protocol text ≡ Some (has.transport, behind_row is_blank has.rest) = ap behind_protocol has.joined ∙ again in
-          fault_apart BadVia (has.transport, behind_row is_blank has.rest) (sym front ∙ ap (λ (o : Option (List ℕ × List ℕ)). ok_or o BadVia) found))
+          fault_apart BadVia (has.transport, behind_row is_blank has.rest)
+          (sym front ∙ ap (λ (o : Option (List ℕ × List ℕ)). ok_or o BadVia) found))
       | inr later ↦ later
     ]
 
-protocol_lacks : (text : List ℕ) → (HasProtocol text → ⊥) → (o : Option (List ℕ × List ℕ)) → behind_protocol text ≡ o → behind_protocol text ≡ None
+protocol_lacks : (text : List ℕ) → (HasProtocol text → ⊥) → (o : Option (List ℕ × List ℕ)) → behind_protocol text ≡ o
+    → behind_protocol text ≡ None
 protocol_lacks text none None is = is
 protocol_lacks text none (Some found) is =
     let read = protocol_read text found.0 found.1 is in

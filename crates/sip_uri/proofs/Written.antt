@@ -47,7 +47,8 @@ decimal_written number low =
 
 four_written : (octets : List ℕ) → length octets ≡ 4 → AllByRecursion (λ octet. octet < 256) octets → V4Text (ipv4_text octets) octets
 four_written (a ∷ b ∷ c ∷ d ∷ []) four low =
-    numbers (decimal_text a) (decimal_text b) (decimal_text c) (decimal_text d) a b c d refl (decimal_written a low.0) (decimal_written b low.1.0) (decimal_written c low.1.1.0) (decimal_written d low.1.1.1.0) refl
+    numbers (decimal_text a) (decimal_text b) (decimal_text c) (decimal_text d) a b c d refl (decimal_written a low.0)
+    (decimal_written b low.1.0) (decimal_written c low.1.1.0) (decimal_written d low.1.1.1.0) refl
 four_written [] four low = absurd (omega arith)
 four_written (a ∷ []) four low = absurd (omega arith)
 four_written (a ∷ b ∷ []) four low = absurd (omega arith)
@@ -56,7 +57,8 @@ four_written (a ∷ b ∷ c ∷ d ∷ e ∷ more) four low = absurd (omega arith
 
 -- ---- eight groups
 
-character_is : (number : ℕ) → (digit_value (hexadecimal_character number) ≡ number % 16) × (is_ascii_hexdigit (hexadecimal_character number) ≡ true)
+character_is : (number : ℕ) → (digit_value (hexadecimal_character number) ≡ number % 16)
+    × (is_ascii_hexdigit (hexadecimal_character number) ≡ true)
 character_is number =
     let low : number % 16 < 16 = omega arith in
     (digit_value-digit_char (number % 16) (omega arith), grind (arith, nat_tests))
@@ -137,15 +139,21 @@ unfolding texts_of
 are_groups _ (one high low h l) = inl (group_written high low h l)
 are_groups _ (more high low _ h l (one high' low' h' l')) =
     (high ∷ low ∷ [], high' ∷ low' ∷ [], group_written high low h l, inl (group_written high' low' h' l'), refl)
-are_groups _ (more high low _ h l (more high' low' octets h' l' pairs)) =
-    (high ∷ low ∷ [], high' ∷ low' ∷ octets, group_written high low h l, are_groups (high' ∷ low' ∷ octets) (more high' low' octets h' l' pairs), refl)
+are_groups _ (more high low _ h l (more high' low' octets h' l' pairs)) = (
+  high ∷ low ∷ [],
+  high' ∷ low' ∷ octets,
+  group_written high low h l,
+  are_groups (high' ∷ low' ∷ octets) (more high' low' octets h' l' pairs),
+  refl,
+)
 
 pairs_of : (octets : List ℕ) (half : ℕ) → length octets ≡ 2 * half + 2 → AllByRecursion (λ octet. octet < 256) octets → Pairs octets
 pairs_of [] half even low = absurd (omega arith)
 pairs_of (high ∷ []) half even low = absurd (omega arith)
 pairs_of (high ∷ last ∷ []) half even low = one high last low.0 low.1.0
 pairs_of (high ∷ last ∷ next ∷ octets) zero even low = absurd (omega arith)
-pairs_of (high ∷ last ∷ next ∷ octets) (suc half) even low = more high last (next ∷ octets) low.0 low.1.0 (pairs_of (next ∷ octets) half (omega arith) low.1.1)
+pairs_of (high ∷ last ∷ next ∷ octets) (suc half) even low =
+    more high last (next ∷ octets) low.0 low.1.0 (pairs_of (next ∷ octets) half (omega arith) low.1.1)
 
 pub address_written : (address : Address) → AddressFits address → AddressText (address_text address) address
 address_written (V4 octets) fits = four_written octets fits.0 fits.1

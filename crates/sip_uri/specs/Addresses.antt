@@ -29,12 +29,14 @@ pub record GroupText (text octets : List ℕ) : Type 0 where
   pub digits : IsTrue (list_all is_ascii_hexdigit text)
   pub is : octets ≡ hexadecimal text / 256 ∷ hexadecimal text % 256 ∷ []
 
--- One or more groups, and the octets that they spell. Where it may, an IPv4 text stands for the last two.
+-- One or more groups, and the octets that they spell. Where it may, an IPv4 text stands for the
+-- last two.
 abbrev pub AreGroups : Bool → List (List ℕ) → List ℕ → Type 0
 AreGroups closing [] octets = ⊥
 AreGroups closing (text ∷ []) octets = GroupText text octets ⊎ (IsTrue closing × V4Text text octets)
 AreGroups closing (text ∷ next ∷ texts) octets =
-    (group : List ℕ) × (others : List ℕ) × GroupText text group × AreGroups closing (next ∷ texts) others × (octets ≡ group ++ others)
+    (group : List ℕ) × (others : List ℕ) × GroupText text group
+    × AreGroups closing (next ∷ texts) others × (octets ≡ group ++ others)
 
 -- groups with colons between them
 pub record GroupsText (closing : Bool) (text octets : List ℕ) : Type 0 where

@@ -8,11 +8,13 @@ is_among octets octet = list_any (λ (x : ℕ). x == octet) octets
 
 -- a letter, a digit or one of `-_.!~*'()`
 abbrev pub is_unreserved : ℕ → Bool
-is_unreserved octet = is_ascii_alphanumeric octet || is_among (45 ∷ 95 ∷ 46 ∷ 33 ∷ 126 ∷ 42 ∷ 39 ∷ 40 ∷ 41 ∷ []) octet
+is_unreserved octet =
+    is_ascii_alphanumeric octet || is_among (45 ∷ 95 ∷ 46 ∷ 33 ∷ 126 ∷ 42 ∷ 39 ∷ 40 ∷ 41 ∷ []) octet
 
 -- of a user: one of `&=+$,;?/` too
 abbrev pub is_user_octet : ℕ → Bool
-is_user_octet octet = is_unreserved octet || is_among (38 ∷ 61 ∷ 43 ∷ 36 ∷ 44 ∷ 59 ∷ 63 ∷ 47 ∷ []) octet
+is_user_octet octet =
+    is_unreserved octet || is_among (38 ∷ 61 ∷ 43 ∷ 36 ∷ 44 ∷ 59 ∷ 63 ∷ 47 ∷ []) octet
 
 -- of a password: one of `&=+$,` too
 abbrev pub is_password_octet : ℕ → Bool
@@ -24,10 +26,13 @@ is_param_octet octet = is_unreserved octet || is_among (91 ∷ 93 ∷ 47 ∷ 58 
 
 -- of a header: one of `[]/?:+$` too
 abbrev pub is_header_octet : ℕ → Bool
-is_header_octet octet = is_unreserved octet || is_among (91 ∷ 93 ∷ 47 ∷ 63 ∷ 58 ∷ 43 ∷ 36 ∷ []) octet
+is_header_octet octet =
+    is_unreserved octet || is_among (91 ∷ 93 ∷ 47 ∷ 63 ∷ 58 ∷ 43 ∷ 36 ∷ []) octet
 
 -- octets of a class, and escaped ones: `%` and two hexadecimal digits
 pub data IsRun (class : ℕ → Bool) : List ℕ → Type 0 where
   none : IsRun class []
-  plain : (octet : ℕ) (text : List ℕ) → IsTrue (class octet) → IsRun class text → IsRun class (octet ∷ text)
-  escaped : (high low : ℕ) (text : List ℕ) → IsTrue (is_ascii_hexdigit high) → IsTrue (is_ascii_hexdigit low) → IsRun class text → IsRun class (37 ∷ high ∷ low ∷ text)
+  plain : (octet : ℕ) (text : List ℕ) → IsTrue (class octet) → IsRun class text
+      → IsRun class (octet ∷ text)
+  escaped : (high low : ℕ) (text : List ℕ) → IsTrue (is_ascii_hexdigit high)
+      → IsTrue (is_ascii_hexdigit low) → IsRun class text → IsRun class (37 ∷ high ∷ low ∷ text)

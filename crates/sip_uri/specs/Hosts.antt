@@ -26,7 +26,8 @@ AreHostLabels [] = ⊥
 AreHostLabels (label ∷ []) = HostLabel label × IsTrue (is_ascii_alphabetic (slice_index label 0))
 AreHostLabels (label ∷ next ∷ labels) = HostLabel label × AreHostLabels (next ∷ labels)
 
--- a hostname: labels with dots between them, and one behind the last at will, which spell a name of at most 255 octets
+-- a hostname: labels with dots between them, and optionally one after the last, which spell a name
+-- of at most 255 octets
 pub record DomainText (text : List ℕ) (name : List (List ℕ)) : Type 0 where
   pub labels : List (List ℕ)
   pub are : AreHostLabels labels

@@ -2,7 +2,7 @@
 use Rattle.std.specs.Prelude.{ℕ, ◌+◌, ◌-◌, ◌*◌, List, [], ◌∷◌}
 use Rattle.std.specs.Char.{digit_value}
 
--- behind a number, further decimal digits
+-- after a number, further decimal digits
 abbrev pub decimal_from : ℕ → List ℕ → ℕ
 decimal_from number [] = number
 decimal_from number (digit ∷ digits) = decimal_from (10 * number + (digit - 48)) digits
@@ -10,7 +10,7 @@ decimal_from number (digit ∷ digits) = decimal_from (10 * number + (digit - 48
 abbrev pub decimal : List ℕ → ℕ
 decimal digits = decimal_from 0 digits
 
--- behind a number, further hexadecimal digits, in letters of either case
+-- after a number, further hexadecimal digits, in letters of either case
 abbrev pub hexadecimal_from : ℕ → List ℕ → ℕ
 hexadecimal_from number [] = number
 hexadecimal_from number (digit ∷ digits) = hexadecimal_from (16 * number + digit_value digit) digits

@@ -1,5 +1,6 @@
--- What the functions of the readers give, as functions on lists. They follow the code, and are words of private contracts alone: the
--- definitions beside this folder do without them, and the proofs tie both together, in both directions.
+-- What the functions of the readers give, as functions on lists. They follow the code, and are
+-- words of private contracts alone: the definitions beside this folder do without them, and the
+-- proofs tie both together, in both directions.
 pub mod Hosts
 pub mod Params
 pub mod Parts

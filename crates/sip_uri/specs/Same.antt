@@ -37,8 +37,10 @@ same_host host other = false
 -- the same in each part, of those that are not always written too
 abbrev pub same_uri : SipUri → SipUri → Bool
 same_uri uri other =
-    beq uri.secure other.secure && same_host uri.host other.host && option_eq nat_eq uri.port other.port
-    && option_eq same_spoken uri.transport other.transport && option_eq same_host uri.maddr other.maddr
+    beq uri.secure other.secure && same_host uri.host other.host
+    && option_eq nat_eq uri.port other.port
+    && option_eq same_spoken uri.transport other.transport
+    && option_eq same_host uri.maddr other.maddr
 
 abbrev pub same_via : Via → Via → Bool
 same_via via other =

@@ -35,7 +35,8 @@ abbrev pub groups_text : List ℕ → List ℕ
 groups_text [] = []
 groups_text (high ∷ []) = []
 groups_text (high ∷ low ∷ []) = hexadecimal_text (high * 256 + low)
-groups_text (high ∷ low ∷ next ∷ octets) = hexadecimal_text (high * 256 + low) ++ 58 ∷ groups_text (next ∷ octets)
+groups_text (high ∷ low ∷ next ∷ octets) =
+    hexadecimal_text (high * 256 + low) ++ 58 ∷ groups_text (next ∷ octets)
 
 abbrev pub address_text : Address → List ℕ
 address_text (V4 octets) = ipv4_text octets

@@ -30,11 +30,12 @@ pub record HasScheme (text : List ℕ) : Type 0 where
   pub joined : text ≡ scheme ++ 58 ∷ rest
   pub is_scheme : SchemeText scheme secure
 
--- nothing; or a user, and at will `:` and a password, with `@` behind them
+-- nothing; or a user, optionally with `:` and a password, and `@` after them
 pub data UserText (text : List ℕ) : Type 0 where
   nobody : text ≡ [] → UserText text
   alone : (user : List ℕ) → IsSomeRun is_user_octet user → text ≡ user ++ 64 ∷ [] → UserText text
-  with_password : (user password : List ℕ) → IsSomeRun is_user_octet user → IsRun is_password_octet password
+  with_password : (user password : List ℕ) → IsSomeRun is_user_octet user
+      → IsRun is_password_octet password
       → text ≡ user ++ 58 ∷ (password ++ 64 ∷ []) → UserText text
 
 -- decimal digits that spell a number from 1 to 65535, leading zeros among them
@@ -82,7 +83,8 @@ pub record IsParam (param : Param) : Type 0 where
 -- the value of the parameter of a key, if there is one
 abbrev pub value_at : List ℕ → List Param → Option (List ℕ)
 value_at key [] = None
-value_at key (param ∷ params) = if bytes_eq (key_of param) key then param.value else value_at key params
+value_at key (param ∷ params) =
+    if bytes_eq (key_of param) key then param.value else value_at key params
 
 -- a value and the host that it spells, or neither
 abbrev pub HostValue : Option (List ℕ) → Option Host → Type 0
@@ -112,8 +114,8 @@ headers_text (header ∷ headers) = 63 ∷ join_with_byte 38 (header ∷ headers
 abbrev pub IsNamedUri : SipUri → Type 0
 IsNamedUri uri = IsNamed uri.host ⊎ IsSomeAnd uri.maddr IsNamed
 
--- The text spells the URI: it is the scheme, `:`, the user, the host, the port, the parameters and the headers, one after
--- the other, each of its kind, and has at most 1,024 octets.
+-- The text spells the URI: it is the scheme, `:`, the user, the host, the port, the parameters and
+-- the headers, one after the other, each of its kind, and has at most 1,024 octets.
 pub record UriText (text : List ℕ) (uri : SipUri) : Type 0 where
   pub scheme : List ℕ
   pub user : List ℕ
@@ -121,7 +123,8 @@ pub record UriText (text : List ℕ) (uri : SipUri) : Type 0 where
   pub port : List ℕ
   pub params : List Param
   pub headers : List (List ℕ)
-  pub joined : text ≡ scheme ++ 58 ∷ (user ++ (host ++ (port ++ (params_text params ++ headers_text headers))))
+  pub joined : text
+      ≡ scheme ++ 58 ∷ (user ++ (host ++ (port ++ (params_text params ++ headers_text headers))))
   pub short : length text ≤ 1024
   pub is_scheme : SchemeText scheme uri.secure
   pub is_user : UserText user

@@ -9,7 +9,9 @@ is_blank octet = octet == 32 || octet == 9
 
 -- a letter, a digit or one of -.!%*_+`'~
 abbrev pub is_token_octet : ℕ → Bool
-is_token_octet octet = is_ascii_alphanumeric octet || is_among (45 ∷ 46 ∷ 33 ∷ 37 ∷ 42 ∷ 95 ∷ 43 ∷ 96 ∷ 39 ∷ 126 ∷ []) octet
+is_token_octet octet =
+    is_ascii_alphanumeric octet
+    || is_among (45 ∷ 46 ∷ 33 ∷ 37 ∷ 42 ∷ 95 ∷ 43 ∷ 96 ∷ 39 ∷ 126 ∷ []) octet
 
 -- what does not end a host: no blank, no tab, no `:` and no `;`
 abbrev pub is_in_host : ℕ → Bool
@@ -21,7 +23,8 @@ is_in_port octet = not (is_blank octet || octet == 59)
 
 -- an octet from 33 to 126 other than `;`, `,` and `"`
 abbrev pub is_value_octet : ℕ → Bool
-is_value_octet octet = nat_le 33 octet && nat_le octet 126 && not (octet == 59 || octet == 44 || octet == 34)
+is_value_octet octet =
+    nat_le 33 octet && nat_le octet 126 && not (octet == 59 || octet == 44 || octet == 34)
 
 -- the octets of a class in front, and what follows them
 abbrev pub row : (ℕ → Bool) → List ℕ → List ℕ

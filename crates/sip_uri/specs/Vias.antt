@@ -17,11 +17,14 @@ pub record IsToken (text : List ℕ) : Type 0 where
   pub some : 0 < length text
   pub octets : IsTrue (list_all is_token_octet text)
 
--- what stands between the quotes: characters other than `"`, `\`, CR and LF, and `\` with another octet of ASCII than CR and LF
+-- what stands between the quotes: characters other than `"`, `\`, CR and LF, and `\` with another
+-- octet of ASCII than CR and LF
 pub data IsQuoted : List ℕ → Type 0 where
   done : IsQuoted []
-  character : (octet : ℕ) (text : List ℕ) → (octet ≡ 34 → ⊥) → (octet ≡ 92 → ⊥) → (octet ≡ 13 → ⊥) → (octet ≡ 10 → ⊥) → IsQuoted text → IsQuoted (octet ∷ text)
-  pair : (octet : ℕ) (text : List ℕ) → octet < 128 → (octet ≡ 13 → ⊥) → (octet ≡ 10 → ⊥) → IsQuoted text → IsQuoted (92 ∷ octet ∷ text)
+  character : (octet : ℕ) (text : List ℕ) → (octet ≡ 34 → ⊥) → (octet ≡ 92 → ⊥) → (octet ≡ 13 → ⊥)
+      → (octet ≡ 10 → ⊥) → IsQuoted text → IsQuoted (octet ∷ text)
+  pair : (octet : ℕ) (text : List ℕ) → octet < 128 → (octet ≡ 13 → ⊥) → (octet ≡ 10 → ⊥)
+      → IsQuoted text → IsQuoted (92 ∷ octet ∷ text)
 
 -- the value of a parameter: octets from 33 to 126 other than `;`, `,` and `"`, or a quoted string
 pub data IsValue (text : List ℕ) : Type 0 where
@@ -31,12 +34,15 @@ pub data IsValue (text : List ℕ) : Type 0 where
 -- nothing, or `=` with blanks around it and a value
 pub data ValueText (text : List ℕ) : Type 0 where
   without : text ≡ [] → ValueText text
-  valued : (front behind value : List ℕ) → IsBlanks front → IsBlanks behind → IsValue value → text ≡ front ++ 61 ∷ (behind ++ value) → ValueText text
+  valued : (front behind value : List ℕ) → IsBlanks front → IsBlanks behind → IsValue value
+      → text ≡ front ++ 61 ∷ (behind ++ value) → ValueText text
 
--- parameters, each with `;` in front and blanks around that, their names in small letters, and blanks behind them
+-- parameters, each with `;` in front and blanks around that, their names in small letters, and
+-- blanks after them
 pub data ParamsText : List ℕ → List (List ℕ) → Type 0 where
   nothing : (text : List ℕ) → IsBlanks text → ParamsText text []
-  param : (text : List ℕ) (keys : List (List ℕ)) (front behind name value rest : List ℕ) → IsBlanks front → IsBlanks behind → IsToken name → ValueText value → ParamsText rest keys
+  param : (text : List ℕ) (keys : List (List ℕ)) (front behind name value rest : List ℕ)
+      → IsBlanks front → IsBlanks behind → IsToken name → ValueText value → ParamsText rest keys
       → text ≡ front ++ 59 ∷ (behind ++ (name ++ (value ++ rest)))
       → ParamsText text (small_letters name ∷ keys)
 
@@ -49,9 +55,11 @@ pub record ViaParams (text : List ℕ) : Type 0 where
 -- nothing, or `:` with blanks around it and a port
 abbrev pub ViaPort : List ℕ → Option ℕ → Type 0
 ViaPort text None = text ≡ []
-ViaPort text (Some port) = (front : List ℕ) × (behind : List ℕ) × (digits : List ℕ) × IsBlanks front × IsBlanks behind × PortNumber digits port × (text ≡ front ++ 58 ∷ (behind ++ digits))
+ViaPort text (Some port) = (front : List ℕ) × (behind : List ℕ) × (digits : List ℕ) × IsBlanks front
+    × IsBlanks behind × PortNumber digits port × (text ≡ front ++ 58 ∷ (behind ++ digits))
 
--- `SIP / 2.0 / ` and a transport, with blanks at will beside each of them, and at least one behind the transport
+-- `SIP / 2.0 / ` and a transport, with optional blanks beside each of them, and at least one after
+-- the transport
 pub record ProtocolText (text transport : List ℕ) : Type 0 where
   pub first : List ℕ
   pub sip : List ℕ
@@ -60,7 +68,10 @@ pub record ProtocolText (text transport : List ℕ) : Type 0 where
   pub fourth : List ℕ
   pub fifth : List ℕ
   pub last : List ℕ
-  pub joined : text ≡ first ++ (sip ++ (second ++ 47 ∷ (third ++ ((50 ∷ 46 ∷ 48 ∷ []) ++ (fourth ++ 47 ∷ (fifth ++ (transport ++ last)))))))
+  pub joined : text
+      ≡ first ++ (sip
+      ++ (second ++ 47 ∷
+      (third ++ ((50 ∷ 46 ∷ 48 ∷ []) ++ (fourth ++ 47 ∷ (fifth ++ (transport ++ last)))))))
   pub is_sip : small_letters sip ≡ 115 ∷ 105 ∷ 112 ∷ []
   pub is_transport : IsToken transport
   pub first_blank : IsBlanks first
@@ -79,8 +90,8 @@ pub record HasProtocol (text : List ℕ) : Type 0 where
   pub joined : text ≡ protocol ++ rest
   pub is_protocol : ProtocolText protocol transport
 
--- The text spells the Via: it is the protocol, the host, the port and the parameters, one after the other, and has at
--- most 1,024 octets.
+-- The text spells the Via: it is the protocol, the host, the port and the parameters, one after the
+-- other, and has at most 1,024 octets.
 pub record ViaText (text : List ℕ) (via : Via) : Type 0 where
   pub protocol : List ℕ
   pub transport : List ℕ

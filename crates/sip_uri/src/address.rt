@@ -26,7 +26,8 @@ pub fn address_from_text(text: &str) -> Option<Address>
 
 /// Adds a number in decimal digits, without leading zeros.
 fn push_decimal(text: &mut String, number: u8) -> Result<(), AllocError>
-    ensures { OnOk result (string_bytes text.new ≡ string_bytes text.old ++ spec.decimal_text number) }
+    ensures { OnOk result
+        (string_bytes text.new ≡ string_bytes text.old ++ spec.decimal_text number) }
 {
     if number >= 100 {
         text.push(char::from(b'0' + number / 100))?;
@@ -51,7 +52,8 @@ fn hexadecimal_character(number: u16) -> char
 
 /// Adds the last two hexadecimal digits of a number.
 fn push_two(text: &mut String, number: u16) -> Result<(), AllocError>
-    ensures { OnOk result (string_bytes text.new ≡ string_bytes text.old ++ spec.two_digits number) }
+    ensures { OnOk result
+        (string_bytes text.new ≡ string_bytes text.old ++ spec.two_digits number) }
 {
     text.push(hexadecimal_character(number / 0x10))?;
     text.push(hexadecimal_character(number))
@@ -59,7 +61,8 @@ fn push_two(text: &mut String, number: u16) -> Result<(), AllocError>
 
 /// Adds a number in hexadecimal digits, without leading zeros.
 fn push_hexadecimal(text: &mut String, number: u16) -> Result<(), AllocError>
-    ensures { OnOk result (string_bytes text.new ≡ string_bytes text.old ++ spec.hexadecimal_text number) }
+    ensures { OnOk result
+        (string_bytes text.new ≡ string_bytes text.old ++ spec.hexadecimal_text number) }
 {
     if number < 0x10 {
         return text.push(hexadecimal_character(number));
@@ -77,7 +80,8 @@ fn push_hexadecimal(text: &mut String, number: u16) -> Result<(), AllocError>
 
 /// Adds a dot and a number.
 fn push_dotted(text: &mut String, number: u8) -> Result<(), AllocError>
-    ensures { OnOk result (string_bytes text.new ≡ string_bytes text.old ++ 46 ∷ spec.decimal_text number) }
+    ensures { OnOk result
+        (string_bytes text.new ≡ string_bytes text.old ++ 46 ∷ spec.decimal_text number) }
 {
     text.push('.')?;
     push_decimal(text, number)
@@ -96,7 +100,8 @@ fn push_ipv4(text: &mut String, octets: [u8; 4]) -> Result<(), AllocError>
 
 /// Adds groups of two octets with colons between them.
 fn push_groups(text: &mut String, octets: &[u8]) -> Result<(), AllocError>
-    ensures { OnOk result (string_bytes text.new ≡ string_bytes text.old ++ spec.groups_text octets.now) }
+    ensures { OnOk result
+        (string_bytes text.new ≡ string_bytes text.old ++ spec.groups_text octets.now) }
 {
     let mut rest = octets;
     while let [high, low, others @ ..] = rest {
@@ -109,8 +114,8 @@ fn push_groups(text: &mut String, octets: &[u8]) -> Result<(), AllocError>
     Ok(())
 }
 
-/// The text of an address: four decimal numbers with dots between them, or eight groups with colons between them,
-/// in small hexadecimal digits; none with leading zeros, and no group left out.
+/// The text of an address: four decimal numbers with dots between them, or eight groups with colons
+/// between them, in small hexadecimal digits; none with leading zeros, and no group left out.
 pub fn address_text(alloc: Global, address: Address) -> Result<String, AllocError>
     ensures { IfOk result (λ text. string_bytes text ≡ spec.address_text address) }
 {

@@ -104,7 +104,8 @@ fn laws() {
     written_address_is_read();
 }
 
-/// The text of a host: an address as `address_text` writes it, or a name with a dot behind each label.
+/// The text of a host: an address as `address_text` writes it, or a name with a dot after each
+/// label.
 pub(crate) fn host_text(alloc: Global, host: &Host) -> Result<String, Fail> {
     match host {
         Host::V4(octets) => Ok(address_text(alloc, Address::V4(*octets))?),

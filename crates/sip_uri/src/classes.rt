@@ -36,7 +36,8 @@ fn has(class: Class, octet: u8) -> bool
     is_unreserved(octet) || others.contains(&octet)
 }
 
-/// Whether a text is a run of octets of a class and of escaped ones: `%` and two hexadecimal digits.
+/// Whether a text is a run of octets of a class and of escaped ones: `%` and two hexadecimal
+/// digits.
 pub(crate) fn is_run(class: Class, text: &[u8]) -> bool
     ensures { result ≡ spec.is_run (spec.octets_of class) text.now }
 {

@@ -42,9 +42,10 @@ pub(crate) fn plain_host(text: &[u8]) -> Option<HostPart<'_>>
     }
 }
 
-/// The port behind a host, where a colon stands in front of it; nothing else may stand there.
+/// The port after a host, where a colon stands in front of it; nothing else may stand there.
 fn port_part(text: &[u8]) -> Option<Option<&[u8]>>
-    ensures { option_map (λ port. option_map (λ digits. digits.now) port) result ≡ spec.port_part text.now }
+    ensures { option_map (λ port. option_map (λ digits. digits.now) port) result
+        ≡ spec.port_part text.now }
 {
     match text {
         [] => Some(None),
@@ -53,9 +54,11 @@ fn port_part(text: &[u8]) -> Option<Option<&[u8]>>
     }
 }
 
-/// The host up to a closing bracket, and the port behind it.
+/// The host up to a closing bracket, and the port after it.
 fn host_in_brackets(text: &[u8]) -> Option<(HostPart<'_>, Option<&[u8]>)>
-    ensures host { option_map (λ found. (spec.host_of found.0, option_map (λ digits. digits.now) found.1)) result ≡ spec.host_in_brackets text.now }
+    ensures host { option_map
+        (λ found. (spec.host_of found.0, option_map (λ digits. digits.now) found.1)) result
+        ≡ spec.host_in_brackets text.now }
     ensures hostname { IfSome result (λ found. spec.IsHostPart found.0) }
 {
     let (inner, behind) = next_part(text, b']');
@@ -63,9 +66,11 @@ fn host_in_brackets(text: &[u8]) -> Option<(HostPart<'_>, Option<&[u8]>)>
     Some((HostPart::V6(ipv6(inner)?), port))
 }
 
-/// The host at the front of a text, and the port behind it, if a colon stands there.
+/// The host at the front of a text, and the port after it, if a colon stands there.
 pub(crate) fn host_in_front(text: &[u8]) -> Option<(HostPart<'_>, Option<&[u8]>)>
-    ensures host { option_map (λ found. (spec.host_of found.0, option_map (λ digits. digits.now) found.1)) result ≡ spec.host_in_front text.now }
+    ensures host { option_map
+        (λ found. (spec.host_of found.0, option_map (λ digits. digits.now) found.1)) result
+        ≡ spec.host_in_front text.now }
     ensures hostname { IfSome result (λ found. spec.IsHostPart found.0) }
 {
     match behind_front(text, b'[') {

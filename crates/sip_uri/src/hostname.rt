@@ -22,7 +22,8 @@ fn are_label_octets(octets: &[u8]) -> bool
     octets.iter().all(|octet| is_label_octet(*octet))
 }
 
-/// Whether it is a label: letters, digits and hyphens, with a letter or digit in front and at the end.
+/// Whether it is a label: letters, digits and hyphens, with a letter or digit in front and at the
+/// end.
 fn is_label(label: &[u8]) -> bool
     ensures { result ≡ spec.is_label label.now }
 {

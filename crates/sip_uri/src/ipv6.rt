@@ -16,9 +16,10 @@ fn behind_colons(text: &[u8]) -> Option<&[u8]>
     behind_front(behind_front(text, b':')?, b':')
 }
 
-/// What stands before the first two colons in a row, and what stands behind them.
+/// What stands before the first two colons in a row, and what stands after them.
 fn around_colons(text: &[u8]) -> Option<(&[u8], &[u8])>
-    ensures { option_map (λ sides. (sides.0.now, sides.1.now)) result ≡ spec.around_colons text.now }
+    ensures { option_map (λ sides. (sides.0.now, sides.1.now)) result
+        ≡ spec.around_colons text.now }
 {
     for at in 0..text.len() {
         if let Some(right) = behind_colons(&text[at..]) {
@@ -30,7 +31,8 @@ fn around_colons(text: &[u8]) -> Option<(&[u8], &[u8])>
 
 /// Adds octets, where there is room for them.
 fn push_octets(octets: &mut ArrayVec<u8, 16>, more: &[u8]) -> Option<()>
-    ensures { MatchOption result (16 < length octets.old.items + length more.now) (λ _. octets.new.items ≡ octets.old.items ++ more.now) }
+    ensures { MatchOption result (16 < length octets.old.items + length more.now)
+        (λ _. octets.new.items ≡ octets.old.items ++ more.now) }
 {
     octets.try_extend_from_slice(more).ok()
 }
@@ -46,8 +48,10 @@ fn group(text: &[u8]) -> Option<[u8; 2]>
 /// Adds the octets of the last group, or of an IPv4 text that may stand for the last two.
 fn push_last(octets: &mut ArrayVec<u8, 16>, text: &[u8], closing: bool) -> Option<()>
     ensures { MatchOption result
-        ((more : List ℕ) → spec.last_group closing text.now ≡ Some more → 16 < length octets.old.items + length more)
-        (λ _. option_map (λ more. octets.old.items ++ more) (spec.last_group closing text.now) ≡ Some octets.new.items) }
+        ((more : List ℕ) → spec.last_group closing text.now ≡ Some more
+        → 16 < length octets.old.items + length more)
+        (λ _. option_map (λ more. octets.old.items ++ more) (spec.last_group closing text.now)
+        ≡ Some octets.new.items) }
 {
     if closing && let Some(address) = ipv4(text) {
         return push_octets(octets, &address);
@@ -58,7 +62,8 @@ fn push_last(octets: &mut ArrayVec<u8, 16>, text: &[u8], closing: bool) -> Optio
 /// The octets of groups with colons between them, at most sixteen.
 fn groups(text: &[u8], closing: bool) -> Option<ArrayVec<u8, 16>>
     ensures { MatchOption result
-        ((octets : List ℕ) → spec.groups closing (parted 58 text.now) ≡ Some octets → 16 < length octets)
+        ((octets : List ℕ) → spec.groups closing (parted 58 text.now) ≡ Some octets
+        → 16 < length octets)
         (λ octets. spec.groups closing (parted 58 text.now) ≡ Some octets.items) }
 {
     let mut octets = ArrayVec::new();
@@ -90,7 +95,8 @@ fn side(text: &[u8], closing: bool) -> Option<ArrayVec<u8, 16>>
     groups(text, closing)
 }
 
-/// Sixteen octets, with zeros between those in front and those at the end, which lack a group at least.
+/// Sixteen octets, with zeros between those in front and those at the end, which lack a group at
+/// least.
 fn filled(front: ArrayVec<u8, 16>, end: &[u8]) -> Option<[u8; 16]>
     ensures { result ≡ spec.filled front.items end.now }
 {

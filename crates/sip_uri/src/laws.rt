@@ -1,4 +1,4 @@
-//! Laws of texts: a call of one does nothing, and its contract tells its caller the law.
+//! Laws of texts: a call of one does nothing, and its contract states the law.
 ghost use Rattle.std.specs.Prelude.{◌≡◌, ◌↔◌, ℕ, List, IsTrue};
 ghost use Rattle.sip_uri.specs.Addresses.{AddressFits, AddressText};
 ghost use Rattle.sip_uri.specs.Same.{same_host, same_uri, same_via};
@@ -12,7 +12,8 @@ ghost use Rattle.sip_uri.specs.declared.via.Via.{Via};
 
 /// A text spells at most one URI.
 pub fn one_uri_of_a_text()
-    ensures { (text : List ℕ) (uri uri' : SipUri) → UriText text uri → UriText text uri' → uri ≡ uri' }
+    ensures { (text : List ℕ) (uri uri' : SipUri) → UriText text uri → UriText text uri'
+        → uri ≡ uri' }
 {}
 
 /// A text spells at most one Via.
@@ -20,7 +21,8 @@ pub fn one_via_of_a_text()
     ensures { (text : List ℕ) (via via' : Via) → ViaText text via → ViaText text via' → via ≡ via' }
 {}
 
-/// Hosts, URIs and Vias are the same, as `==` compares them, exactly where they are equal as values.
+/// Hosts, URIs and Vias are the same, as `==` compares them, exactly where they are equal as
+/// values.
 pub fn same_exactly_where_equal()
     ensures host { (host other : Host) → IsTrue (same_host host other) ↔ (host ≡ other) }
     ensures uri { (uri other : SipUri) → IsTrue (same_uri uri other) ↔ (uri ≡ other) }
@@ -29,5 +31,6 @@ pub fn same_exactly_where_equal()
 
 /// The text that is written for an address is a text of it. Each address of the type fits.
 pub fn written_address_is_read()
-    ensures { (address : Address) → AddressFits address → AddressText (address_text address) address }
+    ensures { (address : Address) → AddressFits address
+        → AddressText (address_text address) address }
 {}

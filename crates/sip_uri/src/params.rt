@@ -24,7 +24,7 @@ pub(crate) fn is_same(name: &[u8], other: &[u8]) -> bool
     name.eq_ignore_ascii_case(other)
 }
 
-/// Whether a value may stand behind a name.
+/// Whether a value may stand after a name.
 #[tactic(auto, unfolding(crate::specs::Readers::Params::is_value_of))]
 fn is_value_of(name: &[u8], value: &[u8]) -> bool
     ensures { result ≡ spec.is_value_of name.now value.now }
@@ -91,7 +91,8 @@ pub(crate) fn check_params(params: &[u8]) -> Result<(), UriRefusal>
 
 /// The value of the first parameter of a name.
 pub(crate) fn value_of<'a>(params: &'a [u8], name: &[u8]) -> Option<&'a [u8]>
-    ensures { option_map (λ value. value.now) result ≡ spec.value_of name.now (parted 59 params.now) }
+    ensures { option_map (λ value. value.now) result
+        ≡ spec.value_of name.now (parted 59 params.now) }
 {
     let mut rest = params;
     loop {

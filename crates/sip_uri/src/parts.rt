@@ -3,7 +3,7 @@ ghost use Rattle.std.specs.Prelude.{◌≡◌};
 ghost use Rattle.std.specs.Option.{option_map};
 ghost use Rattle.sip_uri.specs.Readers.Parts.{before, behind, behind_front};
 
-/// What stands before the first octet of a kind, and what stands behind it, if there is one.
+/// What stands before the first octet of a kind, and what stands after it, if there is one.
 pub(crate) fn next_part(text: &[u8], octet: u8) -> (&[u8], Option<&[u8]>)
     ensures front { result.0.now ≡ before octet text.now }
     ensures back { option_map (λ rest. rest.now) result.1 ≡ behind octet text.now }

@@ -98,7 +98,8 @@ pub(crate) fn port_of(text: Option<&[u8]>) -> Result<Option<u16>, UriRefusal>
 /// The host and the port.
 #[tactic(auto, unfolding(crate::specs::Readers::Uris::place_of))]
 fn place_of(text: &[u8]) -> Result<(HostPart<'_>, Option<u16>), UriRefusal>
-    ensures value { spec.seen (λ found. (host.host_of found.0, found.1)) result ≡ spec.place_of text.now }
+    ensures value { spec.seen (λ found. (host.host_of found.0, found.1)) result
+        ≡ spec.place_of text.now }
     ensures hostname { IfOk result (λ found. host.IsHostPart found.0) }
 {
     let (host, port) = host_in_front(text).ok_or(UriRefusal::BadHost)?;
@@ -108,7 +109,8 @@ fn place_of(text: &[u8]) -> Result<(HostPart<'_>, Option<u16>), UriRefusal>
 /// What the parameters say of the transport and of the host.
 #[tactic(auto, unfolding(crate::specs::Readers::Uris::said_by))]
 fn said_by(params: Option<&[u8]>) -> Result<(Option<Spoken>, Option<HostPart<'_>>), UriRefusal>
-    ensures value { spec.seen (λ said. (said.0, option_map host.host_of said.1)) result ≡ spec.said_by (option_map (λ text. text.now) params.entry) }
+    ensures value { spec.seen (λ said. (said.0, option_map host.host_of said.1)) result
+        ≡ spec.said_by (option_map (λ text. text.now) params.entry) }
     ensures hostname { IfOk result (λ said. IfSome said.1 host.IsHostPart) }
 {
     let Some(params) = params else {

@@ -106,7 +106,8 @@ const URIS: [(&str, &str); 47] = [
         "false chair-dnrc.example.com. None None -",
     ),
     (
-        "sip:1_unusual.URI~(to-be!sure)&isn't+it$/crazy?,/;;*:&it+has=1,weird!*pas$wo~d_too.(doesn't-it)@example.com",
+        "sip:1_unusual.URI~(to-be!sure)&isn't+it$/crazy?,/;;*:&it+has=1,weird!*pas$wo~d_too.(doesn'\
+        t-it)@example.com",
         "false example.com. None None -",
     ),
     (

@@ -35,20 +35,23 @@ fn with_names(alloc: Global, parts: UriParts<'_>) -> Result<SipUri, UriRefusal>
     })
 }
 
-/// The URI that a text spells, or its first fault from the left: the scheme, the user, the host, the port, each
-/// parameter, each header. A text of more than 1,024 octets is refused before all else. Memory is taken for the names
-/// of hosts alone, after all else is checked.
+/// The URI that a text spells, or its first fault from the left: the scheme, the user, the host,
+/// the port, each parameter, each header. A text of more than 1,024 octets is refused before all
+/// else. Memory is taken for the names of hosts alone, after all else is checked.
 pub fn read_uri(alloc: Global, text: &str) -> Result<SipUri, UriRefusal>
     // What is read is the URI of the text.
     ensures found { IfOk result (λ uri. UriText text.now uri) }
-    // The URI of a text is read, unless memory is refused: so each other refusal comes only where none is spelled.
-    ensures read { (uri : SipUri) → UriText text.now uri → MatchResult result (λ found. found ≡ uri) (λ refusal. refusal ≡ UriRefusal.Memory) }
+    // The URI of a text is read, unless memory is refused: so each other refusal comes only where
+    // none is spelled.
+    ensures read { (uri : SipUri) → UriText text.now uri
+        → MatchResult result (λ found. found ≡ uri) (λ refusal. refusal ≡ UriRefusal.Memory) }
     // Memory is taken where a URI with a name is spelled, and nowhere else.
     ensures memory { result ≡ Err UriRefusal.Memory
         → (uri : SipUri) × UriText text.now uri × IsNamedUri uri }
     // A text is too long exactly above 1,024 octets.
     ensures long { result ≡ Err UriRefusal.TooLong ↔ 1024 < length text.now }
-    // Its scheme is bad exactly where it is not too long, and neither `sip:` nor `sips:` is in front.
+    // Its scheme is bad exactly where it is not too long, and neither `sip:` nor `sips:` is in
+    // front.
     ensures scheme { result ≡ Err UriRefusal.BadScheme
         ↔ (length text.now ≤ 1024) × (HasScheme text.now → ⊥) }
 {

@@ -92,8 +92,8 @@ fn stands_before(params: &[u8], count: usize, name: &[u8]) -> bool
 pub(crate) fn check_via_params(params: &[u8]) -> Result<(), UriRefusal>
     ensures ok { OnOk result (ViaParams params.now) }
     ensures err { OnErr result (ViaParams params.now → ⊥) }
-    // A fault is a repeated name where two of the parameters that stand in front have one name, and a
-    // bad parameter else.
+    // A fault is a repeated name where two of the parameters that stand in front have one name, and
+    // a bad parameter else.
     ensures fault { IfErr result
         (λ refusal. ((refusal ≡ UriRefusal.BadParam) × spec.AreNamesApart params.now)
         ⊎ ((refusal ≡ UriRefusal.RepeatedParam) × (spec.AreNamesApart params.now → ⊥))) }

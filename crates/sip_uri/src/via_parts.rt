@@ -24,7 +24,8 @@ pub(crate) struct ViaParts<'a> {
     pub(crate) port: Option<u16>,
 }
 
-/// What follows a token and a slash, if the token is the one that is wanted, in letters of any case.
+/// What follows a token and a slash, if the token is the one that is wanted, in letters of any
+/// case.
 #[tactic(auto, unfolding(crate::specs::Readers::ViaFronts::behind_token))]
 fn behind_token<'a>(text: &'a [u8], token: &[u8]) -> Option<&'a [u8]>
     ensures { option_map (λ rest. rest.now) result ≡ spec.behind_token text.now token.now }
@@ -36,10 +37,11 @@ fn behind_token<'a>(text: &'a [u8], token: &[u8]) -> Option<&'a [u8]>
     behind_mark(rest, b'/')
 }
 
-/// The transport, and what follows it and the blanks behind it.
+/// The transport, and what follows it and the blanks after it.
 #[tactic(auto, unfolding(crate::specs::Readers::ViaFronts::behind_protocol))]
 fn behind_protocol(text: &[u8]) -> Option<(&[u8], &[u8])>
-    ensures { option_map (λ found. (found.0.now, found.1.now)) result ≡ spec.behind_protocol text.now }
+    ensures { option_map (λ found. (found.0.now, found.1.now)) result
+        ≡ spec.behind_protocol text.now }
 {
     let rest = behind_token(behind_blanks(text), b"SIP")?;
     let rest = behind_token(rest, b"2.0")?;
@@ -54,7 +56,8 @@ fn behind_protocol(text: &[u8]) -> Option<(&[u8], &[u8])>
 /// The host up to a closing bracket, and what follows it.
 #[tactic(auto, unfolding(crate::specs::Readers::ViaFronts::host_in_brackets))]
 fn via_host_in_brackets(text: &[u8]) -> Option<(HostPart<'_>, &[u8])>
-    ensures host { option_map (λ found. (host.host_of found.0, found.1.now)) result ≡ spec.host_in_brackets text.now }
+    ensures host { option_map (λ found. (host.host_of found.0, found.1.now)) result
+        ≡ spec.host_in_brackets text.now }
     ensures hostname { IfSome result (λ found. host.IsHostPart found.0) }
 {
     let (inner, behind) = next_part(text, b']');
@@ -68,7 +71,8 @@ fn via_host_in_brackets(text: &[u8]) -> Option<(HostPart<'_>, &[u8])>
 /// The host in front, and what follows it.
 #[tactic(auto, unfolding(crate::specs::Readers::ViaFronts::via_host))]
 fn via_host(text: &[u8]) -> Option<(HostPart<'_>, &[u8])>
-    ensures host { option_map (λ found. (host.host_of found.0, found.1.now)) result ≡ spec.via_host text.now }
+    ensures host { option_map (λ found. (host.host_of found.0, found.1.now)) result
+        ≡ spec.via_host text.now }
     ensures hostname { IfSome result (λ found. host.IsHostPart found.0) }
 {
     match behind_front(text, b'[') {
@@ -100,7 +104,8 @@ fn via_port(text: &[u8]) -> Result<(Option<u16>, &[u8]), UriRefusal>
 /// The parts of a Via and what follows its port, or the first fault from the left.
 #[tactic(auto, unfolding(crate::specs::Readers::ViaFronts::via_parts))]
 pub(crate) fn via_parts(text: &[u8]) -> Result<(ViaParts<'_>, &[u8]), UriRefusal>
-    ensures value { seen (λ found. (spec.via_of found.0, found.1.now)) result ≡ spec.via_parts text.now }
+    ensures value { seen (λ found. (spec.via_of found.0, found.1.now)) result
+        ≡ spec.via_parts text.now }
     ensures host { IfOk result (λ found. host.IsHostPart found.0.host) }
 {
     let (transport, rest) = behind_protocol(text).ok_or(UriRefusal::BadVia)?;

@@ -57,7 +57,8 @@ const VIAS: [(&str, &str); 32] = [
         "Known(Udp) 192.0.2.1 Some(5060)",
     ),
     (
-        "SIP / 2.0 / UDP first.example.com: 4000;ttl=16 ;maddr=224.2.0.1 ;branch=z9hG4bKa7c6a8dlze.1",
+        "SIP / 2.0 / UDP first.example.com: 4000;ttl=16 ;maddr=224.2.0.1 ;branch=z9hG4bKa7c6a8dlze.\
+        1",
         "Known(Udp) first.example.com. Some(4000)",
     ),
     // RFC 4475 3.1.1.1
@@ -221,7 +222,8 @@ const FAULTS: [(&str, UriRefusal); 57] = [
     ("SIP/2.0/UDP d.example;a;b;", UriRefusal::BadParam),
     // RFC 4475 3.1.1.1: two Vias in one text
     (
-        "SIP/2.0/TCP spindle.example.com;branch=z9hG4bK9ikj8  , SIP/2.0/UDP 192.168.255.111;branch=z9hG4bK30239",
+        "SIP/2.0/TCP spindle.example.com;branch=z9hG4bK9ikj8  , SIP/2.0/UDP 192.168.255.111;branch=\
+        z9hG4bK30239",
         UriRefusal::BadParam,
     ),
     // RFC 4475 3.1.2.1

@@ -25,7 +25,9 @@ IsHostPart (part.V6 octets) = ⊤
 IsHostPart (part.Domain text) = is_hostname text.now ≡ true
 
 abbrev pub plain_host : List ℕ → Option Host
-plain_host text = option_or (option_map (λ (octets : List ℕ). V4 octets) (ipv4 text)) (if is_hostname text then Some (Domain (name_of text)) else None)
+plain_host text =
+    option_or (option_map (λ (octets : List ℕ). V4 octets) (ipv4 text))
+    (if is_hostname text then Some (Domain (name_of text)) else None)
 
 abbrev pub port_part : List ℕ → Option (Option (List ℕ))
 port_part [] = Some None

@@ -23,29 +23,34 @@ abbrev pub is_same : List ℕ → List ℕ → Bool
 is_same name other = str_eq_ignore_ascii_case name other
 
 unfoldable pub is_value_of : List ℕ → List ℕ → Bool
-is_value_of name value = is_some_run is_param_octet value && (not (is_same name maddr_name) || is_some (host value))
+is_value_of name value =
+    is_some_run is_param_octet value && (not (is_same name maddr_name) || is_some (host value))
 
--- whether the value, or none, may stand behind the name
+-- whether the value, or none, may stand after the name
 abbrev pub is_valued : List ℕ → Option (List ℕ) → Bool
 is_valued name None = not (is_same name transport_name) && not (is_same name maddr_name)
 is_valued name (Some value) = is_value_of name value
 
 abbrev pub is_param : List ℕ → Bool
-is_param param = is_some_run is_param_octet (name_of param) && is_valued (name_of param) (behind 61 param)
+is_param param =
+    is_some_run is_param_octet (name_of param) && is_valued (name_of param) (behind 61 param)
 
 abbrev pub stands_in : List (List ℕ) → List ℕ → Bool
-stands_in earlier param = list_any (λ (other : List ℕ). is_same (name_of other) (name_of param)) earlier
+stands_in earlier param =
+    list_any (λ (other : List ℕ). is_same (name_of other) (name_of param)) earlier
 
--- the first fault of parameters behind earlier ones
+-- the first fault of parameters after earlier ones
 abbrev pub fault_behind : List (List ℕ) → List (List ℕ) → Option UriRefusal
 fault_behind earlier [] = None
 fault_behind earlier (param ∷ params) =
     if not (is_param param) then Some BadParam else
-    (if stands_in earlier param then Some RepeatedParam else fault_behind (earlier ++ param ∷ []) params)
+    (if stands_in earlier param then Some RepeatedParam
+    else fault_behind (earlier ++ param ∷ []) params)
 
 abbrev pub params_fault : List (List ℕ) → Option UriRefusal
 params_fault params = fault_behind [] params
 
 abbrev pub value_of : List ℕ → List (List ℕ) → Option (List ℕ)
 value_of name [] = None
-value_of name (param ∷ params) = if is_same (name_of param) name then behind 61 param else value_of name params
+value_of name (param ∷ params) =
+    if is_same (name_of param) name then behind 61 param else value_of name params

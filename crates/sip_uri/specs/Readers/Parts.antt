@@ -7,7 +7,7 @@ abbrev pub before : ℕ → List ℕ → List ℕ
 before octet [] = []
 before octet (x ∷ xs) = cond (x == octet) [] (x ∷ before octet xs)
 
--- what stands behind it, if there is one
+-- what stands after it, if there is one
 abbrev pub behind : ℕ → List ℕ → Option (List ℕ)
 behind octet [] = None
 behind octet (x ∷ xs) = cond (x == octet) (Some xs) (behind octet xs)

@@ -14,7 +14,8 @@ octets_of Header octet = is_header_octet octet
 -- a run, of which so many digits of an escaped octet are still to come
 abbrev pub run_from : (ℕ → Bool) → ℕ → List ℕ → Bool
 run_from class left [] = left == 0
-run_from class zero (octet ∷ text) = if octet == 37 then run_from class 2 text else class octet && run_from class 0 text
+run_from class zero (octet ∷ text) =
+    if octet == 37 then run_from class 2 text else class octet && run_from class 0 text
 run_from class (suc left) (octet ∷ text) = is_ascii_hexdigit octet && run_from class left text
 
 abbrev pub is_run : (ℕ → Bool) → List ℕ → Bool

@@ -13,13 +13,17 @@ abbrev pub ◌>>=◌ : {A B : Type 0} → Option A → (A → Option B) → Opti
 o >>= f = option_and_then f o
 
 abbrev pub decimal_within : ℕ → List ℕ → Option ℕ
-decimal_within limit text = if length text == 0 || not (list_all is_ascii_digit text) || nat_lt limit (decimal text) then None else Some (decimal text)
+decimal_within limit text =
+    if length text == 0 || not (list_all is_ascii_digit text) || nat_lt limit (decimal text)
+    then None else Some (decimal text)
 
 abbrev pub hexadecimal_digit : ℕ → Option ℕ
 hexadecimal_digit octet = if is_ascii_hexdigit octet then Some (digit_value octet) else None
 
 abbrev pub hexadecimal_group : List ℕ → Option ℕ
-hexadecimal_group text = if length text == 0 || nat_lt 4 (length text) || not (list_all is_ascii_hexdigit text) then None else Some (hexadecimal text)
+hexadecimal_group text =
+    if length text == 0 || nat_lt 4 (length text) || not (list_all is_ascii_hexdigit text) then None
+    else Some (hexadecimal text)
 
 abbrev pub ipv4_number : List ℕ → Option ℕ
 ipv4_number text = if nat_lt 3 (length text) then None else decimal_within 255 text
@@ -35,7 +39,7 @@ ipv4 text = do
   d ← ipv4_number fourth
   Some (a ∷ b ∷ c ∷ d ∷ [])
 
--- a text behind two colons
+-- a text after two colons
 abbrev pub behind_colons : List ℕ → Option (List ℕ)
 behind_colons [] = None
 behind_colons (x ∷ []) = None
@@ -47,7 +51,11 @@ with_front front sides = (front ++ sides.0, sides.1)
 abbrev pub around_colons : List ℕ → Option (List ℕ × List ℕ)
 around_colons [] = None
 around_colons (x ∷ text) =
-    elim (behind_colons (x ∷ text)) [ None ↦ option_map (with_front (x ∷ [])) (around_colons text) | Some right ↦ Some ([], right) ]
+    elim (behind_colons (x ∷ text)) [
+      | None ↦ option_map (with_front (x ∷ []))
+          (around_colons text)
+      | Some right ↦ Some ([], right)
+    ]
 
 abbrev pub group : List ℕ → Option (List ℕ)
 group text = option_map (λ (number : ℕ). number / 256 ∷ number % 256 ∷ []) (hexadecimal_group text)
@@ -58,13 +66,17 @@ last_group closing text = if closing then option_or (ipv4 text) (group text) els
 abbrev pub groups : Bool → List (List ℕ) → Option (List ℕ)
 groups closing [] = None
 groups closing (text ∷ []) = last_group closing text
-groups closing (text ∷ next ∷ texts) = group text >>= λ (octets : List ℕ). option_map (λ (more : List ℕ). octets ++ more) (groups closing (next ∷ texts))
+groups closing (text ∷ next ∷ texts) =
+    group text >>= λ (octets : List ℕ). option_map
+    (λ (more : List ℕ). octets ++ more) (groups closing (next ∷ texts))
 
 abbrev pub side : Bool → List ℕ → Option (List ℕ)
 side closing text = if length text == 0 then Some [] else groups closing (parted 58 text)
 
 abbrev pub filled : List ℕ → List ℕ → Option (List ℕ)
-filled front end = if nat_lt 14 (length front + length end) then None else Some (front ++ replicate (16 - (length front + length end)) 0 ++ end)
+filled front end =
+    if nat_lt 14 (length front + length end) then None
+    else Some (front ++ replicate (16 - (length front + length end)) 0 ++ end)
 
 abbrev pub sixteen : List ℕ → Option (List ℕ)
 sixteen octets = if length octets == 16 then Some octets else None
@@ -73,7 +85,8 @@ abbrev pub whole : List ℕ → Option (List ℕ)
 whole text = groups true (parted 58 text) >>= sixteen
 
 abbrev pub shortened : List ℕ → List ℕ → Option (List ℕ)
-shortened left right = side false left >>= λ (front : List ℕ). side true right >>= λ (end : List ℕ). filled front end
+shortened left right =
+    side false left >>= λ (front : List ℕ). side true right >>= λ (end : List ℕ). filled front end
 
 -- the octets, from what stands around the first two colons
 abbrev pub ipv6_around : List ℕ → Option (List ℕ × List ℕ) → Option (List ℕ)
@@ -88,7 +101,8 @@ ipv6 text = ipv6_around text (around_colons text)
 abbrev pub is_label : List ℕ → Bool
 is_label label =
     nat_lt 0 (length label) && nat_le (length label) 63 && list_all is_label_octet label
-    && is_ascii_alphanumeric (slice_index label 0) && is_ascii_alphanumeric (slice_index label (length label - 1))
+    && is_ascii_alphanumeric (slice_index label 0)
+    && is_ascii_alphanumeric (slice_index label (length label - 1))
 
 abbrev pub are_labels : List (List ℕ) → Bool
 are_labels [] = false
@@ -96,4 +110,6 @@ are_labels (label ∷ []) = is_label label && is_ascii_alphabetic (slice_index l
 are_labels (label ∷ next ∷ labels) = is_label label && are_labels (next ∷ labels)
 
 abbrev pub is_hostname : List ℕ → Bool
-is_hostname text = nat_le (length (without_closing_dot text)) 253 && are_labels (parted 46 (without_closing_dot text))
+is_hostname text =
+    nat_le (length (without_closing_dot text)) 253
+    && are_labels (parted 46 (without_closing_dot text))

@@ -18,7 +18,8 @@ use Rattle.sip_uri.specs.declared.refusal.UriRefusal.{UriRefusal}
 use Rattle.sip_uri.specs.declared.refusal.UriRefusal.TheVariants.{BadScheme, BadUser, BadHost, BadPort, BadHeader}
 
 infixl 10 ◌>>=◌
-abbrev pub ◌>>=◌ : {A B : Type 0} → Result A UriRefusal → (A → Result B UriRefusal) → Result B UriRefusal
+abbrev pub ◌>>=◌ : {A B : Type 0} → Result A UriRefusal → (A → Result B UriRefusal)
+    → Result B UriRefusal
 (Ok x) >>= f = f x
 (Err e) >>= f = Err e
 
@@ -79,9 +80,13 @@ place_of text = do
   Ok (found.0, port)
 
 abbrev pub said : List (List ℕ) → Option Spoken × Option Host
-said params = (option_map spoken_of (value_of transport_name params), option_and_then host (value_of maddr_name params))
+said params = (
+  option_map spoken_of (value_of transport_name params),
+  option_and_then host (value_of maddr_name params),
+)
 
-abbrev pub said_unless : List (List ℕ) → Option UriRefusal → Result (Option Spoken × Option Host) UriRefusal
+abbrev pub said_unless : List (List ℕ) → Option UriRefusal
+    → Result (Option Spoken × Option Host) UriRefusal
 said_unless params None = Ok (said params)
 said_unless params (Some fault) = Err fault
 

@@ -17,38 +17,50 @@ use Rattle.sip_uri.specs.declared.refusal.UriRefusal.{UriRefusal}
 use Rattle.sip_uri.specs.declared.refusal.UriRefusal.TheVariants.{BadVia, BadHost, BadPort}
 
 unfoldable pub behind_token : List ℕ → List ℕ → Option (List ℕ)
-behind_token text token = if str_eq_ignore_ascii_case (row is_token_octet text) token then behind_mark 47 (behind_row is_token_octet text) else None
+behind_token text token =
+    if str_eq_ignore_ascii_case (row is_token_octet text) token
+    then behind_mark 47 (behind_row is_token_octet text) else None
 
--- a transport and the blanks behind it
+-- a transport and the blanks after it
 abbrev pub with_blanks : List ℕ → List ℕ → List ℕ → Option (List ℕ × List ℕ)
 with_blanks [] blanks rest = None
 with_blanks (x ∷ transport) [] rest = None
 with_blanks (x ∷ transport) (y ∷ blanks) rest = Some (x ∷ transport, rest)
 
 abbrev pub transport_in : List ℕ → Option (List ℕ × List ℕ)
-transport_in text = with_blanks (row is_token_octet text) (row is_blank (behind_row is_token_octet text)) (behind_row is_blank (behind_row is_token_octet text))
+transport_in text =
+    with_blanks (row is_token_octet text) (row is_blank (behind_row is_token_octet text))
+    (behind_row is_blank (behind_row is_token_octet text))
 
 unfoldable pub behind_protocol : List ℕ → Option (List ℕ × List ℕ)
 behind_protocol text =
-    option_and_then (λ (rest : List ℕ). option_and_then transport_in (behind_token rest (50 ∷ 46 ∷ 48 ∷ [])))
+    option_and_then
+    (λ (rest : List ℕ). option_and_then transport_in (behind_token rest (50 ∷ 46 ∷ 48 ∷ [])))
     (behind_token (behind_row is_blank text) (83 ∷ 73 ∷ 80 ∷ []))
 
--- nothing of a host may stand behind the bracket
+-- nothing of a host may stand after the bracket
 abbrev pub closed_host : List ℕ → List ℕ → Option (List ℕ) → Option (Host × List ℕ)
 closed_host after [] octets = option_map (λ (o : List ℕ). (V6 o, after)) octets
 closed_host after (x ∷ more) octets = None
 
 unfoldable pub host_in_brackets : List ℕ → Option (Host × List ℕ)
-host_in_brackets text = option_and_then (λ (after : List ℕ). closed_host after (row is_in_host after) (ipv6 (before 93 text))) (behind 93 text)
+host_in_brackets text =
+    option_and_then
+    (λ (after : List ℕ). closed_host after (row is_in_host after) (ipv6 (before 93 text)))
+    (behind 93 text)
 
 unfoldable pub via_host : List ℕ → Option (Host × List ℕ)
 via_host text =
     if slice_index text 0 == 91 then host_in_brackets (drop 1 text)
-    else option_map (λ (host : Host). (host, behind_row is_in_host text)) (plain_host (row is_in_host text))
+    else option_map
+    (λ (host : Host). (host, behind_row is_in_host text)) (plain_host (row is_in_host text))
 
 abbrev pub port_in : List ℕ → Option (List ℕ) → Result (Option ℕ × List ℕ) UriRefusal
 port_in text None = Ok (None, text)
-port_in text (Some digits) = ok_or (option_map (λ (port : ℕ). (Some port, behind_row is_in_port digits)) (port_number (row is_in_port digits))) BadPort
+port_in text (Some digits) =
+    ok_or (option_map
+    (λ (port : ℕ). (Some port, behind_row is_in_port digits))
+    (port_number (row is_in_port digits))) BadPort
 
 unfoldable pub via_port : List ℕ → Result (Option ℕ × List ℕ) UriRefusal
 via_port text = port_in text (behind_mark 58 text)

@@ -59,7 +59,9 @@ named [] rest = None
 named (x ∷ name) rest = option_map (λ (after : List ℕ). (x ∷ name, after)) (behind_valued rest)
 
 unfoldable pub next_param : List ℕ → Option (List ℕ × List ℕ)
-next_param text = behind_mark 59 text >>= λ (rest : List ℕ). named (row is_token_octet rest) (behind_row is_token_octet rest)
+next_param text =
+    behind_mark 59 text >>= λ (rest : List ℕ). named (row is_token_octet rest)
+    (behind_row is_token_octet rest)
 
 -- the names of the first parameters
 abbrev pub names_of : (List ℕ → List (List ℕ)) → Option (List ℕ × List ℕ) → List (List ℕ)

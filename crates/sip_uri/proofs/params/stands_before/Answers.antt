@@ -15,11 +15,13 @@ returns-in-None c =
     let none : behind 59 c.loop.rest.now ≡ None = rw c.in-None.is at (sym c.next_part.ensures.back) in
     let other : is_same (name_of (before 59 c.loop.rest.now)) (name_of c.args.param.now) ≡ false =
     rw (c.name_of.ensures, c.next_part.ensures.front, c.name_of-in-loop.ensures) at (sym c.is_same.ensures ∙ c.if-is_same.false) in
-    sym (stands_nowhere c.args.params.now c.args.param.now c.loop.rest.now c.args.count c.loop.counter c.loop.invariant c.loop-test.true none other)
+    sym (stands_nowhere c.args.params.now c.args.param.now c.loop.rest.now c.args.count c.loop.counter c.loop.invariant
+    c.loop-test.true none other)
 
 pub loop-preserved : goal.loop-preserved
 loop-preserved c =
     let some : behind 59 c.loop.rest.now ≡ Some c.in-Some.behind.now = rw c.in-Some.is at (sym c.next_part.ensures.back) in
     let other : is_same (name_of (before 59 c.loop.rest.now)) (name_of c.args.param.now) ≡ false =
     rw (c.name_of.ensures, c.next_part.ensures.front, c.name_of-in-loop.ensures) at (sym c.is_same.ensures ∙ c.if-is_same.false) in
-    stands_further c.args.params.now c.args.param.now c.loop.rest.now c.args.count c.loop.counter c.loop.invariant c.loop-test.true c.in-Some.behind.now some other
+    stands_further c.args.params.now c.args.param.now c.loop.rest.now c.args.count c.loop.counter c.loop.invariant c.loop-test.true
+    c.in-Some.behind.now some other

@@ -9,14 +9,17 @@ pub returns-then-is_same : goal.returns-then-is_same
 returns-then-is_same c =
     let same : is_same (name_of (before 59 c.loop-behind.rest.now)) c.args.name.now ≡ true =
     rw (c.next_part-in-loop-behind.ensures.front, c.next_part.ensures.front) at (sym c.is_same.ensures ∙ c.if-is_same.true) in
-    rw c.next_part.ensures.front at (c.next_part-in-loop-behind.ensures.back) ∙ value_here c.args.params.now c.args.name.now c.loop-behind.rest.now c.loop-behind.invariant same
+    rw c.next_part.ensures.front at
+    (c.next_part-in-loop-behind.ensures.back) ∙ value_here c.args.params.now c.args.name.now c.loop-behind.rest.now
+    c.loop-behind.invariant same
 
 pub returns-in_err-rest : goal.returns-in_err-rest
 returns-in_err-rest c =
     let none : behind 59 c.loop-behind.rest.now ≡ None = rw c.in_err-rest.was at (sym c.next_part.ensures.back) in
     let other : is_same (name_of (before 59 c.loop-behind.rest.now)) c.args.name.now ≡ false =
     rw (c.next_part-in-loop-behind.ensures.front, c.next_part.ensures.front) at (sym c.is_same.ensures ∙ c.if-is_same.false) in
-    rw c.from_residual.ensures (sym (value_nowhere c.args.params.now c.args.name.now c.loop-behind.rest.now c.loop-behind.invariant none other))
+    rw c.from_residual.ensures
+    (sym (value_nowhere c.args.params.now c.args.name.now c.loop-behind.rest.now c.loop-behind.invariant none other))
 
 pub loop-behind-smaller : goal.loop-behind-smaller
 loop-behind-smaller c =

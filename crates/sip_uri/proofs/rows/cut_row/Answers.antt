@@ -5,19 +5,25 @@ use Rattle.sip_uri.proofs.rows.cut_row.Goals as goal
 
 pub returns-then-not-is_of-clause-front : goal.returns-then-not-is_of-clause-front
 returns-then-not-is_of-clause-front c =
-    row_front (octets_of c.args.class) c.args.text.now c.loop-at.at c.loop-at.invariant.front c.loop-at.invariant.back c.loop-at-test.true (sym c.is_of.ensures ∙ c.if-not-is_of.true)
+    row_front (octets_of c.args.class) c.args.text.now c.loop-at.at c.loop-at.invariant.front c.loop-at.invariant.back c.loop-at-test.true
+    (sym c.is_of.ensures ∙ c.if-not-is_of.true)
 
 pub returns-then-not-is_of-clause-back : goal.returns-then-not-is_of-clause-back
 returns-then-not-is_of-clause-back c =
-    row_back (octets_of c.args.class) c.args.text.now c.loop-at.at c.loop-at.invariant.front c.loop-at.invariant.back c.loop-at-test.true (sym c.is_of.ensures ∙ c.if-not-is_of.true)
+    row_back (octets_of c.args.class) c.args.text.now c.loop-at.at c.loop-at.invariant.front c.loop-at.invariant.back c.loop-at-test.true
+    (sym c.is_of.ensures ∙ c.if-not-is_of.true)
 
 pub loop-at-preserved : goal.loop-at-preserved
 loop-at-preserved c =
     let is = sym c.is_of.ensures ∙ c.if-not-is_of.false in
     record {
-      front = row_more_front (octets_of c.args.class) c.args.text.now c.loop-at.at c.loop-at.invariant.front c.loop-at.invariant.back c.loop-at-test.true is;
-      back = row_more_back (octets_of c.args.class) c.args.text.now c.loop-at.at c.loop-at.invariant.front c.loop-at.invariant.back c.loop-at-test.true is;
+      front = row_more_front
+          (octets_of c.args.class) c.args.text.now c.loop-at.at c.loop-at.invariant.front c.loop-at.invariant.back c.loop-at-test.true is;
+      back = row_more_back
+          (octets_of c.args.class) c.args.text.now c.loop-at.at c.loop-at.invariant.front c.loop-at.invariant.back c.loop-at-test.true is;
     }
 
 pub returns-clause-front : goal.returns-clause-front
-returns-clause-front c = (row_to_end (octets_of c.args.class) c.args.text.now c.loop-at.at c.loop-at.invariant.front c.loop-at.invariant.back c.loop-at-test.false).0
+returns-clause-front c =
+    (row_to_end (octets_of c.args.class) c.args.text.now c.loop-at.at c.loop-at.invariant.front c.loop-at.invariant.back
+    c.loop-at-test.false).0

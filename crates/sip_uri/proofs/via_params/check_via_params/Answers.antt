@@ -11,7 +11,8 @@ use Rattle.sip_uri.proofs.via_params.check_via_params.Goals.{In-Some}
 pub returns-then-is_empty-clause-ok : goal.returns-then-is_empty-clause-ok
 returns-then-is_empty-clause-ok c =
     let size : length c.behind_blanks.result.now ≡ 0 = grind (arith, nat_tests, c.is_empty.ensures, c.if-is_empty.true) in
-    all_read c.args.params.now c.loop-rest.rest.now c.loop-rest.count c.loop-rest.invariant (sym c.behind_blanks.ensures ∙ nil_from_length c.behind_blanks.result.now size)
+    all_read c.args.params.now c.loop-rest.rest.now c.loop-rest.count c.loop-rest.invariant
+    (sym c.behind_blanks.ensures ∙ nil_from_length c.behind_blanks.result.now size)
 
 pub returns-in-None-clause-err : goal.returns-in-None-clause-err
 returns-in-None-clause-err c =
@@ -30,21 +31,31 @@ found c = rw c.in-Some.is at (sym c.next_param.ensures)
 
 pub returns-then-stands_before-clause-err : goal.returns-then-stands_before-clause-err
 returns-then-stands_before-clause-err c =
-    let again : stands_in (names c.loop-rest.count c.args.params.now) c.in-Some.name.now ≡ true = sym c.stands_before.ensures ∙ c.if-stands_before.true in
-    again_here c.args.params.now c.loop-rest.rest.now c.loop-rest.count c.loop-rest.invariant c.in-Some.name.now c.in-Some.behind.now (found (goal.at.returns-then-stands_before-clause-err c).In-Some) again
+    let again : stands_in (names c.loop-rest.count c.args.params.now) c.in-Some.name.now ≡ true =
+    sym c.stands_before.ensures ∙ c.if-stands_before.true in
+    again_here c.args.params.now c.loop-rest.rest.now c.loop-rest.count c.loop-rest.invariant c.in-Some.name.now c.in-Some.behind.now
+    (found (goal.at.returns-then-stands_before-clause-err c).In-Some) again
 
 pub returns-then-stands_before-clause-fault : goal.returns-then-stands_before-clause-fault
 returns-then-stands_before-clause-fault c =
     let e = found (goal.at.returns-then-stands_before-clause-fault c).In-Some in
-    let again : stands_in (names c.loop-rest.count c.args.params.now) c.in-Some.name.now ≡ true = sym c.stands_before.ensures ∙ c.if-stands_before.true in
+    let again : stands_in (names c.loop-rest.count c.args.params.now) c.in-Some.name.now ≡ true =
+    sym c.stands_before.ensures ∙ c.if-stands_before.true in
     let shorter = shorter_read c.loop-rest.rest.now c.in-Some.name.now c.in-Some.behind.now e in
-    inr (refl, repeated_here c.args.params.now c.loop-rest.rest.now c.loop-rest.count c.loop-rest.invariant c.in-Some.name.now c.in-Some.behind.now e again shorter)
+    inr (
+      refl,
+      repeated_here c.args.params.now c.loop-rest.rest.now c.loop-rest.count c.loop-rest.invariant c.in-Some.name.now
+          c.in-Some.behind.now e again shorter,
+    )
 
 pub loop-rest-smaller : goal.loop-rest-smaller
-loop-rest-smaller c = shorter_read c.loop-rest.rest.now c.in-Some.name.now c.in-Some.behind.now (found (goal.at.loop-rest-smaller c).In-Some)
+loop-rest-smaller c =
+    shorter_read c.loop-rest.rest.now c.in-Some.name.now c.in-Some.behind.now (found (goal.at.loop-rest-smaller c).In-Some)
 
 pub loop-rest-preserved : goal.loop-rest-preserved
 loop-rest-preserved c =
     let e = found (goal.at.loop-rest-preserved c).In-Some in
-    let new : stands_in (names c.loop-rest.count c.args.params.now) c.in-Some.name.now ≡ false = sym c.stands_before.ensures ∙ c.if-stands_before.false in
-    walked_more c.args.params.now c.loop-rest.rest.now c.loop-rest.count c.loop-rest.invariant c.in-Some.name.now c.in-Some.behind.now e new (shorter_read c.loop-rest.rest.now c.in-Some.name.now c.in-Some.behind.now e)
+    let new : stands_in (names c.loop-rest.count c.args.params.now) c.in-Some.name.now ≡ false =
+    sym c.stands_before.ensures ∙ c.if-stands_before.false in
+    walked_more c.args.params.now c.loop-rest.rest.now c.loop-rest.count c.loop-rest.invariant c.in-Some.name.now c.in-Some.behind.now e new
+    (shorter_read c.loop-rest.rest.now c.in-Some.name.now c.in-Some.behind.now e)

@@ -14,7 +14,8 @@ refused c = rw c.as_bytes-text.ensures.value at (sym c.in_err-parts.ensures.valu
 
 pub returns-in_err-parts-clause-read : goal.returns-in_err-parts-clause-read
 returns-in_err-parts-clause-read c = λ via is.
-    absurd (none_spelled c.args.text.now c.in_err-parts.field-0.0 (refused (goal.at.returns-in_err-parts-clause-read c).In_err-parts) via is)
+    absurd (none_spelled c.args.text.now c.in_err-parts.field-0.0
+    (refused (goal.at.returns-in_err-parts-clause-read c).In_err-parts) via is)
 
 fault_of : (c : In_err-parts) → IsOfOctets c.in_err-parts.field-0.0
 fault_of c = via_octets c.args.text.now c.in_err-parts.field-0.0 (refused c)
@@ -22,12 +23,15 @@ fault_of c = via_octets c.args.text.now c.in_err-parts.field-0.0 (refused c)
 pub returns-in_err-parts-clause-memory : goal.returns-in_err-parts-clause-memory
 returns-in_err-parts-clause-memory c = λ wanted.
     let e = err_from_is_err_and c.from_residual.result c.from_residual.ensures.1 in
-    absurd (handed_on IsOfOctets c.from_residual.result e.0 c.in_err-parts.field-0.0 Memory e.1 e.2 (fault_of (goal.at.returns-in_err-parts-clause-memory c).In_err-parts) (λ no. no) wanted)
+    absurd (handed_on IsOfOctets c.from_residual.result e.0 c.in_err-parts.field-0.0 Memory e.1 e.2
+    (fault_of (goal.at.returns-in_err-parts-clause-memory c).In_err-parts) (λ no. no) wanted)
 
 pub returns-in_err-parts-clause-long : goal.returns-in_err-parts-clause-long
 returns-in_err-parts-clause-long c =
     let e = err_from_is_err_and c.from_residual.result c.from_residual.ensures.1 in (
-      λ long. absurd (handed_on IsOfOctets c.from_residual.result e.0 c.in_err-parts.field-0.0 TooLong e.1 e.2 (fault_of (goal.at.returns-in_err-parts-clause-long c).In_err-parts) (λ no. no) long),
+      λ long. absurd
+          (handed_on IsOfOctets c.from_residual.result e.0 c.in_err-parts.field-0.0 TooLong e.1 e.2
+          (fault_of (goal.at.returns-in_err-parts-clause-long c).In_err-parts) (λ no. no) long),
       λ more. absurd (no_long_text _ _ c.as_bytes-text.ensures.len c.if-text-gt-TEXT_LIMIT.false more),
     )
 
@@ -35,7 +39,11 @@ pub returns-in_err-parts-clause-protocol : goal.returns-in_err-parts-clause-prot
 returns-in_err-parts-clause-protocol c =
     let e = err_from_is_err_and c.from_residual.result c.from_residual.ensures.1 in
     let is = refused (goal.at.returns-in_err-parts-clause-protocol c).In_err-parts in (
-      λ bad. (short_text _ _ c.as_bytes-text.ensures.len c.if-text-gt-TEXT_LIMIT.false, bad_protocol c.args.text.now (is ∙ ap (λ (x : UriRefusal). Err x) (handed_is c.from_residual.result e.0 c.in_err-parts.field-0.0 BadVia e.1 e.2 bad))),
+      λ bad. (
+        short_text _ _ c.as_bytes-text.ensures.len c.if-text-gt-TEXT_LIMIT.false,
+        bad_protocol c.args.text.now
+            (is ∙ ap (λ (x : UriRefusal). Err x) (handed_is c.from_residual.result e.0 c.in_err-parts.field-0.0 BadVia e.1 e.2 bad)),
+      ),
       λ none. (
           let again = bad_protocol_again c.args.text.now none.1 in
           let same : c.in_err-parts.field-0.0 ≡ BadVia = same_Err {A = Via × List ℕ} c.in_err-parts.field-0.0 BadVia (sym is ∙ again) in
@@ -47,25 +55,35 @@ parsed c = rw c.as_bytes-text.ensures.value at (sym c.in_ok-parts.ensures.value)
 
 pub returns-in_err-check_via_params-clause-read : goal.returns-in_err-check_via_params-clause-read
 returns-in_err-check_via_params-clause-read c = λ via is.
-    absurd (c.in_err-check_via_params.ensures.err (spells_no_more c.args.text.now c.in_ok-parts.parts c.in_ok-parts.params.now (parsed (goal.at.returns-in_err-check_via_params-clause-read c).In_ok-parts) via is).1)
+    absurd (c.in_err-check_via_params.ensures.err
+    (spells_no_more c.args.text.now c.in_ok-parts.parts c.in_ok-parts.params.now
+    (parsed (goal.at.returns-in_err-check_via_params-clause-read c).In_ok-parts) via is).1)
 
 pub returns-in_err-host-clause-memory : goal.returns-in_err-host-clause-memory
 returns-in_err-host-clause-memory c = λ _.
-    via_wanted c.args.text.now c.in_ok-parts.parts c.in_ok-parts.params.now (parsed (goal.at.returns-in_err-host-clause-memory c).In_ok-parts) (short_text _ _ c.as_bytes-text.ensures.len c.if-text-gt-TEXT_LIMIT.false) c.in_ok-check_via_params.ensures.ok c.in_err-host.ensures.1
+    via_wanted c.args.text.now c.in_ok-parts.parts c.in_ok-parts.params.now
+    (parsed (goal.at.returns-in_err-host-clause-memory c).In_ok-parts)
+    (short_text _ _ c.as_bytes-text.ensures.len c.if-text-gt-TEXT_LIMIT.false) c.in_ok-check_via_params.ensures.ok
+    c.in_err-host.ensures.1
 
 pub returns-clause-found : goal.returns-clause-found
 returns-clause-found c =
-    via_found c.args.text.now c.in_ok-parts.parts c.in_ok-parts.params.now (parsed (goal.at.returns-clause-found c).In_ok-parts) c.in_ok-host.host c.in_ok-host.ensures (short_text _ _ c.as_bytes-text.ensures.len c.if-text-gt-TEXT_LIMIT.false) c.in_ok-check_via_params.ensures.ok
+    via_found c.args.text.now c.in_ok-parts.parts c.in_ok-parts.params.now
+    (parsed (goal.at.returns-clause-found c).In_ok-parts) c.in_ok-host.host c.in_ok-host.ensures
+    (short_text _ _ c.as_bytes-text.ensures.len c.if-text-gt-TEXT_LIMIT.false) c.in_ok-check_via_params.ensures.ok
 
 pub returns-clause-read : goal.returns-clause-read
 returns-clause-read c = λ via is.
-    via_only c.args.text.now c.in_ok-parts.parts c.in_ok-parts.params.now (parsed (goal.at.returns-clause-read c).In_ok-parts) c.in_ok-host.host c.in_ok-host.ensures via is
+    via_only c.args.text.now c.in_ok-parts.parts c.in_ok-parts.params.now
+    (parsed (goal.at.returns-clause-read c).In_ok-parts) c.in_ok-host.host c.in_ok-host.ensures via is
 
 pub returns-in_err-check_via_params-clause-protocol : goal.returns-in_err-check_via_params-clause-protocol
 returns-in_err-check_via_params-clause-protocol c =
     let e = err_from_is_err_and c.from_residual-in_err-check_via_params.result c.from_residual-in_err-check_via_params.ensures.1 in
     let read = parsed (goal.at.returns-in_err-check_via_params-clause-protocol c).In_ok-parts in (
-      λ bad. absurd (handed_on IsLater c.from_residual-in_err-check_via_params.result e.0 c.in_err-check_via_params.field-0.0 BadVia e.1 e.2 (param_later c.in_err-check_via_params.field-0.0 c.in_err-check_via_params.ensures.fault) (λ no. no) bad),
+      λ bad. absurd
+          (handed_on IsLater c.from_residual-in_err-check_via_params.result e.0 c.in_err-check_via_params.field-0.0 BadVia e.1 e.2
+          (param_later c.in_err-check_via_params.field-0.0 c.in_err-check_via_params.ensures.fault) (λ no. no) bad),
       λ none. absurd (none.1 (protocol_there c.args.text.now (via_of c.in_ok-parts.parts) c.in_ok-parts.params.now read)),
     )
 
@@ -73,7 +91,9 @@ pub returns-in_err-host-clause-protocol : goal.returns-in_err-host-clause-protoc
 returns-in_err-host-clause-protocol c =
     let e = err_from_is_err_and c.from_residual-in_err-host.result c.from_residual-in_err-host.ensures.1 in
     let read = parsed (goal.at.returns-in_err-host-clause-protocol c).In_ok-parts in (
-      λ bad. absurd (handed_on (λ (fault : UriRefusal). fault ≡ Memory) c.from_residual-in_err-host.result e.0 c.in_err-host.field-0.0 BadVia e.1 e.2 c.in_err-host.ensures.0 (λ no. cc) bad),
+      λ bad. absurd
+          (handed_on (λ (fault : UriRefusal). fault
+          ≡ Memory) c.from_residual-in_err-host.result e.0 c.in_err-host.field-0.0 BadVia e.1 e.2 c.in_err-host.ensures.0 (λ no. cc) bad),
       λ none. absurd (none.1 (protocol_there c.args.text.now (via_of c.in_ok-parts.parts) c.in_ok-parts.params.now read)),
     )
 
