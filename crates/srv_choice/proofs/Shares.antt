@@ -19,7 +19,8 @@ range_split a b (suc m) n is =
     let e : suc m + n ≡ suc (m + n) = omega arith in
     ap (range_with_len a) e ∙ ap (λ xs. a ∷ xs) (range_split (a + 1) b m n (omega arith))
 
-count_constant : (p : ℕ → Bool) (b : Bool) (a n : ℕ) → ((k : ℕ) → a ≤ k → k < a + n → p k ≡ b) → count_by p (range_with_len a n) ≡ cond b n 0
+count_constant : (p : ℕ → Bool) (b : Bool) (a n : ℕ) → ((k : ℕ) → a ≤ k → k < a + n → p k ≡ b)
+    → count_by p (range_with_len a n) ≡ cond b n 0
 count_constant p true a zero each = refl
 count_constant p false a zero each = refl
 count_constant p true a (suc n) each =
@@ -29,7 +30,8 @@ count_constant p false a (suc n) each =
     let later = count_constant p false (a + 1) n (λ k low high. each k (omega arith) (omega arith)) in
     sum_by-cons (λ x. cond (p x) 1 0) a (range_with_len (a + 1) n) ∙ rw (each a (omega arith) (omega arith)) (omega (arith, later))
 
-count_agree : (p q : ℕ → Bool) (a n : ℕ) → ((k : ℕ) → a ≤ k → k < a + n → p k ≡ q k) → count_by p (range_with_len a n) ≡ count_by q (range_with_len a n)
+count_agree : (p q : ℕ → Bool) (a n : ℕ) → ((k : ℕ) → a ≤ k → k < a + n → p k ≡ q k)
+    → count_by p (range_with_len a n) ≡ count_by q (range_with_len a n)
 count_agree p q a zero each = refl
 count_agree p q a (suc n) each =
     let later = count_agree p q (a + 1) n (λ k low high. each k (omega arith) (omega arith)) in
@@ -58,7 +60,9 @@ module _ (records : List SrvRecord) where
   -- the same test where the weights in front are already this much
   abbrev picked_from : ℕ → List ℕ → ℕ → ℕ → Bool
   picked_from sum places place number =
-      option_map_or (λ picked. picked == place) (option_map (λ entry. entry.0) (find (λ entry. nat_le number entry.1) (spec.running_sums records sum places))) false
+      option_map_or
+      (λ picked. picked == place)
+      (option_map (λ entry. entry.0) (find (λ entry. nat_le number entry.1) (spec.running_sums records sum places))) false
 
   reached : (sum x : ℕ) (xs : List ℕ) (place k : ℕ) → k ≤ sum + spec.weight_at records x → picked_from sum (x ∷ xs) place k ≡ (x == place)
   reached sum x xs place k low = rw (le-leb k (sum + spec.weight_at records x) low) refl
@@ -76,7 +80,8 @@ module _ (records : List SrvRecord) where
     where
       step : (b : Bool) → picked_from (sum + spec.weight_at records x) xs place k ≡ false
           → option_map_or (λ picked. picked == place) (option_map (λ entry. entry.0)
-          (cond b (Some (x, sum + spec.weight_at records x)) (find (λ entry. nat_le k entry.1) (spec.running_sums records (sum + spec.weight_at records x) xs)))) false ≡ false
+          (cond b (Some (x, sum + spec.weight_at records x))
+          (find (λ entry. nat_le k entry.1) (spec.running_sums records (sum + spec.weight_at records x) xs)))) false ≡ false
       step true later = ne_eqb x place (λ is. none (inl is))
       step false later = later
 
@@ -86,24 +91,33 @@ module _ (records : List SrvRecord) where
   share_from sum start (x ∷ xs) place at apart m =
       rw (sum_by-cons (spec.weight_at records) x xs)
       (rw (range_split start (start + spec.weight_at records x) (spec.weight_at records x) (spec.weight_sum records xs) refl)
-      (sum_by-append _ (range_with_len start (spec.weight_at records x)) (range_with_len (start + spec.weight_at records x) (spec.weight_sum records xs))
-      ∙ step (λ later. share_from (sum + spec.weight_at records x) (start + spec.weight_at records x) xs place (omega arith) apart.1 later) m))
+      (sum_by-append _ (range_with_len start (spec.weight_at records x))
+      (range_with_len (start + spec.weight_at records x) (spec.weight_sum records xs))
+      ∙ step (λ later. share_from (sum + spec.weight_at records x) (start + spec.weight_at records x) xs place
+      (omega arith) apart.1 later) m))
     where
-      own : (b : Bool) → (x == place) ≡ b → count_by (picked_from sum (x ∷ xs) place) (range_with_len start (spec.weight_at records x)) ≡ cond b (spec.weight_at records x) 0
-      own b is = count_constant (picked_from sum (x ∷ xs) place) b start (spec.weight_at records x) (λ k low high. reached sum x xs place k (omega arith) ∙ is)
+      own : (b : Bool) → (x == place) ≡ b
+          → count_by (picked_from sum (x ∷ xs) place) (range_with_len start (spec.weight_at records x))
+          ≡ cond b (spec.weight_at records x) 0
+      own b is = count_constant (picked_from sum (x ∷ xs) place) b start (spec.weight_at records x)
+          (λ k low high. reached sum x xs place k (omega arith) ∙ is)
 
       others : count_by (picked_from sum (x ∷ xs) place) (range_with_len (start + spec.weight_at records x) (spec.weight_sum records xs))
-          ≡ count_by (picked_from (sum + spec.weight_at records x) xs place) (range_with_len (start + spec.weight_at records x) (spec.weight_sum records xs))
-      others = count_agree _ _ (start + spec.weight_at records x) (spec.weight_sum records xs) (λ k low high. passed sum x xs place k (omega arith))
+          ≡ count_by (picked_from (sum + spec.weight_at records x) xs place)
+          (range_with_len (start + spec.weight_at records x) (spec.weight_sum records xs))
+      others = count_agree _ _ (start + spec.weight_at records x) (spec.weight_sum records xs)
+          (λ k low high. passed sum x xs place k (omega arith))
 
       step : (Member place xs → count_by (picked_from (sum + spec.weight_at records x) xs place)
           (range_with_len (start + spec.weight_at records x) (spec.weight_sum records xs)) ≡ spec.weight_at records place)
           → Member place (x ∷ xs)
           → count_by (picked_from sum (x ∷ xs) place) (range_with_len start (spec.weight_at records x))
-          + count_by (picked_from sum (x ∷ xs) place) (range_with_len (start + spec.weight_at records x) (spec.weight_sum records xs)) ≡ spec.weight_at records place
+          + count_by (picked_from sum (x ∷ xs) place) (range_with_len (start + spec.weight_at records x) (spec.weight_sum records xs))
+          ≡ spec.weight_at records place
       step others_share (inl is) =
           let a = own true (eq-eqb x place is) in
-          let none = count_constant (picked_from (sum + spec.weight_at records x) xs place) false (start + spec.weight_at records x) (spec.weight_sum records xs)
+          let none = count_constant (picked_from (sum + spec.weight_at records x) xs place) false (start + spec.weight_at records x)
+          (spec.weight_sum records xs)
           (λ k low high. absent (sum + spec.weight_at records x) xs place k (subst (λ z. Member z xs → ⊥) is apart.0)) in
           let same : spec.weight_at records x ≡ spec.weight_at records place = ap (spec.weight_at records) is in
           omega (arith, a, others, none, same)
@@ -120,7 +134,9 @@ module _ (records : List SrvRecord) where
       let none : is_picked records (first ∷ others) place 0 ≡ (first == place) = reached 0 first others place 0 (omega arith) in
       rw more
       (sum_by-cons (λ k. cond (is_picked records (first ∷ others) place k) 1 0) 0 (range_with_len (0 + 1) total)
-      ∙ rw none (ap (λ n. cond (first == place) 1 0 + n) (share_from 0 (0 + 1) (first ∷ others) place refl (Apart-IsDistinct (first ∷ others) distinct) m)))
+      ∙ rw none (ap
+      (λ n. cond (first == place) 1 0 + n)
+      (share_from 0 (0 + 1) (first ∷ others) place refl (Apart-IsDistinct (first ∷ others) distinct) m)))
 
   pub first_share : (first : ℕ) (others : List ℕ) → IsDistinct nat_eq (first ∷ others)
       → chances records (first ∷ others) first ≡ spec.weight_at records first + 1
@@ -131,5 +147,6 @@ module _ (records : List SrvRecord) where
       → chances records (first ∷ others) place ≡ spec.weight_at records place
   other_share first others place distinct at =
       let m = Member-Contains place others at in
-      let other : (first == place) ≡ false = ne_eqb first place (differs first place others (IsDistinct-head nat_eq first others distinct) m) in
+      let other : (first == place) ≡ false =
+      ne_eqb first place (differs first place others (IsDistinct-head nat_eq first others distinct) m) in
       shares first others place distinct (inr m) ∙ rw other (omega arith)

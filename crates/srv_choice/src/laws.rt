@@ -1,4 +1,4 @@
-//! Laws of the order. A call of one does nothing: its contract tells its caller the law.
+//! Laws of the order. A call of one does nothing; its contract states the law.
 ghost use Rattle.std.specs.Prelude.{◌≡◌, ◌+◌, ◌<◌, ◌∷◌, ℕ, List, All, Contains, IsPermutation};
 ghost use Rattle.std.specs.Prelude.{length, nat_eq};
 ghost use Rattle.std.specs.List.{IsDistinct, range_with_len};
@@ -38,8 +38,9 @@ pub fn order_is_by_priority()
         → next ≡ from + length records }
 {}
 
-/// Places are arranged each once. Of the numbers from 0 to the sum of the weights of an arrangement,
-/// as many pick a place as its weight says, and one more the first (RFC 2782, "Weight").
+/// Places are arranged each once. Of the numbers from 0 to the sum of the weights of an
+/// arrangement, as many pick a place as its weight says, and one more the first (RFC 2782,
+/// "Weight").
 pub fn weights_are_shares()
     ensures arranged { (records : List srv.SrvRecord) (places : List ℕ)
         → IsPermutation places (arrangement records places) }

@@ -13,7 +13,8 @@ returns-clause-by_priority c = λ records words from places next is. (listed_ord
 
 pub returns-clause-within : goal.returns-clause-within
 returns-clause-within c = λ records words from places next is.
-    All-permutation (λ place. place < length records) _ _ (listed_order records words from places next is).complete (All-range (length records))
+    All-permutation
+    (λ place. place < length records) _ _ (listed_order records words from places next is).complete (All-range (length records))
 
 pub returns-clause-count : goal.returns-clause-count
 returns-clause-count c = λ records words from places next is.
