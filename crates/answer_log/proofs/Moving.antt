@@ -14,13 +14,18 @@ use Rattle.answer_log.specs.Counts.{count, Counts}
 use Rattle.answer_log.specs.Histories.{IsFull, IsHistory, IsSound}
 use Rattle.answer_log.specs.Logs.{seat_of, seats_in, history, top, Linked, In}
 use Rattle.answer_log.specs.Rules.{IsKept, node_at}
-use Rattle.answer_log.specs.Steps.{IsPlaced, Looks, Follows, Claims, Tries}
+use Rattle.answer_log.specs.Steps.{Looks, Follows, Claims, Tries}
 use Rattle.answer_log.proofs.Counting.{counts_keep, counts_add, kept_answer, more_answer}
 use Rattle.answer_log.proofs.Growing.{history-more}
 use Rattle.answer_log.proofs.Logs.{unplaced-of, once-named, once-placed, same-top, in-linked, history-append}
 use Rattle.answer_log.proofs.Logs.{seats-append, seat-append, seat-prefix, top-append, linked-right, linked-append, linked-map, in-left}
 use Rattle.answer_log.proofs.Logs.{in-cases}
 use Rattle.answer_log.proofs.Cells.{cell-adds, home-in, same-cell, idle, keep-else, keeps-low, apart, keeps-out, keeps-trans, keeps-adds}
+
+-- the link is that of a placed node
+abbrev pub IsPlaced : List Event → ℕ → Type 0
+IsPlaced log link = (before : List Event) × (after : List Event) × (node : ℕ) × (store : Store)
+    × (log ≡ before ++ Placed node store link ∷ after)
 
 abbrev pub shown : List Event → List Event
 shown log = log

@@ -24,11 +24,6 @@ store_by seat question answer moment =
 abbrev pub store_of : Draft → Store
 store_of draft = store_by draft.seat draft.question.now (arc_value draft.answer.now) draft.moment
 
--- the link is that of a placed node
-abbrev pub IsPlaced : List Event → ℕ → Type 0
-IsPlaced log link = (before : List Event) × (after : List Event) × (node : ℕ) × (store : Store)
-    × (log ≡ before ++ Placed node store link ∷ after)
-
 -- the nodes of the seat stand at places below this one
 abbrev pub NamesBelow : ℕ → ℕ → List Event → Type 0
 NamesBelow seat place log =
