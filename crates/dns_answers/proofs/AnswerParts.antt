@@ -18,7 +18,8 @@ use Rattle.dns_answers.proofs.LeastLives.{least-le}
 
 module _ {X : Type 0} (data_in : Rdata → Option X) (name : List (List ℕ)) where
   -- a record with data for a name has data
-  counted_entry : (entry : Record) (others : List Record) (same : Bool) → same_name entry.owner name ≡ same → (has : Option X) → data_in entry.rdata ≡ has → has_data data_in name entry ≡ true
+  counted_entry : (entry : Record) (others : List Record) (same : Bool) → same_name entry.owner name ≡ same → (has : Option X)
+      → data_in entry.rdata ≡ has → has_data data_in name entry ≡ true
       → length (data_of data_in (entry ∷ others)) ≡ suc (length (data_of data_in others))
   counted_entry entry others true e (Some x) is has = rw is refl
   counted_entry entry others true e None is has =
@@ -31,19 +32,25 @@ module _ {X : Type 0} (data_in : Rdata → Option X) (name : List (List ℕ)) wh
   abbrev SameLength : List Record → Type 0
   SameLength entries = length (data_of data_in entries) ≡ length entries
 
-  taken : (limit : ℕ) (entry : Record) (rest : List Record) → SameLength (take limit rest) → SameLength (take (suc limit) rest) → (has : Bool) → has_data data_in name entry ≡ has → SameLength (take (suc limit) (cond has (entry ∷ rest) rest))
-  taken limit entry rest less more true has = counted_entry entry (take limit rest) (same_name entry.owner name) refl (data_in entry.rdata) refl has ∙ ap suc less
+  taken : (limit : ℕ) (entry : Record) (rest : List Record) → SameLength (take limit rest) → SameLength (take (suc limit) rest)
+      → (has : Bool) → has_data data_in name entry ≡ has → SameLength (take (suc limit) (cond has (entry ∷ rest) rest))
+  taken limit entry rest less more true has =
+      counted_entry entry (take limit rest) (same_name entry.owner name) refl (data_in entry.rdata) refl has ∙ ap suc less
   taken limit entry rest less more false has = more
 
   length_data : (section : List Record) (limit : ℕ) → SameLength (take limit (filter (has_data data_in name) section))
   length_data section zero = refl
   length_data [] (suc limit) = refl
-  length_data (entry ∷ others) (suc limit) = taken limit entry (filter (has_data data_in name) others) (length_data others limit) (length_data others (suc limit)) (has_data data_in name entry) refl
+  length_data (entry ∷ others) (suc limit) =
+      taken limit entry (filter (has_data data_in name) others) (length_data others limit) (length_data others (suc limit))
+      (has_data data_in name entry) refl
 
-few_with : {X : Type 0} (data_in : Rdata → Option X) (name : List (List ℕ)) (section : List Record) → length (kept_with data_in name section) ≤ 32
+few_with : {X : Type 0} (data_in : Rdata → Option X) (name : List (List ℕ)) (section : List Record)
+    → length (kept_with data_in name section) ≤ 32
 few_with data_in name section = omega (arith, length-take 32 (filter (has_data data_in name) section))
 
-pub count_is : (kind : Kind) (name : List (List ℕ)) (section : List Record) → count_of (records_of kind (kept kind name section)) ≡ length (kept kind name section)
+pub count_is : (kind : Kind) (name : List (List ℕ)) (section : List Record)
+    → count_of (records_of kind (kept kind name section)) ≡ length (kept kind name section)
 count_is A name section = length_data _ name section 32
 count_is Aaaa name section = length_data _ name section 32
 count_is Srv name section = length_data _ name section 32
@@ -61,20 +68,26 @@ kind_is Aaaa entries = refl
 kind_is Srv entries = refl
 kind_is Naptr entries = refl
 
-life_absent : (message : Message) (found : Option Chain) (entries : List Record) → length entries ≡ 0 → life_of message found entries ≡ absent_life message found
+life_absent : (message : Message) (found : Option Chain) (entries : List Record) → length entries ≡ 0
+    → life_of message found entries ≡ absent_life message found
 life_absent message found [] none = refl
 life_absent message found (first ∷ others) none = absurd (omega arith)
 
-module _ (question : Question) (message : Message) (links : List Record) (last : List (List ℕ)) (is : chain message.answers question.name ≡ Some (record { links = links; last = last })) where
+module _ (question : Question) (message : Message) (links : List Record) (last : List (List ℕ))
+    (is : chain message.answers question.name ≡ Some (record { links = links; last = last })) where
   abbrev entries : List Record
   entries = kept question.kind last message.answers
 
-  pub absent : (life : ℕ) → count_of (records_of question.kind entries) ≡ 0 → life ≡ absent_life message (chain message.answers question.name) → answer question message ≡ record { records = records_of question.kind entries; life = life }
+  pub absent : (life : ℕ) → count_of (records_of question.kind entries) ≡ 0
+      → life ≡ absent_life message (chain message.answers question.name)
+      → answer question message ≡ record { records = records_of question.kind entries; life = life }
   absent life none e =
-      let short = life_absent message (Some (record { links = links; last = last })) entries (sym (count_is question.kind last message.answers) ∙ none) in
+      let short = life_absent message (Some (record { links = links; last = last })) entries
+      (sym (count_is question.kind last message.answers) ∙ none) in
       rw (is, short, e) refl
 
-pub bounds : (kind : Kind) (name : List (List ℕ)) (section links : List Record) (limit life : ℕ) → limit ≡ least_from 2147483647 (ttls links) → life ≡ least_from limit (ttls (kept kind name section))
+pub bounds : (kind : Kind) (name : List (List ℕ)) (section links : List Record) (limit life : ℕ)
+    → limit ≡ least_from 2147483647 (ttls links) → life ≡ least_from limit (ttls (kept kind name section))
     → CanBeKept (records_of kind (kept kind name section)) life
 bounds kind name section links limit life limit_is life_is = record {
   few = omega (arith, count_is kind name section, few kind name section);
@@ -89,9 +102,11 @@ few_none Aaaa = omega arith
 few_none Srv = omega arith
 few_none Naptr = omega arith
 
-few_along : (question : Question) (message : Message) (found : Option Chain) → count_of (records_of question.kind (kept_along question message found)) ≤ 32
+few_along : (question : Question) (message : Message) (found : Option Chain)
+    → count_of (records_of question.kind (kept_along question message found)) ≤ 32
 few_along question message None = few_none question.kind
-few_along question message (Some found) = omega (arith, count_is question.kind found.last message.answers, few question.kind found.last message.answers)
+few_along question message (Some found) =
+    omega (arith, count_is question.kind found.last message.answers, few question.kind found.last message.answers)
 
 pub answer-few : (question : Question) (message : Message) → count_of (answer question message).records ≤ 32
 answer-few question message = few_along question message (chain message.answers question.name)

@@ -8,13 +8,18 @@ use Rattle.dns_answers.proofs.Names.{SameNames}
 use Rattle.dns_answers.proofs.FirstAliases.{is_first, first_is, no_first, first_none}
 
 module _ (same : SameNames) (section : List Record) where
-  follows_where_leads : (name : List (List ℕ)) (links : List Record) (last : List (List ℕ)) → Leads section name links last → Follows section name links last
+  follows_where_leads : (name : List (List ℕ)) (links : List Record) (last : List (List ℕ)) → Leads section name links last
+      → Follows section name links last
   follows_where_leads name [] last is = stays is
-  follows_where_leads name (entry ∷ others) last lead = leads lead.0 (is_first same name section (record { entry = entry; target = lead.0 }) lead.1) (follows_where_leads lead.0 others last lead.2)
+  follows_where_leads name (entry ∷ others) last lead =
+      leads lead.0 (is_first same name section (record { entry = entry; target = lead.0 }) lead.1)
+      (follows_where_leads lead.0 others last lead.2)
 
-  leads_where_follows : (name : List (List ℕ)) (links : List Record) (last : List (List ℕ)) → Follows section name links last → Leads section name links last
+  leads_where_follows : (name : List (List ℕ)) (links : List Record) (last : List (List ℕ)) → Follows section name links last
+      → Leads section name links last
   leads_where_follows name [] last (stays is) = is
-  leads_where_follows name (entry ∷ others) last (leads target first rest) = (target, first_is same name section entry target first, leads_where_follows target others last rest)
+  leads_where_follows name (entry ∷ others) last (leads target first rest) =
+      (target, first_is same name section entry target first, leads_where_follows target others last rest)
 
   -- ---- a chain that is found
 
@@ -23,16 +28,19 @@ module _ (same : SameNames) (section : List Record) where
     none : first_alias found.last section ≡ None
     few : length found.links ≤ limit
 
-  found_here : (limit : ℕ) (name : List (List ℕ)) (found : Chain) → first_alias name section ≡ None → Some (ends_at name) ≡ Some found → Found limit name found
+  found_here : (limit : ℕ) (name : List (List ℕ)) (found : Chain) → first_alias name section ≡ None → Some (ends_at name) ≡ Some found
+      → Found limit name found
   found_here limit name found none some =
       let is : ends_at name ≡ found = cc in
       rw (← is) (record { lead = refl; none = none; few = omega arith })
 
-  found_zero : (name : List (List ℕ)) (found : Chain) (alias : Option Alias) → first_alias name section ≡ alias → option_map_or (λ (a : Alias). None) alias (Some (ends_at name)) ≡ Some found → Found 0 name found
+  found_zero : (name : List (List ℕ)) (found : Chain) (alias : Option Alias) → first_alias name section ≡ alias
+      → option_map_or (λ (a : Alias). None) alias (Some (ends_at name)) ≡ Some found → Found 0 name found
   found_zero name found None none is = found_here 0 name found none is
   found_zero name found (Some alias) some is = absurd cc
 
-  found_behind : (limit : ℕ) (name : List (List ℕ)) (found : Chain) (alias : Alias) (rest : Option Chain) → first_alias name section ≡ Some alias → ((c : Chain) → rest ≡ Some c → Found limit alias.target c)
+  found_behind : (limit : ℕ) (name : List (List ℕ)) (found : Chain) (alias : Alias) (rest : Option Chain)
+      → first_alias name section ≡ Some alias → ((c : Chain) → rest ≡ Some c → Found limit alias.target c)
       → option_map (behind alias.entry) rest ≡ Some found → Found (suc limit) name found
   found_behind limit name found alias None some each is = absurd cc
   found_behind limit name found alias (Some c) some each is =
@@ -42,9 +50,11 @@ module _ (same : SameNames) (section : List Record) where
 
   found_more : (limit : ℕ) (name : List (List ℕ)) (found : Chain) (alias : Option Alias) → first_alias name section ≡ alias
       → ((a : Alias) (c : Chain) → chain_within limit section a.target ≡ Some c → Found limit a.target c)
-      → option_map_or (λ (a : Alias). option_map (behind a.entry) (chain_within limit section a.target)) alias (Some (ends_at name)) ≡ Some found → Found (suc limit) name found
+      → option_map_or (λ (a : Alias). option_map (behind a.entry) (chain_within limit section a.target)) alias (Some (ends_at name))
+      ≡ Some found → Found (suc limit) name found
   found_more limit name found None none each is = found_here (suc limit) name found none is
-  found_more limit name found (Some alias) some each is = found_behind limit name found alias (chain_within limit section alias.target) some (each alias) is
+  found_more limit name found (Some alias) some each is =
+      found_behind limit name found alias (chain_within limit section alias.target) some (each alias) is
 
   found_is : (limit : ℕ) (name : List (List ℕ)) (found : Chain) → chain_within limit section name ≡ Some found → Found limit name found
   unfolding chain_within
@@ -59,21 +69,27 @@ module _ (same : SameNames) (section : List Record) where
     lead : Leads section name links last
     many : length links ≡ suc limit
 
-  long_zero : (name : List (List ℕ)) (alias : Option Alias) → first_alias name section ≡ alias → option_map_or (λ (a : Alias). None) alias (Some (ends_at name)) ≡ None → TooLong 0 name
+  long_zero : (name : List (List ℕ)) (alias : Option Alias) → first_alias name section ≡ alias
+      → option_map_or (λ (a : Alias). None) alias (Some (ends_at name)) ≡ None → TooLong 0 name
   long_zero name None none is = absurd cc
-  long_zero name (Some alias) some is = record { links = alias.entry ∷ []; last = alias.target; lead = (alias.target, some, refl); many = refl }
+  long_zero name (Some alias) some is =
+      record { links = alias.entry ∷ []; last = alias.target; lead = (alias.target, some, refl); many = refl }
 
-  long_behind : (limit : ℕ) (name : List (List ℕ)) (alias : Alias) (rest : Option Chain) → first_alias name section ≡ Some alias → (rest ≡ None → TooLong limit alias.target)
+  long_behind : (limit : ℕ) (name : List (List ℕ)) (alias : Alias) (rest : Option Chain) → first_alias name section ≡ Some alias
+      → (rest ≡ None → TooLong limit alias.target)
       → option_map (behind alias.entry) rest ≡ None → TooLong (suc limit) name
   long_behind limit name alias None some each is =
       let there = each refl in
       record { links = alias.entry ∷ there.links; last = there.last; lead = (alias.target, some, there.lead); many = ap suc there.many }
   long_behind limit name alias (Some c) some each is = absurd cc
 
-  long_more : (limit : ℕ) (name : List (List ℕ)) (alias : Option Alias) → first_alias name section ≡ alias → ((a : Alias) → chain_within limit section a.target ≡ None → TooLong limit a.target)
-      → option_map_or (λ (a : Alias). option_map (behind a.entry) (chain_within limit section a.target)) alias (Some (ends_at name)) ≡ None → TooLong (suc limit) name
+  long_more : (limit : ℕ) (name : List (List ℕ)) (alias : Option Alias) → first_alias name section ≡ alias
+      → ((a : Alias) → chain_within limit section a.target ≡ None → TooLong limit a.target)
+      → option_map_or (λ (a : Alias). option_map (behind a.entry) (chain_within limit section a.target)) alias (Some (ends_at name)) ≡ None
+      → TooLong (suc limit) name
   long_more limit name None none each is = absurd cc
-  long_more limit name (Some alias) some each is = long_behind limit name alias (chain_within limit section alias.target) some (each alias) is
+  long_more limit name (Some alias) some each is =
+      long_behind limit name alias (chain_within limit section alias.target) some (each alias) is
 
   long_is : (limit : ℕ) (name : List (List ℕ)) → chain_within limit section name ≡ None → TooLong limit name
   unfolding chain_within
@@ -85,10 +101,17 @@ module _ (same : SameNames) (section : List Record) where
   pub chain_is : (name : List (List ℕ)) (found : Chain) → chain section name ≡ Some found → IsChain section name found
   chain_is name found is =
       let f = found_is 8 name found is in
-      record { follows = follows_where_leads name found.links found.last f.lead; ends = no_first same found.last section f.none; short = f.few }
+      record {
+        follows = follows_where_leads name found.links found.last f.lead;
+        ends = no_first same found.last section f.none;
+        short =
+            f.few;
+      }
 
   pub is_chain : (name : List (List ℕ)) (found : Chain) → IsChain section name found → chain section name ≡ Some found
-  is_chain name found is = chain_ends section 8 name found.links found.last (leads_where_follows name found.links found.last is.follows) (first_none same found.last section is.ends) is.short
+  is_chain name found is =
+      chain_ends section 8 name found.links found.last (leads_where_follows name found.links found.last is.follows)
+      (first_none same found.last section is.ends) is.short
 
   pub too_long_is : (name : List (List ℕ)) → chain section name ≡ None → IsTooLong section name
   too_long_is name is =

@@ -20,7 +20,8 @@ canonical_is (Other other) target e = absurd cc
 
 module _ (same : SameNames) where
   -- a record is an alias of a name exactly where it is a CNAME of that name
-  alias_by : (name : List (List ℕ)) (entry : Record) (alias : Alias) (test : Bool) → same_name entry.owner name ≡ test → (target : Option (List (List ℕ))) → canonical_in entry.rdata ≡ target → alias_of name entry ≡ Some alias
+  alias_by : (name : List (List ℕ)) (entry : Record) (alias : Alias) (test : Bool) → same_name entry.owner name ≡ test
+      → (target : Option (List (List ℕ))) → canonical_in entry.rdata ≡ target → alias_of name entry ≡ Some alias
       → (alias.entry ≡ entry) × (entry.owner ≡ name) × (entry.rdata ≡ Cname alias.target)
   alias_by name entry alias true e (Some target) is some =
       let this : Some (record { entry = entry; target = target }) ≡ Some alias = rw (e, is) at some in
@@ -34,7 +35,8 @@ module _ (same : SameNames) where
       let this : None ≡ Some alias = rw e at some in
       absurd cc
 
-  is_alias : (name : List (List ℕ)) (entry : Record) (target : List (List ℕ)) → entry.owner ≡ name → entry.rdata ≡ Cname target → alias_of name entry ≡ Some (record { entry = entry; target = target })
+  is_alias : (name : List (List ℕ)) (entry : Record) (target : List (List ℕ)) → entry.owner ≡ name → entry.rdata ≡ Cname target
+      → alias_of name entry ≡ Some (record { entry = entry; target = target })
   is_alias name entry target owner rdata = let is = (same entry.owner name).1 owner in rw (is, rdata) refl
 
   no_alias : (name : List (List ℕ)) (entry : Record) → alias_of name entry ≡ None → IsNoAlias name entry
@@ -42,20 +44,31 @@ module _ (same : SameNames) where
       let some = is_alias name entry target owner rdata in
       absurd cc
 
-  alias_none : (name : List (List ℕ)) (entry : Record) → IsNoAlias name entry → (alias : Option Alias) → alias_of name entry ≡ alias → alias_of name entry ≡ None
+  alias_none : (name : List (List ℕ)) (entry : Record) → IsNoAlias name entry → (alias : Option Alias) → alias_of name entry ≡ alias
+      → alias_of name entry ≡ None
   alias_none name entry never None e = e
   alias_none name entry never (Some alias) e =
       let is = alias_by name entry alias (same_name entry.owner name) refl (canonical_in entry.rdata) refl e in
       absurd (never alias.target is.1 is.2)
 
   module _ (name : List (List ℕ)) where
-    first_by : (entry : Record) (others : List Record) (alias : Option Alias) → alias_of name entry ≡ alias → (found : Alias) → first_alias name (entry ∷ others) ≡ Some found
-        → (first_alias name others ≡ Some found → IsFirstAlias others name found.entry found.target) → IsFirstAlias (entry ∷ others) name found.entry found.target
+    first_by : (entry : Record) (others : List Record) (alias : Option Alias) → alias_of name entry ≡ alias → (found : Alias)
+        → first_alias name (entry ∷ others) ≡ Some found
+        → (first_alias name others ≡ Some found → IsFirstAlias others name found.entry found.target)
+        → IsFirstAlias (entry ∷ others) name found.entry found.target
     first_by entry others (Some alias) e found some rest =
         let this : Some alias ≡ Some found = rw e at some in
         let found_here : alias_of name entry ≡ Some found = e ∙ this in
         let is = alias_by name entry found (same_name entry.owner name) refl (canonical_in entry.rdata) refl found_here in
-        record { front = []; back = others; stands = ap (λ (r : Record). r ∷ others) (sym is.0); owner = rw is.0 is.1; alias = rw is.0 is.2; first = All-nil (IsNoAlias name) }
+        record {
+          front = [];
+          back = others;
+          stands = ap (λ (r : Record). r ∷ others) (sym is.0);
+          owner = rw is.0 is.1;
+          alias =
+              rw is.0 is.2;
+          first = All-nil (IsNoAlias name);
+        }
     first_by entry others None e found some rest =
         let there = rest (rw e at some) in
         record {
@@ -67,20 +80,26 @@ module _ (same : SameNames) where
           first = All-cons (IsNoAlias name) entry there.front (no_alias name entry e) there.first;
         }
 
-    pub is_first : (section : List Record) (found : Alias) → first_alias name section ≡ Some found → IsFirstAlias section name found.entry found.target
+    pub is_first : (section : List Record) (found : Alias) → first_alias name section ≡ Some found
+        → IsFirstAlias section name found.entry found.target
     is_first [] found some = absurd cc
     is_first (entry ∷ others) found some = first_by entry others (alias_of name entry) refl found some (is_first others found)
 
-    behind_front : (front back : List Record) (entry : Record) (target : List (List ℕ)) → entry.owner ≡ name → entry.rdata ≡ Cname target → All (IsNoAlias name) front
+    behind_front : (front back : List Record) (entry : Record) (target : List (List ℕ)) → entry.owner ≡ name → entry.rdata ≡ Cname target
+        → All (IsNoAlias name) front
         → first_alias name (front ++ entry ∷ back) ≡ Some (record { entry = entry; target = target })
     behind_front [] back entry target owner rdata none = rw (is_alias name entry target owner rdata) refl
     behind_front (other ∷ front) back entry target owner rdata none =
-        rw (alias_none name other (All-head (IsNoAlias name) other front none) (alias_of name other) refl) (behind_front front back entry target owner rdata (All-tail (IsNoAlias name) other front none))
+        rw (alias_none name other (All-head (IsNoAlias name) other front none) (alias_of name other) refl)
+        (behind_front front back entry target owner rdata (All-tail (IsNoAlias name) other front none))
 
-    pub first_is : (section : List Record) (entry : Record) (target : List (List ℕ)) → IsFirstAlias section name entry target → first_alias name section ≡ Some (record { entry = entry; target = target })
+    pub first_is : (section : List Record) (entry : Record) (target : List (List ℕ)) → IsFirstAlias section name entry target
+        → first_alias name section ≡ Some (record { entry = entry; target = target })
     first_is section entry target is = rw is.stands (behind_front is.front is.back entry target is.owner is.alias is.first)
 
-    none_by : (entry : Record) (others : List Record) (alias : Option Alias) → alias_of name entry ≡ alias → first_alias name (entry ∷ others) ≡ None → (first_alias name others ≡ None → All (IsNoAlias name) others) → All (IsNoAlias name) (entry ∷ others)
+    none_by : (entry : Record) (others : List Record) (alias : Option Alias) → alias_of name entry ≡ alias
+        → first_alias name (entry ∷ others) ≡ None → (first_alias name others ≡ None → All (IsNoAlias name) others)
+        → All (IsNoAlias name) (entry ∷ others)
     none_by entry others (Some alias) e none rest =
         let no : Some alias ≡ None = rw e at none in
         absurd cc
@@ -92,4 +111,6 @@ module _ (same : SameNames) where
 
     pub first_none : (section : List Record) → All (IsNoAlias name) section → first_alias name section ≡ None
     first_none [] none = refl
-    first_none (entry ∷ others) none = rw (alias_none name entry (All-head (IsNoAlias name) entry others none) (alias_of name entry) refl) (first_none others (All-tail (IsNoAlias name) entry others none))
+    first_none (entry ∷ others) none =
+        rw (alias_none name entry (All-head (IsNoAlias name) entry others none) (alias_of name entry) refl)
+        (first_none others (All-tail (IsNoAlias name) entry others none))

@@ -12,7 +12,8 @@ use Rattle.dns_answers.specs.Lives.{lasting, least_from, ttls}
 use Rattle.dns_answers.proofs.LeastLives.{least_push}
 
 -- what a record has for a name is what it has
-data_is : {X : Type 0} (data_in : Rdata → Option X) (name : List (List ℕ)) (entry : Record) (x : X) (same : Bool) → same_name entry.owner name ≡ same → data_for data_in name entry ≡ Some x → data_in entry.rdata ≡ Some x
+data_is : {X : Type 0} (data_in : Rdata → Option X) (name : List (List ℕ)) (entry : Record) (x : X) (same : Bool)
+    → same_name entry.owner name ≡ same → data_for data_in name entry ≡ Some x → data_in entry.rdata ≡ Some x
 data_is data_in name entry x true e is = rw e at is
 data_is data_in name entry x false e is =
     let none = rw e at is in
@@ -35,14 +36,16 @@ module _ {X : Type 0} (data_in : Rdata → Option X) (name : List (List ℕ)) (s
   module _ (count : ℕ) (items : List X) (life : ℕ) (so_far : Keeping count items life) where
     module _ (entry : Record) (within : count < length section) (is : entry ≡ get_or section count entry) where
       more : passed (count + 1) ≡ passed count ++ cond (has_data data_in name entry) (entry ∷ []) []
-      more = filter_more (has_data data_in name) section count entry within ∙ ap (λ (e : Record). passed count ++ cond (has_data data_in name e) (e ∷ []) []) (sym is)
+      more = filter_more (has_data data_in name) section count entry within ∙ ap
+          (λ (e : Record). passed count ++ cond (has_data data_in name e) (e ∷ []) []) (sym is)
 
       pub passes : None ≡ data_for data_in name entry → Keeping (count + 1) items life
       passes none =
           let same : passed (count + 1) ≡ passed count = rw (← none) at more ∙ append-nil (passed count) in
           record { few = so_far.few; all = rw same so_far.all; items_are = rw same so_far.items_are; life_is = rw same so_far.life_is }
 
-      pub keeps : (x : X) → Some x ≡ data_for data_in name entry → length items ≢ 32 → Keeping (count + 1) (items ++ x ∷ []) (min life (lasting entry.ttl))
+      pub keeps : (x : X) → Some x ≡ data_for data_in name entry → length items ≢ 32
+          → Keeping (count + 1) (items ++ x ∷ []) (min life (lasting entry.ttl))
       keeps x some not_full =
           let grown : passed (count + 1) ≡ passed count ++ entry ∷ [] = rw (← some) at more in
           let has : data_in entry.rdata ≡ Some x = data_is data_in name entry x (same_name entry.owner name) refl (sym some) in
@@ -50,25 +53,32 @@ module _ {X : Type 0} (data_in : Rdata → Option X) (name : List (List ℕ)) (s
           record {
             few = omega (arith, so_far.few, not_full, length_push items x);
             all = rw (grown, length_push (passed count) entry, length_push items x) (ap (λ (n : ℕ). n + 1) so_far.all);
-            items_are = rw (grown, filter_map-append (λ (e : Record). data_in e.rdata) (passed count) (entry ∷ []), last) (ap (λ (l : List X). l ++ x ∷ []) so_far.items_are);
+            items_are = rw (grown, filter_map-append (λ (e : Record). data_in e.rdata) (passed count) (entry ∷ []), last)
+                (ap (λ (l : List X). l ++ x ∷ []) so_far.items_are);
             life_is = rw (grown, least_push limit (passed count) entry) (ap (λ (n : ℕ). min n (lasting entry.ttl)) so_far.life_is);
           }
 
-    kept_is : passed count ≡ kept_with data_in name section → (items ≡ data_of data_in (kept_with data_in name section)) × (life ≡ least_from limit (ttls (kept_with data_in name section)))
+    kept_is : passed count ≡ kept_with data_in name section → (items ≡ data_of data_in (kept_with data_in name section))
+        × (life ≡ least_from limit (ttls (kept_with data_in name section)))
     kept_is same = (rw same at so_far.items_are, rw same at so_far.life_is)
 
     split : filter (has_data data_in name) section ≡ passed count ++ filter (has_data data_in name) (drop count section)
-    split = ap (filter (has_data data_in name)) (sym (take-append-drop count section)) ∙ filter-append (has_data data_in name) (take count section) (drop count section)
+    split = ap (filter (has_data data_in name)) (sym (take-append-drop count section)) ∙ filter-append (has_data data_in name)
+        (take count section) (drop count section)
 
-    pub full : length items ≡ 32 → (items ≡ data_of data_in (kept_with data_in name section)) × (life ≡ least_from limit (ttls (kept_with data_in name section)))
+    pub full : length items ≡ 32 → (items ≡ data_of data_in (kept_with data_in name section))
+        × (life ≡ least_from limit (ttls (kept_with data_in name section)))
     full long =
         let size : length (passed count) ≡ 32 = sym so_far.all ∙ long in
         let front : take 32 (passed count ++ filter (has_data data_in name) (drop count section)) ≡ passed count =
-        take-append-le 32 (passed count) (filter (has_data data_in name) (drop count section)) (omega arith) ∙ take_all 32 (passed count) (omega arith) in
+        take-append-le 32 (passed count) (filter (has_data data_in name) (drop count section)) (omega arith) ∙ take_all 32 (passed count)
+        (omega arith) in
         kept_is (sym (ap (take 32) split ∙ front))
 
-    pub over : length section ≤ count → (items ≡ data_of data_in (kept_with data_in name section)) × (life ≡ least_from limit (ttls (kept_with data_in name section)))
+    pub over : length section ≤ count → (items ≡ data_of data_in (kept_with data_in name section))
+        × (life ≡ least_from limit (ttls (kept_with data_in name section)))
     over all =
         let few : length (passed count) ≤ 32 = omega (arith, so_far.few, so_far.all) in
-        let whole : passed count ≡ filter (has_data data_in name) section = ap (filter (has_data data_in name)) (take_all count section all) in
+        let whole : passed count ≡ filter (has_data data_in name) section =
+        ap (filter (has_data data_in name)) (take_all count section all) in
         kept_is (sym (take_all 32 (passed count) few) ∙ ap (take 32) whole)

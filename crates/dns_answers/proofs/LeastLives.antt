@@ -12,13 +12,17 @@ use Rattle.dns_message.specs.declared.resource.Record.{Record}
 use Rattle.dns_answers.specs.Chains.{Chain}
 use Rattle.dns_answers.specs.Lives.{lasting, least_from, ttls, links_of, life_of, IsLeast}
 
-pub least_push : (limit : ℕ) (entries : List Record) (entry : Record) → least_from limit (ttls (entries ++ entry ∷ [])) ≡ min (least_from limit (ttls entries)) (lasting entry.ttl)
+pub least_push : (limit : ℕ) (entries : List Record) (entry : Record)
+    → least_from limit (ttls (entries ++ entry ∷ [])) ≡ min (least_from limit (ttls entries)) (lasting entry.ttl)
 least_push limit entries entry =
-    rw (map_push (λ (e : Record). e.ttl) entries entry, map_push lasting (ttls entries) entry.ttl) (fold_push min limit (map lasting (ttls entries)) (lasting entry.ttl))
+    rw (map_push (λ (e : Record). e.ttl) entries entry, map_push lasting (ttls entries) entry.ttl)
+    (fold_push min limit (map lasting (ttls entries)) (lasting entry.ttl))
 
-pub least-append : (limit : ℕ) (links entries : List Record) → least_from limit (ttls (links ++ entries)) ≡ least_from (least_from limit (ttls links)) (ttls entries)
+pub least-append : (limit : ℕ) (links entries : List Record)
+    → least_from limit (ttls (links ++ entries)) ≡ least_from (least_from limit (ttls links)) (ttls entries)
 least-append limit links entries =
-    rw (map-append (λ (e : Record). e.ttl) links entries, map-append lasting (ttls links) (ttls entries)) (fold-append min limit (map lasting (ttls links)) (map lasting (ttls entries)))
+    rw (map-append (λ (e : Record). e.ttl) links entries, map-append lasting (ttls links) (ttls entries))
+    (fold-append min limit (map lasting (ttls links)) (map lasting (ttls entries)))
 
 fold-le : (limit : ℕ) (numbers : List ℕ) → fold min limit numbers ≤ limit
 fold-le limit [] = omega arith
@@ -33,7 +37,8 @@ lasting-le : (ttl : ℕ) → lasting ttl ≤ 2147483647
 lasting-le ttl = grind (arith, nat_tests)
 
 -- what is among the rest and the less of two numbers is among both and the rest
-among_both : (number limit first : ℕ) (others : List ℕ) → Contains (min limit first ∷ others) number → Contains (limit ∷ first ∷ others) number
+among_both : (number limit first : ℕ) (others : List ℕ) → Contains (min limit first ∷ others) number
+    → Contains (limit ∷ first ∷ others) number
 among_both number limit first others (zero, within, is) =
     elim (cases_lt limit first) [
       | inl less ↦ (0, omega arith, omega (arith, is))
@@ -41,17 +46,24 @@ among_both number limit first others (zero, within, is) =
     ]
 among_both number limit first others (suc k, within, is) = (suc (suc k), omega arith, is)
 
-least_more : (number limit first : ℕ) (others : List ℕ) → IsLeast number (min limit first ∷ others) → IsLeast number (limit ∷ first ∷ others)
+least_more : (number limit first : ℕ) (others : List ℕ) → IsLeast number (min limit first ∷ others)
+    → IsLeast number (limit ∷ first ∷ others)
 least_more number limit first others is =
     let head : number ≤ min limit first = All-head (λ (other : ℕ). number ≤ other) (min limit first) others is.least in
     record {
       among = among_both number limit first others is.among;
       least = All-cons (λ (other : ℕ). number ≤ other) limit (first ∷ others) (omega arith)
-          (All-cons (λ (other : ℕ). number ≤ other) first others (omega arith) (All-tail (λ (other : ℕ). number ≤ other) (min limit first) others is.least));
+          (All-cons (λ (other : ℕ). number ≤ other) first others (omega arith)
+          (All-tail (λ (other : ℕ). number ≤ other) (min limit first) others is.least));
     }
 
 least_of : (limit : ℕ) (numbers : List ℕ) → IsLeast (fold min limit numbers) (limit ∷ numbers)
-least_of limit [] = record { among = (0, omega arith, refl); least = All-cons (λ (other : ℕ). limit ≤ other) limit [] (omega arith) (All-nil (λ (other : ℕ). limit ≤ other)) }
+least_of limit [] =
+    record {
+      among = (0, omega arith, refl);
+      least =
+          All-cons (λ (other : ℕ). limit ≤ other) limit [] (omega arith) (All-nil (λ (other : ℕ). limit ≤ other));
+    }
 least_of limit (number ∷ others) = least_more (fold min (min limit number) others) limit number others (least_of (min limit number) others)
 
 least_below : (limit number : ℕ) (others : List ℕ) → number ≤ limit → IsLeast (fold min (min limit number) others) (number ∷ others)
@@ -67,6 +79,7 @@ some_kept : (links others : List Record) (first : Record) → links ++ first ∷
 some_kept [] others first none = absurd cc
 some_kept (link ∷ links) others first none = absurd cc
 
-pub life_is_least : (message : Message) (chain : Option Chain) (kept : List Record) → (kept ≡ [] → ⊥) → IsLeast (life_of message chain kept) (map lasting (ttls (links_of chain ++ kept)))
+pub life_is_least : (message : Message) (chain : Option Chain) (kept : List Record) → (kept ≡ [] → ⊥)
+    → IsLeast (life_of message chain kept) (map lasting (ttls (links_of chain ++ kept)))
 life_is_least message chain [] some = absurd (some refl)
 life_is_least message chain (first ∷ others) some = least_is (links_of chain ++ first ∷ others) (some_kept (links_of chain) others first)

@@ -13,13 +13,15 @@ abbrev made : List (List ℕ) → ℕ → ℕ → Asked
 made name code class_code = record { name = name; code = code; class_code = class_code }
 
 module _ (same : SameNames) (question : Question) where
-  asked_by : (asked : Asked) (name code class : Bool) → same_name asked.name question.name ≡ name → (asked.code == kind_code question.kind) ≡ code → (asked.class_code == 1) ≡ class
+  asked_by : (asked : Asked) (name code class : Bool) → same_name asked.name question.name ≡ name
+      → (asked.code == kind_code question.kind) ≡ code → (asked.class_code == 1) ≡ class
       → is_asked question asked ≡ true → asked ≡ asked_of question
   asked_by asked true true true e0 e1 e2 is =
       let name_is : asked.name ≡ question.name = (same asked.name question.name).0 e0 in
       let code_is : asked.code ≡ kind_code question.kind = eqb-true asked.code (kind_code question.kind) e1 in
       let class_is : asked.class_code ≡ 1 = eqb-true asked.class_code 1 e2 in
-      let both : made asked.name asked.code asked.class_code ≡ made question.name (kind_code question.kind) 1 = rw (name_is, code_is, class_is) refl in
+      let both : made asked.name asked.code asked.class_code ≡ made question.name (kind_code question.kind) 1 =
+      rw (name_is, code_is, class_is) refl in
       both
   asked_by asked false code class e0 e1 e2 is =
       let no : false ≡ true = rw e0 at is in
@@ -33,7 +35,10 @@ module _ (same : SameNames) (question : Question) where
 
   pub repeated : (questions : List Asked) → asks_this_alone question questions ≡ true → questions ≡ asked_of question ∷ []
   repeated [] is = absurd cc
-  repeated (asked ∷ []) is = ap (λ (a : Asked). a ∷ []) (asked_by asked (same_name asked.name question.name) (asked.code == kind_code question.kind) (asked.class_code == 1) refl refl refl is)
+  repeated (asked ∷ []) is =
+      ap (λ (a : Asked). a ∷ [])
+      (asked_by asked (same_name asked.name question.name) (asked.code == kind_code question.kind)
+      (asked.class_code == 1) refl refl refl is)
   repeated (asked ∷ other ∷ more) is = absurd cc
 
   this_one : is_asked question (asked_of question) ≡ true

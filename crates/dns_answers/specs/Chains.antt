@@ -27,7 +27,9 @@ canonical_in _ = None
 abbrev pub alias_of : List (List ℕ) → Record → Option Alias
 alias_of name entry =
     if same_name entry.owner name
-    then option_map (λ (target : List (List ℕ)). record { entry = entry; target = target }) (canonical_in entry.rdata)
+    then option_map
+    (λ (target : List (List ℕ)). record { entry = entry; target = target })
+    (canonical_in entry.rdata)
     else None
 
 -- the first one in a section
@@ -47,7 +49,9 @@ unfoldable pub chain_within : ℕ → List Record → List (List ℕ) → Option
 chain_within zero section name =
     option_map_or (λ (alias : Alias). None) (first_alias name section) (Some (ends_at name))
 chain_within (suc more) section name =
-    option_map_or (λ (alias : Alias). option_map (behind alias.entry) (chain_within more section alias.target))
+    option_map_or
+    (λ (alias : Alias). option_map (behind alias.entry)
+    (chain_within more section alias.target))
     (first_alias name section) (Some (ends_at name))
 
 -- where it has at most eight
@@ -58,10 +62,12 @@ chain section name = chain_within 8 section name
 
 -- a record is no CNAME of this name
 abbrev pub IsNoAlias : List (List ℕ) → Record → Type 0
-IsNoAlias name entry = (target : List (List ℕ)) → entry.owner ≡ name → entry.rdata ≡ Cname target → ⊥
+IsNoAlias name entry = (target : List (List ℕ)) → entry.owner ≡ name → entry.rdata ≡ Cname target
+    → ⊥
 
 -- the first CNAME of this name in the section
-pub record IsFirstAlias (section : List Record) (name : List (List ℕ)) (entry : Record) (target : List (List ℕ)) : Type 0 where
+pub record IsFirstAlias (section : List Record) (name : List (List ℕ)) (entry : Record)
+    (target : List (List ℕ)) : Type 0 where
   pub front : List Record
   pub back : List Record
   pub stands : section ≡ front ++ entry ∷ back
@@ -70,10 +76,13 @@ pub record IsFirstAlias (section : List Record) (name : List (List ℕ)) (entry 
   pub first : All (IsNoAlias name) front
 
 -- from the first name these CNAME records lead to the other one, each the first of its owner
-pub data Follows (section : List Record) : List (List ℕ) → List Record → List (List ℕ) → Type 0 where
+pub data Follows (section : List Record) : List (List ℕ) → List Record → List (List ℕ)
+    → Type 0 where
   stays : {name last : List (List ℕ)} → last ≡ name → Follows section name [] last
-  leads : {name last : List (List ℕ)} {entry : Record} {others : List Record} (target : List (List ℕ))
-      → IsFirstAlias section name entry target → Follows section target others last → Follows section name (entry ∷ others) last
+  leads : {name last : List (List ℕ)} {entry : Record} {others : List Record}
+      (target : List (List ℕ))
+      → IsFirstAlias section name entry target → Follows section target others last
+      → Follows section name (entry ∷ others) last
 
 -- these at most eight lead from the name to one that has no CNAME
 pub record IsChain (section : List Record) (name : List (List ℕ)) (chain : Chain) : Type 0 where

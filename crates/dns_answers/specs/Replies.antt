@@ -10,7 +10,9 @@ use Rattle.dns_answers.specs.declared.refusal.ReplyRefusal.TheVariants.{NotReply
 
 -- the question of a message is this one, in class IN
 abbrev pub is_asked : Question → Asked → Bool
-is_asked question asked = same_name asked.name question.name && asked.code == kind_code question.kind && asked.class_code == 1
+is_asked question asked =
+    same_name asked.name question.name && asked.code == kind_code question.kind
+    && asked.class_code == 1
 
 abbrev pub asks_this_alone : Question → List Asked → Bool
 asks_this_alone question [] = false
@@ -23,4 +25,5 @@ reply_refusal question message =
     if not (message.header.reply && message.header.opcode == 0) then Some NotReply else
     (if not (asks_this_alone question message.questions) then Some OtherQuestion else
     (if message.header.truncated then Some Truncated else
-    (if message.header.rcode == 0 || message.header.rcode == 3 then None else Some (ServerFault message.header.rcode))))
+    (if message.header.rcode == 0 || message.header.rcode == 3 then None
+    else Some (ServerFault message.header.rcode))))

@@ -11,8 +11,8 @@ pub(crate) const RECORD_LIMIT: usize = 32;
 /// The longest life of an answer, in seconds (RFC 2181 8).
 pub(crate) const LIFE_LIMIT: u32 = 0x7fff_ffff;
 
-/// The answer to a question: at most 32 records, and for how many seconds they may be kept, fewer than 2^31. Without
-/// records it says that there are none.
+/// The answer to a question: at most 32 records, and for how many seconds they may be kept, fewer
+/// than 2^31. Without records it says that there are none.
 #[derive(Debug, Drop)]
 pub struct Answer {
     records: Records,
@@ -31,7 +31,8 @@ impl Model for Answer {
 }
 
 impl Answer {
-    /// The answer with these records and this life, unless there are more than 32 or it is 2^31 seconds or more.
+    /// The answer with these records and this life, unless there are more than 32 or it is 2^31
+    /// seconds or more.
     pub fn new(records: Records, life: u32) -> Option<Answer>
         ensures made { IsSome result ↔ ((count_of records ≤ 32) × (life < 2 ^ 31)) }
         ensures is { IfSome result (λ answer. answer ≡ record { records = records; life = life }) }

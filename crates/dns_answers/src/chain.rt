@@ -28,7 +28,8 @@ pub(crate) struct ChainEnd<'a> {
     pub(crate) life: u32,
 }
 
-/// For how long a record of this TTL may be kept: not at all where its highest bit is set (RFC 2181 8).
+/// For how long a record of this TTL may be kept: not at all where its highest bit is set (RFC 2181
+/// 8).
 fn lasting(ttl: u32) -> u32
     ensures { result ≡ lives.lasting ttl }
 {

@@ -96,8 +96,8 @@ fn data_for<'a, T: Wanted>(name: &Name, entry: &'a Record) -> Option<&'a T>
     }
 }
 
-/// The first 32 records of a section that have such data for a name: their data, and the life of records that last so
-/// long together with these.
+/// The first 32 records of a section that have such data for a name: their data, and the life of
+/// records that last so long together with these.
 fn kept<T: Wanted>(
     alloc: Global,
     section: &[Record],
@@ -122,8 +122,8 @@ fn kept<T: Wanted>(
     Ok((items, life))
 }
 
-/// The records of a kind that a section has for a name, the first 32, and the life of records that last so long together
-/// with these.
+/// The records of a kind that a section has for a name, the first 32, and the life of records that
+/// last so long together with these.
 pub(crate) fn records_for(
     alloc: Global,
     kind: Kind,
@@ -131,7 +131,8 @@ pub(crate) fn records_for(
     name: &Name,
     life: u32,
 ) -> Result<(Records, u32), AllocError>
-    ensures { IfOk result (λ found. (found.0 ≡ spec.records_of kind (spec.kept kind name.now section.now))
+    ensures { IfOk result
+        (λ found. (found.0 ≡ spec.records_of kind (spec.kept kind name.now section.now))
         × (found.1 ≡ least_from life (ttls (spec.kept kind name.now section.now)))) }
 {
     match kind {

@@ -1,8 +1,8 @@
 //! The answer that a DNS reply has for a question (RFC 1034 3.6.2, 5.2.2, RFC 2181 5.2).
 //!
-//! A reply to the question is turned into its records and for how long they may be kept; of any other message it is
-//! said why it is no reply. Aliases are followed inside the reply, at most eight. No records means that there are
-//! none: an answer too, and kept for a while.
+//! A reply to the question is turned into its records and for how long they may be kept; of any
+//! other message it is said why it is no reply. Aliases are followed inside the reply, at most
+//! eight. No records means that there are none: an answer too, and kept for a while.
 //!
 //! ```text
 //! let answer = answer_of(alloc, &question, &message)?;

@@ -6,8 +6,8 @@ use std::marker::Model;
 /// The first number of seconds that is no moment.
 const MOMENT_END: u64 = 1 << 48;
 
-/// A moment, in whole seconds from a beginning that its user chooses: below 2^48, so that the end of a life that begins
-/// at it is a number of 64 bits too.
+/// A moment, in whole seconds from a beginning that its user chooses: below 2^48, so that the end
+/// of a life that begins at it is a number of 64 bits too.
 #[derive(Clone, Copy, Debug, PartialEq, Eq, PartialOrd, Ord)]
 pub struct Moment {
     seconds: u64,

@@ -32,17 +32,20 @@ fn answer_in(alloc: Global, question: &Question, message: &Message) -> Result<An
 
 /// The answer that a message has for a question.
 ///
-/// From the name that is asked the first CNAME record of each name is followed in the answer section, up to eight
-/// of them (RFC 1034 3.6.2, 5.2.2); the answer has the records of the asked kind there, in the order of the message,
-/// the first 32. It lives as long as the one of these records and of those followed that lasts least (of one set of
-/// records: RFC 2181 5.2), and 30 seconds where there are no records. The number of the message is not looked at.
+/// From the name that is asked the first CNAME record of each name is followed in the answer
+/// section, up to eight of them (RFC 1034 3.6.2, 5.2.2); the answer has the records of the asked
+/// kind there, in the order of the message, the first 32. It lives as long as the one of these
+/// records and of those followed that lasts least (of one set of records: RFC 2181 5.2), and 30
+/// seconds where there are no records. The number of the message is not looked at.
 pub fn answer_of(
     alloc: Global,
     question: &Question,
     message: &Message,
 ) -> Result<Answer, ReplyRefusal>
-    // Each other refusal comes exactly where the message gives it; memory is wanted only where none of them comes.
-    ensures refused { (refusal : refusals.ReplyRefusal) → refusal_of question.now message.now ≡ Some refusal
+    // Each other refusal comes exactly where the message gives it; memory is wanted only where none
+    // of them comes.
+    ensures refused { (refusal : refusals.ReplyRefusal)
+        → refusal_of question.now message.now ≡ Some refusal
         → result ≡ Err refusal }
     ensures answered { refusal_of question.now message.now ≡ None
         → MatchResult result (λ answer. answer ≡ spec.answer question.now message.now)

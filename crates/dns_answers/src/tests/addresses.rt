@@ -37,7 +37,7 @@ const ROWS: &[Row] = &[
         &[[192, 0, 2, 9], [192, 0, 2, 9]],
         300,
     ),
-    // aliases out of order, behind the address
+    // aliases out of order, after the address
     (
         &[
             ("c.example", 300, Says::V4([192, 0, 2, 7])),

@@ -4,7 +4,7 @@ use super::*;
 /// An address of IPv6.
 const V6: Says = Says::V6([0x20, 1, 0xd, 0xb8, 0, 0, 0, 0, 0, 0, 0, 0, 0, 0, 0, 8]);
 
-/// A record of each kind, behind an alias, and a rule with a REGEXP.
+/// A record of each kind, after an alias, and a rule with a REGEXP.
 pub(crate) const EACH: [Entry; 6] = [
     ("w.example", 60, Says::Cname("a.example")),
     ("a.example", 301, Says::V4([192, 0, 2, 7])),

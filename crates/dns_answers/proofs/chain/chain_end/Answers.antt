@@ -7,8 +7,11 @@ use Rattle.dns_answers.proofs.chain.chain_end.Goals as goal
 
 pub returns-in-None : goal.returns-in-None
 returns-in-None c =
-    let so_far = c.loop.invariant in
-    (so_far.0, chain_ends c.args.section.now 8 c.args.start.now so_far.0 c.loop.name.now so_far.2 (sym c.in-None.ensures) (omega arith), so_far.3)
+    let so_far = c.loop.invariant in (
+      so_far.0,
+      chain_ends c.args.section.now 8 c.args.start.now so_far.0 c.loop.name.now so_far.2 (sym c.in-None.ensures) (omega arith),
+      so_far.3,
+    )
 
 pub loop-preserved : goal.loop-preserved
 loop-preserved c =

@@ -12,10 +12,18 @@ pub loop-entry-preserved : goal.loop-entry-preserved
 loop-entry-preserved g c =
     let l = c.loop-entry in
     elim c.match-data_for.branch [
-      | in-Some+in_ok-copied+in_ok-push w ↦ rw (w.items-is, w.in_ok-push.ensures.items, w.in_ok-copied.ensures, w.life-is, w.life_with-life.ensures)
-          (keeps g.T.Wanted.data_in c.args.name.now c.args.section.now c.args.limit l.entry-index l.items.items l.life l.invariant c.entry-item.result (omega arith) c.entry-item.is w.in-Some.data.now w.in-Some.ensures (omega arith))
+      | in-Some+in_ok-copied+in_ok-push w ↦ rw (
+        w.items-is,
+        w.in_ok-push.ensures.items,
+        w.in_ok-copied.ensures,
+        w.life-is,
+        w.life_with-life.ensures,
+      )
+          (keeps g.T.Wanted.data_in c.args.name.now c.args.section.now c.args.limit l.entry-index l.items.items l.life l.invariant
+          c.entry-item.result (omega arith) c.entry-item.is w.in-Some.data.now w.in-Some.ensures (omega arith))
       | in_default w ↦ rw (w.items-is, w.life-is)
-          (passes g.T.Wanted.data_in c.args.name.now c.args.section.now c.args.limit l.entry-index l.items.items l.life l.invariant c.entry-item.result (omega arith) c.entry-item.is w.in_default.ensures)
+          (passes g.T.Wanted.data_in c.args.name.now c.args.section.now c.args.limit l.entry-index l.items.items l.life l.invariant
+          c.entry-item.result (omega arith) c.entry-item.is w.in_default.ensures)
     ]
 
 pub returns : goal.returns

@@ -2,7 +2,10 @@ use Rattle.dns_answers.proofs.ChainLaws.{chain_is, is_chain, too_long_is, is_too
 use Rattle.dns_answers.proofs.laws.chain_follows_aliases.Goals as goal
 
 pub returns-clause-chain : goal.returns-clause-chain
-returns-clause-chain c = λ section name found. (chain_is c.same_names_are_equal.ensures section name found, is_chain c.same_names_are_equal.ensures section name found)
+returns-clause-chain c =
+    λ section name found.
+    (chain_is c.same_names_are_equal.ensures section name found, is_chain c.same_names_are_equal.ensures section name found)
 
 pub returns-clause-none : goal.returns-clause-none
-returns-clause-none c = λ section name. (too_long_is c.same_names_are_equal.ensures section name, is_too_long c.same_names_are_equal.ensures section name)
+returns-clause-none c =
+    λ section name. (too_long_is c.same_names_are_equal.ensures section name, is_too_long c.same_names_are_equal.ensures section name)

@@ -14,7 +14,8 @@ returns-then-is_empty c =
     let last = c.in-Some.end.name.now in
     let section = c.as_slice-section.ensures in
     let chain_is : chain message.answers question.name ≡ Some (record { links = end.0; last = last }) = rw (← section) end.1 in
-    let records_are : c.in_ok-records.records ≡ records_of question.kind (kept question.kind last message.answers) = rw (← section) c.in_ok-records.ensures.0 in
+    let records_are : c.in_ok-records.records ≡ records_of question.kind (kept question.kind last message.answers) =
+    rw (← section) c.in_ok-records.ensures.0 in
     let none : count_of c.in_ok-records.records ≡ 0 = c.is_empty.ensures.0 c.if-is_empty.true in
     c.of-then-is_empty.ensures ∙ ap (λ (records : Records). record { records = records; life = 30 }) records_are
     ∙ sym (absent question message end.0 last chain_is 30 (ap count_of (sym records_are) ∙ none) refl)
