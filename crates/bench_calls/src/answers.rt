@@ -47,12 +47,13 @@ fn count_of_rounds(alloc: Global, question: &Question, message: &Message, rounds
     count
 }
 
-/// How many records the answer to its first question has in the message in front of these octets. The answer is looked
-/// for so many times.
+/// How many records the answer to its first question has in the message in front of these octets.
+/// The answer is looked for so many times.
 #[unsafe(no_mangle)]
 pub extern "C" fn bench_answer_of(alloc: Global, octets: &[u8], rounds: usize) -> usize
     ensures { 0 < result → (end : ℕ) × (message : message.Message) × (question : question.Question)
-        × Spells (take end octets.now) message × (result ≡ count_of (answer question message).records) }
+        × Spells (take end octets.now) message
+        × (result ≡ count_of (answer question message).records) }
 {
     let Ok(message) = read_message(alloc, octets) else {
         return 0;

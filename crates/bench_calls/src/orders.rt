@@ -20,7 +20,8 @@ fn servers_of(alloc: Global, message: Message) -> Result<Vec<SrvRecord>, AllocEr
     Ok(servers)
 }
 
-/// Puts the records in order so many times, each time from another word on, and gives the last order.
+/// Puts the records in order so many times, each time from another word on, and gives the last
+/// order.
 fn last_order(alloc: Global, servers: &[SrvRecord], words: &Words, rounds: usize) -> Option<Places>
     requires { length servers.now ≤ RECORD_LIMIT }
     ensures { IfSome result (λ places. (from : ℕ) × (next : ℕ)
@@ -37,8 +38,9 @@ fn last_order(alloc: Global, servers: &[SrvRecord], words: &Words, rounds: usize
     last
 }
 
-/// Puts the SRV records that answer in the message in front of these octets in order, so many times, each time from
-/// another word on; writes the last order, and returns how many places it has.
+/// Puts the SRV records that answer in the message in front of these octets in order, so many
+/// times, each time from another word on; writes the last order, and returns how many places it
+/// has.
 #[unsafe(no_mangle)]
 pub extern "C" fn bench_order(
     alloc: Global,
@@ -47,7 +49,8 @@ pub extern "C" fn bench_order(
     places: &mut [usize],
     rounds: usize,
 ) -> usize
-    ensures { 0 < result → (servers : List srv.SrvRecord) × (order : List ℕ) × (from : ℕ) × (next : ℕ)
+    ensures { 0 < result → (servers : List srv.SrvRecord) × (order : List ℕ) × (from : ℕ)
+        × (next : ℕ)
         × (order_from servers words.now from ≡ Listed order next) × (result ≡ length order) }
 {
     let Ok(words) = <[u64; WORD_COUNT]>::try_from(words) else {
