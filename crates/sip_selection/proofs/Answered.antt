@@ -41,7 +41,8 @@ module _ {Z : Type 0} where
       → None ≡ lookup (same_question question) entries → answer_to (map given_of entries) question ≡ Err question
   unknown-is question entries is = rw (found-is question entries, ← is) refl
 
-  none-by : (question : Question) (entries : Entries Z) (found : Option (Arc AnswerValue Z)) → lookup (same_question question) entries ≡ found
+  none-by : (question : Question) (entries : Entries Z) (found : Option (Arc AnswerValue Z))
+      → lookup (same_question question) entries ≡ found
       → answer_to (map given_of entries) question ≡ Err question → lookup (same_question question) entries ≡ None
   none-by question entries None e unknown = e
   none-by question entries (Some answer) e unknown =

@@ -69,7 +69,8 @@ pub comes-first : (basis : Basis) (choice : List Given → Needing Settled) (tur
 comes-first basis choice turn found comes = (λ all extends. nothing-in-front (choice all) ∙ comes.0 all extends, comes.1)
 
 -- the choice for a request to a domain
-pub domain-is : (request : Request) (caps : Caps) (words : List ℕ) (all : List Given) (name : List (List ℕ)) (port : Option ℕ) (named : Option Spoken)
+pub domain-is : (request : Request) (caps : Caps) (words : List ℕ) (all : List Given) (name : List (List ℕ)) (port : Option ℕ)
+    (named : Option Spoken)
     → to_host request caps words all (host.Domain name) port named
     ≡ domain_choice (is_secure request) caps words name all port named (offered caps (transport_of request))
 domain-is request caps words all name (Some port) named = refl

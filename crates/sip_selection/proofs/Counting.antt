@@ -249,7 +249,8 @@ module _ (request : Request) (caps : Caps) (words : List ℕ) (given : List Give
   naptr-few : (name : List (List ℕ)) → Few (by_naptr (is_secure request) caps words given name)
   naptr-few name =
       let question : Question = record { name = name; kind = kind.Naptr } in
-      after-meets Any-question (Settles (AtMost 16384)) (λ answer. by_rules (is_secure request) caps words given name (rules_in answer.records))
+      after-meets Any-question (Settles (AtMost 16384))
+      (λ answer. by_rules (is_secure request) caps words given name (rules_in answer.records))
       (answer_to given question)
       (meets-more Any-question (λ answer. count_of answer.records ≤ 32)
       (λ answer. Few (by_rules (is_secure request) caps words given name (rules_in answer.records))) (answer_to given question)

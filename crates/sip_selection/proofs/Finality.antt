@@ -23,34 +23,41 @@ module _ (caps : Caps) (words : List ℕ) (given more : List Given) where
   abbrev all : List Given
   all = given ++ more
 
-  name-grows : (name : List (List ℕ)) (port : ℕ) (transport : Transport) → Grows (to_name caps given name port transport) (to_name caps all name port transport)
+  name-grows : (name : List (List ℕ)) (port : ℕ) (transport : Transport)
+      → Grows (to_name caps given name port transport) (to_name caps all name port transport)
   name-grows name port transport = made-grows Ok _ _ (targets-grow given more (kinds_of (families_of caps)) transport port name)
 
-  domain-grows : (name : List (List ℕ)) (fallback : Result Transport Reason) → Grows (to_domain caps given name fallback) (to_domain caps all name fallback)
+  domain-grows : (name : List (List ℕ)) (fallback : Result Transport Reason)
+      → Grows (to_domain caps given name fallback) (to_domain caps all name fallback)
   domain-grows name (Ok transport) = name-grows name (default_port transport) transport
   domain-grows name (Err reason) = λ x is. is
 
-  offers-by : (name : List (List ℕ)) (fallback : Result Transport Reason) (offers : List Offer) (any denied : Bool) → list_any is_listed offers ≡ any → list_any is_denied offers ≡ denied
+  offers-by : (name : List (List ℕ)) (fallback : Result Transport Reason) (offers : List Offer) (any denied : Bool)
+      → list_any is_listed offers ≡ any → list_any is_denied offers ≡ denied
       → Grows (by_offers caps given name fallback offers) (by_offers caps all name fallback offers)
   offers-by name fallback offers true denied e e' = rw e (λ x is. is)
   offers-by name fallback offers false true e e' = rw (e, e') (λ x is. is)
   offers-by name fallback offers false false e e' = rw (e, e') (domain-grows name fallback)
 
-  along-grows : (name : List (List ℕ)) (fallback : Result Transport Reason) (ways : List Way) → Grows (along caps words given name fallback ways) (along caps words all name fallback ways)
+  along-grows : (name : List (List ℕ)) (fallback : Result Transport Reason) (ways : List Way)
+      → Grows (along caps words given name fallback ways) (along caps words all name fallback ways)
   along-grows name fallback ways =
       after-grows _ _ _ _ (offers-grow given more (kinds_of (families_of caps)) words ways 0)
       (λ offers. offers-by name fallback offers (list_any is_listed offers) (list_any is_denied offers) refl refl)
 
-  port-grows : (name : List (List ℕ)) (port : ℕ) (transport : Result Transport Reason) → Grows (to_port caps given name port transport) (to_port caps all name port transport)
+  port-grows : (name : List (List ℕ)) (port : ℕ) (transport : Result Transport Reason)
+      → Grows (to_port caps given name port transport) (to_port caps all name port transport)
   port-grows name port (Ok transport) = name-grows name port transport
   port-grows name port (Err reason) = λ x is. is
 
-  service-grows : (name : List (List ℕ)) (transport : Result Transport Reason) → Grows (to_service caps words given name transport) (to_service caps words all name transport)
+  service-grows : (name : List (List ℕ)) (transport : Result Transport Reason)
+      → Grows (to_service caps words given name transport) (to_service caps words all name transport)
   service-grows name (Ok transport) = along-grows name (Ok transport) (way_to name transport ∷ [])
   service-grows name (Err reason) = λ x is. is
 
   module _ (secure : Bool) where
-    led-grows : (name : List (List ℕ)) (ways : List Way) → Grows (led secure caps words given name ways) (led secure caps words all name ways)
+    led-grows : (name : List (List ℕ)) (ways : List Way)
+        → Grows (led secure caps words given name ways) (led secure caps words all name ways)
     led-grows name [] = along-grows name (usual secure caps) (own_ways secure caps name)
     led-grows name (first ∷ others) = along-grows name (Ok first.transport) (first ∷ others)
 
@@ -59,13 +66,15 @@ module _ (caps : Caps) (words : List ℕ) (given more : List Given) where
         after-grows _ _ _ _ (answer-grows given more (record { name = name; kind = kind.Naptr }))
         (λ answer. led-grows name (kept secure caps (rules_in answer.records)))
 
-  discovered-grows : (secure : Bool) (name : List (List ℕ)) (transport : Result Transport Reason) → Grows (discovered secure caps words given name transport) (discovered secure caps words all name transport)
+  discovered-grows : (secure : Bool) (name : List (List ℕ)) (transport : Result Transport Reason)
+      → Grows (discovered secure caps words given name transport) (discovered secure caps words all name transport)
   discovered-grows secure name (Ok transport) = naptr-grows secure name
   discovered-grows true name (Err reason) = λ x is. is
   discovered-grows false name (Err reason) = naptr-grows false name
 
   module _ (request : Request) where
-    host-grows : (target : Host) (port : Option ℕ) (named : Option Spoken) → Grows (to_host request caps words given target port named) (to_host request caps words all target port named)
+    host-grows : (target : Host) (port : Option ℕ) (named : Option Spoken)
+        → Grows (to_host request caps words given target port named) (to_host request caps words all target port named)
     host-grows (host.V4 octets) port named = λ x is. is
     host-grows (host.V6 octets) port named = λ x is. is
     host-grows (host.Domain name) (Some port) named = port-grows name port (offered caps (transport_of request))
@@ -73,11 +82,14 @@ module _ (caps : Caps) (words : List ℕ) (given more : List Given) where
     host-grows (host.Domain name) None None = discovered-grows (is_secure request) name (usual (is_secure request) caps)
 
     -- what is no question, was known
-    resolved-grows : (n n' : Needing Settled) → Grows n n' → ((question : Question) → resolved n ≡ need question → ⊥) → resolved n' ≡ resolved n
+    resolved-grows : (n n' : Needing Settled) → Grows n n' → ((question : Question) → resolved n ≡ need question → ⊥)
+        → resolved n' ≡ resolved n
     resolved-grows (Ok it) n' grows final = ap resolved (grows it refl)
     resolved-grows (Err question) n' grows final = absurd (final question refl)
 
-    pub final_is : ((question : Question) → locate request caps words given ≡ need question → ⊥) → locate request caps words all ≡ locate request caps words given
+    pub final_is : ((question : Question) → locate request caps words given ≡ need question → ⊥)
+        → locate request caps words all ≡ locate request caps words given
     final_is final =
-        resolved-grows (to_host request caps words given (target_of request) (port_of request) (spoken_of request)) (to_host request caps words all (target_of request) (port_of request) (spoken_of request))
+        resolved-grows (to_host request caps words given (target_of request) (port_of request) (spoken_of request))
+        (to_host request caps words all (target_of request) (port_of request) (spoken_of request))
         (host-grows (target_of request) (port_of request) (spoken_of request)) final

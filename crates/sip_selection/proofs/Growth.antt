@@ -23,19 +23,24 @@ pub made-grows : {X Y : Type 0} (f : X → Y) (n n' : Needing X) → Grows n n' 
 made-grows f (Ok x) n' grows y is = let same = grows x refl in rw same is
 made-grows f (Err question) n' grows y is = absurd cc
 
-pub after-grows : {X Y : Type 0} (f f' : X → Needing Y) (n n' : Needing X) → Grows n n' → ((x : X) → Grows (f x) (f' x)) → Grows (after f n) (after f' n')
+pub after-grows : {X Y : Type 0} (f f' : X → Needing Y) (n n' : Needing X) → Grows n n' → ((x : X) → Grows (f x) (f' x))
+    → Grows (after f n) (after f' n')
 after-grows f f' (Ok x) n' grows each y is = let same = grows x refl in rw same (each x y is)
 after-grows f f' (Err question) n' grows each y is = absurd cc
 
-pub joined-grows : {X Y : Type 0} (f f' : X → Needing (List Y)) → ((x : X) → Grows (f x) (f' x)) → (xs : List X) → Grows (joined f xs) (joined f' xs)
+pub joined-grows : {X Y : Type 0} (f f' : X → Needing (List Y)) → ((x : X) → Grows (f x) (f' x)) → (xs : List X)
+    → Grows (joined f xs) (joined f' xs)
 joined-grows f f' each [] = λ y is. is
 joined-grows f f' each (x ∷ xs) =
-    after-grows (λ first. made (λ others. first ++ others) (joined f xs)) (λ first. made (λ others. first ++ others) (joined f' xs)) (f x) (f' x) (each x)
+    after-grows (λ first. made (λ others. first ++ others) (joined f xs))
+    (λ first. made (λ others. first ++ others) (joined f' xs)) (f x) (f' x) (each x)
     (λ first. made-grows (λ others. first ++ others) (joined f xs) (joined f' xs) (joined-grows f f' each xs))
 
 module _ (given more : List Given) where
-  find-by : (it : Given) (others : List Given) (question : Question) (answer : AnswerValue) (test : Bool) → same_question it.question question ≡ test → find_answer (it ∷ others) question ≡ Some answer
-      → (find_answer others question ≡ Some answer → find_answer (others ++ more) question ≡ Some answer) → find_answer (it ∷ (others ++ more)) question ≡ Some answer
+  find-by : (it : Given) (others : List Given) (question : Question) (answer : AnswerValue) (test : Bool)
+      → same_question it.question question ≡ test → find_answer (it ∷ others) question ≡ Some answer
+      → (find_answer others question ≡ Some answer → find_answer (others ++ more) question ≡ Some answer)
+      → find_answer (it ∷ (others ++ more)) question ≡ Some answer
   find-by it others question answer true e is rest =
       let here : Some it.answer ≡ Some answer = rw e at is in
       rw e here
@@ -43,11 +48,14 @@ module _ (given more : List Given) where
       let there : find_answer others question ≡ Some answer = rw e at is in
       rw e (rest there)
 
-  find-grows : (given : List Given) (question : Question) (answer : AnswerValue) → find_answer given question ≡ Some answer → find_answer (given ++ more) question ≡ Some answer
+  find-grows : (given : List Given) (question : Question) (answer : AnswerValue) → find_answer given question ≡ Some answer
+      → find_answer (given ++ more) question ≡ Some answer
   find-grows [] question answer is = absurd cc
-  find-grows (it ∷ others) question answer is = find-by it others question answer (same_question it.question question) refl is (find-grows others question answer)
+  find-grows (it ∷ others) question answer is =
+      find-by it others question answer (same_question it.question question) refl is (find-grows others question answer)
 
-  answer-by : (question : Question) (found : Option AnswerValue) → find_answer given question ≡ found → Grows (answer_to given question) (answer_to (given ++ more) question)
+  answer-by : (question : Question) (found : Option AnswerValue) → find_answer given question ≡ found
+      → Grows (answer_to given question) (answer_to (given ++ more) question)
   answer-by question (Some answer) e = λ x is.
       let here : Ok answer ≡ Ok x = rw e at is in
       rw (find-grows given question answer e) here
@@ -59,9 +67,13 @@ module _ (given more : List Given) where
   answer-grows question = answer-by question (find_answer given question) refl
 
   module _ (kinds : List Kind) where
-    pub targets-grow : (transport : Transport) (port : ℕ) (name : List (List ℕ)) → Grows (targets_of given kinds transport port name) (targets_of (given ++ more) kinds transport port name)
+    pub targets-grow : (transport : Transport) (port : ℕ) (name : List (List ℕ))
+        → Grows (targets_of given kinds transport port name) (targets_of (given ++ more) kinds transport port name)
     targets-grow transport port name =
-        joined-grows _ _ (λ kind. made-grows (λ (answer : AnswerValue). map (target_at transport port) (addresses_in answer.records)) _ _ (answer-grows (record { name = name; kind = kind }))) kinds
+        joined-grows _ _
+        (λ kind. made-grows
+        (λ (answer : AnswerValue). map (target_at transport port) (addresses_in answer.records)) _ _
+        (answer-grows (record { name = name; kind = kind }))) kinds
 
     server-by : (transport : Transport) (server : SrvRecord) (root : Bool) → is_root server.target ≡ root
         → Grows (server_targets given kinds transport server) (server_targets (given ++ more) kinds transport server)
@@ -69,11 +81,13 @@ module _ (given more : List Given) where
     server-by transport server false e = rw e (targets-grow transport server.port server.target)
 
     place-by : (transport : Transport) (server : Option SrvRecord)
-        → Grows (option_map_or (server_targets given kinds transport) server (Ok [])) (option_map_or (server_targets (given ++ more) kinds transport) server (Ok []))
+        → Grows (option_map_or (server_targets given kinds transport) server (Ok []))
+        (option_map_or (server_targets (given ++ more) kinds transport) server (Ok []))
     place-by transport None = λ x is. is
     place-by transport (Some server) = server-by transport server (is_root server.target) refl
 
-    offer-grows : (transport : Transport) (servers : List SrvRecord) (outcome : SrvOutcome) → Grows (offer_of given kinds transport servers outcome) (offer_of (given ++ more) kinds transport servers outcome)
+    offer-grows : (transport : Transport) (servers : List SrvRecord) (outcome : SrvOutcome)
+        → Grows (offer_of given kinds transport servers outcome) (offer_of (given ++ more) kinds transport servers outcome)
     offer-grows transport servers Absent = λ x is. is
     offer-grows transport servers Denied = λ x is. is
     offer-grows transport servers (Listed places next) =
@@ -86,7 +100,8 @@ module _ (given more : List Given) where
         after-grows _ _ _ _ (answer-grows (record { name = name; kind = kind.Srv }))
         (λ answer. offer-grows transport (servers_in answer.records) (order_from (servers_in answer.records) words word))
 
-    pub offers-grow : (words : List ℕ) (ways : List Way) (word : ℕ) → Grows (offers_along given kinds words ways word) (offers_along (given ++ more) kinds words ways word)
+    pub offers-grow : (words : List ℕ) (ways : List Way) (word : ℕ)
+        → Grows (offers_along given kinds words ways word) (offers_along (given ++ more) kinds words ways word)
     offers-grow words [] word = λ x is. is
     offers-grow words (way ∷ ways) word =
         after-grows _ _ _ _ (named-grows words way.transport word way.name)

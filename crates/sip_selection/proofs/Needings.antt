@@ -6,7 +6,8 @@ pub after-made : {X Y Z : Type 0} (f : Y → Needing Z) (g : X → Y) (n : Needi
 after-made f g (Ok x) = refl
 after-made f g (Err question) = refl
 
-pub after-after : {X Y Z : Type 0} (f : Y → Needing Z) (g : X → Needing Y) (n : Needing X) → after f (after g n) ≡ after (λ x. after f (g x)) n
+pub after-after : {X Y Z : Type 0} (f : Y → Needing Z) (g : X → Needing Y) (n : Needing X)
+    → after f (after g n) ≡ after (λ x. after f (g x)) n
 after-after f g (Ok x) = refl
 after-after f g (Err question) = refl
 

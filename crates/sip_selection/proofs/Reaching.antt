@@ -20,7 +20,8 @@ use Rattle.sip_selection.proofs.Needings.{twice-in-front}
 pub extends-itself : (given : List Given) → Extends given given
 extends-itself given = λ question answer is. is
 
-module _ {Place : Type 0} (given : List Given) (left : List Given → Place → Needing (List Target)) (from : Place) (before : List Target) where
+module _ {Place : Type 0} (given : List Given) (left : List Given → Place → Needing (List Target)) (from : Place)
+    (before : List Target) where
   pub record Came (at : Place) (now : List Target) : Type 0 where
     pub found : List Target
     pub are : now ≡ before ++ found
@@ -55,7 +56,8 @@ module _ (caps : Caps) (transport : Transport) (port : ℕ) (name : List (List �
 
     pub kind-more : (given : List Given) (answer : AnswerValue) → answer_to given (record { name = name; kind = asked }) ≡ Ok answer
         → (all : List Given) → Extends given all
-        → kinds_left caps all transport port name at ≡ made (λ others. said answer ++ others) (kinds_left caps all transport port name (at + 1))
+        → kinds_left caps all transport port name at
+        ≡ made (λ others. said answer ++ others) (kinds_left caps all transport port name (at + 1))
     kind-more given answer known all extends = rw (kinds-are, extends (record { name = name; kind = asked }) answer known) refl
 
 -- ---- a server
@@ -71,10 +73,12 @@ pub server-kinds : (caps : Caps) (transport : Transport) (server : SrvRecord) �
     → ◌≡◌ {A = Left} (λ all. server_left caps all transport server) (λ all. kinds_left caps all transport server.port server.target)
 server-kinds caps transport server named = λ j all from. same all from j
   where
-    same : (all : List Given) (from : ℕ) → server_left caps all transport server from ≡ kinds_left caps all transport server.port server.target from
+    same : (all : List Given) (from : ℕ)
+        → server_left caps all transport server from ≡ kinds_left caps all transport server.port server.target from
     same all from = rw named refl
 
-pub place-server : (caps : Caps) (transport : Transport) (servers : List SrvRecord) (place : ℕ) (server : SrvRecord) → slice_get servers place ≡ Some server
+pub place-server : (caps : Caps) (transport : Transport) (servers : List SrvRecord) (place : ℕ) (server : SrvRecord)
+    → slice_get servers place ≡ Some server
     → ◌≡◌ {A = Left} (λ all. place_left caps all transport servers place) (λ all. server_left caps all transport server)
 place-server caps transport servers place server there = λ j all from. same all from j
   where

@@ -179,11 +179,13 @@ module _ (request : Request) (caps : Caps) (words : List ℕ) (R : Question → 
   led-asks name [] each = along-asks name (usual (is_secure request) caps) (own_ways (is_secure request) caps name) each
   led-asks name (first ∷ others) each = along-asks name (Ok first.transport) (first ∷ others) each
 
-  naptr-asks : (name : List (List ℕ)) → All R (of_domain request caps words all name) → Needs (by_naptr (is_secure request) caps words given name)
+  naptr-asks : (name : List (List ℕ)) → All R (of_domain request caps words all name)
+      → Needs (by_naptr (is_secure request) caps words given name)
   naptr-asks name each =
       let ways : List Way = tried request caps words all name (kept (is_secure request) caps (rules_at (answer_to all (rules name)))) in
       let rest : All R (of_ways all asked_kinds name ways) = All-tail R (rules name) (of_ways all asked_kinds name ways) each in
-      after-meets R AnySettled (λ answer. by_rules (is_secure request) caps words given name (rules_in answer.records)) (answer_to given (rules name))
+      after-meets R AnySettled
+      (λ answer. by_rules (is_secure request) caps words given name (rules_in answer.records)) (answer_to given (rules name))
       (meets-more R (λ answer. answer_to all (rules name) ≡ Ok answer)
       (λ answer. Needs (by_rules (is_secure request) caps words given name (rules_in answer.records))) (answer_to given (rules name))
       (λ answer is. led-asks name (kept (is_secure request) caps (rules_in answer.records))

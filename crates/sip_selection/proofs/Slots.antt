@@ -6,7 +6,8 @@ use Rattle.sip_uri.specs.Same.{same_transport}
 use Rattle.sip_selection.specs.Callers.{holds}
 
 pub held : (slots : List (Option Transport)) (transport : Transport)
-    → list_any (λ slot. holds slot transport) slots ≡ list_any (λ offered. same_transport offered transport) (filter_map (λ slot. slot) slots)
+    → list_any (λ slot. holds slot transport) slots
+    ≡ list_any (λ offered. same_transport offered transport) (filter_map (λ slot. slot) slots)
 held [] transport = refl
 held (None ∷ slots) transport = held slots transport
 held (Some offered ∷ slots) transport = ap (λ rest. same_transport offered transport || rest) (held slots transport)

@@ -29,28 +29,35 @@ module _ (targets : List Target) where
   at failures answered = record { targets = targets; failures = failures; answered = answered }
 
   -- where no target is left nothing changes
-  stays_exhausted : (failures : ℕ) (answered : Bool) (events : List Event) → length targets ≤ failures → fold next_trial (at failures answered) events ≡ at failures answered
+  stays_exhausted : (failures : ℕ) (answered : Bool) (events : List Event) → length targets ≤ failures
+      → fold next_trial (at failures answered) events ≡ at failures answered
   stays_exhausted failures answered [] le = refl
-  stays_exhausted failures answered (event ∷ events) le = rw (no_lt failures (length targets) le) (stays_exhausted failures answered events le)
+  stays_exhausted failures answered (event ∷ events) le =
+      rw (no_lt failures (length targets) le) (stays_exhausted failures answered events le)
 
   -- nor where one answered
-  stays_answered : (failures : ℕ) (events : List Event) → failures < length targets → fold next_trial (at failures true) events ≡ at failures true
+  stays_answered : (failures : ℕ) (events : List Event) → failures < length targets
+      → fold next_trial (at failures true) events ≡ at failures true
   stays_answered failures [] lt = refl
   stays_answered failures (event ∷ events) lt = rw (yes_lt failures (length targets) lt) (stays_answered failures events lt)
 
   abbrev reached : ℕ → List Event → Trial
   reached failures events =
-      at (min (length targets) (failures + failures_in events)) (is_answered events && nat_lt (failures + failures_in events) (length targets))
+      at (min (length targets) (failures + failures_in events))
+      (is_answered events && nat_lt (failures + failures_in events) (length targets))
 
-  run : (failures : ℕ) (events : List Event) → failures ≤ length targets → fold next_trial (at failures false) events ≡ reached failures events
+  run : (failures : ℕ) (events : List Event) → failures ≤ length targets
+      → fold next_trial (at failures false) events ≡ reached failures events
   run failures [] le = let here : min (length targets) (failures + 0) ≡ failures = omega arith in rw here refl
   run failures (Failed failure ∷ events) le =
       let n : ℕ = length targets in
       let f : ℕ = failures_in events in
       elim (cases_lt failures n) [
-        | inl lt ↦ (let one : failures + 1 + f ≡ failures + (f + 1) = omega arith in rw (yes_lt failures n lt, ← one) (run (failures + 1) events (omega arith)))
+        | inl lt ↦ (let one : failures + 1 + f ≡ failures + (f + 1) =
+            omega arith in rw (yes_lt failures n lt, ← one) (run (failures + 1) events (omega arith)))
         | inr ge ↦ (let all : min n (failures + (f + 1)) ≡ failures = omega arith in
-            rw (no_lt failures n ge, all, no_lt (failures + (f + 1)) n (omega arith), and_false (is_answered events)) (stays_exhausted failures false events ge))
+            rw (no_lt failures n ge, all, no_lt (failures + (f + 1)) n (omega arith), and_false (is_answered events))
+            (stays_exhausted failures false events ge))
       ]
   run failures (Responded ∷ events) le =
       let n : ℕ = length targets in

@@ -9,14 +9,17 @@ use Rattle.sip_selection.specs.Services.{way_to}
 use Rattle.sip_selection.specs.declared.way.Way.{Way}
 
 module _ (secure : Bool) (name : List (List ℕ)) where
-  tried-append : (xs ys : List (Option Transport)) → tried_ways secure name (xs ++ ys) ≡ tried_ways secure name xs ++ tried_ways secure name ys
+  tried-append : (xs ys : List (Option Transport))
+      → tried_ways secure name (xs ++ ys) ≡ tried_ways secure name xs ++ tried_ways secure name ys
   tried-append xs ys =
       let slots = λ (l : List (Option Transport)). filter_map (λ (slot : Option Transport). slot) l in
-      ap (λ (l : List Transport). map (way_to name) (filter (is_tried secure) l)) (filter_map-append (λ (slot : Option Transport). slot) xs ys)
+      ap (λ (l : List Transport). map (way_to name) (filter (is_tried secure) l))
+      (filter_map-append (λ (slot : Option Transport). slot) xs ys)
       ∙ ap (map (way_to name)) (filter-append (is_tried secure) (slots xs) (slots ys))
       ∙ map-append (way_to name) (filter (is_tried secure) (slots xs)) (filter (is_tried secure) (slots ys))
 
-  one-by : (transport : Transport) (test : Bool) → is_tried secure transport ≡ test → length (tried_ways secure name (Some transport ∷ [])) ≤ 1
+  one-by : (transport : Transport) (test : Bool) → is_tried secure transport ≡ test
+      → length (tried_ways secure name (Some transport ∷ [])) ≤ 1
   one-by transport true e = rw e (omega arith)
   one-by transport false e = rw e (omega arith)
 
@@ -24,11 +27,16 @@ module _ (secure : Bool) (name : List (List ℕ)) where
   one None = omega arith
   one (Some transport) = one-by transport (is_tried secure transport) refl
 
-  module _ (slots : List (Option Transport)) (count : ℕ) (slot : Option Transport) (within : count < length slots) (is : slot ≡ get_or slots count slot) where
-    pub tried-more : tried_ways secure name (take (count + 1) slots) ≡ tried_ways secure name (take count slots) ++ tried_ways secure name (slot ∷ [])
+  module _ (slots : List (Option Transport)) (count : ℕ) (slot : Option Transport) (within : count < length slots)
+      (is : slot ≡ get_or slots count slot) where
+    pub tried-more : tried_ways secure name (take (count + 1) slots)
+        ≡ tried_ways secure name (take count slots) ++ tried_ways secure name (slot ∷ [])
     tried-more =
-        let more : take (count + 1) slots ≡ take count slots ++ slot ∷ [] = take_more slots count slot within ∙ ap (λ (l : Option Transport). take count slots ++ l ∷ []) (sym is) in
+        let more : take (count + 1) slots ≡ take count slots ++ slot ∷ [] =
+        take_more slots count slot within ∙ ap (λ (l : Option Transport). take count slots ++ l ∷ []) (sym is) in
         ap (tried_ways secure name) more ∙ tried-append (take count slots) (slot ∷ [])
 
-    pub few-more : (before after : List Way) → length before ≤ count → after ≡ before ++ tried_ways secure name (slot ∷ []) → length after ≤ count + 1
-    few-more before after few grown = omega (arith, few, one slot, ap length grown, length-append before (tried_ways secure name (slot ∷ [])))
+    pub few-more : (before after : List Way) → length before ≤ count → after ≡ before ++ tried_ways secure name (slot ∷ [])
+        → length after ≤ count + 1
+    few-more before after few grown =
+        omega (arith, few, one slot, ap length grown, length-append before (tried_ways secure name (slot ∷ [])))

@@ -59,7 +59,8 @@ module _ (request : Request) (caps : Caps) (words : List ℕ) (given : List Give
       (stage_left (is_secure request) caps words (name_of (target_of request)) stage found) turn found'
       → ComesTo (is_secure request) caps words (name_of (target_of request)) (given ++ more ∷ []) (chosen request caps words) turn found'
   goes-on question stage comes more turn found' next = (
-    λ all extends. comes.0 all (λ asked answer is. extends asked answer (answer-grows given (more ∷ []) asked answer is)) ∙ next.0 all extends,
+    λ all extends. comes.0 all
+        (λ asked answer is. extends asked answer (answer-grows given (more ∷ []) asked answer is)) ∙ next.0 all extends,
     next.1,
   )
 

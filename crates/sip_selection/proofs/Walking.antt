@@ -23,10 +23,12 @@ use Rattle.sip_selection.specs.declared.way.Way.{Way}
 use Rattle.sip_selection.proofs.Needings.{after-made, after-after, after-each}
 use Rattle.sip_selection.proofs.Reaching.{all-left}
 
-module _ (caps : Caps) (words : List ℕ) (name : List (List ℕ)) (all : List Given) (ways : List Way) (fallback : Result Transport Reason) where
+module _ (caps : Caps) (words : List ℕ) (name : List (List ℕ)) (all : List Given) (ways : List Way)
+    (fallback : Result Transport Reason) where
   -- ---- one offer more
 
-  listed-by : (walk : Walk) (found targets : List Target) (places : List ℕ) (next : ℕ) (others : List Offer) (any : Bool) → walk.is_listed ≡ any
+  listed-by : (walk : Walk) (found targets : List Target) (places : List ℕ) (next : ℕ) (others : List Offer) (any : Bool)
+      → walk.is_listed ≡ any
       → ended caps name all fallback walk found (listed targets next ∷ others)
       ≡ ended caps name all fallback (behind walk (Listed places next)) (found ++ targets) others
   listed-by walk found targets places next others true e =
@@ -57,11 +59,13 @@ module _ (caps : Caps) (words : List ℕ) (name : List (List ℕ)) (all : List G
       targets-of places = joined (place_targets all (kinds_of (families_of caps)) transport servers) places
 
       pub answer-listed : (places : List ℕ) (next : ℕ) → order_from servers words walk.word ≡ Listed places next
-          → offer_left caps words name all ways fallback walk found (offer_by all (kinds_of (families_of caps)) words transport walk.word answer)
+          → offer_left caps words name all ways fallback walk found
+          (offer_by all (kinds_of (families_of caps)) words transport walk.word answer)
           ≡ after (λ more. walk_left caps words name all ways fallback (behind walk (Listed places next)) (found ++ more))
           (servers_left caps all transport servers places (record { server = 0; kind = 0 }))
       answer-listed places next is = rw (is, all-left caps transport servers all places)
-          (after-made (λ offer. offer_left caps words name all ways fallback walk found (Ok offer)) (λ targets. listed targets next) (targets-of places)
+          (after-made (λ offer. offer_left caps words name all ways fallback walk found (Ok offer))
+          (λ targets. listed targets next) (targets-of places)
           ∙ after-each (λ targets. offer_left caps words name all ways fallback walk found (Ok (listed targets next)))
           (λ more. walk_left caps words name all ways fallback (behind walk (Listed places next)) (found ++ more))
           (listed-left places next) (targets-of places))
@@ -72,12 +76,14 @@ module _ (caps : Caps) (words : List ℕ) (name : List (List ℕ)) (all : List G
         → walk_left caps words name all ways fallback walk found
         ≡ offer_left caps words name all ways fallback walk found (offer_along all (kinds_of (families_of caps)) words way walk.word)
     way-left way there = rw there (after-after (ended caps name all fallback walk found)
-        (λ offer. made (λ others. offer ∷ others) (rest (next_word walk.word offer))) (offer_along all (kinds_of (families_of caps)) words way walk.word))
+        (λ offer. made (λ others. offer ∷ others) (rest (next_word walk.word offer)))
+        (offer_along all (kinds_of (families_of caps)) words way walk.word))
 
     pub named-left : (way : Way) (owner : List (List ℕ)) → way.name ≡ Some owner → drop walk.way ways ≡ way ∷ drop (walk.way + 1) ways
         → (answer : AnswerValue) → answer_to all (record { name = owner; kind = kind.Srv }) ≡ Ok answer
         → walk_left caps words name all ways fallback walk found
-        ≡ offer_left caps words name all ways fallback walk found (offer_by all (kinds_of (families_of caps)) words way.transport walk.word answer)
+        ≡ offer_left caps words name all ways fallback walk found
+        (offer_by all (kinds_of (families_of caps)) words way.transport walk.word answer)
     named-left way owner named there answer known = way-left way there ∙ rw (named, known) refl
 
 -- ---- what is reached
@@ -91,7 +97,8 @@ AlongLeft = List Given → Result Transport Reason → List Target → Needing S
 
 -- what is left the same, leads as far
 pub walks-too : (basis : Basis) (ways : List Way) (left left' : AlongLeft) (to : Reached) (before now : List Target)
-    → ((all : List Given) → Extends basis.known.now all → (fallback : Result Transport Reason) (found : List Target) → left' all fallback found ≡ left all fallback found)
+    → ((all : List Given) → Extends basis.known.now all → (fallback : Result Transport Reason) (found : List Target)
+    → left' all fallback found ≡ left all fallback found)
     → Walks basis ways left to before now → Walks basis ways left' to before now
 walks-too basis ways left left' to before now same walks = λ fallback front. (
   λ all extends. same all extends fallback (front ++ before) ∙ (walks fallback front).0 all extends,

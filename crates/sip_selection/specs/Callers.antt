@@ -12,7 +12,8 @@ use Rattle.sip_selection.specs.declared.caps.Families.TheVariants.{V4, V6, V4The
 -- none of these stands again after itself
 abbrev pub are_distinct : List Transport → Bool
 are_distinct [] = true
-are_distinct (first ∷ others) = not (list_any (λ other. same_transport other first) others) && are_distinct others
+are_distinct (first ∷ others) =
+    not (list_any (λ other. same_transport other first) others) && are_distinct others
 
 -- 1 to 4 transports, none of them twice
 pub record AreOffered (transports : List Transport) : Type 0 where
@@ -30,7 +31,11 @@ families_of caps = caps.families
 -- the caps with these transports and families
 abbrev pub caps_of : List Transport → Families → Caps
 caps_of transports families =
-    record { slots = take 4 (map Some transports ++ None ∷ None ∷ None ∷ None ∷ []); families = families }
+    record {
+      slots = take 4 (map Some transports ++ None ∷ None ∷ None ∷ None ∷ []);
+      families =
+          families;
+    }
 
 -- whether a slot holds this transport
 abbrev pub holds : Option Transport → Transport → Bool

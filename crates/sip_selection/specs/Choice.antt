@@ -45,7 +45,8 @@ resolved (Err question) = need question
 
 -- a transport, if it is one of the caller's
 abbrev pub offered : Caps → Result Transport Reason → Result Transport Reason
-offered caps (Ok transport) = if offers caps transport then Ok transport else Err TransportUnsupported
+offered caps (Ok transport) =
+    if offers caps transport then Ok transport else Err TransportUnsupported
 offered caps (Err reason) = Err reason
 
 -- the transport where none is named: TLS for SIPS, else UDP
@@ -63,7 +64,8 @@ to_address address port (Err reason) = Ok (Err reason)
 module _ (caps : Caps) (given : List Given) where
   -- the addresses of a name at a port
   abbrev pub to_name : List (List ℕ) → ℕ → Transport → Needing Settled
-  to_name name port transport = made Ok (targets_of given (kinds_of (families_of caps)) transport port name)
+  to_name name port transport =
+      made Ok (targets_of given (kinds_of (families_of caps)) transport port name)
 
   abbrev pub to_port : List (List ℕ) → ℕ → Result Transport Reason → Needing Settled
   to_port name port (Ok transport) = to_name name port transport
@@ -76,8 +78,8 @@ module _ (caps : Caps) (given : List Given) where
 
   -- ---- services
 
-  -- The targets of all services that are listed, joined. Where none is listed and one is denied, the
-  -- request is not offered; where all are absent, it goes to the domain itself.
+  -- The targets of all services that are listed, joined. Where none is listed and one is denied,
+  -- the request is not offered; where all are absent, it goes to the domain itself.
   abbrev pub by_offers : List (List ℕ) → Result Transport Reason → List Offer → Needing Settled
   by_offers name fallback offers =
       if list_any is_listed offers then Ok (Ok (flat_map offered_targets offers)) else
@@ -86,7 +88,8 @@ module _ (caps : Caps) (given : List Given) where
 module _ (caps : Caps) (words : List ℕ) (given : List Given) where
   abbrev pub along : List (List ℕ) → Result Transport Reason → List Way → Needing Settled
   along name fallback ways =
-      after (by_offers caps given name fallback) (offers_along given (kinds_of (families_of caps)) words ways 0)
+      after (by_offers caps given name fallback)
+      (offers_along given (kinds_of (families_of caps)) words ways 0)
 
   -- the service of the transport that is named
   abbrev pub to_service : List (List ℕ) → Result Transport Reason → Needing Settled
@@ -96,10 +99,12 @@ module _ (caps : Caps) (words : List ℕ) (given : List Given) where
 -- ---- without NAPTR records: a SIP URI does without TLS, and a SIPS URI takes it alone
 
 abbrev pub is_tried : Bool → Transport → Bool
-is_tried secure transport = if secure then same_transport transport Tls else not (same_transport transport Tls)
+is_tried secure transport =
+    if secure then same_transport transport Tls else not (same_transport transport Tls)
 
 abbrev pub tried_ways : Bool → List (List ℕ) → List (Option Transport) → List Way
-tried_ways secure name slots = map (way_to name) (filter (is_tried secure) (filter_map (λ slot. slot) slots))
+tried_ways secure name slots =
+    map (way_to name) (filter (is_tried secure) (filter_map (λ slot. slot) slots))
 
 abbrev pub own_ways : Bool → Caps → List (List ℕ) → List Way
 own_ways secure caps name = map (way_to name) (filter (is_tried secure) (transports_of caps))
@@ -115,7 +120,8 @@ module _ (secure : Bool) (caps : Caps) (words : List ℕ) (given : List Given) w
 
   abbrev pub by_naptr : List (List ℕ) → Needing Settled
   by_naptr name =
-      after (λ answer. by_rules name (rules_in answer.records)) (answer_to given (record { name = name; kind = kind.Naptr }))
+      after (λ answer. by_rules name (rules_in answer.records))
+      (answer_to given (record { name = name; kind = kind.Naptr }))
 
   -- of a SIPS URI, TLS has to be among the caller's transports before anything is asked
   abbrev pub discovered : List (List ℕ) → Result Transport Reason → Needing Settled

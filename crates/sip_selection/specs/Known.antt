@@ -37,7 +37,8 @@ joined f (x ∷ xs) = after (λ first. made (λ others. first ++ others) (joined
 -- ---- what is known
 
 abbrev pub find_answer : List Given → Question → Option AnswerValue
-find_answer given question = option_map (λ it. it.answer) (find (λ it. same_question it.question question) given)
+find_answer given question =
+    option_map (λ it. it.answer) (find (λ it. same_question it.question question) given)
 
 abbrev pub answer_to : List Given → Question → Needing AnswerValue
 answer_to given question = ok_or (find_answer given question) question

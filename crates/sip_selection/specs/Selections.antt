@@ -27,9 +27,10 @@ given_too it question answer =
 abbrev pub now_of : SelectionValue → Resolution
 now_of it = locate it.request it.caps it.words it.given
 
--- These answers were asked for one by one: each is to the question that was needed with the answers before it, and
--- has at most 32 records.
-pub record AreAskedOneByOne (request : Request) (caps : Caps) (words : List ℕ) (given : List Given) : Type 0 where
+-- These answers were asked for one by one: each is to the question that was needed with the answers
+-- before it, and has at most 32 records.
+pub record AreAskedOneByOne (request : Request) (caps : Caps) (words : List ℕ)
+    (given : List Given) : Type 0 where
   pub few : All (λ it. count_of it.answer.records ≤ 32) given
   pub needed : (k : ℕ) (it : Given) → k < length given
       → locate request caps words (take k given) ≡ need (slice_index_or given k it).question

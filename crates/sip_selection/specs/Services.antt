@@ -35,7 +35,12 @@ fitting name = if nat_lt 255 (length (wire_of name)) then None else Some name
 
 -- the service of a domain by a transport, and the name of its SRV records
 abbrev pub way_to : List (List ℕ) → Transport → Way
-way_to domain transport = record { transport = transport; name = fitting (service_label transport ∷ proto_label transport ∷ domain) }
+way_to domain transport =
+    record {
+      transport = transport;
+      name =
+          fitting (service_label transport ∷ proto_label transport ∷ domain);
+    }
 
 -- ---- targets
 
@@ -46,7 +51,8 @@ module _ (given : List Given) (kinds : List Kind) where
   -- the addresses of a name at a port: of each kind of question in turn (RFC 3263 4.2)
   abbrev pub kind_targets : Transport → ℕ → List (List ℕ) → Kind → Needing (List Target)
   kind_targets transport port name kind =
-      made (λ answer. map (target_at transport port) (addresses_in answer.records)) (answer_to given (record { name = name; kind = kind }))
+      made (λ answer. map (target_at transport port) (addresses_in answer.records))
+      (answer_to given (record { name = name; kind = kind }))
 
   abbrev pub targets_of : Transport → ℕ → List (List ℕ) → Needing (List Target)
   targets_of transport port name = joined (kind_targets transport port name) kinds
@@ -58,12 +64,13 @@ module _ (given : List Given) (kinds : List Kind) where
 
   -- those of the server at a place
   abbrev pub place_targets : Transport → List SrvRecord → ℕ → Needing (List Target)
-  place_targets transport servers place = option_map_or (server_targets transport) (slice_get servers place) (Ok [])
+  place_targets transport servers place =
+      option_map_or (server_targets transport) (slice_get servers place) (Ok [])
 
 -- ---- a service
 
--- what there is of a service: nothing, the word that it is not offered, or targets, and the place of
--- the next random word
+-- what there is of a service: nothing, the word that it is not offered, or targets, and the place
+-- of the next random word
 pub data Offer : Type 0 where
   absent : Offer
   denied : Offer
@@ -95,18 +102,21 @@ module _ (given : List Given) (kinds : List Kind) where
   offer_of transport servers Absent = Ok absent
   offer_of transport servers Denied = Ok denied
   offer_of transport servers (Listed places next) =
-      made (λ targets. listed targets next) (joined (place_targets given kinds transport servers) places)
+      made (λ targets. listed targets next)
+      (joined (place_targets given kinds transport servers) places)
 
-  -- what the SRV records of a way offer, ordered by the words from a place on; where a way has no name,
-  -- there are none
+  -- what the SRV records of a way offer, ordered by the words from a place on; where a way has no
+  -- name, there are none
   abbrev pub offer_by : List ℕ → Transport → ℕ → AnswerValue → Needing Offer
   offer_by words transport word answer =
-      offer_of transport (servers_in answer.records) (order_from (servers_in answer.records) words word)
+      offer_of transport (servers_in answer.records)
+      (order_from (servers_in answer.records) words word)
 
   abbrev pub offer_named : List ℕ → Transport → ℕ → Option (List (List ℕ)) → Needing Offer
   offer_named words transport word None = Ok absent
   offer_named words transport word (Some name) =
-      after (offer_by words transport word) (answer_to given (record { name = name; kind = kind.Srv }))
+      after (offer_by words transport word)
+      (answer_to given (record { name = name; kind = kind.Srv }))
 
   abbrev pub offer_along : List ℕ → Way → ℕ → Needing Offer
   offer_along words way word = offer_named words way.transport word way.name
@@ -115,5 +125,6 @@ module _ (given : List Given) (kinds : List Kind) where
   abbrev pub offers_along : List ℕ → List Way → ℕ → Needing (List Offer)
   offers_along words [] word = Ok []
   offers_along words (way ∷ ways) word =
-      after (λ offer. made (λ others. offer ∷ others) (offers_along words ways (next_word word offer)))
+      after (λ offer. made
+      (λ others. offer ∷ others) (offers_along words ways (next_word word offer)))
       (offer_along words way word)

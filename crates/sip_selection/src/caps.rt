@@ -97,7 +97,7 @@ impl Caps {
         self.families
     }
 
-    /// The caller has at most four transports. A call does nothing: its contract tells its caller so.
+    /// The caller has at most four transports. A call does nothing; its contract states this.
     pub fn transports_are_few(&self)
         ensures { length (transports_of self.now) ≤ 4 }
     {

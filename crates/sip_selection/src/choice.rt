@@ -36,7 +36,9 @@ fn to_domain(
     from: usize,
 ) -> Result<Turn, AllocError>
     ensures { IfOk result (λ turn. left_of.Goes basis.now
-        (λ found all. made (λ more. Ok (found ++ more)) (left_of.kinds_left basis.now.caps.now all transport port basis.now.name.now from))
+        (λ found all. made
+        (λ more. Ok (found ++ more))
+        (left_of.kinds_left basis.now.caps.now all transport port basis.now.name.now from))
         turn targets.old.items targets.new.items) }
 {
     let stop = push_kinds(targets, basis, transport, port, basis.name, from)?;
@@ -46,7 +48,8 @@ fn to_domain(
     })
 }
 
-/// Where all ways are done: the targets of those that are listed; where none is, and none denied, those of the domain.
+/// Where all ways are done: the targets of those that are listed; where none is, and none denied,
+/// those of the domain.
 fn ended(
     targets: &mut Vec<Target>,
     basis: &Basis<'_>,
@@ -54,7 +57,8 @@ fn ended(
     walk: Walk,
 ) -> Result<Turn, AllocError>
     ensures { IfOk result (λ turn. left_of.Goes basis.now
-        (λ found all. left_of.ended basis.now.caps.now basis.now.name.now all fallback walk found [])
+        (λ found all. left_of.ended basis.now.caps.now
+        basis.now.name.now all fallback walk found [])
         turn targets.old.items targets.new.items) }
 {
     if walk.is_listed {
@@ -79,7 +83,8 @@ fn along(
     requires few { left_of.LeadFits (arc_value lead.now) }
     requires words { (left_of.walk_of spot.now).word ≤ 32 * (left_of.walk_of spot.now).way }
     ensures { IfOk result (λ turn. left_of.Goes basis.now
-        (λ found all. left_of.spot_left basis.now.caps.now basis.now.words.now.0 basis.now.name.now all
+        (λ found all. left_of.spot_left basis.now.caps.now basis.now.words.now.0
+        basis.now.name.now all
         (arc_value lead.now).ways.items (arc_value lead.now).fallback spot.now found)
         turn targets.old.items targets.new.items) }
 {
@@ -97,7 +102,8 @@ fn along_all(targets: &mut Vec<Target>, basis: &Basis<'_>, lead: Lead) -> Result
     requires { left_of.LeadFits lead }
     ensures { IfOk result (λ turn. left_of.Goes basis.now
         (λ found all. made (left_of.in_front found)
-        (spec.along basis.now.caps.now basis.now.words.now.0 all basis.now.name.now lead.fallback lead.ways.items))
+        (spec.along basis.now.caps.now basis.now.words.now.0 all basis.now.name.now lead.fallback
+        lead.ways.items))
         turn targets.old.items targets.new.items) }
 {
     let lead = Arc::new(basis.alloc, lead)?;
@@ -118,7 +124,8 @@ fn push_tried(
     slot: Option<Transport>,
     name: &Name,
 ) -> Result<(), AllocError>
-    ensures { OnOk result (ways.new.items ≡ ways.old.items ++ spec.tried_ways secure name.now (slot ∷ [])) }
+    ensures { OnOk result
+        (ways.new.items ≡ ways.old.items ++ spec.tried_ways secure name.now (slot ∷ [])) }
 {
     match slot {
         Some(transport) if is_tried(secure, transport) => {
@@ -156,8 +163,10 @@ fn rules_in(answer: &Answer) -> &[NaptrRecord]
 fn lead_by(basis: &Basis<'_>, rules: &[NaptrRecord]) -> Result<Lead, AllocError>
     ensures few { IfOk result left_of.LeadFits }
     ensures is { IfOk result (λ lead. (all : List known_as.Given)
-        → spec.by_rules basis.now.secure basis.now.caps.now basis.now.words.now.0 all basis.now.name.now rules.now
-        ≡ spec.along basis.now.caps.now basis.now.words.now.0 all basis.now.name.now lead.fallback lead.ways.items) }
+        → spec.by_rules basis.now.secure basis.now.caps.now basis.now.words.now.0 all
+        basis.now.name.now rules.now
+        ≡ spec.along basis.now.caps.now basis.now.words.now.0 all basis.now.name.now lead.fallback
+        lead.ways.items) }
 {
     let ways = kept(basis.alloc, basis.secure, basis.caps, rules)?;
     match ways.first() {
@@ -175,7 +184,9 @@ fn lead_by(basis: &Basis<'_>, rules: &[NaptrRecord]) -> Result<Lead, AllocError>
 /// Where the NAPTR records of the domain lead.
 fn by_naptr(targets: &mut Vec<Target>, basis: &Basis<'_>) -> Result<Turn, AllocError>
     ensures { IfOk result (λ turn. left_of.Goes basis.now
-        (λ found all. made (left_of.in_front found) (spec.by_naptr basis.now.secure basis.now.caps.now basis.now.words.now.0 all basis.now.name.now))
+        (λ found all. made (left_of.in_front found)
+        (spec.by_naptr basis.now.secure basis.now.caps.now basis.now.words.now.0 all
+        basis.now.name.now))
         turn targets.old.items targets.new.items) }
 {
     match basis.known.answer_to(basis.name, Kind::Naptr) {
@@ -192,7 +203,9 @@ fn to_service(
     transport: Transport,
 ) -> Result<Turn, AllocError>
     ensures { IfOk result (λ turn. left_of.Goes basis.now
-        (λ found all. made (left_of.in_front found) (spec.to_service basis.now.caps.now basis.now.words.now.0 all basis.now.name.now (Ok transport)))
+        (λ found all. made (left_of.in_front found)
+        (spec.to_service basis.now.caps.now basis.now.words.now.0 all basis.now.name.now
+        (Ok transport)))
         turn targets.old.items targets.new.items) }
 {
     let ways = vec![in basis.alloc; way_to(basis.name, transport)?]?;
@@ -208,7 +221,8 @@ fn to_address(
     transport: Result<Transport, Reason>,
 ) -> Result<Turn, AllocError>
     requires { targets.old.items ≡ [] }
-    ensures { IfOk result (λ turn. left_of.Settles turn targets.new.items (spec.to_address address port transport)) }
+    ensures { IfOk result
+        (λ turn. left_of.Settles turn targets.new.items (spec.to_address address port transport)) }
 {
     let transport = match transport {
         Ok(transport) => transport,
@@ -223,10 +237,13 @@ fn to_address(
     Ok(Turn::Found)
 }
 
-/// Where the domain leads without a transport that is named. For SIPS, TLS has to be one of the caller's.
+/// Where the domain leads without a transport that is named. For SIPS, TLS has to be one of the
+/// caller's.
 fn discovered(targets: &mut Vec<Target>, basis: &Basis<'_>) -> Result<Turn, AllocError>
     ensures { IfOk result (λ turn. left_of.Goes basis.now
-        (λ found all. made (left_of.in_front found) (spec.discovered basis.now.secure basis.now.caps.now basis.now.words.now.0 all basis.now.name.now
+        (λ found all. made (left_of.in_front found)
+        (spec.discovered basis.now.secure basis.now.caps.now basis.now.words.now.0 all
+        basis.now.name.now
         (spec.usual basis.now.secure basis.now.caps.now)))
         turn targets.old.items targets.new.items) }
 {
@@ -247,7 +264,8 @@ fn for_domain(
 ) -> Result<Turn, AllocError>
     requires { targets.old.items ≡ [] }
     ensures { IfOk result (λ turn. left_of.Comes basis.now
-        (λ all. left_of.domain_choice basis.now.secure basis.now.caps.now basis.now.words.now.0 basis.now.name.now all port spoken transport)
+        (λ all. left_of.domain_choice basis.now.secure basis.now.caps.now basis.now.words.now.0
+        basis.now.name.now all port spoken transport)
         turn targets.new.items) }
 {
     match (port, spoken, transport) {
@@ -269,7 +287,9 @@ pub(crate) fn begin<'a>(
     known: &'a Known,
 ) -> Result<Turn, AllocError>
     requires { targets.old.items ≡ [] }
-    ensures { IfOk result (λ turn. left_of.ComesTo (is_secure request.now) caps.now words.now.0 (left_of.name_of (target_of request.now)) known.now
+    ensures { IfOk result
+        (λ turn. left_of.ComesTo (is_secure request.now) caps.now words.now.0
+        (left_of.name_of (target_of request.now)) known.now
         (spec.chosen request.now caps.now words.now.0) turn targets.new.items) }
 {
     let port = request.port();
@@ -300,7 +320,8 @@ pub(crate) fn resume(
 ) -> Result<Turn, AllocError>
     requires { left_of.StageFits stage.now }
     ensures { IfOk result (λ turn. left_of.Goes basis.now
-        (left_of.stage_left basis.now.secure basis.now.caps.now basis.now.words.now.0 basis.now.name.now stage.now)
+        (left_of.stage_left basis.now.secure basis.now.caps.now basis.now.words.now.0
+        basis.now.name.now stage.now)
         turn targets.old.items targets.new.items) }
 {
     match stage {

@@ -1,4 +1,4 @@
-//! Laws of where a request goes. A call of one does nothing: its contract tells its caller the law.
+//! Laws of where a request goes. A call of one does nothing; its contract states the law.
 ghost use Rattle.std.specs.Prelude.{◌≡◌, ◌≢◌, ◌<◌, ◌≤◌, ◌∷◌, ℕ, List, [], IsTrue, None, Some};
 ghost use Rattle.std.specs.Prelude.{length, map, slice_index_or, take};
 ghost use Rattle.std.specs.List.{All, Contains};

@@ -51,7 +51,12 @@ impl Model for Failover {
 
     ghost Value = { Trial };
 
-    ghost view = { λ it. record { targets = it.targets.items; failures = it.failures; answered = it.answered } };
+    ghost view = { λ it. record {
+      targets = it.targets.items;
+      failures = it.failures;
+      answered =
+          it.answered;
+    } };
 
     ghost invariant = { λ it. it.failures ≤ length it.targets.items };
 }
@@ -88,8 +93,8 @@ impl Failover {
         }
     }
 
-    /// Goes on after an event: a failure to the next target, a response to the end. After the end an event
-    /// changes nothing.
+    /// Goes on after an event: a failure to the next target, a response to the end. After the end
+    /// an event changes nothing.
     pub fn event(&mut self, event: Event) -> Progress
         ensures next { self.new ≡ next_trial self.old event }
         ensures progress { result ≡ progress_of self.new }

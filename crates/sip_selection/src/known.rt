@@ -59,7 +59,8 @@ impl Known {
     /// The answer to the question for this kind of records of a name, or that question.
     pub(crate) fn answer_to(&self, name: &Name, kind: Kind) -> Result<&Arc<Answer>, Stop>
         ensures { MatchResult result
-            (λ answer. answer_to self.now (record { name = name.now; kind = kind }) ≡ Ok (arc_value answer.now))
+            (λ answer. answer_to self.now (record { name = name.now; kind = kind })
+            ≡ Ok (arc_value answer.now))
             (λ it. StopsAt it (answer_to self.now (record { name = name.now; kind = kind }))) }
     {
         let question = Question {

@@ -1,4 +1,4 @@
-//! Laws of the choice. A call of one does nothing: its contract tells its caller the law.
+//! Laws of the choice. A call of one does nothing; its contract states the law.
 ghost use Rattle.std.specs.Prelude.{◌≡◌, ◌≢◌, ◌++◌, ◌==◌, ℕ, List, IsPermutation, filter};
 ghost use Rattle.dns_message.specs.declared.question.Question.{Question};
 ghost use Rattle.std.specs.List.{fold};

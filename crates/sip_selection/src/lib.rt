@@ -44,8 +44,8 @@
 //! (`questions_are_few`) and 16,384 targets (`targets_are_few`); of a selection as it stands,
 //! `Selection::answers_are_few` tells both.
 //!
-//! Each `give` goes on from where the choice stopped. It takes memory for the answer, for the targets
-//! that it leads to and for the next question, and keeps what was found before.
+//! Each `give` goes on from where the choice stopped. It takes memory for the answer, for the
+//! targets that it leads to and for the next question, and keeps what was found before.
 #![tactic(auto)]
 
 mod caps;

@@ -26,7 +26,8 @@ impl Request {
         })
     }
 
-    /// The host whose addresses are wanted: of a URI the parameter `maddr`, where there is one (RFC 3263 4).
+    /// The host whose addresses are wanted: of a URI the parameter `maddr`, where there is one (RFC
+    /// 3263 4).
     pub fn target(&self) -> &Host
         ensures { result.now ≡ spec.target_of self.now }
     {

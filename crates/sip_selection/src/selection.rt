@@ -69,19 +69,27 @@ impl Model for Selection {
 
     ghost Value = { SelectionValue };
 
-    ghost view = { λ it. record { request = it.request; caps = it.caps; words = it.words.0; given = it.known } };
+    ghost view = { λ it. record {
+      request = it.request;
+      caps = it.caps;
+      words = it.words.0;
+      given =
+          it.known;
+    } };
 
-    ghost invariant = { λ it. ComesTo (is_secure it.request) it.caps it.words.0 (name_of (target_of it.request))
-        it.known (chosen it.request it.caps it.words.0) it.turn it.targets.items
+    ghost invariant = { λ it. ComesTo (is_secure it.request) it.caps it.words.0
+        (name_of (target_of it.request)) it.known (chosen it.request it.caps it.words.0)
+        it.turn it.targets.items
         × AreAskedOneByOne it.request it.caps it.words.0 it.known };
 }
 
-/// Goes on from a stage with one answer more, and adds the targets that are found, or gives the stage back where memory
-/// was refused.
+/// Goes on from a stage with one answer more, and adds the targets that are found, or gives the
+/// stage back where memory was refused.
 fn advance(targets: &mut Vec<Target>, basis: &Basis<'_>, stage: Stage) -> Result<Turn, Stage>
     requires { StageFits stage }
     ensures goes { IfOk result (λ turn. Comes basis.now
-        (stage_left basis.now.secure basis.now.caps.now basis.now.words.now.0 basis.now.name.now stage targets.old.items)
+        (stage_left basis.now.secure basis.now.caps.now basis.now.words.now.0
+        basis.now.name.now stage targets.old.items)
         turn targets.new.items) }
     ensures unchanged { OnErr result (targets.new.items ≡ targets.old.items) }
     ensures given_back { IfErr result (λ it. it ≡ stage) }
@@ -96,7 +104,8 @@ fn advance(targets: &mut Vec<Target>, basis: &Basis<'_>, stage: Stage) -> Result
 fn go_on(targets: &mut Vec<Target>, basis: &Basis<'_>, stage: &Stage) -> Result<Turn, AllocError>
     requires { StageFits stage.now }
     ensures goes { IfOk result (λ turn. Comes basis.now
-        (stage_left basis.now.secure basis.now.caps.now basis.now.words.now.0 basis.now.name.now stage.now targets.old.items)
+        (stage_left basis.now.secure basis.now.caps.now basis.now.words.now.0 basis.now.name.now
+        stage.now targets.old.items)
         turn targets.new.items) }
     ensures unchanged { OnErr result (targets.new.items ≡ targets.old.items) }
 {
@@ -129,8 +138,8 @@ impl Selection {
         })
     }
 
-    /// What is next: the choice over the answers given, or the first question that it lacks. To ask for it again changes
-    /// nothing.
+    /// What is next: the choice over the answers given, or the first question that it lacks. To ask
+    /// for it again changes nothing.
     #[must_use]
     pub fn next(&self) -> Next<'_>
         ensures { next_of result ≡ now_of self.now }
@@ -143,11 +152,12 @@ impl Selection {
         }
     }
 
-    /// At most 521 answers were given, and there are at most 16,384 targets. A call does nothing: its contract tells its
-    /// caller so.
+    /// At most 521 answers were given, and there are at most 16,384 targets. A call does nothing;
+    /// its contract states this.
     pub fn answers_are_few(&self)
         ensures few { length self.now.given ≤ 521 }
-        ensures few_targets { (found : List Target) → now_of self.now ≡ targets found → length found ≤ 16384 }
+        ensures few_targets { (found : List Target) → now_of self.now ≡ targets found
+            → length found ≤ 16384 }
     {
         questions_are_few();
         targets_are_few();
@@ -161,10 +171,13 @@ impl Selection {
         question: &Question,
         answer: Arc<Answer>,
     ) -> Result<(), GiveRefusal>
-        ensures given { OnOk result (self.new ≡ given_too self.old question.now (arc_value answer)) }
+        ensures given { OnOk result
+            (self.new ≡ given_too self.old question.now (arc_value answer)) }
         ensures unchanged { OnErr result (self.new ≡ self.old) }
-        ensures not_asked { (result ≡ Err GiveRefusal.NotAsked) ↔ (now_of self.old ≢ need question.now) }
-        ensures wrong_kind { (result ≡ Err GiveRefusal.WrongKind) ↔ ((now_of self.old ≡ need question.now)
+        ensures not_asked { (result ≡ Err GiveRefusal.NotAsked)
+            ↔ (now_of self.old ≢ need question.now) }
+        ensures wrong_kind { (result ≡ Err GiveRefusal.WrongKind)
+            ↔ ((now_of self.old ≡ need question.now)
             × (kind_of (arc_value answer).records ≢ question.now.kind)) }
     {
         same_questions_are_equal();

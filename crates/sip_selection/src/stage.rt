@@ -64,7 +64,7 @@ impl Walk {
         }
     }
 
-    /// Behind the next way, of which the SRV records say this.
+    /// After the next way, of which the SRV records say this.
     pub(crate) fn behind(self, outcome: &SrvOutcome) -> Walk
         requires { self.way < 8 }
         ensures { result ≡ spec.behind self outcome.now }
@@ -112,7 +112,8 @@ pub(crate) struct Cursor {
 pub(crate) enum Spot {
     /// The SRV records of the next way.
     Service(Walk),
-    /// The addresses of a server of a listed service; behind the service, the walk goes on from there.
+    /// The addresses of a server of a listed service; after the service, the walk goes on from
+    /// there.
     Server(Arc<Listing>, Cursor, Walk),
 }
 

@@ -72,7 +72,8 @@ fn push_addresses(
     }
 }
 
-/// Adds the addresses of a name at a port, from a kind on: all, or up to the kind whose question has no answer.
+/// Adds the addresses of a name at a port, from a kind on: all, or up to the kind whose question
+/// has no answer.
 pub(crate) fn push_kinds(
     targets: &mut Vec<Target>,
     basis: &Basis<'_>,
@@ -81,8 +82,10 @@ pub(crate) fn push_kinds(
     name: &Name,
     from: usize,
 ) -> Result<Option<(usize, Question)>, AllocError>
-    ensures { IfOk result (λ stop. (found : List target.Target) × (targets.new.items ≡ targets.old.items ++ found)
-        × stage.Reaches basis.now.known.now (λ all. stage.kinds_left basis.now.caps.now all transport port name.now) from stop found) }
+    ensures { IfOk result
+        (λ stop. (found : List target.Target) × (targets.new.items ≡ targets.old.items ++ found)
+        × stage.Reaches basis.now.known.now
+        (λ all. stage.kinds_left basis.now.caps.now all transport port name.now) from stop found) }
 {
     let kinds = kinds_of(basis.caps.families());
     for at in from..kinds.len() {
@@ -103,8 +106,10 @@ fn push_server(
     server: &SrvRecord,
     from: usize,
 ) -> Result<Option<(usize, Question)>, AllocError>
-    ensures { IfOk result (λ stop. (found : List target.Target) × (targets.new.items ≡ targets.old.items ++ found)
-        × stage.Reaches basis.now.known.now (λ all. stage.server_left basis.now.caps.now all transport server.now) from stop found) }
+    ensures { IfOk result
+        (λ stop. (found : List target.Target) × (targets.new.items ≡ targets.old.items ++ found)
+        × stage.Reaches basis.now.known.now
+        (λ all. stage.server_left basis.now.caps.now all transport server.now) from stop found) }
 {
     if server.target.is_root() {
         return Ok(None);
@@ -121,8 +126,11 @@ fn push_place(
     place: usize,
     from: usize,
 ) -> Result<Option<(usize, Question)>, AllocError>
-    ensures { IfOk result (λ stop. (found : List target.Target) × (targets.new.items ≡ targets.old.items ++ found)
-        × stage.Reaches basis.now.known.now (λ all. stage.place_left basis.now.caps.now all transport servers.now place) from stop found) }
+    ensures { IfOk result
+        (λ stop. (found : List target.Target) × (targets.new.items ≡ targets.old.items ++ found)
+        × stage.Reaches basis.now.known.now
+        (λ all. stage.place_left basis.now.caps.now all transport
+        servers.now place) from stop found) }
 {
     match servers.get(place) {
         Some(server) => push_server(targets, basis, transport, server, from),
@@ -130,8 +138,8 @@ fn push_place(
     }
 }
 
-/// Adds the addresses of the servers at these places, in this order, from a cursor on: all, or up to the first question
-/// without an answer.
+/// Adds the addresses of the servers at these places, in this order, from a cursor on: all, or up
+/// to the first question without an answer.
 pub(crate) fn push_places(
     targets: &mut Vec<Target>,
     basis: &Basis<'_>,
@@ -140,8 +148,11 @@ pub(crate) fn push_places(
     places: &[usize],
     from: Cursor,
 ) -> Result<Option<(Cursor, Question)>, AllocError>
-    ensures { IfOk result (λ stop. (found : List target.Target) × (targets.new.items ≡ targets.old.items ++ found)
-        × stage.Reaches basis.now.known.now (λ all. stage.servers_left basis.now.caps.now all transport servers.now places.now) from stop found) }
+    ensures { IfOk result
+        (λ stop. (found : List target.Target) × (targets.new.items ≡ targets.old.items ++ found)
+        × stage.Reaches basis.now.known.now
+        (λ all. stage.servers_left basis.now.caps.now all transport servers.now
+        places.now) from stop found) }
 {
     let mut kind = from.kind;
     for server in from.server..places.len() {

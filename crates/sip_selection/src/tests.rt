@@ -56,7 +56,7 @@ pub(crate) fn begun(
     Selection::new(alloc, request, caps, words).ok()
 }
 
-/// These words, and 0 behind them.
+/// These words, and 0 after them.
 fn words_of(words: &[u64]) -> Words {
     let mut all = [0; WORD_COUNT];
     for (slot, word) in all.iter_mut().zip(words) {

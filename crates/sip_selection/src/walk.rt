@@ -30,7 +30,8 @@ fn servers_in(answer: &Answer) -> &[SrvRecord]
     }
 }
 
-/// Adds the addresses of the servers of a listed service, from a cursor on. Behind them goes this walk.
+/// Adds the addresses of the servers of a listed service, from a cursor on. After them goes this
+/// walk.
 fn push_listing(
     targets: &mut Vec<Target>,
     basis: &Basis<'_>,
@@ -40,7 +41,8 @@ fn push_listing(
 ) -> Result<Reached, AllocError>
     requires { walk.word ≤ 32 * walk.way }
     ensures left { IfOk result (λ reached. (ways : List Way) → spec.Walks basis.now ways
-        (λ all fallback found. spec.servers_first basis.now.caps.now basis.now.words.now.0 basis.now.name.now all ways fallback
+        (λ all fallback found. spec.servers_first basis.now.caps.now basis.now.words.now.0
+        basis.now.name.now all ways fallback
         (arc_value listing.now) from walk found)
         reached targets.old.items targets.new.items) }
     ensures fits { IfOk result spec.ReachedFits }
@@ -71,8 +73,11 @@ fn push_answer(
     requires few { walk.way < 8 }
     requires words { walk.word ≤ 32 * walk.way }
     ensures left { IfOk result (λ reached. (ways : List Way) → spec.Walks basis.now ways
-        (λ all fallback found. spec.offer_left basis.now.caps.now basis.now.words.now.0 basis.now.name.now all ways fallback walk found
-        (offer_by all (kinds_of (families_of basis.now.caps.now)) basis.now.words.now.0 transport walk.word (arc_value answer.now)))
+        (λ all fallback found. spec.offer_left basis.now.caps.now basis.now.words.now.0
+        basis.now.name.now all ways fallback walk found
+        (offer_by all
+        (kinds_of (families_of basis.now.caps.now)) basis.now.words.now.0 transport walk.word
+        (arc_value answer.now)))
         reached targets.old.items targets.new.items) }
     ensures fits { IfOk result spec.ReachedFits }
     ensures goes_on { IfOk result (spec.GoesOnAt (walk.way + 1)) }
@@ -108,9 +113,11 @@ fn push_way(
 ) -> Result<Reached, AllocError>
     requires few { walk.way < 8 }
     requires words { walk.word ≤ 32 * walk.way }
-    ensures left { IfOk result (λ reached. (ways : List Way) → drop walk.way ways ≡ way.now ∷ drop (walk.way + 1) ways
+    ensures left { IfOk result
+        (λ reached. (ways : List Way) → drop walk.way ways ≡ way.now ∷ drop (walk.way + 1) ways
         → spec.Walks basis.now ways
-        (λ all fallback found. spec.walk_left basis.now.caps.now basis.now.words.now.0 basis.now.name.now all ways fallback walk found)
+        (λ all fallback found. spec.walk_left basis.now.caps.now basis.now.words.now.0
+        basis.now.name.now all ways fallback walk found)
         reached targets.old.items targets.new.items) }
     ensures fits { IfOk result spec.ReachedFits }
     ensures goes_on { IfOk result (spec.GoesOnAt (walk.way + 1)) }
@@ -125,7 +132,8 @@ fn push_way(
     }
 }
 
-/// What the ways offer, one after the other, from a walk on: all, or up to the first question without an answer.
+/// What the ways offer, one after the other, from a walk on: all, or up to the first question
+/// without an answer.
 fn push_ways(
     targets: &mut Vec<Target>,
     basis: &Basis<'_>,
@@ -135,7 +143,8 @@ fn push_ways(
     requires few { length ways.now ≤ 8 }
     requires words { from.word ≤ 32 * from.way }
     ensures left { IfOk result (λ reached. spec.Walks basis.now ways.now
-        (λ all fallback found. spec.walk_left basis.now.caps.now basis.now.words.now.0 basis.now.name.now all ways.now fallback from found)
+        (λ all fallback found. spec.walk_left basis.now.caps.now basis.now.words.now.0
+        basis.now.name.now all ways.now fallback from found)
         reached targets.old.items targets.new.items) }
     ensures fits { IfOk result spec.ReachedFits }
     ensures all { IfOk result (spec.IsPast (length ways.now)) }
@@ -160,7 +169,8 @@ pub(crate) fn push_from(
     requires few { length ways.now ≤ 8 }
     requires words { (spec.walk_of spot.now).word ≤ 32 * (spec.walk_of spot.now).way }
     ensures left { IfOk result (λ reached. spec.Walks basis.now ways.now
-        (λ all fallback found. spec.spot_left basis.now.caps.now basis.now.words.now.0 basis.now.name.now all ways.now fallback spot.now found)
+        (λ all fallback found. spec.spot_left basis.now.caps.now basis.now.words.now.0
+        basis.now.name.now all ways.now fallback spot.now found)
         reached targets.old.items targets.new.items) }
     ensures fits { IfOk result spec.ReachedFits }
     ensures all { IfOk result (spec.IsPast (length ways.now)) }

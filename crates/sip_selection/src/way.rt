@@ -6,8 +6,8 @@ use dns_name::{Name, NameRefusal};
 use sip_uri::Transport;
 use std::alloc::AllocError;
 
-/// A service that is looked for: by which transport, and the name of its SRV records, unless that would
-/// have more than 255 octets.
+/// A service that is looked for: by which transport, and the name of its SRV records, unless that
+/// would have more than 255 octets.
 #[derive(Drop)]
 pub(crate) struct Way {
     pub(crate) transport: Transport,

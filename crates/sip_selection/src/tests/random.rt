@@ -1,4 +1,5 @@
-//! Random answers: a choice that takes them one after the other, against the choice made at once by all of them.
+//! Random answers: a choice that takes them one after the other, against the choice made at once by
+//! all of them.
 use super::rules::NINE;
 use super::{Says, Server, answer_of, begun, request_of};
 use crate::choice::begin;
@@ -103,7 +104,8 @@ fn is_same(next: Next<'_>, turn: &Turn, targets: &[Target]) -> bool {
     }
 }
 
-/// A choice that takes one answer after the other, and what the same choice goes by that is made at once.
+/// A choice that takes one answer after the other, and what the same choice goes by that is made at
+/// once.
 #[derive(Drop)]
 struct Run {
     selection: Selection,
@@ -136,7 +138,8 @@ fn run_of(alloc: Global, text: &str, seed: u64) -> Option<Run> {
 }
 
 impl Run {
-    /// Whether the choice comes to what the one comes to that is made at once, where there is memory.
+    /// Whether the choice comes to what the one comes to that is made at once, where there is
+    /// memory.
     fn agrees(&self, alloc: Global) -> Option<bool> {
         let mut targets = Vec::new(alloc);
         let turn = begin(
@@ -183,7 +186,8 @@ fn agrees(alloc: Global, run: &mut Run) -> Option<bool> {
     None
 }
 
-/// Whether a request asks the same questions and goes to the same places, one answer after the other and all at once.
+/// Whether a request asks the same questions and goes to the same places, one answer after the
+/// other and all at once.
 fn is_right(alloc: Global, text: &str, seed: u64) -> bool {
     match run_of(alloc, text, seed) {
         Some(mut run) => agrees(alloc, &mut run) == Some(true),

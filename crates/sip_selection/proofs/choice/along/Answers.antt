@@ -18,7 +18,8 @@ returns-in-Walk c =
     (λ found all. spot_left b.caps.now b.words.now.0 b.name.now all lead.ways.items lead.fallback a.spot.now found)
     turn a.targets.now.items c.push_from.new.targets.items c.ended.new.targets.items
     (λ front all extends. (walks lead.fallback front).0 all extends
-    ∙ walk-ended b.caps.now b.words.now.0 b.name.now all lead.ways.items lead.fallback walk _ past) goes) c.ended.result (rw c.deref-in-Walk.ensures at c.ended.ensures)
+    ∙ walk-ended b.caps.now b.words.now.0 b.name.now all lead.ways.items lead.fallback walk _ past) goes) c.ended.result
+    (rw c.deref-in-Walk.ensures at c.ended.ensures)
 
 pub returns-in_ok-try_clone-in-Stop : goal.returns-in_ok-try_clone-in-Stop
 returns-in_ok-try_clone-in-Stop c = λ front.

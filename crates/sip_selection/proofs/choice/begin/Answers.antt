@@ -7,7 +7,12 @@ pub returns-in-Domain : goal.returns-in-Domain
 returns-in-Domain c =
     let a = c.args in
     let there = sym c.target.ensures ∙ c.in-Domain.is in
-    let comes = rw (c.is_secure-secure.ensures, c.port-port.ensures, c.spoken.ensures, c.transport_offered-transport.ensures) at c.for_domain.ensures in
+    let comes = rw (
+      c.is_secure-secure.ensures,
+      c.port-port.ensures,
+      c.spoken.ensures,
+      c.transport_offered-transport.ensures,
+    ) at c.for_domain.ensures in
     rw there (ok-each _ _ (λ turn first. (
       λ all extends. domain-is a.request.now a.caps.now a.words.now.0 all c.in-Domain.name _ _ ∙ first.0 all extends,
       first.1,

@@ -13,7 +13,8 @@ pub returns-in-None-Some-Ok : goal.returns-in-None-Some-Ok
 returns-in-None-Some-Ok c =
     let it = c.in-None-Some-Ok in
     let b = c.args.basis.now in
-    rw (it.is-0, it.is-1, it.is-2) (ok-each _ _ (λ turn goes. comes-first b (λ all. spec.to_service b.caps.now b.words.now.0 all b.name.now (Ok it.transport))
+    rw (it.is-0, it.is-1, it.is-2)
+    (ok-each _ _ (λ turn goes. comes-first b (λ all. spec.to_service b.caps.now b.words.now.0 all b.name.now (Ok it.transport))
     turn _ ((rw c.requires at goes) [])) c.to_service.result c.to_service.ensures)
 
 pub returns-in-None-None-default : goal.returns-in-None-None-default

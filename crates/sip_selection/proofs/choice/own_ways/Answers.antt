@@ -15,12 +15,15 @@ loop-slot-preserved c =
     let slot = get_or slots l.slot-index None in
     let is = get_or_default slots l.slot-index None slot c.loop-slot-test.true in
     record {
-      are = c.in_ok-push_tried.ensures ∙ ap (λ (ways : List Way). ways ++ tried_ways c.args.secure c.args.name.now (slot ∷ [])) l.invariant.are
+      are = c.in_ok-push_tried.ensures ∙ ap
+          (λ (ways : List Way). ways ++ tried_ways c.args.secure c.args.name.now (slot ∷ [])) l.invariant.are
           ∙ sym (tried-more c.args.secure c.args.name.now slots l.slot-index slot c.loop-slot-test.true is);
-      few = few-more c.args.secure c.args.name.now slots l.slot-index slot c.loop-slot-test.true is l.ways.items c.push_tried.new.ways.items l.invariant.few c.in_ok-push_tried.ensures;
+      few = few-more c.args.secure c.args.name.now slots l.slot-index slot c.loop-slot-test.true is l.ways.items
+          c.push_tried.new.ways.items l.invariant.few c.in_ok-push_tried.ensures;
     }
 
 pub returns-clause-ways : goal.returns-clause-ways
 returns-clause-ways c =
     let l = c.loop-slot in
-    l.invariant.are ∙ ap (tried_ways c.args.secure c.args.name.now) (take_all l.slot-index c.slots-slot-items.result.now c.loop-slot-test.false ∙ c.slots-slot-items.ensures.slots)
+    l.invariant.are ∙ ap (tried_ways c.args.secure c.args.name.now)
+    (take_all l.slot-index c.slots-slot-items.result.now c.loop-slot-test.false ∙ c.slots-slot-items.ensures.slots)

@@ -12,6 +12,8 @@ loop-at-preserved c =
     let caps = a.basis.now.caps.now in
     let given = a.basis.now.known.now in
     let are = c.kinds_of-kinds.ensures ∙ ap kinds_of c.families.ensures in
-    came-more given (λ all. kinds_left caps all a.transport a.port a.name.now) a.from a.targets.now.items l.at _ l.targets.items _ _ l.invariant
+    came-more given
+    (λ all. kinds_left caps all a.transport a.port a.name.now) a.from a.targets.now.items l.at _ l.targets.items _ _ l.invariant
     (rw (← c.deref.ensures, ← c.records.ensures.records) c.in_ok-push_addresses-in-Ok.ensures)
-    (kind-more caps a.transport a.port a.name.now c.kinds_of-kinds.result.now l.at are c.loop-at-test.true given (arc_value c.in-Ok.answer.now) c.in-Ok.ensures)
+    (kind-more caps a.transport a.port a.name.now c.kinds_of-kinds.result.now l.at are c.loop-at-test.true given
+    (arc_value c.in-Ok.answer.now) c.in-Ok.ensures)

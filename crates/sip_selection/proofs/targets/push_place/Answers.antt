@@ -6,7 +6,12 @@ use Rattle.sip_selection.proofs.targets.push_place.Goals as goal
 
 pub returns-in-Some : goal.returns-in-Some
 returns-in-Some c = rw (place-server c.args.basis.now.caps.now c.args.transport c.args.servers.now c.args.place c.in-Some.server.now
-    (slice_get_read c.args.servers.now _ c.args.place c.in-Some.server.now refl c.in-Some.ensures.lookup.3.0 c.in-Some.ensures.lookup.1)) c.push_server.ensures
+    (slice_get_read c.args.servers.now _ c.args.place c.in-Some.server.now refl c.in-Some.ensures.lookup.3.0 c.in-Some.ensures.lookup.1))
+    c.push_server.ensures
 
 pub returns-in-None : goal.returns-in-None
-returns-in-None c = ([], sym (append-nil c.args.targets.now.items), λ all extends. rw (slice_get_past c.args.servers.now c.args.place c.in-None.ensures.lookup.3) refl)
+returns-in-None c = (
+  [],
+  sym (append-nil c.args.targets.now.items),
+  λ all extends. rw (slice_get_past c.args.servers.now c.args.place c.in-None.ensures.lookup.3) refl,
+)

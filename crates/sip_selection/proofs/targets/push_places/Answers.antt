@@ -12,6 +12,10 @@ returns-in-Some c =
     let part = rw c.in-Some.is at c.in_ok-kind.ensures in
     let place = get_or a.places.now l.server 0 in
     came-stop given (λ all. servers_left caps all a.transport a.servers.now a.places.now) a.from a.targets.now.items _ _ c.in-Some.question
-    (came-more given (λ all. servers_left caps all a.transport a.servers.now a.places.now) a.from a.targets.now.items _ _ l.targets.items _ part.0 l.invariant part.1
-    (server-part caps a.transport a.servers.now a.places.now l.server l.kind place c.loop-server-test.true refl given c.in-Some.kind c.in-Some.question part.0 part.2))
-    (server-stops caps a.transport a.servers.now a.places.now l.server l.kind place c.loop-server-test.true refl given c.in-Some.kind c.in-Some.question part.0 part.2)
+    (came-more given
+    (λ all. servers_left caps all a.transport a.servers.now a.places.now) a.from a.targets.now.items _ _ l.targets.items _ part.0
+    l.invariant part.1
+    (server-part caps a.transport a.servers.now a.places.now l.server l.kind place c.loop-server-test.true refl given c.in-Some.kind
+    c.in-Some.question part.0 part.2))
+    (server-stops caps a.transport a.servers.now a.places.now l.server l.kind place c.loop-server-test.true refl given c.in-Some.kind
+    c.in-Some.question part.0 part.2)

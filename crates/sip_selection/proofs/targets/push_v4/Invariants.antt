@@ -4,4 +4,5 @@ use Rattle.sip_selection.specs.Services.{target_at}
 use Rattle.sip_selection.proofs.targets.push_v4.Given as goal
 
 abbrev pub invariant-loop-octets : goal.invariant-loop-octets
-invariant-loop-octets l = l.targets.items ≡ l.initial.targets.items ++ map (target_at l.transport l.port) (map V4 (take l.octets-index l.addresses))
+invariant-loop-octets l =
+    l.targets.items ≡ l.initial.targets.items ++ map (target_at l.transport l.port) (map V4 (take l.octets-index l.addresses))

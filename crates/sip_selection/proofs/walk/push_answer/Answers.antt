@@ -8,7 +8,13 @@ returns-in_ok-listing-in-Listed-clause-left c =
     let a = c.args in
     let b = a.basis.now in
     let is = rw (c.servers_in.ensures.servers, c.deref.ensures, c.in-Listed.is) at c.in_ok-outcome.ensures.order in
-    let left = rw (c.in_ok-listing-in-Listed.ensures.ok, c.in_ok-try_clone-in-Listed.ensures, c.behind-behind.ensures, c.in-Listed.is) at c.push_listing.ensures.left in
+    let left = rw (
+      c.in_ok-listing-in-Listed.ensures.ok,
+      c.in_ok-try_clone-in-Listed.ensures,
+      c.behind-behind.ensures,
+      c.in-Listed.is,
+    ) at c.push_listing.ensures.left in
     ok-each _ _ (λ reached walks ways. walks-too b ways _ _ reached a.targets.now.items _
-    (λ all extends fallback found. answer-listed b.caps.now b.words.now.0 b.name.now all ways fallback a.walk found a.transport (arc_value a.answer.now) c.in-Listed.places c.in-Listed.field-1 (sym is))
+    (λ all extends fallback found. answer-listed b.caps.now b.words.now.0 b.name.now all ways fallback a.walk found a.transport
+    (arc_value a.answer.now) c.in-Listed.places c.in-Listed.field-1 (sym is))
     (walks ways)) c.push_listing.result left

@@ -14,7 +14,8 @@ returns-in-Walk-clause-left c =
     let first = rw c.in-Walk.is at (c.in_ok-stop-in-Server.ensures.left a.ways.now) in
     rw s.is (ok-each _ _ (λ reached walks. walks-then b a.ways.now
     (λ all fallback found. walk_left b.caps.now b.words.now.0 b.name.now all a.ways.now fallback c.in-Walk.walk found)
-    (λ all fallback found. servers_first b.caps.now b.words.now.0 b.name.now all a.ways.now fallback (arc_value s.listing) s.cursor s.walk found)
+    (λ all fallback found. servers_first b.caps.now b.words.now.0 b.name.now all a.ways.now fallback
+    (arc_value s.listing) s.cursor s.walk found)
     reached a.targets.now.items c.push_listing.new.targets.items c.push_ways-in-Walk.new.targets.items
     (λ fallback front all extends. (first fallback front).0 all extends) walks) c.push_ways-in-Walk.result c.push_ways-in-Walk.ensures.left)
 

@@ -9,6 +9,7 @@ returns-in-Ok-clause-left c =
     let b = a.basis.now in
     let answer = arc_value c.in-Ok.answer.now in
     ok-each _ _ (λ reached walks ways there. walks-too b ways _ _ reached a.targets.now.items _
-    (λ all extends fallback found. named-left b.caps.now b.words.now.0 b.name.now all ways fallback a.walk found a.way.now c.in-Some.name c.in-Some.is there answer
+    (λ all extends fallback found. named-left b.caps.now b.words.now.0 b.name.now all ways fallback a.walk found a.way.now c.in-Some.name
+    c.in-Some.is there answer
     (extends (record { name = c.in-Some.name; kind = Srv }) answer c.in-Ok.ensures))
     (walks ways)) c.push_answer.result c.push_answer.ensures.left

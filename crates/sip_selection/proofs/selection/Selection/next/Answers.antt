@@ -5,12 +5,15 @@ use Rattle.sip_selection.proofs.selection.Selection.next.Goals as goal
 pub returns-in-Ask : goal.returns-in-Ask
 returns-in-Ask c =
     let s = c.self.inside in
-    rw (← c.self.view_is) (sym (asked-is s.request s.caps s.words.0 s.known s.targets.items c.in-Ask.question c.in-Ask.field-1 (rw c.in-Ask.is at c.self.invariant.0)))
+    rw (← c.self.view_is)
+    (sym (asked-is s.request s.caps s.words.0 s.known s.targets.items c.in-Ask.question c.in-Ask.field-1
+    (rw c.in-Ask.is at c.self.invariant.0)))
 
 pub returns-in-Refused : goal.returns-in-Refused
 returns-in-Refused c =
     let s = c.self.inside in
-    rw (← c.self.view_is) (sym (refused-is s.request s.caps s.words.0 s.known s.targets.items c.in-Refused.reason (rw c.in-Refused.is at c.self.invariant.0)))
+    rw (← c.self.view_is)
+    (sym (refused-is s.request s.caps s.words.0 s.known s.targets.items c.in-Refused.reason (rw c.in-Refused.is at c.self.invariant.0)))
 
 pub returns-in-Found : goal.returns-in-Found
 returns-in-Found c =
