@@ -20,10 +20,13 @@ module _ (is_of : Record → Bool) (of : ZoneEntry → Record) (start : List Rec
   pub filled : (count : ℕ) → length (passed count) ≡ 46 → passed count ≡ take 46 (start ++ filter is_of (map of entries))
   filled count full =
       let front : take 46 (passed count ++ filter is_of (map of (drop count entries))) ≡ passed count =
-      take-append-le 46 (passed count) (filter is_of (map of (drop count entries))) (omega (arith, full)) ∙ take_all 46 (passed count) (omega (arith, full)) in
+      take-append-le 46 (passed count) (filter is_of (map of (drop count entries))) (omega (arith, full)) ∙ take_all 46 (passed count)
+      (omega (arith, full)) in
       sym (ap (take 46) (split count) ∙ front)
 
-  pub whole : (count : ℕ) → length entries ≤ count → length (passed count) ≤ 46 → passed count ≡ take 46 (start ++ filter is_of (map of entries))
+  pub whole : (count : ℕ) → length entries ≤ count → length (passed count) ≤ 46
+      → passed count ≡ take 46 (start ++ filter is_of (map of entries))
   whole count all few =
-      let same : passed count ≡ start ++ filter is_of (map of entries) = ap (λ (l : List ZoneEntry). start ++ filter is_of (map of l)) (take_all count entries all) in
+      let same : passed count ≡ start ++ filter is_of (map of entries) =
+      ap (λ (l : List ZoneEntry). start ++ filter is_of (map of l)) (take_all count entries all) in
       sym (take_all 46 (passed count) few) ∙ ap (take 46) same

@@ -24,7 +24,8 @@ module _ (name : List (List ℕ)) where
       let some : canonical_in entry.rdata ≡ Some target = ap canonical_in rdata in
       absurd cc
 
-  first_by : (entry : ZoneEntry) (entries : List ZoneEntry) (alias : ZoneAlias) (canonical : Option (List (List ℕ))) → canonical_in entry.rdata ≡ canonical
+  first_by : (entry : ZoneEntry) (entries : List ZoneEntry) (alias : ZoneAlias) (canonical : Option (List (List ℕ)))
+      → canonical_in entry.rdata ≡ canonical
       → first_alias (entry ∷ entries) ≡ Some alias
       → (first_alias entries ≡ Some alias → IsFirstAlias (map (record_of name) entries) name (link_of name alias) alias.target)
       → IsFirstAlias (map (record_of name) (entry ∷ entries)) name (link_of name alias) alias.target
@@ -52,7 +53,8 @@ module _ (name : List (List ℕ)) where
         first = All-cons (IsNoAlias name) (record_of name entry) there.front (no_alias entry e) there.first;
       }
 
-  pub first_is : (entries : List ZoneEntry) (alias : ZoneAlias) → first_alias entries ≡ Some alias → IsFirstAlias (map (record_of name) entries) name (link_of name alias) alias.target
+  pub first_is : (entries : List ZoneEntry) (alias : ZoneAlias) → first_alias entries ≡ Some alias
+      → IsFirstAlias (map (record_of name) entries) name (link_of name alias) alias.target
   first_is [] alias some = absurd cc
   first_is (entry ∷ entries) alias some = first_by entry entries alias (canonical_in entry.rdata) refl some (first_is entries alias)
 
@@ -62,28 +64,32 @@ module _ (name : List (List ℕ)) where
   none_by entry entries (Some target) e none rest =
       let no : ◌≡◌ {A = Option ZoneAlias} (Some (record { ttl = entry.ttl; target = target })) None = rw e at none in
       absurd cc
-  none_by entry entries None e none rest = All-cons (IsNoAlias name) (record_of name entry) (map (record_of name) entries) (no_alias entry e) (rest (rw e at none))
+  none_by entry entries None e none rest =
+      All-cons (IsNoAlias name) (record_of name entry) (map (record_of name) entries) (no_alias entry e) (rest (rw e at none))
 
   pub none_first : (entries : List ZoneEntry) → first_alias entries ≡ None → All (IsNoAlias name) (map (record_of name) entries)
   none_first [] none = All-nil (IsNoAlias name)
   none_first (entry ∷ entries) none = none_by entry entries (canonical_in entry.rdata) refl none (none_first entries)
 
   -- a record that is no alias has no canonical name
-  canonical_none : (entry : ZoneEntry) (canonical : Option (List (List ℕ))) → canonical_in entry.rdata ≡ canonical → IsNoAlias name (record_of name entry) → canonical_in entry.rdata ≡ None
+  canonical_none : (entry : ZoneEntry) (canonical : Option (List (List ℕ))) → canonical_in entry.rdata ≡ canonical
+      → IsNoAlias name (record_of name entry) → canonical_in entry.rdata ≡ None
   canonical_none entry None e never = e
   canonical_none entry (Some target) e never = absurd (never target refl (canonical_is entry.rdata target e))
 
   pub no_first : (entries : List ZoneEntry) → All (IsNoAlias name) (map (record_of name) entries) → first_alias entries ≡ None
   no_first [] never = refl
   no_first (entry ∷ entries) never =
-      rw (canonical_none entry (canonical_in entry.rdata) refl (All-head (IsNoAlias name) (record_of name entry) (map (record_of name) entries) never))
+      rw (canonical_none entry (canonical_in entry.rdata) refl
+      (All-head (IsNoAlias name) (record_of name entry) (map (record_of name) entries) never))
       (no_first entries (All-tail (IsNoAlias name) (record_of name entry) (map (record_of name) entries) never))
 
   some_first : (entry : ZoneEntry) (entries : List ZoneEntry) (target : List (List ℕ)) → canonical_in entry.rdata ≡ Some target
       → first_alias (entry ∷ entries) ≡ Some (record { ttl = entry.ttl; target = target })
   some_first entry entries target some = rw some refl
 
-  first_from : (entries : List ZoneEntry) (front back : List Record) (entry : Record) (target : List (List ℕ)) → map (record_of name) entries ≡ front ++ entry ∷ back
+  first_from : (entries : List ZoneEntry) (front back : List Record) (entry : Record) (target : List (List ℕ))
+      → map (record_of name) entries ≡ front ++ entry ∷ back
       → entry.rdata ≡ Cname target → All (IsNoAlias name) front
       → (alias : ZoneAlias) × (first_alias entries ≡ Some alias) × (alias.target ≡ target) × (link_of name alias ≡ entry)
   first_from [] [] back entry target stands alias first = absurd cc
@@ -102,18 +108,26 @@ module _ (name : List (List ℕ)) where
       let rest = first_from entries front back entry target others alias (All-tail (IsNoAlias name) other front first) in
       (rest.0, rw none rest.1, rest.2, rest.3)
 
-  pub is_first : (entries : List ZoneEntry) (entry : Record) (target : List (List ℕ)) → IsFirstAlias (map (record_of name) entries) name entry target
+  pub is_first : (entries : List ZoneEntry) (entry : Record) (target : List (List ℕ))
+      → IsFirstAlias (map (record_of name) entries) name entry target
       → (alias : ZoneAlias) × (first_alias entries ≡ Some alias) × (alias.target ≡ target) × (link_of name alias ≡ entry)
   is_first entries entry target is = first_from entries is.front is.back entry target is.stands is.alias is.first
 
 module _ (zone : List Owned) where
   path_by : (more : ℕ) (name : List (List ℕ)) (alias : Option ZoneAlias) → first_alias (entries_at zone name) ≡ alias
-      → ((target : List (List ℕ)) → IsPath more zone target (path_within more zone target)) → IsPath (suc more) zone name (path_within (suc more) zone name)
+      → ((target : List (List ℕ)) → IsPath more zone target (path_within more zone target))
+      → IsPath (suc more) zone name (path_within (suc more) zone name)
   unfolding path_within
-  path_by more name None e rest = rw e (record { follows = Follows.stays refl; short = omega arith; ends = inl (none_first name (entries_at zone name) e) })
+  path_by more name None e rest =
+      rw e (record { follows = Follows.stays refl; short = omega arith; ends = inl (none_first name (entries_at zone name) e) })
   path_by more name (Some alias) e rest =
       let there = rest alias.target in
-      rw e (record { follows = Follows.leads alias.target (first_is name (entries_at zone name) alias e) there.follows; short = omega (arith, there.short); ends = longer there.ends })
+      rw e (record {
+        follows = Follows.leads alias.target (first_is name (entries_at zone name) alias e) there.follows;
+        short =
+            omega (arith, there.short);
+        ends = longer there.ends;
+      })
     where
       longer : {P : Type 0} {n : ℕ} → P ⊎ (n ≡ more) → P ⊎ (suc n ≡ suc more)
       longer (inl p) = inl p
@@ -127,8 +141,10 @@ module _ (zone : List Owned) where
   pub path_few : (name : List (List ℕ)) → length (path zone name).links ≤ 8
   path_few name = (path_is 8 name).short
 
-  pub is_path : (limit : ℕ) (name : List (List ℕ)) (links : List Record) (last : List (List ℕ)) → Follows zone name links last → length links ≤ limit
-      → All (IsNoAlias last) (records_at zone last) ⊎ (length links ≡ limit) → path_within limit zone name ≡ record { links = links; last = last }
+  pub is_path : (limit : ℕ) (name : List (List ℕ)) (links : List Record) (last : List (List ℕ)) → Follows zone name links last
+      → length links ≤ limit
+      → All (IsNoAlias last) (records_at zone last) ⊎ (length links ≡ limit)
+      → path_within limit zone name ≡ record { links = links; last = last }
   unfolding path_within
   is_path zero name [] last (Follows.stays same) short ends = ap (λ (l : List (List ℕ)). record { links = []; last = l }) (sym same)
   is_path (suc more) name [] last (Follows.stays same) short (inl never) =

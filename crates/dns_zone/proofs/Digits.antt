@@ -26,8 +26,11 @@ module _ (limit : ℕ) (text : List ℕ) (at number : ℕ) (so_far : DecimalSoFa
         let value : decimal_from (10 * number + (digit - 48)) (drop (at + 1) text) ≡ decimal text = rw here at so_far.value in
         grind (arith, nat_tests, value, decimal_grows (10 * number + (digit - 48)) (drop (at + 1) text))
 
-  pub more_decimal : at < length text → is_ascii_digit (get_or text at 0) ≡ true → (digit : ℕ) → digit ≡ get_or text at 0 - 48 → 10 * number + digit ≤ limit → DecimalSoFar limit text (at + 1) (10 * number + digit)
+  pub more_decimal : at < length text → is_ascii_digit (get_or text at 0) ≡ true → (digit : ℕ) → digit ≡ get_or text at 0 - 48
+      → 10 * number + digit ≤ limit → DecimalSoFar limit text (at + 1) (10 * number + digit)
   more_decimal within good digit is small =
-      let digits : (is_ascii_digit (get_or text at 0) && list_all is_ascii_digit (drop (at + 1) text)) ≡ list_all is_ascii_digit text = rw (drop_more text at 0 within) at so_far.digits in
-      let value : decimal_from (10 * number + (get_or text at 0 - 48)) (drop (at + 1) text) ≡ decimal text = rw (drop_more text at 0 within) at so_far.value in
+      let digits : (is_ascii_digit (get_or text at 0) && list_all is_ascii_digit (drop (at + 1) text)) ≡ list_all is_ascii_digit text =
+      rw (drop_more text at 0 within) at so_far.digits in
+      let value : decimal_from (10 * number + (get_or text at 0 - 48)) (drop (at + 1) text) ≡ decimal text =
+      rw (drop_more text at 0 within) at so_far.value in
       record { low = small; digits = rw good at digits; value = rw (← is) at value }

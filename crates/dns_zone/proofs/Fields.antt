@@ -28,7 +28,8 @@ module _ (line : List ℕ) where
     few : length (passed (count + 1)) ≤ length (fields_of line)
     few =
         let split : fields_of line ≡ passed (count + 1) ++ filter is_field (drop (count + 1) (parts line)) =
-        ap (filter is_field) (sym (take-append-drop (count + 1) (parts line))) ∙ filter-append is_field (take (count + 1) (parts line)) (drop (count + 1) (parts line)) in
+        ap (filter is_field) (sym (take-append-drop (count + 1) (parts line))) ∙ filter-append is_field (take (count + 1) (parts line))
+        (drop (count + 1) (parts line)) in
         omega (arith, ap length split, length-append (passed (count + 1)) (filter is_field (drop (count + 1) (parts line))))
 
     pub overflows : is_field part ≡ true → length (passed count) ≡ 9 → 9 < length (fields_of line)

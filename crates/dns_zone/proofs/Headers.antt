@@ -22,9 +22,16 @@ low_rcode : (entries : List ZoneEntry) → name_rcode entries < 16
 low_rcode [] = omega arith
 low_rcode (entry ∷ entries) = omega arith
 
-one_headed : (zone : List Owned) (query : Header) (asked : Asked) (taken : Bool) → is_taken query asked ≡ taken → IsHeaded query (reply_about zone query (asked ∷ []))
+one_headed : (zone : List Owned) (query : Header) (asked : Asked) (taken : Bool) → is_taken query asked ≡ taken
+    → IsHeaded query (reply_about zone query (asked ∷ []))
 one_headed zone query asked true e =
-    record { code = rcode zone asked; low = low_rcode (entries_at zone (path zone asked.name).last); header = rw e refl; few = rw e (omega arith) }
+    record {
+      code = rcode zone asked;
+      low = low_rcode (entries_at zone (path zone asked.name).last);
+      header = rw e refl;
+      few =
+          rw e (omega arith);
+    }
 one_headed zone query asked false e = record { code = 5; low = omega arith; header = rw e refl; few = rw e (omega arith) }
 
 about_headed : (zone : List Owned) (query : Header) (questions : List Asked) → IsHeaded query (reply_about zone query questions)
@@ -41,7 +48,8 @@ fitted_by : (message : Message) (fits : Bool) → nat_le (length (plain message)
 fitted_by message true e = rw e (refl, refl)
 fitted_by message false e = rw e (refl, refl)
 
-pub fitted-keeps : (message : Message) → ((fitted message).header.reply ≡ message.header.reply) × ((fitted message).header.id ≡ message.header.id)
+pub fitted-keeps : (message : Message) → ((fitted message).header.reply ≡ message.header.reply)
+    × ((fitted message).header.id ≡ message.header.id)
 fitted-keeps message = fitted_by message (nat_le (length (plain message)) 512) refl
 
 -- what is written of the reply is the reply

@@ -51,7 +51,8 @@ long message many =
     let d = length-two_octets (length message.additional) in
     simp (length-append) (omega arith)
 
-cut_by : (message : Message) (fits : Bool) → nat_le (length (plain message)) 512 ≡ fits → 512 < length (plain message) → fitted message ≡ cut message
+cut_by : (message : Message) (fits : Bool) → nat_le (length (plain message)) 512 ≡ fits → 512 < length (plain message)
+    → fitted message ≡ cut message
 cut_by message true e over = absurd (grind (arith, nat_tests))
 cut_by message false e over = rw e refl
 

@@ -49,7 +49,8 @@ module _ {Z : Type 0} where
       → ((name : List (List ℕ)) → IsTrue (same_name owner name) ↔ (owner ≡ name))
       → after.items ≡ items_of (lookup (same_name owner) old) ++ entry ∷ []
       → ((name : List (List ℕ)) → lookup (same_name name) new ≡ cond (same_name owner name) (Some after) (lookup (same_name name) old))
-      → (name : List (List ℕ)) → entries_at (map owned_of new) name ≡ entries_at (map owned_of old) name ++ (if same_name owner name then entry ∷ [] else [])
+      → (name : List (List ℕ))
+      → entries_at (map owned_of new) name ≡ entries_at (map owned_of old) name ++ (if same_name owner name then entry ∷ [] else [])
   entries-grown owner old new after entry same grown is name =
       let all = grown-by owner name old new after entry (same_name owner name) refl (same name).0 grown (is name) in
       rw (entries-found name new, entries-found name old) all

@@ -25,7 +25,8 @@ module _ (zone : List Owned) (start : List (List ℕ)) where
     ends_here zero none = refl
     ends_here (suc more) none = rw none refl
 
-    ended : (more : ℕ) → path_within more zone name ≡ record { links = []; last = name } → joined links (path_within more zone name) ≡ path zone start
+    ended : (more : ℕ) → path_within more zone name ≡ record { links = []; last = name }
+        → joined links (path_within more zone name) ≡ path zone start
         → (links ≡ (path zone start).links) × (name ≡ (path zone start).last)
     ended more ends is =
         let all : record { links = links ++ []; last = name } ≡ path zone start = rw ends at is in
@@ -53,9 +54,11 @@ module _ (zone : List Owned) (start : List (List ℕ)) where
         record {
           more = more;
           left = omega (arith, left);
-          is = ap (λ (l : List Record). record { links = l; last = (path_within more zone alias.target).last }) (append_assoc links (link_of name alias ∷ []) (path_within more zone alias.target).links) ∙ there;
+          is = ap (λ (l : List Record). record { links = l; last = (path_within more zone alias.target).last })
+              (append_assoc links (link_of name alias ∷ []) (path_within more zone alias.target).links) ∙ there;
         }
 
-    pub follows : (alias : ZoneAlias) (count : ℕ) → Walking zone start links name count → count < 8 → Some alias ≡ first_alias (entries_at zone name)
+    pub follows : (alias : ZoneAlias) (count : ℕ) → Walking zone start links name count → count < 8
+        → Some alias ≡ first_alias (entries_at zone name)
         → Walking zone start (links ++ link_of name alias ∷ []) alias.target (count + 1)
     follows alias count so_far within some = step alias so_far.more count so_far.left within some so_far.is

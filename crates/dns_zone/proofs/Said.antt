@@ -28,17 +28,25 @@ among all count line within is entry = (line, subst (Contains all) (sym is) (Con
 -- ---- lines that were read up to a place
 
 -- one line more, which says no record
-says_none : (front : List (List ℕ)) (line : List ℕ) (records : List Record) → LinesSay front records → LineSays line None → LinesSay (front ++ line ∷ []) records
+says_none : (front : List (List ℕ)) (line : List ℕ) (records : List Record) → LinesSay front records → LineSays line None
+    → LinesSay (front ++ line ∷ []) records
 says_none [] line records says none = inl (none, says)
 says_none (first ∷ front) line records (inl says) none = inl (says.0, says_none front line records says.1 none)
 says_none (first ∷ front) line records (inr says) none = inr (says.0, says.1, says.2, says.3, says_none front line says.1 says.4 none)
 
 -- or one
-says_some : (front : List (List ℕ)) (line : List ℕ) (records : List Record) (entry : Record) → LinesSay front records → LineSays line (Some entry) → LinesSay (front ++ line ∷ []) (records ++ entry ∷ [])
+says_some : (front : List (List ℕ)) (line : List ℕ) (records : List Record) (entry : Record) → LinesSay front records
+    → LineSays line (Some entry) → LinesSay (front ++ line ∷ []) (records ++ entry ∷ [])
 says_some [] line records entry says some = inr (entry, [], ap (λ (l : List Record). l ++ entry ∷ []) says, some, refl)
 says_some (first ∷ front) line records entry (inl says) some = inl (says.0, says_some front line records entry says.1 some)
 says_some (first ∷ front) line records entry (inr says) some =
-    inr (says.0, says.1 ++ entry ∷ [], ap (λ (l : List Record). l ++ entry ∷ []) says.2, says.3, says_some front line says.1 entry says.4 some)
+    inr (
+      says.0,
+      says.1 ++ entry ∷ [],
+      ap (λ (l : List Record). l ++ entry ∷ []) says.2,
+      says.3,
+      says_some front line says.1 entry says.4 some,
+    )
 
 module _ (all : List (List ℕ)) where
   -- So many lines were read. All that the lines together may say begins with what these say. Up to the limit the zone has it.
@@ -51,7 +59,8 @@ module _ (all : List (List ℕ)) where
     pub holds : kept ≤ 4096 → Holds zone records
 
   pub begun : (zone : List Owned) → zone ≡ [] → Drafting 0 0 zone
-  begun zone none = record { records = []; says = refl; back = λ others is. (others, refl, is); counted = refl; holds = λ few name. rw none refl }
+  begun zone none =
+      record { records = []; says = refl; back = λ others is. (others, refl, is); counted = refl; holds = λ few name. rw none refl }
 
   module _ (count : ℕ) (line : List ℕ) (within : count < length all) (is : line ≡ get_or all count line) where
     ahead : drop count all ≡ line ∷ drop (count + 1) all
@@ -61,8 +70,10 @@ module _ (all : List (List ℕ)) where
     behind = take_more all count line within ∙ ap (λ (l : List ℕ). take count all ++ l ∷ []) (sym is)
 
     module _ (kept : ℕ) (zone : List Owned) (so_far : Drafting count kept zone) where
-      back_none : ((said : Option Record) → LineSays line said → None ≡ said) → (others rest : List Record) → others ≡ so_far.records ++ rest
-          → LinesSay (line ∷ drop (count + 1) all) rest → (rest' : List Record) × (others ≡ so_far.records ++ rest') × LinesSay (drop (count + 1) all) rest'
+      back_none : ((said : Option Record) → LineSays line said → None ≡ said) → (others rest : List Record)
+          → others ≡ so_far.records ++ rest
+          → LinesSay (line ∷ drop (count + 1) all) rest → (rest' : List Record) × (others ≡ so_far.records ++ rest')
+          × LinesSay (drop (count + 1) all) rest'
       back_none only others rest e (inl says) = (rest, e, says.1)
       back_none only others rest e (inr says) = let no = only (Some says.0) says.3 in absurd cc
 
@@ -77,16 +88,20 @@ module _ (all : List (List ℕ)) where
         holds = so_far.holds;
       }
 
-      back_some : (entry : Record) → ((said : Option Record) → LineSays line said → Some entry ≡ said) → (others rest : List Record) → others ≡ so_far.records ++ rest
-          → LinesSay (line ∷ drop (count + 1) all) rest → (rest' : List Record) × (others ≡ (so_far.records ++ entry ∷ []) ++ rest') × LinesSay (drop (count + 1) all) rest'
+      back_some : (entry : Record) → ((said : Option Record) → LineSays line said → Some entry ≡ said) → (others rest : List Record)
+          → others ≡ so_far.records ++ rest
+          → LinesSay (line ∷ drop (count + 1) all) rest → (rest' : List Record) × (others ≡ (so_far.records ++ entry ∷ []) ++ rest')
+          × LinesSay (drop (count + 1) all) rest'
       back_some entry only others rest e (inl says) = let no = only None says.0 in absurd cc
       back_some entry only others rest e (inr says) =
           let same : Some entry ≡ Some says.0 = only (Some says.0) says.3 in
           let this : entry ≡ says.0 = cc in
-          let whole : others ≡ so_far.records ++ entry ∷ says.1 = e ∙ ap (λ (l : List Record). so_far.records ++ l) (says.2 ∙ ap (λ (r : Record). r ∷ says.1) (sym this)) in
+          let whole : others ≡ so_far.records ++ entry ∷ says.1 =
+          e ∙ ap (λ (l : List Record). so_far.records ++ l) (says.2 ∙ ap (λ (r : Record). r ∷ says.1) (sym this)) in
           (says.1, whole ∙ sym (append_assoc so_far.records (entry ∷ []) says.1), says.4)
 
-      pub takes : (entry : Record) (kept' : ℕ) (zone' : List Owned) → LineSays line (Some entry) → ((said : Option Record) → LineSays line said → Some entry ≡ said)
+      pub takes : (entry : Record) (kept' : ℕ) (zone' : List Owned) → LineSays line (Some entry)
+          → ((said : Option Record) → LineSays line said → Some entry ≡ said)
           → kept' ≡ min (kept + 1) 4097 → (kept < 4096 → (records : List Record) → Holds zone records → Holds zone' (records ++ entry ∷ []))
           → Drafting (count + 1) kept' zone'
       takes entry kept' zone' some only counts held = record {
@@ -138,7 +153,8 @@ pub numbered : (all : List (List ℕ)) (count at : ℕ) (line : List ℕ) → co
     → (at ≡ count) × (count < length all) × (line ≡ get_or all count line)
 numbered all count at line within is =
     let within' : count < length all = omega (arith, within, length-enumerate_from 0 all) in
-    let there : ◌≡◌ {A = ℕ × List ℕ} (at, line) (0 + count, get_or all count line) = is ∙ get_or-enumerate_from 0 all count (at, line) within' in
+    let there : ◌≡◌ {A = ℕ × List ℕ} (at, line) (0 + count, get_or all count line) =
+    is ∙ get_or-enumerate_from 0 all count (at, line) within' in
     (omega (arith, ap (λ (p : ℕ × List ℕ). p.0) there), within', ap (λ (p : ℕ × List ℕ). p.1) there)
 
 -- ---- the first bad line
@@ -150,7 +166,8 @@ parts_say line others records (inl says) = ((None, says.0), (records, says.1))
 parts_say line others records (inr says) = ((Some says.0, says.3), (says.1, says.4))
 
 -- and so does a line behind others
-line_says : (front back : List (List ℕ)) (line : List ℕ) (records : List Record) → LinesSay (front ++ line ∷ back) records → (said : Option Record) × LineSays line said
+line_says : (front back : List (List ℕ)) (line : List ℕ) (records : List Record) → LinesSay (front ++ line ∷ back) records
+    → (said : Option Record) × LineSays line said
 line_says [] back line records says = (parts_say line back records says).0
 line_says (first ∷ front) back line records says =
     let rest = (parts_say first (front ++ line ∷ back) records says).1 in
@@ -183,5 +200,6 @@ same_place (first ∷ front) (first' ∷ other) line line' back back' records re
 -- there is one first bad line
 pub one_first_bad : (all : List (List ℕ)) (number number' : ℕ) → IsFirstBad all number → IsFirstBad all number' → number ≡ number'
 one_first_bad all number number' is is' =
-    let same = same_place is.front is'.front is.line is'.line is.back is'.back is.records is'.records (sym is.stands ∙ is'.stands) is.good is'.good is.bad is'.bad in
+    let same = same_place is.front is'.front is.line is'.line is.back is'.back is.records is'.records
+    (sym is.stands ∙ is'.stands) is.good is'.good is.bad is'.bad in
     omega (arith, same, is.number_is, is'.number_is)

@@ -27,7 +27,9 @@ one_is Is fields is = subst Is (sym (text_at fields 0 ∙ ap (λ (l : List (List
 
 -- of six
 pub six_texts : (fields : List (Bor (List ℕ))) → length fields ≡ 6
-    → texts fields ≡ (get_or fields 0 nothing).now ∷ (get_or fields 1 nothing).now ∷ (get_or fields 2 nothing).now ∷ (get_or fields 3 nothing).now ∷ (get_or fields 4 nothing).now ∷ (get_or fields 5 nothing).now ∷ []
+    → texts fields
+    ≡ (get_or fields 0 nothing).now ∷ (get_or fields 1 nothing).now ∷ (get_or fields 2 nothing).now ∷ (get_or fields 3 nothing).now ∷
+    (get_or fields 4 nothing).now ∷ (get_or fields 5 nothing).now ∷ []
 six_texts [] six = absurd (omega arith)
 six_texts (a ∷ []) six = absurd (omega arith)
 six_texts (a ∷ b ∷ []) six = absurd (omega arith)

@@ -74,7 +74,7 @@ pub record NaptrFields (fields : List (List ℕ)) (rule : NaptrRecord) : Type 0 
 abbrev pub OneField : (List ℕ → Type 0) → List (List ℕ) → Type 0
 OneField Is fields = (text : List ℕ) × (fields ≡ text ∷ []) × Is text
 
--- the fields behind an owner and a TTL: a type, and what it wants
+-- the fields after an owner and a TTL: a type, and what it wants
 abbrev pub DataFields : List ℕ → List (List ℕ) → Rdata → Type 0
 DataFields kind fields (Addr4 octets) =
     (kind ≡ codes "A") × OneField (λ text. AddressText text (address.V4 octets)) fields
@@ -106,7 +106,8 @@ abbrev pub is_comment : List ℕ → Bool
 is_comment [] = false
 is_comment (first ∷ others) = first == 35
 
--- the record that a line says; a comment says none, and neither does an empty line, or one of blanks alone
+-- the record that a line says; a comment says none, and neither does an empty line, or one of
+-- blanks alone
 abbrev pub LineSays : List ℕ → Option Record → Type 0
 LineSays line None = (is_comment line ≡ true) ⊎ (fields_of line ≡ [])
 LineSays line (Some entry) = (is_comment line ≡ false) × RecordFields (fields_of line) entry
@@ -116,7 +117,8 @@ abbrev pub LinesSay : List (List ℕ) → List Record → Type 0
 LinesSay [] records = records ≡ []
 LinesSay (line ∷ lines) records =
     (LineSays line None × LinesSay lines records)
-    ⊎ ((entry : Record) × (others : List Record) × (records ≡ entry ∷ others) × LineSays line (Some entry) × LinesSay lines others)
+    ⊎ ((entry : Record) × (others : List Record) × (records ≡ entry ∷ others)
+    × LineSays line (Some entry) × LinesSay lines others)
 
 -- the line of this number, from 1, is the first that neither says a record nor may say none
 pub record IsFirstBad (lines : List (List ℕ)) (number : ℕ) : Type 0 where
@@ -131,7 +133,8 @@ pub record IsFirstBad (lines : List (List ℕ)) (number : ℕ) : Type 0 where
 
 -- for each name the zone has those of the records that are about it, in their order
 abbrev pub Holds : List Owned → List Record → Type 0
-Holds zone records = (name : List (List ℕ)) → records_at zone name ≡ filter (λ (entry : Record). same_name entry.owner name) records
+Holds zone records = (name : List (List ℕ))
+    → records_at zone name ≡ filter (λ (entry : Record). same_name entry.owner name) records
 
 -- a line that is to say a record: no comment, and with fields
 pub record IsEntryLine (line : List ℕ) : Type 0 where

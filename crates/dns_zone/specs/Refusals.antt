@@ -16,6 +16,7 @@ line_of_name _ = line.Bad
 -- what is so of lines that are refused
 abbrev pub RefusedFor : ZoneRefusal → List (List ℕ) → Type 0
 RefusedFor (zone.BadLine number) lines = IsFirstBad lines number
-RefusedFor zone.TooMany lines = (records : List Record) × LinesSay lines records × (4096 < length records)
+RefusedFor zone.TooMany lines = (records : List Record) × LinesSay lines records
+    × (4096 < length records)
 -- memory is wanted for records alone
 RefusedFor zone.Memory lines = (line : List ℕ) × Contains lines line × IsEntryLine line

@@ -23,7 +23,8 @@ is_of code entry = rdata_code entry.rdata == code
 abbrev pub answers : List Owned → Asked → List Record
 answers zone asked =
     if is_answered asked.code
-    then (path zone asked.name).links ++ filter (is_of asked.code) (records_at zone (path zone asked.name).last)
+    then (path zone asked.name).links
+    ++ filter (is_of asked.code) (records_at zone (path zone asked.name).last)
     else []
 
 -- RCODE of what a name has: 3 where it has nothing, and so does not exist
@@ -86,7 +87,8 @@ pub record IsQuery (octets : List ℕ) (query : Message) : Type 0 where
   pub begins : Begins octets query
   pub asks : query.header.reply ≡ false
 
--- no query is in front of them: they are too many, or begin with no message, or with one with QR set
+-- no query is in front of them: they are too many, or begin with no message, or with one with QR
+-- set
 abbrev pub IsSilent : List ℕ → Type 0
 IsSilent octets = (query : Message) → IsQuery octets query → ⊥
 

@@ -18,7 +18,9 @@ pub record Owned : Type 0 where
 -- what the zone has for a name
 abbrev pub entries_at : List Owned → List (List ℕ) → List ZoneEntry
 entries_at zone name =
-    option_map_or (λ (owned : Owned). owned.entries) (find (λ (owned : Owned). same_name owned.owner name) zone) []
+    option_map_or
+    (λ (owned : Owned). owned.entries)
+    (find (λ (owned : Owned). same_name owned.owner name) zone) []
 
 -- the record of an owner that says this
 abbrev pub record_of : List (List ℕ) → ZoneEntry → Record
@@ -36,7 +38,8 @@ pub record ZoneAlias : Type 0 where
 
 abbrev pub alias_in : ZoneEntry → Option ZoneAlias
 alias_in entry =
-    option_map (λ (target : List (List ℕ)). record { ttl = entry.ttl; target = target }) (canonical_in entry.rdata)
+    option_map (λ (target : List (List ℕ)). record { ttl = entry.ttl; target = target })
+    (canonical_in entry.rdata)
 
 -- the first one of these
 abbrev pub first_alias : List ZoneEntry → Option ZoneAlias
@@ -46,11 +49,13 @@ first_alias entries = slice_get (filter_map alias_in entries) 0
 abbrev pub link_of : List (List ℕ) → ZoneAlias → Record
 link_of name alias = record { owner = name; ttl = alias.ttl; rdata = Cname alias.target }
 
--- the CNAME records from a name on, the first of each name, until a name has none or there are so many; and the last name
+-- the CNAME records from a name on, the first of each name, until a name has none or there are so
+-- many; and the last name
 unfoldable pub path_within : ℕ → List Owned → List (List ℕ) → Chain
 path_within zero zone name = ends_at name
 path_within (suc more) zone name =
-    option_map_or (λ (alias : ZoneAlias). behind (link_of name alias) (path_within more zone alias.target))
+    option_map_or
+    (λ (alias : ZoneAlias). behind (link_of name alias) (path_within more zone alias.target))
     (first_alias (entries_at zone name)) (ends_at name)
 
 -- at most eight of them
@@ -59,14 +64,18 @@ path zone name = path_within 8 zone name
 
 -- ---- the same as a relation (RFC 1034 3.6.2)
 
--- from the first name these CNAME records of the zone lead to the other one, each the first of its name
+-- from the first name these CNAME records of the zone lead to the other one, each the first of its
+-- name
 pub data Follows (zone : List Owned) : List (List ℕ) → List Record → List (List ℕ) → Type 0 where
   stays : {name last : List (List ℕ)} → last ≡ name → Follows zone name [] last
-  leads : {name last : List (List ℕ)} {entry : Record} {others : List Record} (target : List (List ℕ))
-      → IsFirstAlias (records_at zone name) name entry target → Follows zone target others last → Follows zone name (entry ∷ others) last
+  leads : {name last : List (List ℕ)} {entry : Record} {others : List Record}
+      (target : List (List ℕ))
+      → IsFirstAlias (records_at zone name) name entry target → Follows zone target others last
+      → Follows zone name (entry ∷ others) last
 
 -- These lead from the name to one that has no CNAME, or there are as many as the limit says.
-pub record IsPath (limit : ℕ) (zone : List Owned) (name : List (List ℕ)) (found : Chain) : Type 0 where
+pub record IsPath (limit : ℕ) (zone : List Owned) (name : List (List ℕ))
+    (found : Chain) : Type 0 where
   pub follows : Follows zone name found.links found.last
   pub short : length found.links ≤ limit
   pub ends : All (IsNoAlias found.last) (records_at zone found.last) ⊎ (length found.links ≡ limit)

@@ -23,16 +23,18 @@ fn query_in(alloc: Global, octets: &[u8]) -> Result<Option<Message>, AllocError>
 }
 
 impl Zone {
-    /// The octets of the reply to the query in front of these octets, without pointers and for one datagram of UDP, or None
-    /// where no query is in front of them: a message with QR clear.
+    /// The octets of the reply to the query in front of these octets, without pointers and for one
+    /// datagram of UDP, or None where no query is in front of them: a message with QR clear.
     ///
-    /// In the reply QR and AA are set, TC and RA are clear, and ID, OPCODE and RD are those of the query. A query of another
-    /// OPCODE than 0, or which has not exactly one question, in class IN, is refused (RCODE 5), with its question where it
-    /// has one alone. Else the question is repeated. From its name the first CNAME record of each name is followed, at most
-    /// eight of them, and these records are the first that answer; behind them stand the records of the asked type where they
-    /// lead, in the order of the zone (RFC 1034 3.6.2). RCODE is 3 where that name has no records in the zone, and else 0. A
-    /// question for another type than A, AAAA, SRV and NAPTR is answered without records. A reply of more than 512 octets is
-    /// cut to its question, with TC set (RFC 1035 4.2.1).
+    /// In the reply QR and AA are set, TC and RA are clear, and ID, OPCODE and RD are those of the
+    /// query. A query of another OPCODE than 0, or which has not exactly one question, in class IN,
+    /// is refused (RCODE 5), with its question where it has one alone. Else the question is
+    /// repeated. From its name the first CNAME record of each name is followed, at most eight of
+    /// them, and these records are the first that answer; after them stand the records of the asked
+    /// type where they lead, in the order of the zone (RFC 1034 3.6.2). RCODE is 3 where that name
+    /// has no records in the zone, and else 0. A question for another type than A, AAAA, SRV and
+    /// NAPTR is answered without records. A reply of more than 512 octets is cut to its question,
+    /// with TC set (RFC 1035 4.2.1).
     pub fn answer_datagram(
         &self,
         alloc: Global,
@@ -49,7 +51,7 @@ impl Zone {
         // What is given is a message with QR set and the id of the query.
         ensures reply { IfOk result (λ it. IfSome it (λ reply. (query : message.Message)
             × IsQuery octets.now query × IsReply query reply.items)) }
-        // Memory is wanted only where a name stands behind the header, or for a reply.
+        // Memory is wanted only where a name stands after the header, or for a reply.
         ensures memory { IfErr result (λ _. NamedAt octets.now 12
             ⊎ ((query : message.Message) × IsQuery octets.now query)) }
     {

@@ -1,9 +1,10 @@
 //! The records of a small DNS server for loopback, and what it replies.
 //!
-//! A `Zone` is read from a text of records, and replies to the octets of a query as an authoritative server does
-//! (RFC 1034 4.3.2): it follows its own aliases, and has records of types A, AAAA, SRV and NAPTR in class IN. What it
-//! gives is a whole message, or a part of one with TC set. Octets that are no query get no reply. It opens no socket:
-//! octets are handed in, and octets to send are handed out.
+//! A `Zone` is read from a text of records, and replies to the octets of a query as an
+//! authoritative server does (RFC 1034 4.3.2): it follows its own aliases, and has records of types
+//! A, AAAA, SRV and NAPTR in class IN. What it gives is a whole message, or a part of one with TC
+//! set. Octets that are no query get no reply. It opens no socket: octets are handed in, and octets
+//! to send are handed out.
 //!
 //! ```text
 //! let zone = Zone::read(alloc, "a.example. 60 CNAME b.example.\nb.example. 300 A 192.0.2.7")?;
@@ -12,8 +13,8 @@
 //! }
 //! ```
 //!
-//! Read `specs/Zones.antt`, `specs/Replies.antt` and `specs/Lines.antt` first: what a zone has, what it replies, and
-//! what its text says.
+//! Read `specs/Zones.antt`, `specs/Replies.antt` and `specs/Lines.antt` first: what a zone has,
+//! what it replies, and what its text says.
 #![tactic(auto)]
 
 mod datagram;

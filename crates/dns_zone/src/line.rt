@@ -39,7 +39,8 @@ fn is_comment(line: &[u8]) -> bool
 
 /// The record that a line says, if it is not empty and no comment.
 pub(crate) fn line_record(alloc: Global, line: &str) -> Result<Option<Record>, LineRefusal>
-    ensures memory { IfErr result (λ refusal. refusal ≡ LineRefusal.Memory → spec.IsEntryLine line.now) }
+    ensures memory { IfErr result
+        (λ refusal. refusal ≡ LineRefusal.Memory → spec.IsEntryLine line.now) }
     ensures found { IfOk result (spec.LineSays line.now) }
     ensures read { (said : Option resource.Record) → spec.LineSays line.now said
         → MatchResult result (λ it. it ≡ said) (λ refusal. refusal ≡ LineRefusal.Memory) }

@@ -1,4 +1,5 @@
-//! The data of a zone's line, by its type (RFC 1035 3.4.1, 3.3.1, RFC 3596 2.1, RFC 2782, RFC 3403 4.1).
+//! The data of a zone's line, by its type (RFC 1035 3.4.1, 3.3.1, RFC 3596 2.1, RFC 2782, RFC 3403
+//! 4.1).
 ghost use Rattle.std.specs.Prelude.{◌≡◌, List, ℕ, Ok, IfErr, IfOk, MatchResult};
 ghost use Rattle.dns_name.specs.Texts.{TextOf};
 ghost use Rattle.sip_uri.specs.Addresses.{AddressText};
@@ -18,8 +19,11 @@ use std::alloc::Global;
 
 /// The address of IPv4 in the one field.
 fn ipv4(fields: &[&str]) -> Result<[u8; 4], LineRefusal>
-    ensures found { IfOk result (λ octets. spec.OneField (λ text. AddressText text (address.V4 octets)) (texts fields.now)) }
-    ensures read { (octets : List ℕ) → spec.OneField (λ text. AddressText text (address.V4 octets)) (texts fields.now)
+    ensures found { IfOk result
+        (λ octets. spec.OneField
+        (λ text. AddressText text (address.V4 octets)) (texts fields.now)) }
+    ensures read { (octets : List ℕ)
+        → spec.OneField (λ text. AddressText text (address.V4 octets)) (texts fields.now)
         → result ≡ Ok octets }
     ensures bad { IfErr result (λ refusal. refusal ≡ LineRefusal.Bad) }
 {
@@ -35,8 +39,11 @@ fn ipv4(fields: &[&str]) -> Result<[u8; 4], LineRefusal>
 
 /// The address of IPv6 in the one field.
 fn ipv6(fields: &[&str]) -> Result<[u8; 16], LineRefusal>
-    ensures found { IfOk result (λ octets. spec.OneField (λ text. AddressText text (address.V6 octets)) (texts fields.now)) }
-    ensures read { (octets : List ℕ) → spec.OneField (λ text. AddressText text (address.V6 octets)) (texts fields.now)
+    ensures found { IfOk result
+        (λ octets. spec.OneField
+        (λ text. AddressText text (address.V6 octets)) (texts fields.now)) }
+    ensures read { (octets : List ℕ)
+        → spec.OneField (λ text. AddressText text (address.V6 octets)) (texts fields.now)
         → result ≡ Ok octets }
     ensures bad { IfErr result (λ refusal. refusal ≡ LineRefusal.Bad) }
 {
@@ -79,7 +86,8 @@ fn srv(alloc: Global, fields: &[&str]) -> Result<SrvRecord, LineRefusal>
     })
 }
 
-/// The data of a NAPTR record: order, preference, flags, services, regular expression and replacement.
+/// The data of a NAPTR record: order, preference, flags, services, regular expression and
+/// replacement.
 fn naptr(alloc: Global, fields: &[&str]) -> Result<NaptrRecord, LineRefusal>
     ensures found { IfOk result (spec.NaptrFields (texts fields.now)) }
     ensures read { (rule : naptr.NaptrRecord) → spec.NaptrFields (texts fields.now) rule
@@ -98,7 +106,7 @@ fn naptr(alloc: Global, fields: &[&str]) -> Result<NaptrRecord, LineRefusal>
     })
 }
 
-/// The data of a type, from the fields behind it.
+/// The data of a type, from the fields after it.
 pub(crate) fn rdata(alloc: Global, kind: &str, fields: &[&str]) -> Result<Rdata, LineRefusal>
     ensures found { IfOk result (spec.DataFields kind.now (texts fields.now)) }
     ensures read { (found : rdata.Rdata) → spec.DataFields kind.now (texts fields.now) found

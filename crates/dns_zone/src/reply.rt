@@ -13,7 +13,8 @@ use std::alloc::{AllocError, Global};
 /// The most CNAME records that are followed.
 const LINK_LIMIT: u8 = 8;
 
-/// So many records never fit into a datagram, since each has 11 octets at least (RFC 1035 4.1.3, 4.2.1).
+/// So many records never fit into a datagram, since each has 11 octets at least (RFC 1035 4.1.3,
+/// 4.2.1).
 const ANSWER_LIMIT: usize = 46;
 
 /// RCODE of a name that does not exist (RFC 1035 4.1.1).
@@ -63,7 +64,8 @@ fn push_records(
 ) -> Result<(), AllocError>
     requires { length records.old.items ≤ 46 }
     ensures { OnOk result (records.new.items
-        ≡ take 46 (records.old.items ++ filter (spec.is_of code) (map (zones.record_of owner.now) entries.now))) }
+        ≡ take 46 (records.old.items
+        ++ filter (spec.is_of code) (map (zones.record_of owner.now) entries.now))) }
 {
     for entry in entries {
         if records.len() == ANSWER_LIMIT {

@@ -15,8 +15,8 @@ use std::alloc::{AllocError, Global};
 /// The most records of a zone.
 const RECORD_LIMIT: usize = 4_096;
 
-/// A zone whose text is read, and how many records there were, counted up to one more than the limit. Those past the limit are
-/// not kept.
+/// A zone whose text is read, and how many records there were, counted up to one more than the
+/// limit. Those past the limit are not kept.
 #[derive(Drop)]
 struct Draft {
     zone: Zone,
@@ -53,23 +53,29 @@ impl Zone {
     /// - `SRV`, priority, weight, port and target
     /// - `NAPTR`, order, preference, flags, services, regular expression and replacement
     ///
-    /// Numbers are decimal, a TTL up to 4294967295, the others up to 65535. The three strings of NAPTR are `-` for the empty
-    /// one, or 1 to 255 octets from 33 to 126. Names are those of `Name::from_text`, addresses those of `address_from_text`.
-    /// The class is IN. A line that begins with `#` is passed over, and so is one without fields.
+    /// Numbers are decimal, a TTL up to 4294967295, the others up to 65535. The three strings of
+    /// NAPTR are `-` for the empty one, or 1 to 255 octets from 33 to 126. Names are those of
+    /// `Name::from_text`, addresses those of `address_from_text`. The class is IN. A line that
+    /// begins with `#` is passed over, and so is one without fields.
     ///
-    /// Where lines are bad the first one is told, also where there are too many records. Memory is asked for lines that are to
-    /// say a record, and no others.
+    /// Where lines are bad, the refusal names the first one, also where there are too many records.
+    /// Memory is asked for lines that are to say a record, and no others.
     pub fn read(alloc: Global, text: &str) -> Result<Zone, ZoneRefusal>
         // The zone that is read has the records that the lines say, and no others.
         ensures found { IfOk result (λ zone. (records : List resource.Record)
             × LinesSay (lines text.now) records × (length records ≤ 4096) × Holds zone records) }
         // What lines say is read, unless memory is refused.
-        ensures read { (records : List resource.Record) → LinesSay (lines text.now) records → length records ≤ 4096
-            → MatchResult result (λ zone. Holds zone records) (λ refusal. refusal ≡ ZoneRefusal.Memory) }
-        ensures too_many { (records : List resource.Record) → LinesSay (lines text.now) records → 4096 < length records
-            → MatchResult result (λ _. ⊥) (λ refusal. (refusal ≡ ZoneRefusal.TooMany) ⊎ (refusal ≡ ZoneRefusal.Memory)) }
+        ensures read { (records : List resource.Record) → LinesSay (lines text.now) records
+            → length records ≤ 4096
+            → MatchResult result (λ zone. Holds zone records)
+            (λ refusal. refusal ≡ ZoneRefusal.Memory) }
+        ensures too_many { (records : List resource.Record) → LinesSay (lines text.now) records
+            → 4096 < length records
+            → MatchResult result (λ _. ⊥)
+            (λ refusal. (refusal ≡ ZoneRefusal.TooMany) ⊎ (refusal ≡ ZoneRefusal.Memory)) }
         ensures bad { (number : ℕ) → IsFirstBad (lines text.now) number
-            → MatchResult result (λ _. ⊥) (λ refusal. (refusal ≡ ZoneRefusal.BadLine number) ⊎ (refusal ≡ ZoneRefusal.Memory)) }
+            → MatchResult result (λ _. ⊥)
+            (λ refusal. (refusal ≡ ZoneRefusal.BadLine number) ⊎ (refusal ≡ ZoneRefusal.Memory)) }
         // Each refusal tells what is so of the lines.
         ensures refused { IfErr result (λ refusal. RefusedFor refusal (lines text.now)) }
     {

@@ -21,7 +21,8 @@ pub struct ZoneEntry {
     pub rdata: Rdata,
 }
 
-/// The records of a small DNS server: for each owner what its records say, in the order of the zone.
+/// The records of a small DNS server: for each owner what its records say, in the order of the
+/// zone.
 #[derive(Drop)]
 pub struct Zone {
     owners: IndexMap<Name, Vec<ZoneEntry>>,
@@ -79,7 +80,7 @@ impl Zone {
         }
     }
 
-    /// Adds what a record says of an owner, behind its others.
+    /// Adds what a record says of an owner, after its others.
     pub(crate) fn add(
         &mut self,
         alloc: Global,

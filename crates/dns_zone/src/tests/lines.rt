@@ -3,7 +3,7 @@ use super::replied;
 use crate::*;
 use std::alloc::Global;
 
-/// The octets behind the class in the record that a zone replies to a question for a.example.
+/// The octets after the class in the record that a zone replies to a question for a.example.
 fn said(alloc: Global, zone: &str, code: u8) -> Option<Vec<u8>> {
     let mut query = Vec::new(alloc);
     query
@@ -71,7 +71,8 @@ const GOOD: [(&str, u8, &[u8]); 16] = [
     (
         "a.example. 300 NAPTR 10 50 s SIPS+D2T - _sips._tcp.b.example.",
         35,
-        b"\x00\x00\x01\x2c\x00\x26\x00\x0a\x00\x32\x01s\x08SIPS+D2T\x00\x05_sips\x04_tcp\x01b\x07example\x00",
+        b"\x00\x00\x01\x2c\x00\x26\x00\x0a\x00\x32\x01s\x08SIPS+D2T\x00\x05_sips\x04_tcp\x01b\x07ex\
+        ample\x00",
     ),
     (
         "a.example. 300 NAPTR 65535 0 - - - .",
@@ -197,7 +198,8 @@ const RECORD: &str = "a.example. 300 A 192.0.2.7\n";
 
 const RULE: &str = "a.example. 300 NAPTR 10 50 ";
 
-/// A text of a part that stands so many times between two others, and the length of the reply, or why there is no zone.
+/// A text of a part that stands so many times between two others, and the length of the reply, or
+/// why there is no zone.
 const LONGEST: [(&str, &str, usize, &str, Result<usize, ZoneRefusal>); 8] = [
     ("", RECORD, 19, "", Ok(502)),
     ("", RECORD, 20, "", Ok(27)),

@@ -21,7 +21,8 @@ fn zone_refused(rt: HostRuntime) {
     };
     for (code, length) in LENGTHS {
         let mut query =
-            *b"\x12\x34\x01\x00\x00\x01\x00\x00\x00\x00\x00\x00\x01a\x07example\x00\x00\x00\x00\x01";
+            *b"\x12\x34\x01\x00\x00\x01\x00\x00\x00\x00\x00\x00\x01a\x07example\x00\x00\x00\x00\
+            \x01";
         query[24] = code;
         match zone.answer_datagram(rt.alloc(), &query) {
             Ok(reply) => assert_eq!(rt; reply.map(|reply| reply.len()), Some(length), "{code}"),

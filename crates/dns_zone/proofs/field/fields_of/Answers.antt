@@ -8,7 +8,8 @@ use Rattle.dns_zone.proofs.field.fields_of.Goals as goal
 use Rattle.dns_zone.proofs.field.fields_of.Goals.{In-Some, In-None}
 
 -- the part of this turn
-turn : (c : In-Some) → (length c.loop-field.yielded < length (parts c.args.line.now)) × (c.in-Some.field.now ≡ get_or (parts c.args.line.now) (length c.loop-field.yielded) c.in-Some.field.now)
+turn : (c : In-Some) → (length c.loop-field.yielded < length (parts c.args.line.now))
+    × (c.in-Some.field.now ≡ get_or (parts c.args.line.now) (length c.loop-field.yielded) c.in-Some.field.now)
 turn c =
     let whole = YieldsList-from_str_split 32 c.args.line.now (lit< tt) (cc) (cc) (cc) in
     YieldsList-turn whole c.loop-field.yielded _ c.loop-field.yielded_by _ _ c.in-Some.field c.in-Some.is c.next.ensures.steps
@@ -35,7 +36,8 @@ loop-field-preserved-then-not-is_empty c =
       can_next = search rules;
       is_finite = search rules;
       fields = rw (length_push l.yielded c.in-Some.field, c.push.ensures.items, texts-push l.fields.items c.in-Some.field)
-          (ap (λ fields. fields ++ c.in-Some.field.now ∷ []) l.invariant.fields ∙ sym (takes c.args.line.now (length l.yielded) c.in-Some.field.now this.0 this.1 (ap not (sym c.if-not-is_empty.ensures))));
+          (ap (λ fields. fields ++ c.in-Some.field.now ∷ []) l.invariant.fields ∙ sym
+          (takes c.args.line.now (length l.yielded) c.in-Some.field.now this.0 this.1 (ap not (sym c.if-not-is_empty.ensures))));
     }
 
 pub loop-field-preserved : goal.loop-field-preserved
@@ -45,7 +47,9 @@ loop-field-preserved c =
     record {
       can_next = search rules;
       is_finite = search rules;
-      fields = rw (length_push l.yielded c.in-Some.field) (l.invariant.fields ∙ sym (skips c.args.line.now (length l.yielded) c.in-Some.field.now this.0 this.1 (ap not (sym c.if-not-is_empty.ensures))));
+      fields = rw (length_push l.yielded c.in-Some.field)
+          (l.invariant.fields ∙ sym
+          (skips c.args.line.now (length l.yielded) c.in-Some.field.now this.0 this.1 (ap not (sym c.if-not-is_empty.ensures))));
     }
 
 pub returns : goal.returns

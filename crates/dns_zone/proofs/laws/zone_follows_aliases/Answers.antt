@@ -4,4 +4,7 @@ use Rattle.dns_zone.proofs.Aliases.{is_path, path_is}
 use Rattle.dns_zone.proofs.laws.zone_follows_aliases.Goals as goal
 
 pub returns : goal.returns
-returns c = λ zone name found. (λ is. subst (IsPath 8 zone name) is (path_is zone 8 name), λ is. is_path zone 8 name found.links found.last is.follows is.short is.ends)
+returns c = λ zone name found. (
+  λ is. subst (IsPath 8 zone name) is (path_is zone 8 name),
+  λ is. is_path zone 8 name found.links found.last is.follows is.short is.ends,
+)

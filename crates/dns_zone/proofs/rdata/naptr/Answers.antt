@@ -5,8 +5,18 @@ use Rattle.dns_zone.specs.Lines.{number_of, string_of}
 use Rattle.dns_zone.proofs.Texts.{text_at, six_texts}
 use Rattle.dns_zone.proofs.rdata.naptr.Goals as goal
 
-same_rule : (rule other : NaptrRecord) → rule.order ≡ other.order → rule.preference ≡ other.preference → rule.flags ≡ other.flags → rule.services ≡ other.services → rule.regexp ≡ other.regexp → rule.replacement ≡ other.replacement → rule ≡ other
-same_rule rule other order preference flags services regexp replacement = λ j. record { order = order j; preference = preference j; flags = flags j; services = services j; regexp = regexp j; replacement = replacement j }
+same_rule : (rule other : NaptrRecord) → rule.order ≡ other.order → rule.preference ≡ other.preference → rule.flags ≡ other.flags
+    → rule.services ≡ other.services → rule.regexp ≡ other.regexp → rule.replacement ≡ other.replacement → rule ≡ other
+same_rule rule other order preference flags services regexp replacement =
+    λ j. record {
+      order = order j;
+      preference = preference j;
+      flags = flags j;
+      services = services j;
+      regexp = regexp j;
+      replacement =
+          replacement j;
+    }
 
 same_some : {X : Type 0} {x y : X} → Some x ≡ Some y → x ≡ y
 same_some e = cc

@@ -17,7 +17,8 @@ pub loop-preserved : goal.loop-preserved
 loop-preserved c =
     let l = c.loop in
     rw (c.in_ok-push.ensures.items, c.in_ok-try_clone.ensures, c.in_ok-try_clone-2.ensures)
-    (follows c.args.zone.now c.args.start.now l.links.items l.name.now (alias_value c.in-Some.alias) l.counter l.invariant (omega arith) c.in-Some.ensures)
+    (follows c.args.zone.now c.args.start.now l.links.items l.name.now (alias_value c.in-Some.alias) l.counter l.invariant
+    (omega arith) c.in-Some.ensures)
 
 pub returns : goal.returns
 returns c =

@@ -11,7 +11,8 @@ is_query c = rw c.in-Some.is at c.in_ok-query.ensures.found
 replies : (c : In_ok-write_reply) → Replies c.args.self.now c.in-Some.query c.in_ok-write_reply.field-0.items
 replies c =
     let wrote = c.in_ok-write_reply.ensures in
-    reply_is c.args.self.now c.in-Some.query c.in_ok-reply.reply c.in_ok-write_reply.field-0.items c.in_ok-reply.ensures wrote.written wrote.spells wrote.short
+    reply_is c.args.self.now c.in-Some.query c.in_ok-reply.reply c.in_ok-write_reply.field-0.items c.in_ok-reply.ensures wrote.written
+    wrote.spells wrote.short
 
 pub returns-in_default-clause-replied : goal.returns-in_default-clause-replied
 returns-in_default-clause-replied c = rw c.in_default.is at c.in_ok-query.ensures.found
@@ -28,7 +29,8 @@ returns-clause-quiet c = λ silent. absurd (silent c.in-Some.query (is_query (go
 pub returns-clause-replied : goal.returns-clause-replied
 returns-clause-replied c = λ query is.
     let here = is_query (goal.at.returns-clause-replied c).In-Some in
-    let same = c.one_message_in_front.ensures c.args.octets.now here.begins.end is.begins.end c.in-Some.query query here.begins.spelled is.begins.spelled in
+    let same = c.one_message_in_front.ensures c.args.octets.now here.begins.end is.begins.end c.in-Some.query query here.begins.spelled
+    is.begins.spelled in
     rw (← same) (replies (goal.at.returns-clause-replied c).In_ok-write_reply)
 
 pub returns-clause-found : goal.returns-clause-found

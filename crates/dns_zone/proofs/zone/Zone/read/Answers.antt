@@ -13,10 +13,12 @@ use Rattle.dns_zone.proofs.zone.Zone.read.Goals as goal
 use Rattle.dns_zone.proofs.zone.Zone.read.Goals.{In-Some, In-None, In-Err-Bad}
 
 -- the line of this turn, and its place
-turn : (c : In-Some) → (c.in-Some.at ≡ length c.loop-at.yielded) × (length c.loop-at.yielded < length (lines c.args.text.now)) × (c.in-Some.line.now ≡ get_or (lines c.args.text.now) (length c.loop-at.yielded) c.in-Some.line.now)
+turn : (c : In-Some) → (c.in-Some.at ≡ length c.loop-at.yielded) × (length c.loop-at.yielded < length (lines c.args.text.now))
+    × (c.in-Some.line.now ≡ get_or (lines c.args.text.now) (length c.loop-at.yielded) c.in-Some.line.now)
 turn c =
     let whole = YieldsList-from_enumerate (YieldsList-from_lines c.args.text.now (cc)) (cc) in
-    let this = YieldsList-turn whole c.loop-at.yielded _ c.loop-at.yielded_by _ _ (c.in-Some.at, c.in-Some.line) c.in-Some.is c.next.ensures.steps in
+    let this = YieldsList-turn whole c.loop-at.yielded _ c.loop-at.yielded_by _ _
+    (c.in-Some.at, c.in-Some.line) c.in-Some.is c.next.ensures.steps in
     numbered (lines c.args.text.now) (length c.loop-at.yielded) c.in-Some.at c.in-Some.line.now this.0 this.1
 
 -- every line had its turn
@@ -39,8 +41,11 @@ loop-at-preserved-in-Ok-None c =
     record {
       can_next = search rules;
       is_finite = search rules;
-      drafting = rw (length_push l.yielded (c.in-Some.at, c.in-Some.line)) (passes (lines c.args.text.now) (length l.yielded) c.in-Some.line.now this.1 this.2 l.draft.count l.draft.zone l.invariant.drafting
-          (rw c.in-Ok-None.field-0-is at c.in-Ok-None.ensures.found) (λ said is. rw c.in-Ok-None.field-0-is at c.in-Ok-None.ensures.read said is));
+      drafting = rw (length_push l.yielded (c.in-Some.at, c.in-Some.line))
+          (passes (lines c.args.text.now)
+          (length l.yielded) c.in-Some.line.now this.1 this.2 l.draft.count l.draft.zone l.invariant.drafting
+          (rw c.in-Ok-None.field-0-is at c.in-Ok-None.ensures.found)
+          (λ said is. rw c.in-Ok-None.field-0-is at c.in-Ok-None.ensures.read said is));
     }
 
 pub loop-at-preserved : goal.loop-at-preserved
@@ -50,9 +55,11 @@ loop-at-preserved c =
     record {
       can_next = search rules;
       is_finite = search rules;
-      drafting = rw (length_push l.yielded (c.in-Some.at, c.in-Some.line)) (takes (lines c.args.text.now) (length l.yielded) c.in-Some.line.now this.1 this.2 l.draft.count l.draft.zone l.invariant.drafting
+      drafting = rw (length_push l.yielded (c.in-Some.at, c.in-Some.line))
+          (takes (lines c.args.text.now) (length l.yielded) c.in-Some.line.now this.1 this.2 l.draft.count l.draft.zone l.invariant.drafting
           c.in-Ok-Some.entry c.add.new.self.count c.add.new.self.zone
-          (rw c.in-Ok-Some.field-0-is at c.in-Ok-Some.ensures.found) (λ said is. rw c.in-Ok-Some.field-0-is at c.in-Ok-Some.ensures.read said is)
+          (rw c.in-Ok-Some.field-0-is at c.in-Ok-Some.ensures.found)
+          (λ said is. rw c.in-Ok-Some.field-0-is at c.in-Ok-Some.ensures.read said is)
           c.in_ok-add-in-Ok-Some.ensures.count c.in_ok-add-in-Ok-Some.ensures.holds);
     }
 
@@ -60,33 +67,46 @@ pub returns-in-Err-Bad-clause-read : goal.returns-in-Err-Bad-clause-read
 returns-in-Err-Bad-clause-read c = λ records says few.
     let l = c.loop-at in
     let this = turn (goal.at.returns-in-Err-Bad-clause-read c).In-Some in
-    absurd (says_nothing (lines c.args.text.now) (length l.yielded) c.in-Some.line.now this.1 this.2 l.draft.count l.draft.zone l.invariant.drafting (never (goal.at.returns-in-Err-Bad-clause-read c).In-Err-Bad) records says)
+    absurd (says_nothing (lines c.args.text.now)
+    (length l.yielded) c.in-Some.line.now this.1 this.2 l.draft.count l.draft.zone l.invariant.drafting
+    (never (goal.at.returns-in-Err-Bad-clause-read c).In-Err-Bad) records says)
 
 pub returns-in-Err-Bad-clause-too_many : goal.returns-in-Err-Bad-clause-too_many
 returns-in-Err-Bad-clause-too_many c = λ records says many.
     let l = c.loop-at in
     let this = turn (goal.at.returns-in-Err-Bad-clause-too_many c).In-Some in
-    absurd (says_nothing (lines c.args.text.now) (length l.yielded) c.in-Some.line.now this.1 this.2 l.draft.count l.draft.zone l.invariant.drafting (never (goal.at.returns-in-Err-Bad-clause-too_many c).In-Err-Bad) records says)
+    absurd (says_nothing (lines c.args.text.now)
+    (length l.yielded) c.in-Some.line.now this.1 this.2 l.draft.count l.draft.zone l.invariant.drafting
+    (never (goal.at.returns-in-Err-Bad-clause-too_many c).In-Err-Bad) records says)
 
 pub returns-in-Err-Bad-clause-refused : goal.returns-in-Err-Bad-clause-refused
 returns-in-Err-Bad-clause-refused c =
     let l = c.loop-at in
     let this = turn (goal.at.returns-in-Err-Bad-clause-refused c).In-Some in
-    rw this.0 (stops (lines c.args.text.now) (length l.yielded) c.in-Some.line.now this.1 this.2 l.draft.count l.draft.zone l.invariant.drafting (never (goal.at.returns-in-Err-Bad-clause-refused c).In-Err-Bad))
+    rw this.0 (stops (lines c.args.text.now)
+    (length l.yielded) c.in-Some.line.now this.1 this.2 l.draft.count l.draft.zone l.invariant.drafting
+    (never (goal.at.returns-in-Err-Bad-clause-refused c).In-Err-Bad))
 
 pub returns-then-draft-gt-RECORD_LIMIT-clause-refused : goal.returns-then-draft-gt-RECORD_LIMIT-clause-refused
 returns-then-draft-gt-RECORD_LIMIT-clause-refused c =
     let l = c.loop-at in
     let drafting = l.invariant.drafting in
-    let whole = all_turns (goal.at.returns-then-draft-gt-RECORD_LIMIT-clause-refused c).In-None in
-    (drafting.records, all_said (lines c.args.text.now) (length l.yielded) l.draft.count l.draft.zone drafting whole, omega (arith, drafting.counted))
+    let whole = all_turns (goal.at.returns-then-draft-gt-RECORD_LIMIT-clause-refused c).In-None in (
+      drafting.records,
+      all_said (lines c.args.text.now) (length l.yielded) l.draft.count l.draft.zone drafting whole,
+      omega (arith, drafting.counted),
+    )
 
 pub returns-clause-found : goal.returns-clause-found
 returns-clause-found c =
     let l = c.loop-at in
     let drafting = l.invariant.drafting in
-    let whole = all_turns (goal.at.returns-clause-found c).In-None in
-    (drafting.records, all_said (lines c.args.text.now) (length l.yielded) l.draft.count l.draft.zone drafting whole, omega (arith, drafting.counted), drafting.holds (omega arith))
+    let whole = all_turns (goal.at.returns-clause-found c).In-None in (
+      drafting.records,
+      all_said (lines c.args.text.now) (length l.yielded) l.draft.count l.draft.zone drafting whole,
+      omega (arith, drafting.counted),
+      drafting.holds (omega arith),
+    )
 
 pub returns-clause-read : goal.returns-clause-read
 returns-clause-read c = λ records says few.
@@ -108,7 +128,9 @@ pub returns-in-Err-Bad-clause-bad : goal.returns-in-Err-Bad-clause-bad
 returns-in-Err-Bad-clause-bad c = λ number is.
     let l = c.loop-at in
     let this = turn (goal.at.returns-in-Err-Bad-clause-bad c).In-Some in
-    let here = stops (lines c.args.text.now) (length l.yielded) c.in-Some.line.now this.1 this.2 l.draft.count l.draft.zone l.invariant.drafting (never (goal.at.returns-in-Err-Bad-clause-bad c).In-Err-Bad) in
+    let here = stops (lines c.args.text.now)
+    (length l.yielded) c.in-Some.line.now this.1 this.2 l.draft.count l.draft.zone l.invariant.drafting
+    (never (goal.at.returns-in-Err-Bad-clause-bad c).In-Err-Bad) in
     inl (ap BadLine (ap (λ (at : ℕ). at + 1) this.0 ∙ one_first_bad (lines c.args.text.now) (length l.yielded + 1) number here is))
 
 pub returns-then-draft-gt-RECORD_LIMIT-clause-bad : goal.returns-then-draft-gt-RECORD_LIMIT-clause-bad
@@ -116,20 +138,23 @@ returns-then-draft-gt-RECORD_LIMIT-clause-bad c = λ number is.
     let l = c.loop-at in
     let drafting = l.invariant.drafting in
     let whole = all_turns (goal.at.returns-then-draft-gt-RECORD_LIMIT-clause-bad c).In-None in
-    absurd (none_bad (lines c.args.text.now) drafting.records number (all_said (lines c.args.text.now) (length l.yielded) l.draft.count l.draft.zone drafting whole) is)
+    absurd (none_bad (lines c.args.text.now) drafting.records number
+    (all_said (lines c.args.text.now) (length l.yielded) l.draft.count l.draft.zone drafting whole) is)
 
 pub returns-clause-bad : goal.returns-clause-bad
 returns-clause-bad c = λ number is.
     let l = c.loop-at in
     let drafting = l.invariant.drafting in
     let whole = all_turns (goal.at.returns-clause-bad c).In-None in
-    absurd (none_bad (lines c.args.text.now) drafting.records number (all_said (lines c.args.text.now) (length l.yielded) l.draft.count l.draft.zone drafting whole) is)
+    absurd (none_bad (lines c.args.text.now) drafting.records number
+    (all_said (lines c.args.text.now) (length l.yielded) l.draft.count l.draft.zone drafting whole) is)
 
 pub returns-in-Err-Memory-clause-refused : goal.returns-in-Err-Memory-clause-refused
 returns-in-Err-Memory-clause-refused c =
     let l = c.loop-at in
     let this = turn (goal.at.returns-in-Err-Memory-clause-refused c).In-Some in
-    among (lines c.args.text.now) (length l.yielded) c.in-Some.line.now this.1 this.2 (c.in-Err-Memory.ensures.memory c.in-Err-Memory.field-0-is)
+    among (lines c.args.text.now) (length l.yielded) c.in-Some.line.now this.1 this.2
+    (c.in-Err-Memory.ensures.memory c.in-Err-Memory.field-0-is)
 
 pub returns-in_err-add-in-Ok-Some-clause-refused : goal.returns-in_err-add-in-Ok-Some-clause-refused
 returns-in_err-add-in-Ok-Some-clause-refused c =
@@ -137,4 +162,6 @@ returns-in_err-add-in-Ok-Some-clause-refused c =
     let this = turn (goal.at.returns-in_err-add-in-Ok-Some-clause-refused c).In-Some in
     let said = rw c.in-Ok-Some.field-0-is at c.in-Ok-Some.ensures.found in
     let r = err_from_is_err_and c.from_residual.result c.from_residual.ensures.1 in
-    rw (r.1, r.2) (among (lines c.args.text.now) (length l.yielded) c.in-Some.line.now this.1 this.2 (says_entry c.in-Some.line.now c.in-Ok-Some.entry said))
+    rw (r.1, r.2)
+    (among (lines c.args.text.now) (length l.yielded) c.in-Some.line.now this.1 this.2
+    (says_entry c.in-Some.line.now c.in-Ok-Some.entry said))
