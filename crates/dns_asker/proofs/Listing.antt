@@ -192,3 +192,15 @@ asked-is list new at sent now is =
 pub none-told : {A : Type 0} (found : Option A) (P : Type 0) (Q : A → Type 0) → MatchOption found P Q → false ≡ is_some found → P
 none-told None P Q it e = it
 none-told (Some x) P Q it e = absurd cc
+
+-- whether a place was found for an id says whether a ticket is open under it
+pub open-told : {A : Type 0} (list : Pending Sent) (id : ℕ) (at : Option A) (Q : A → Type 0) (found : (it : A) → Q it
+    → (entry : Entry Sent) × (find (is_of id) list.entries ≡ Some entry))
+    → MatchOption at (find (is_of id) list.entries ≡ None) Q
+    → (IsTrue (is_some at) → IsSome (tickets.ticket_of id (map ticket_in list.entries)))
+    × (IsSome (tickets.ticket_of id (map ticket_in list.entries)) → IsTrue (is_some at))
+open-told list id None Q found it =
+    ((λ yes. absurd cc), (λ some. absurd (let some' = rw (find-map ticket_in (has_id id) list.entries, it) at some in cc)))
+open-told list id (Some at) Q found it =
+    let entry = found at it in
+    ((λ yes. rw (find-map ticket_in (has_id id) list.entries, entry.1) refl), (λ some. refl))

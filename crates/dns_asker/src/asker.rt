@@ -1,8 +1,8 @@
 //! The questions that were sent, from the first time until the wait for a reply ends.
-ghost use Rattle.std.specs.Prelude.{◌≡◌, ◌≤◌, [], None, IfErr, IfOk, OnErr};
+ghost use Rattle.std.specs.Prelude.{◌≡◌, ◌≤◌, ◌↔◌, [], None, IfErr, IfOk, IsSome, IsTrue, OnErr};
 ghost use Rattle.dns_answers.specs.Replies.{reply_refusal};
 ghost use Rattle.dns_asker.specs.Events.{Asks, Dues, EndsBy, IsNoReply, MayWant, Means, left_by};
-ghost use Rattle.dns_asker.specs.Tickets.{IsAsking};
+ghost use Rattle.dns_asker.specs.Tickets.{IsAsking, ticket_of};
 
 use crate::due::Due;
 use crate::incoming::{Ending, Incoming, Why};
@@ -52,6 +52,14 @@ impl Asker {
         ensures { IsAsking self.now }
     {
         self.tickets.stands_in_order();
+    }
+
+    /// Whether a question waits for its reply under this id.
+    #[must_use]
+    pub fn is_open(&self, id: u16) -> bool
+        ensures { IsTrue result ↔ IsSome (ticket_of id self.now.tickets) }
+    {
+        self.tickets.place_of(id).is_some()
     }
 
     /// Asks a question under an id that is not open, and gives the octets to send for it.

@@ -4,6 +4,7 @@ ghost use Rattle.std.specs.Arc.{arc_value};
 ghost use Rattle.dns_answers.specs.Records.{kind_of};
 ghost use Rattle.answer_cache.specs.Seats.{GoesOn, StoresNothing};
 ghost use Rattle.sip_selection.specs.Choice.{need};
+ghost use Rattle.sip_selection.specs.Nexts.{next_of};
 ghost use Rattle.sip_selection.specs.Selections.{begun, given_too, now_of};
 ghost use Rattle.sip_locator.specs.Gains.{Gains, Lacks, LookedUp, Steps};
 ghost use Rattle.sip_locator.specs.Replies.{Answers, IsTaken, Refuses};
@@ -66,6 +67,14 @@ impl<B: AnswerBook> Locator<B> {
         ensures { length self.now.given ≤ 521 }
     {
         self.selection.answers_are_few();
+    }
+
+    /// What is next, by the answers used so far: nothing is looked up. Takes no memory.
+    #[must_use]
+    pub fn next(&self) -> Next<'_>
+        ensures { next_of result ≡ now_of self.now }
+    {
+        self.selection.next()
     }
 
     /// Looks up the question that is asked, and gives its answer, where there is one.
