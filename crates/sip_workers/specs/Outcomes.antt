@@ -11,7 +11,7 @@ use Rattle.dns_message.specs.declared.question.Question.{Question}
 use Rattle.dns_asker.specs.Events.{EndsWait}
 use Rattle.answer_log.specs.Histories.{cached}
 use Rattle.answer_log.specs.declared.store.Store.{Store}
-use Rattle.answer_cache.specs.Seats.{Offer, SeatView}
+use Rattle.answer_cache.specs.Shared.{Told}
 use Rattle.sip_locator.specs.Replies.{Answers}
 use Rattle.sip_selection.specs.Choice.{Resolution, locate, targets, refused, need}
 use Rattle.sip_selection.specs.Known.{Given}
@@ -59,6 +59,12 @@ pub record IsFaulty (gives : List ℕ → Type 0) (question : Question) (refusal
   pub ends : EndsWait refusal
 
 -- ---- what becomes of a job
+
+-- a job, what became of it, and what its worker had seen then
+pub record ResultView : Type 0 where
+  pub job : Job
+  pub outcome : Outcome
+  pub notice : Told
 
 -- with these answers, each of which counts, it is the choice of RFC 3263
 pub record IsChosen (counts : Given → Type 0) (job : Job) (resolution : Resolution) : Type 0 where

@@ -1,12 +1,14 @@
 -- What is so of a request on its way.
-use Rattle.std.specs.Prelude.{◌≡◌, ℕ, List, Unit, ⊥}
+use Rattle.std.specs.Prelude.{◌≡◌, ℕ, List}
 use Rattle.std.specs.List.{All}
 use Rattle.dns_message.specs.declared.question.Question.{Question}
+use Rattle.dns_asker.specs.declared.incoming.Ending.{Ending}
+use Rattle.dns_asker.specs.declared.incoming.Ending.TheVariants.{Answered, Faulty}
 use Rattle.answer_cache.specs.Seats.{SeatView}
 use Rattle.sip_selection.specs.Choice.{Resolution, targets, refused, need}
 use Rattle.sip_selection.specs.Known.{Given}
-use Rattle.sip_selection.specs.Selections.{SelectionValue, now_of}
-use Rattle.sip_workers.specs.Outcomes.{IsLacking}
+use Rattle.sip_selection.specs.Selections.{SelectionValue, begun, now_of}
+use Rattle.sip_workers.specs.Outcomes.{IsFaulty, IsLacking}
 use Rattle.sip_workers.specs.Works.{CountsAt, IsOutcomeAt}
 use Rattle.sip_workers.specs.declared.job.Job.{Job}
 use Rattle.sip_workers.specs.declared.outcome.Outcome.{Outcome}
@@ -14,6 +16,9 @@ use Rattle.sip_workers.specs.declared.outcome.Outcome.TheVariants.{Targets, Refu
 use Rattle.sip_workers.specs.declared.task.Stage.{Stage}
 use Rattle.sip_workers.specs.declared.task.Stage.TheVariants.{Ready, Waiting, Done}
 use Rattle.sip_workers.specs.declared.task.Task.{Task}
+
+abbrev pub job_of : Task → Job
+job_of task = task.job.now
 
 -- the choice of this job, over answers that count
 pub record IsOf (counts : Given → Type 0) (job : Job) (selection : SelectionValue) : Type 0 where
@@ -33,6 +38,24 @@ abbrev pub Stands : (List ℕ → Type 0) → (ℕ → Type 0) → SeatView → 
 Stands gives shows seat task =
     IsOf (CountsAt gives shows seat) task.job.now task.locator
     × IsAt gives shows seat task.job.now task.locator task.stage
+
+-- nothing is known yet
+pub record IsBegun (task : Task) : Type 0 where
+  pub ready : task.stage ≡ Ready
+  pub begun : task.locator ≡ begun task.job.now.request task.job.now.caps task.job.now.words.0
+
+-- the question has no answer, or memory was wanted
+abbrev pub IsUnanswered : Question → Outcome → Type 0
+IsUnanswered question (Targets list) = ⊥
+IsUnanswered question (Refused reason) = ⊥
+IsUnanswered question (NoAnswer other) = other ≡ question
+IsUnanswered question (BadReply other refusal) = ⊥
+IsUnanswered question Memory = Unit {0}
+
+-- the wait for the answer to a question ended so, by what the wire gave
+abbrev pub IsEndedBy : (List ℕ → Type 0) → Question → Ending → Type 0
+IsEndedBy gives question (Answered answer) = Unit {0}
+IsEndedBy gives question (Faulty refusal) = IsFaulty gives question refusal
 
 -- its outcome stands
 pub record IsDone (gives : List ℕ → Type 0) (shows : ℕ → Type 0) (seat : SeatView) (task : Task) : Type 0 where

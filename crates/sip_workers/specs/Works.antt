@@ -28,7 +28,7 @@ pub record Works (gives : List ℕ → Type 0) (shows : ℕ → Type 0) (old new
 -- what a reply had was handed to the cache
 pub record IsHanded (offered : List Offer) (given : Given) : Type 0 where
   pub now : ℕ
-  pub stands : Contains (offer_of given.question given.answer now) offered
+  pub stands : Contains offered (offer_of given.question given.answer now)
 
 -- an answer that was looked up by this seat, or that a reply had, which was then handed to the cache by this seat
 abbrev pub CountsAt : (List ℕ → Type 0) → (ℕ → Type 0) → SeatView → Given → Type 0

@@ -99,12 +99,76 @@ impl Outcome {
 /// What became of a job, with a notice of what its worker had seen then.
 #[derive(Drop)]
 pub struct JobResult<'a, W: Wire, C: Clock> {
-    /// The job.
-    pub job: &'a Job,
-    /// What became of it.
-    pub outcome: Outcome,
-    /// What its worker had seen.
-    pub notice: Notice,
+    job: &'a Job,
+    outcome: Outcome,
+    notice: Notice,
     over: PhantomData<(W, C)>,
-    ghost is: { IsOutcome W.gives C.shows notice.seen job.now outcome },
+}
+
+impl<'a, W: Wire, C: Clock> Model for JobResult<'a, W, C> {
+    ghost use Rattle.sip_workers.specs.Outcomes.{IsOutcome, ResultView};
+
+    ghost Value = { ResultView };
+
+    ghost view = { λ it. record { job = it.job.now; outcome = it.outcome; notice = it.notice } };
+
+    ghost invariant = { λ it. IsOutcome W.gives C.shows it.notice.seen it.job.now it.outcome };
+}
+
+impl<'a, W: Wire, C: Clock> JobResult<'a, W, C> {
+    /// This became of a job.
+    pub(crate) fn new(job: &'a Job, outcome: Outcome, notice: Notice) -> JobResult<'a, W, C>
+        requires { IsOutcome W.gives C.shows notice.seen job.now outcome }
+        ensures { result ≡ record { job = job.now; outcome = outcome; notice = notice } }
+    {
+        JobResult {
+            job,
+            outcome,
+            notice,
+            over: PhantomData,
+        }
+    }
+
+    /// The job.
+    #[must_use]
+    pub fn job(&self) -> &'a Job
+        ensures { result.now ≡ self.now.job }
+    {
+        self.job
+    }
+
+    /// What became of it.
+    #[must_use]
+    pub fn outcome(&self) -> &Outcome
+        ensures is { result.now ≡ self.now.outcome }
+        ensures says { IsOutcome W.gives C.shows self.now.notice.seen self.now.job result.now }
+    {
+        &self.outcome
+    }
+
+    /// What its worker had seen then.
+    #[must_use]
+    pub fn notice(&self) -> &Notice
+        ensures { result.now ≡ self.now.notice }
+    {
+        &self.notice
+    }
+
+    /// What became of it, and what its worker had seen then.
+    #[must_use]
+    pub fn into_parts(self) -> (Outcome, Notice)
+        ensures is { (result.0 ≡ self.entry.outcome) × (result.1 ≡ self.entry.notice) }
+        ensures says { IsOutcome W.gives C.shows result.1.seen self.entry.job result.0 }
+    {
+        let JobResult { outcome, notice, .. } = self;
+        (outcome, notice)
+    }
+
+    /// A copy.
+    pub fn try_clone(&self, alloc: Global) -> Result<JobResult<'a, W, C>, AllocError>
+        ensures { IfOk result (λ copy. copy ≡ self.now) }
+    {
+        let outcome = self.outcome.try_clone(alloc)?;
+        Ok(JobResult::new(self.job, outcome, self.notice.again()))
+    }
 }

@@ -1,14 +1,15 @@
 //! A request on its way.
-ghost use Rattle.std.specs.Prelude.{◌≡◌, ◌↔◌, IsTrue};
-ghost use Rattle.sip_workers.specs.Tasks.{WaitsFor};
+ghost use Rattle.std.specs.Prelude.{◌≡◌, ◌↔◌, IfOk, IsTrue};
+ghost use Rattle.sip_workers.specs.Tasks.{IsBegun, WaitsFor, job_of};
 ghost use Rattle.sip_workers.specs.declared.outcome.Outcome.{Outcome as Became};
 
 use crate::job::Job;
 use crate::outcome::Outcome;
 use answer_cache::SharedCache;
-use dns_message::Question;
+use dns_message::{Question, same_questions_are_equal};
 use sip_locator::Locator;
 use sip_selection::Next;
+use std::alloc::{AllocError, Global};
 
 /// How far a request is.
 #[derive(Drop)]
@@ -29,7 +30,19 @@ pub(crate) struct Task<'a> {
     pub(crate) stage: Stage,
 }
 
-impl Task<'_> {
+impl<'a> Task<'a> {
+    /// The request of a job, of which nothing is known yet.
+    pub(crate) fn new(alloc: Global, job: &'a Job) -> Result<Task<'a>, AllocError>
+        ensures { IfOk result (λ task. IsBegun task × (job_of task ≡ job.now)) }
+    {
+        let request = job.request.try_clone()?;
+        Ok(Task {
+            job,
+            locator: Locator::new(alloc, request, job.caps, job.words)?,
+            stage: Stage::Ready,
+        })
+    }
+
     /// Whether its outcome stands.
     pub(crate) fn is_done(&self) -> bool
         ensures { IsTrue result ↔ ((outcome : Became) × (self.now.stage ≡ Stage.Done outcome)) }
@@ -37,11 +50,26 @@ impl Task<'_> {
         matches!(self.stage, Stage::Done(_))
     }
 
+    /// What became of it.
+    pub(crate) fn into_outcome(self) -> Outcome
+        requires done { (outcome : Became) × (self.stage ≡ Stage.Done outcome) }
+        ensures { self.entry.stage ≡ Stage.Done result }
+    {
+        let Task { stage, .. } = self;
+        let Stage::Done(outcome) = stage else {
+            unreachable!()
+        };
+        outcome
+    }
+
     /// Whether it waits for the answer to this question under this id.
     pub(crate) fn waits_for(&self, id: u16, question: &Question) -> bool
         ensures { IsTrue result → WaitsFor id question.now self.now }
     {
-        let asked = matches!(self.locator.next(), Next::Ask(asked) if asked == question);
-        asked && matches!(self.stage, Stage::Waiting(own) if own == id)
+        same_questions_are_equal();
+        match (&self.stage, self.locator.next()) {
+            (Stage::Waiting(own), Next::Ask(asked)) => *own == id && asked == question,
+            _ => false,
+        }
     }
 }

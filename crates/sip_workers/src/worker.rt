@@ -1,14 +1,15 @@
 //! A worker: it resolves a batch of requests at once, over its wire and the shared cache.
-ghost use Rattle.std.specs.Prelude.{◌≡◌, ◌<◌, ℕ, List, IfOk, IfSome, None, length, map};
+ghost use Rattle.std.specs.Prelude.{◌≡◌, ◌<◌, IfOk, IfSome, None, length, map};
 ghost use Rattle.std.specs.List.{All, HoldsAt};
 ghost use Rattle.dns_asker.specs.Tickets.{ticket_of};
 ghost use Rattle.dns_asker.specs.Wires.{IsGiven};
 ghost use Rattle.sip_selection.specs.Choice.{need};
 ghost use Rattle.sip_selection.specs.Nexts.{next_of};
-ghost use Rattle.answer_cache.specs.Seats.{SeatView};
+ghost use Rattle.sip_selection.specs.Selections.{now_of};
 ghost use Rattle.answer_cache.specs.Shared.{Belongs};
-ghost use Rattle.sip_workers.specs.Tasks.{IsDone, Leaves, Stands, WaitsFor};
-ghost use Rattle.sip_workers.specs.Works.{IsOutcomeAt, Works};
+ghost use Rattle.sip_workers.specs.Tasks.{IsAt, IsBegun, IsDone, IsEndedBy, IsOf, IsUnanswered, Leaves, Stands, WaitsFor, job_of};
+ghost use Rattle.sip_workers.specs.declared.job.Job.{Job as Wanted};
+ghost use Rattle.sip_workers.specs.Works.{CountsAt, IsOutcomeAt, Works};
 
 use crate::gate::Gate;
 use crate::job::Job;
@@ -21,7 +22,7 @@ use dns_message::Question;
 use sip_locator::Locator;
 use sip_selection::Next;
 use std::alloc::{AllocError, Global};
-use std::marker::{Model, PhantomData};
+use std::marker::Model;
 use std::sync::Wait;
 
 /// How many questions a worker has out at once.
@@ -62,6 +63,20 @@ fn receive<W: Wire>(wire: &mut W, buffer: &mut [u8; DATAGRAM_LIMIT]) -> Option<u
     wire.receive(buffer).unwrap_or(None)
 }
 
+/// An id that no question is out under, from this one on; after 65,535 it goes on from 0.
+fn free_id(asker: &Asker, first: u16) -> Option<u16>
+    ensures { IfSome result (λ id. ticket_of id asker.now.tickets ≡ None) }
+{
+    let mut id = first;
+    'ids: for _id in 0..ASKER_LIMIT + 1 {
+        if !asker.is_open(id) {
+            return Some(id);
+        }
+        id = id.wrapping_add(1);
+    }
+    None
+}
+
 /// The place of the request that waits for the answer to this question under this id.
 fn place_of(tasks: &[Task<'_>], id: u16, question: &Question) -> Option<usize>
     ensures { IfSome result (λ at. (at < length tasks.now) × HoldsAt (WaitsFor id question.now) tasks.now at) }
@@ -69,29 +84,21 @@ fn place_of(tasks: &[Task<'_>], id: u16, question: &Question) -> Option<usize>
     tasks.iter().position(|task| task.waits_for(id, question))
 }
 
-/// This is what became of a request.
-fn settle<G: Gate>(gate: &G, task: &mut Task<'_>, outcome: Outcome)
-    ensures done { task.new.stage ≡ Stage.Done outcome }
-    ensures same { (task.new.job ≡ task.old.job) × (task.new.locator ≡ task.old.locator) }
-{
-    task.stage = Stage::Done(outcome);
-    gate.answered(task.job.number);
+/// Tells that the outcome of a request stands, if it does.
+fn tell<G: Gate>(gate: &G, task: &Task<'_>) {
+    if task.is_done() {
+        gate.answered(task.job.number);
+    }
 }
 
-/// No reply to a question came in time.
-fn give_up<G: Gate>(gate: &G, tasks: &mut [Task<'_>], id: u16, question: &Question)
-    ensures stands { (gives : List ℕ → Type 0) (shows : ℕ → Type 0) (seat : SeatView)
-        → All (Stands gives shows seat) tasks.old → All (Stands gives shows seat) tasks.new }
-    ensures jobs { map (λ it. it.job.now) tasks.new ≡ map (λ it. it.job.now) tasks.old }
+/// What becomes of a request whose question got no reply in time.
+fn unanswered(question: &Question) -> Outcome
+    ensures { IsUnanswered question.now result }
 {
-    let Some(at) = place_of(tasks, id, question) else {
-        return;
-    };
-    let outcome = match question.try_clone() {
+    match question.try_clone() {
         Ok(question) => Outcome::NoAnswer(question),
         Err(AllocError) => Outcome::Memory,
-    };
-    settle(gate, &mut tasks[at], outcome);
+    }
 }
 
 /// The requests of these jobs, of which nothing is known yet.
@@ -100,24 +107,18 @@ fn begin<'a, G: Gate>(
     jobs: &'a [Job],
     gate: &G,
 ) -> Result<Vec<Task<'a>>, AllocError>
-    ensures stands { IfOk result (λ made. (gives : List ℕ → Type 0) (shows : ℕ → Type 0) (seat : SeatView)
-        → All (Stands gives shows seat) made.items) }
-    ensures jobs { IfOk result (λ made. map (λ it. it.job.now) made.items ≡ jobs.now) }
+    ensures begun { IfOk result (λ made. All IsBegun made.items) }
+    ensures jobs { IfOk result (λ made. map job_of made.items ≡ jobs.now) }
 {
     let mut tasks = Vec::with_capacity(alloc, jobs.len())?;
     'jobs: for job in jobs {
         gate.begun(job.number);
-        let request = job.request.try_clone()?;
-        tasks.push(Task {
-            job,
-            locator: Locator::new(alloc, request, job.caps, job.words)?,
-            stage: Stage::Ready,
-        })?;
+        tasks.push(Task::new(alloc, job)?)?;
     }
     Ok(tasks)
 }
 
-impl<W: Wire> Worker<W> {
+impl<W: Wire + Drop> Worker<W> {
     /// A worker, of which no question is out.
     pub fn new(alloc: Global, seat: Seat, wire: W) -> Result<Worker<W>, AllocError>
         ensures { IfOk result (λ it. it ≡ seat) }
@@ -131,25 +132,11 @@ impl<W: Wire> Worker<W> {
         })
     }
 
-    /// An id that no question is out under, from the next one on; after 65,535 it goes on from 0.
-    fn free_id(&self) -> Option<u16>
-        ensures { IfSome result (λ id. ticket_of id self.now.asker.tickets ≡ None) }
-    {
-        let mut id = self.next_id;
-        'ids: for _id in 0..ASKER_LIMIT + 1 {
-            if !self.asker.is_open(id) {
-                return Some(id);
-            }
-            id = id.wrapping_add(1);
-        }
-        None
-    }
-
     /// Sends a question, and gives its id.
     fn ask(&mut self, question: &Question, now: Moment) -> Result<u16, AskRefusal>
-        ensures seat { self.new.seat ≡ self.old.seat }
+        ensures seat { self.new ≡ self.old }
     {
-        let Some(id) = self.free_id() else {
+        let Some(id) = free_id(&self.asker, self.next_id) else {
             return Err(AskRefusal::Full);
         };
         let Ok(question) = question.try_clone() else {
@@ -164,24 +151,21 @@ impl<W: Wire> Worker<W> {
     /// How far a request is that needs the answer to a question: where as many questions are out as can be, it goes on
     /// later.
     fn stage_of(&mut self, question: &Question, now: Moment) -> Stage
-        ensures seat { self.new.seat ≡ self.old.seat }
+        ensures seat { self.new ≡ self.old }
         ensures leaves { Leaves (need question.now) result }
     {
         match self.ask(question, now) {
             Ok(id) => Stage::Waiting(id),
             Err(AskRefusal::IdTaken | AskRefusal::Full) => Stage::Ready,
             Err(AskRefusal::Memory) => Stage::Done(Outcome::Memory),
-            Err(AskRefusal::Spent) => Stage::Done(match question.try_clone() {
-                Ok(question) => Outcome::NoAnswer(question),
-                Err(AllocError) => Outcome::Memory,
-            }),
+            Err(AskRefusal::Spent) => Stage::Done(unanswered(question)),
         }
     }
 
     /// How far a request is for which this is next.
     fn stage_after(&mut self, next: Next<'_>, now: Moment) -> Stage
-        ensures seat { self.new.seat ≡ self.old.seat }
-        ensures leaves { Leaves (next_of next) result }
+        ensures seat { self.new ≡ self.old }
+        ensures leaves { Leaves (next_of next.entry) result }
     {
         match next {
             Next::Ask(question) => self.stage_of(question, now),
@@ -193,6 +177,27 @@ impl<W: Wire> Worker<W> {
         }
     }
 
+    /// Lets the choice of a request go on, and gives how far it is then.
+    fn stage_now<C: Clock>(
+        &mut self,
+        cache: &SharedCache,
+        clock: &C,
+        locator: &mut Locator<SharedCache>,
+    ) -> Stage
+        requires made_here { Belongs cache.now self.old }
+        ensures stays { Belongs cache.now self.new }
+        ensures works { Works W.gives C.shows self.old.seat self.new.seat }
+        ensures goes_on { (job : Wanted) → IsOf (CountsAt W.gives C.shows self.old.seat) job locator.old
+            → IsOf (CountsAt W.gives C.shows self.new.seat) job locator.new
+            × IsAt W.gives C.shows self.new.seat job locator.new result }
+    {
+        let now = clock.now();
+        match locator.step(cache, &mut self.seat, now) {
+            Ok(next) => self.stage_after(next, now),
+            Err(AllocError) => Stage::Done(Outcome::Memory),
+        }
+    }
+
     /// Lets a request go on, if it can.
     fn advance<C: Clock, G: Gate>(
         &mut self,
@@ -201,24 +206,18 @@ impl<W: Wire> Worker<W> {
         gate: &G,
         task: &mut Task<'_>,
     )
-        requires made_here { Belongs cache.now self.old.seat }
-        requires stands { Stands W.gives C.shows self.old.seat.seat task.old }
-        ensures stays { Belongs cache.now self.new.seat }
-        ensures works { Works W.gives C.shows self.old.seat.seat self.new.seat.seat }
-        ensures stands { Stands W.gives C.shows self.new.seat.seat task.new }
+        requires made_here { Belongs cache.now self.old }
+        requires stands { Stands W.gives C.shows self.old.seat task.old }
+        ensures stays { Belongs cache.now self.new }
+        ensures works { Works W.gives C.shows self.old.seat self.new.seat }
+        ensures stands { Stands W.gives C.shows self.new.seat task.new }
         ensures job { task.new.job.now ≡ task.old.job.now }
     {
         if !matches!(task.stage, Stage::Ready) {
             return;
         }
-        let now = clock.now();
-        task.stage = match task.locator.step(cache, &mut self.seat, now) {
-            Ok(next) => self.stage_after(next, now),
-            Err(AllocError) => Stage::Done(Outcome::Memory),
-        };
-        if task.is_done() {
-            gate.answered(task.job.number);
-        }
+        task.stage = self.stage_now(cache, clock, &mut task.locator);
+        tell(gate, task);
     }
 
     /// Lets each request go on that can.
@@ -229,44 +228,47 @@ impl<W: Wire> Worker<W> {
         gate: &G,
         tasks: &mut [Task<'_>],
     )
-        requires made_here { Belongs cache.now self.old.seat }
-        requires stands { All (Stands W.gives C.shows self.old.seat.seat) tasks.old }
-        ensures stays { Belongs cache.now self.new.seat }
-        ensures works { Works W.gives C.shows self.old.seat.seat self.new.seat.seat }
-        ensures stands { All (Stands W.gives C.shows self.new.seat.seat) tasks.new }
-        ensures jobs { map (λ it. it.job.now) tasks.new ≡ map (λ it. it.job.now) tasks.old }
+        requires made_here { Belongs cache.now self.old }
+        requires stands { All (Stands W.gives C.shows self.old.seat) tasks.old }
+        ensures stays { Belongs cache.now self.new }
+        ensures works { Works W.gives C.shows self.old.seat self.new.seat }
+        ensures stands { All (Stands W.gives C.shows self.new.seat) tasks.new }
+        ensures jobs { map job_of tasks.new ≡ map job_of tasks.old }
     {
         'tasks: for at in 0..tasks.len() {
             self.advance(cache, clock, gate, &mut tasks[at]);
         }
     }
 
-    /// Uses the octets of a reply for the request that waits for it. They are a message that answers its question, so
-    /// that nothing but memory can be wanting.
-    fn take_reply<R: Wait, C: Clock, G: Gate>(
+    /// How far a request is whose question ended so by these octets. Where they are an answer, nothing but memory can
+    /// be wanting for it.
+    fn stage_heard<R: Wait, C: Clock>(
         &mut self,
         rt: &R,
         cache: &SharedCache,
         clock: &C,
-        gate: &G,
-        task: &mut Task<'_>,
+        locator: &mut Locator<SharedCache>,
         octets: &[u8],
-    )
-        requires made_here { Belongs cache.now self.old.seat }
-        requires stands { Stands W.gives C.shows self.old.seat.seat task.old }
+        question: Question,
+        ending: Ending,
+    ) -> Stage
+        requires made_here { Belongs cache.now self.old }
         requires given { W.gives octets.now }
-        ensures stays { Belongs cache.now self.new.seat }
-        ensures works { Works W.gives C.shows self.old.seat.seat self.new.seat.seat }
-        ensures stands { Stands W.gives C.shows self.new.seat.seat task.new }
-        ensures job { task.new.job.now ≡ task.old.job.now }
+        requires needs { now_of locator.old ≡ need question }
+        requires heard { IsEndedBy W.gives question ending }
+        ensures stays { Belongs cache.now self.new }
+        ensures works { Works W.gives C.shows self.old.seat self.new.seat }
+        ensures goes_on { (job : Wanted) → IsOf (CountsAt W.gives C.shows self.old.seat) job locator.old
+            → IsOf (CountsAt W.gives C.shows self.new.seat) job locator.new
+            × IsAt W.gives C.shows self.new.seat job locator.new result }
     {
+        if let Ending::Faulty(refusal) = ending {
+            return Stage::Done(Outcome::BadReply(question, refusal));
+        }
         let now = clock.now();
-        match task
-            .locator
-            .reply(rt, cache, &mut self.seat, now, octets)
-        {
-            Ok(_kept) => task.stage = Stage::Ready,
-            Err(_refusal) => settle(gate, task, Outcome::Memory),
+        match locator.reply(rt, cache, &mut self.seat, now, octets) {
+            Ok(_kept) => Stage::Ready,
+            Err(_refusal) => Stage::Done(Outcome::Memory),
         }
     }
 
@@ -280,13 +282,13 @@ impl<W: Wire> Worker<W> {
         tasks: &mut [Task<'_>],
         octets: &[u8],
     ) -> Result<(), AllocError>
-        requires made_here { Belongs cache.now self.old.seat }
-        requires stands { All (Stands W.gives C.shows self.old.seat.seat) tasks.old }
+        requires made_here { Belongs cache.now self.old }
+        requires stands { All (Stands W.gives C.shows self.old.seat) tasks.old }
         requires given { W.gives octets.now }
-        ensures stays { Belongs cache.now self.new.seat }
-        ensures works { Works W.gives C.shows self.old.seat.seat self.new.seat.seat }
-        ensures stands { All (Stands W.gives C.shows self.new.seat.seat) tasks.new }
-        ensures jobs { map (λ it. it.job.now) tasks.new ≡ map (λ it. it.job.now) tasks.old }
+        ensures stays { Belongs cache.now self.new }
+        ensures works { Works W.gives C.shows self.old.seat self.new.seat }
+        ensures stands { All (Stands W.gives C.shows self.new.seat) tasks.new }
+        ensures jobs { map job_of tasks.new ≡ map job_of tasks.old }
     {
         let Incoming::Ended(id, question, ending) = self.asker.incoming(octets)? else {
             return Ok(());
@@ -294,30 +296,31 @@ impl<W: Wire> Worker<W> {
         let Some(at) = place_of(tasks, id, &question) else {
             return Ok(());
         };
-        match ending {
-            Ending::Answered(_) => {
-                self.take_reply(rt, cache, clock, gate, &mut tasks[at], octets);
-            }
-            Ending::Faulty(refusal) => {
-                settle(gate, &mut tasks[at], Outcome::BadReply(question, refusal));
-            }
-        }
+        let task = &mut tasks[at];
+        let locator = &mut task.locator;
+        task.stage = self.stage_heard(rt, cache, clock, locator, octets, question, ending);
+        tell(gate, task);
         Ok(())
     }
 
     /// Sends the questions once more whose replies did not come in time, and gives up those that were sent three times.
     fn send_again<C: Clock, G: Gate>(&mut self, clock: &C, gate: &G, tasks: &mut [Task<'_>])
-        requires stands { All (Stands W.gives C.shows self.old.seat.seat) tasks.old }
-        ensures seat { self.new.seat ≡ self.old.seat }
-        ensures stands { All (Stands W.gives C.shows self.new.seat.seat) tasks.new }
-        ensures jobs { map (λ it. it.job.now) tasks.new ≡ map (λ it. it.job.now) tasks.old }
+        requires stands { All (Stands W.gives C.shows self.old.seat) tasks.old }
+        ensures seat { self.new ≡ self.old }
+        ensures stands { All (Stands W.gives C.shows self.new.seat) tasks.new }
+        ensures jobs { map job_of tasks.new ≡ map job_of tasks.old }
     {
         let now = clock.now();
         'dues: for _due in 0..ASKER_LIMIT {
             match self.asker.due(now) {
                 None => return,
                 Some(Due::Resend(_, octets)) => send(&mut self.wire, octets),
-                Some(Due::GaveUp(id, question)) => give_up(gate, tasks, id, question),
+                Some(Due::GaveUp(id, question)) => {
+                    if let Some(at) = place_of(tasks, id, question) {
+                        tasks[at].stage = Stage::Done(unanswered(question));
+                        tell(gate, &tasks[at]);
+                    }
+                }
             }
         }
     }
@@ -331,12 +334,12 @@ impl<W: Wire> Worker<W> {
         gate: &G,
         tasks: &mut [Task<'_>],
     ) -> Result<(), AllocError>
-        requires made_here { Belongs cache.now self.old.seat }
-        requires stands { All (Stands W.gives C.shows self.old.seat.seat) tasks.old }
-        ensures stays { Belongs cache.now self.new.seat }
-        ensures works { Works W.gives C.shows self.old.seat.seat self.new.seat.seat }
-        ensures done { IfOk result (λ _. All (IsDone W.gives C.shows self.new.seat.seat) tasks.new) }
-        ensures jobs { map (λ it. it.job.now) tasks.new ≡ map (λ it. it.job.now) tasks.old }
+        requires made_here { Belongs cache.now self.old }
+        requires stands { All (Stands W.gives C.shows self.old.seat) tasks.old }
+        ensures stays { Belongs cache.now self.new }
+        ensures works { Works W.gives C.shows self.old.seat self.new.seat }
+        ensures done { IfOk result (λ _. All (IsDone W.gives C.shows self.new.seat) tasks.new) }
+        ensures jobs { map job_of tasks.new ≡ map job_of tasks.old }
     {
         let mut buffer = [0; DATAGRAM_LIMIT];
         'rounds: for _ in rt.forever() {
@@ -357,25 +360,17 @@ impl<W: Wire> Worker<W> {
         &self,
         tasks: Vec<Task<'a>>,
     ) -> Result<Vec<JobResult<'a, W, C>>, AllocError>
-        requires done { All (IsDone W.gives C.shows self.now.seat.seat) tasks.items }
-        ensures jobs { IfOk result (λ made. map (λ it. it.job.now) made.items ≡ map (λ it. it.job.now) tasks.items) }
-        ensures notices { IfOk result (λ made. All (λ it. (it.notice.cache ≡ self.now.seat.cache)
-            × (it.notice.seen ≡ self.now.seat.seat.seen)) made.items) }
+        requires done { All (IsDone W.gives C.shows self.now.seat) tasks.items }
+        ensures jobs { IfOk result (λ made. map (λ it. it.job) made.items ≡ map job_of tasks.entry.items) }
+        ensures notices { IfOk result (λ made. All (λ it. (it.notice.cache ≡ self.now.cache)
+            × (it.notice.seen ≡ self.now.seat.seen)) made.items) }
         ensures outcomes { IfOk result (λ made. All (λ it.
-            IsOutcomeAt W.gives C.shows self.now.seat.seat it.job.now it.outcome) made.items) }
+            IsOutcomeAt W.gives C.shows self.now.seat it.job it.outcome) made.items) }
     {
         let mut results = Vec::with_capacity(self.alloc, tasks.len())?;
         'tasks: for task in tasks {
-            let Task { job, stage, .. } = task;
-            let Stage::Done(outcome) = stage else {
-                unreachable!()
-            };
-            results.push(JobResult {
-                job,
-                outcome,
-                notice: self.seat.notice(),
-                over: PhantomData,
-            })?;
+            let job = task.job;
+            results.push(JobResult::new(job, task.into_outcome(), self.seat.notice()))?;
         }
         Ok(results)
     }
@@ -393,11 +388,11 @@ impl<W: Wire> Worker<W> {
         requires made_here { Belongs cache.now self.old }
         ensures stays { Belongs cache.now self.new }
         ensures works { Works W.gives C.shows self.old.seat self.new.seat }
-        ensures jobs { IfOk result (λ made. map (λ it. it.job.now) made.items ≡ jobs.now) }
+        ensures jobs { IfOk result (λ made. map (λ it. it.job) made.items ≡ jobs.now) }
         ensures notices { IfOk result (λ made. All (λ it. (it.notice.cache ≡ cache.now)
             × (it.notice.seen ≡ self.new.seat.seen)) made.items) }
         ensures outcomes { IfOk result (λ made. All (λ it.
-            IsOutcomeAt W.gives C.shows self.new.seat it.job.now it.outcome) made.items) }
+            IsOutcomeAt W.gives C.shows self.new.seat it.job it.outcome) made.items) }
     {
         let mut tasks = begin(self.alloc, jobs, gate)?;
         self.work(rt, cache, clock, gate, tasks.as_mut_slice())?;

@@ -1,0 +1,4 @@
+mod Collecting
+mod Going
+mod Standing
+mod Working

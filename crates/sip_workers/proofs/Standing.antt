@@ -1,0 +1,171 @@
+-- What stays so while a worker goes on.
+use Rattle.std.proofs.Common.{◌≡◌, ℕ, ◌<◌, ◌⊎◌, inl, inr, List, [], ◌∷◌, ◌++◌, map, set, get_or, length, take, ◌+◌, refl, sym, ap, ◌∙◌, append_assoc, arith}
+use Rattle.std.proofs.lemmas.List.{append-nil, get_or-map, map-append, map-set, set-get_or, take_more}
+use Rattle.std.proofs.lemmas.List.Elements.{All-nil, All-append, All-get_or, All-set, All-weaker, All-push, Contains-append_left, Contains-push}
+use Rattle.std.specs.List.{All, Contains}
+use mathlib.Core.List.{IsPrefix}
+use Rattle.dns_answers.specs.Values.{AnswerValue}
+use Rattle.dns_message.specs.declared.question.Question.{Question}
+use Rattle.answer_log.specs.declared.store.Store.{Store}
+use Rattle.answer_cache.specs.Seats.{GoesOn, Offer, SeatView, StoresNothing, offer_of}
+use Rattle.sip_selection.specs.Known.{Given}
+use Rattle.sip_workers.specs.Outcomes.{Counts, IsCached, IsChosen, IsLacking, IsOutcome, IsReplied, Says}
+use Rattle.sip_workers.specs.Tasks.{IsAt, IsOf, Stands, job_of}
+use Rattle.sip_workers.specs.Works.{CountsAt, IsHanded, IsHeard, IsOutcomeAt, Works, offer_in}
+use Rattle.sip_workers.specs.declared.job.Job.{Job}
+use Rattle.sip_workers.specs.declared.outcome.Outcome.{Outcome}
+use Rattle.sip_workers.specs.declared.outcome.Outcome.TheVariants.{Targets, Refused, NoAnswer, BadReply, Memory}
+use Rattle.sip_workers.specs.declared.task.Stage.TheVariants.{Ready, Waiting, Done}
+use Rattle.sip_workers.specs.declared.task.Stage.{Stage}
+use Rattle.sip_workers.specs.declared.task.Task.{Task}
+use Rattle.sip_selection.specs.Selections.{SelectionValue}
+
+pub prefix-self : {X : Type 0} (history : List X) → IsPrefix history history
+prefix-self history = ([], append-nil history)
+
+pub prefix-through : {X : Type 0} (first middle last : List X) → IsPrefix first middle → IsPrefix middle last → IsPrefix first last
+prefix-through first middle last front back =
+    (front.0 ++ back.0, sym (append_assoc first front.0 back.0) ∙ ap (λ l. l ++ back.0) front.1 ∙ back.1)
+
+module _ (gives : List ℕ → Type 0) (shows : ℕ → Type 0) where
+  module _ (seen later : List Store) (on : IsPrefix seen later) where
+    cached-later : (given : Given) → IsCached shows seen given → IsCached shows later given
+    cached-later given it = record {
+      history = it.history;
+      before = prefix-through it.history seen later it.before on;
+      now = it.now;
+      shown = it.shown;
+      found = it.found;
+    }
+
+    lacking-later : (question : Question) → IsLacking shows seen question → IsLacking shows later question
+    lacking-later question it = record {
+      history = it.history;
+      before = prefix-through it.history seen later it.before on;
+      now = it.now;
+      shown = it.shown;
+      none = it.none;
+    }
+
+    -- an outcome goes on to be one where all that counted counts still
+    says-later : (counts counts' : Given → Type 0) → ((given : Given) → counts given → counts' given) → (job : Job) (outcome : Outcome)
+        → Says gives shows seen counts job outcome → Says gives shows later counts' job outcome
+    says-later counts counts' weaker job (Targets list) it =
+        record { given = it.given; counted = All-weaker counts counts' weaker it.given it.counted; is = it.is }
+    says-later counts counts' weaker job (Refused reason) it =
+        record { given = it.given; counted = All-weaker counts counts' weaker it.given it.counted; is = it.is }
+    says-later counts counts' weaker job (NoAnswer question) it = (
+      record { given = it.0.given; counted = All-weaker counts counts' weaker it.0.given it.0.counted; is = it.0.is },
+      lacking-later question it.1,
+    )
+    says-later counts counts' weaker job (BadReply question refusal) it = (
+      record { given = it.0.given; counted = All-weaker counts counts' weaker it.0.given it.0.counted; is = it.0.is },
+      it.1,
+    )
+    says-later counts counts' weaker job Memory it = it
+
+  -- what a seat's outcome says to all
+  pub told : (seat : SeatView) (job : Job) (outcome : Outcome) → IsOutcomeAt gives shows seat job outcome
+      → IsOutcome gives shows seat.seen job outcome
+  told seat job outcome it =
+      let weaker : (given : Given) → CountsAt gives shows seat given → Counts gives shows seat.seen given = λ given. weaker-at given in
+      says-later seat.seen seat.seen (prefix-self seat.seen) (CountsAt gives shows seat) (Counts gives shows seat.seen) weaker job outcome it
+    where
+      weaker-at : (given : Given) → CountsAt gives shows seat given → Counts gives shows seat.seen given
+      weaker-at given (inl cached) = inl cached
+      weaker-at given (inr replied) = inr replied.0
+
+  module _ (old new : SeatView) (works : Works gives shows old new) where
+    counts-later : (given : Given) → CountsAt gives shows old given → CountsAt gives shows new given
+    counts-later given (inl cached) = inl (cached-later old.seen new.seen works.goes_on.seen given cached)
+    counts-later given (inr replied) =
+        let offer = offer_of given.question given.answer replied.1.now in
+        inr (replied.0, record {
+          now = replied.1.now;
+          stands = rw works.offered (Contains-append_left old.offered works.offers offer replied.1.stands);
+        })
+
+    pub outcome-later : (job : Job) (outcome : Outcome) → IsOutcomeAt gives shows old job outcome → IsOutcomeAt gives shows new job outcome
+    outcome-later job outcome it =
+        says-later old.seen new.seen works.goes_on.seen (CountsAt gives shows old) (CountsAt gives shows new) counts-later job outcome it
+
+    pub of-later : (job : Job) (selection : SelectionValue) → IsOf (CountsAt gives shows old) job selection → IsOf (CountsAt gives shows new) job selection
+    of-later job selection it = record {
+      request = it.request;
+      caps = it.caps;
+      words = it.words;
+      counted = All-weaker (CountsAt gives shows old) (CountsAt gives shows new) counts-later selection.given it.counted;
+    }
+
+    at-later : (job : Job) (selection : SelectionValue) (stage : Stage) → IsAt gives shows old job selection stage → IsAt gives shows new job selection stage
+    at-later job selection Ready it = it
+    at-later job selection (Waiting id) it = λ question needs. lacking-later old.seen new.seen works.goes_on.seen question (it question needs)
+    at-later job selection (Done outcome) it = outcome-later job outcome it
+
+    pub stands-later : (task : Task) → Stands gives shows old task → Stands gives shows new task
+    stands-later task it = (of-later task.job.now task.locator it.0, at-later task.job.now task.locator task.stage it.1)
+
+    pub all-later : (tasks : List Task) → All (Stands gives shows old) tasks → All (Stands gives shows new) tasks
+    all-later tasks all = All-weaker (Stands gives shows old) (Stands gives shows new) stands-later tasks all
+
+  pub works-not : (seat : SeatView) → Works gives shows seat seat
+  works-not seat = record {
+    goes_on = record { number = refl; seen = prefix-self seat.seen };
+    offers = [];
+    offered = sym (append-nil seat.offered);
+    heard = All-nil (IsHeard gives shows);
+    stores = [];
+    own = sym (append-nil seat.own);
+    kept = All-nil (λ store. IsHeard gives shows (offer_in store));
+  }
+
+  pub works-quietly : (old new : SeatView) → GoesOn old new → StoresNothing old new → Works gives shows old new
+  works-quietly old new on nothing = record {
+    goes_on = on;
+    offers = [];
+    offered = nothing.offered ∙ sym (append-nil old.offered);
+    heard = All-nil (IsHeard gives shows);
+    stores = [];
+    own = nothing.own ∙ sym (append-nil old.own);
+    kept = All-nil (λ store. IsHeard gives shows (offer_in store));
+  }
+
+  pub works-through : (old middle new : SeatView) → Works gives shows old middle → Works gives shows middle new → Works gives shows old new
+  works-through old middle new front back = record {
+    goes_on = record {
+      number = back.goes_on.number ∙ front.goes_on.number;
+      seen = prefix-through old.seen middle.seen new.seen front.goes_on.seen back.goes_on.seen;
+    };
+    offers = front.offers ++ back.offers;
+    offered = back.offered ∙ ap (λ l. l ++ back.offers) front.offered ∙ append_assoc old.offered front.offers back.offers;
+    heard = All-append (IsHeard gives shows) front.offers back.offers front.heard back.heard;
+    stores = front.stores ++ back.stores;
+    own = back.own ∙ ap (λ l. l ++ back.stores) front.own ∙ append_assoc old.own front.stores back.stores;
+    kept = All-append (λ store. IsHeard gives shows (offer_in store)) front.stores back.stores front.kept back.kept;
+  }
+
+-- ---- the jobs of requests
+
+-- a change of one request that leaves its job leaves the jobs
+pub same-jobs : (tasks : List Task) (at : ℕ) (task old : Task) → at < length tasks → job_of task ≡ job_of (get_or tasks at old)
+    → map job_of (set tasks at task) ≡ map job_of tasks
+same-jobs tasks at task old within same =
+    map-set job_of tasks at task
+    ∙ ap (set (map job_of tasks) at) (same ∙ sym (get_or-map job_of tasks at old (job_of task) within))
+    ∙ set-get_or (map job_of tasks) at (job_of task)
+
+-- all stand on where one has gone on
+pub one-later : (gives : List ℕ → Type 0) (shows : ℕ → Type 0) (old new : SeatView) → Works gives shows old new → (tasks : List Task) (at : ℕ) (task : Task)
+    → All (Stands gives shows old) tasks → Stands gives shows new task → All (Stands gives shows new) (set tasks at task)
+one-later gives shows old new works tasks at task all stands =
+    All-set (Stands gives shows new) tasks at task stands (all-later gives shows old new works tasks all)
+
+-- with the request of one job more
+pub begun-more : (jobs : List Job) (tasks : List Task) (index : ℕ) (task : Task) (job : Job) → index < length jobs
+    → job ≡ get_or jobs index job → job_of task ≡ job → map job_of tasks ≡ take index jobs
+    → map job_of (tasks ++ task ∷ []) ≡ take (index + 1) jobs
+begun-more jobs tasks index task job within at same before =
+    map-append job_of tasks (task ∷ [])
+    ∙ ap (λ l. l ++ job_of task ∷ []) before
+    ∙ ap (λ it. take index jobs ++ it ∷ []) (same ∙ at)
+    ∙ sym (take_more jobs index job within)
