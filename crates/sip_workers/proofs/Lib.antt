@@ -1,4 +1,5 @@
 mod Collecting
+mod Dealing
 mod Going
 mod Standing
 mod Working

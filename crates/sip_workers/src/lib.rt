@@ -11,16 +11,23 @@
 //! for done in worker.batch(&rt, &cache, &jobs, &clock, &gate)? { .. }     // done.job, done.outcome, done.notice
 //! ```
 //!
-//! Read `specs/Outcomes.antt` first: what an outcome says. Then `specs/Works.antt`: what a worker hands to the cache.
+//! `run_workers` runs a worker for each seat, in a thread of its own, and gives what became of each job, in order.
+//!
+//! Read `specs/Outcomes.antt` first: what an outcome says. Then `specs/Works.antt`: what a worker hands to the cache,
+//! and `specs/Runs.antt`: what a run of many workers gives.
 #![tactic(auto)]
 
 mod gate;
 mod job;
 mod outcome;
+mod refusal;
+mod run;
 mod task;
 mod worker;
 
 pub use gate::Gate;
 pub use job::Job;
 pub use outcome::{JobResult, Outcome, TargetList};
+pub use refusal::RunRefusal;
+pub use run::run_workers;
 pub use worker::Worker;

@@ -1,0 +1,44 @@
+-- What a run of many workers is, and what it gives.
+use Rattle.std.specs.Prelude.{◌≡◌, ℕ, ◌+◌, ◌<◌, ◌≤◌, List, length, slice_index_or}
+use Rattle.std.specs.List.{AllZip}
+use Rattle.logbook.specs.Pages.{Book}
+use Rattle.answer_cache.specs.Shared.{Told}
+use Rattle.sip_workers.specs.Outcomes.{IsOutcome}
+use Rattle.sip_workers.specs.declared.job.Job.{Job}
+use Rattle.sip_workers.specs.declared.outcome.Outcome.{Outcome}
+use Rattle.sip_workers.specs.declared.refusal.RunRefusal.{RunRefusal}
+use Rattle.sip_workers.specs.declared.refusal.RunRefusal.TheVariants.{BadCount, NoThread, Memory}
+
+-- ---- what may run
+
+-- the number of each job is below the number of the next
+abbrev pub Rises : List Job → Type 0
+Rises jobs = (k : ℕ) (job : Job) → k + 1 < length jobs
+    → (slice_index_or jobs k job).number < (slice_index_or jobs (k + 1) job).number
+
+-- the counts of a run are good
+pub record MayRun (seats wires : ℕ) (jobs : List Job) (batch : ℕ) : Type 0 where
+  pub some : 0 < seats
+  pub alike : wires ≡ seats
+  pub full : 0 < batch
+  pub small : batch ≤ 8
+  pub rises : Rises jobs
+  pub few : length jobs ≤ 10000
+
+-- The counts are bad exactly where they are not good. A thread and memory are wanted only where
+-- they are.
+abbrev pub RefusesRun : Type 0 → RunRefusal → Type 0
+RefusesRun good BadCount = good → ⊥
+RefusesRun good NoThread = good
+RefusesRun good Memory = good
+
+-- ---- what it gives
+
+-- what became of a job, with a notice of this cache
+module _ (gives : List ℕ → Type 0) (shows : ℕ → Type 0) (book : Book) where
+  abbrev pub IsMade : Job → Outcome × Told → Type 0
+  IsMade job made = IsOutcome gives shows made.1.seen job made.0 × (made.1.cache ≡ book)
+
+  -- of each job, in order
+  abbrev pub AreMade : List Job → List (Outcome × Told) → Type 0
+  AreMade jobs made = AllZip IsMade jobs made
