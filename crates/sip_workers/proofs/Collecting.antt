@@ -56,9 +56,9 @@ module _ (gives : List ℕ → Type 0) (shows : ℕ → Type 0) (seat : SharedVi
     collected-one it same noted done = record {
       done = All-tail (IsDone gives shows seat.seat) task rest (rw is at so-far.done);
       jobs = (rw (map-append job_in made (it ∷ [])) (append_assoc (map job_in made) (it.job ∷ []) (map job_of rest)))
-      ∙ ap (λ job. map job_in made ++ job ∷ map job_of rest) same
-      ∙ ap (λ l. map job_in made ++ map job_of l) (sym is)
-      ∙ so-far.jobs;
+          ∙ ap (λ job. map job_in made ++ job ∷ map job_of rest) same
+          ∙ ap (λ l. map job_in made ++ map job_of l) (sym is)
+          ∙ so-far.jobs;
       notices = All-push (Notes seat) made it so-far.notices noted;
       outcomes = All-push (Became gives shows seat) made it so-far.outcomes (rw same (outcome-is it.outcome done));
     }

@@ -80,10 +80,13 @@ module _ (gives : List ℕ → Type 0) (shows : ℕ → Type 0) where
     counts-later given (inl cached) = inl (cached-later old.seen new.seen works.goes_on.seen given cached)
     counts-later given (inr replied) =
         let offer = offer_of given.question given.answer replied.1.now in
-        inr (replied.0, record {
-          now = replied.1.now;
-          stands = rw works.offered (Contains-append_left old.offered works.offers offer replied.1.stands);
-        })
+        inr (
+          replied.0,
+          record {
+            now = replied.1.now;
+            stands = rw works.offered (Contains-append_left old.offered works.offers offer replied.1.stands);
+          },
+        )
 
     pub outcome-later : (job : Job) (outcome : Outcome) → IsOutcomeAt gives shows old job outcome → IsOutcomeAt gives shows new job outcome
     outcome-later job outcome it =

@@ -3,7 +3,7 @@ use Rattle.std.proofs.Common.{◌≡◌, ℕ, ◌<◌, List, map, set, get_or, l
 use Rattle.std.proofs.lemmas.List.Elements.{All-get_or, All-set}
 use Rattle.std.specs.List.{All, HoldsAt}
 use Rattle.dns_message.specs.declared.question.Question.{Question}
-use Rattle.logbook.specs.Pages.{Book}
+use Rattle.answer_cache.specs.Shared.{CacheView}
 use Rattle.answer_cache.specs.Seats.{SeatView}
 use Rattle.answer_cache.specs.Shared.{Belongs, SharedView}
 use Rattle.sip_workers.proofs.Going.{unanswered-at}
@@ -14,13 +14,13 @@ use Rattle.sip_workers.specs.declared.outcome.Outcome.{Outcome}
 use Rattle.sip_workers.specs.declared.task.Stage.TheVariants.{Done}
 use Rattle.sip_workers.specs.declared.task.Task.{Task}
 
-pub record Working (gives : List ℕ → Type 0) (shows : ℕ → Type 0) (cache : Book) (old now : SharedView) (before tasks : List Task) : Type 0 where
+pub record Working (gives : List ℕ → Type 0) (shows : ℕ → Type 0) (cache : CacheView) (old now : SharedView) (before tasks : List Task) : Type 0 where
   pub belongs : Belongs cache now
   pub works : Works gives shows old.seat now.seat
   pub stands : All (Stands gives shows now.seat) tasks
   pub jobs : map job_of tasks ≡ map job_of before
 
-module _ (gives : List ℕ → Type 0) (shows : ℕ → Type 0) (cache : Book) where
+module _ (gives : List ℕ → Type 0) (shows : ℕ → Type 0) (cache : CacheView) where
   pub working-not : (seat : SharedView) (tasks : List Task) → Belongs cache seat → All (Stands gives shows seat.seat) tasks
       → Working gives shows cache seat seat tasks tasks
   working-not seat tasks belongs stands =

@@ -3,7 +3,7 @@ use Rattle.std.specs.Prelude.{◌≡◌, ℕ, suc, ◌+◌, ◌<◌, ◌≤◌, 
 use Rattle.std.specs.Borrow.{Bor}
 use Rattle.std.specs.Global.{Vec}
 use Rattle.std.specs.List.{HoldsAt}
-use Rattle.logbook.specs.Pages.{Book}
+use Rattle.answer_cache.specs.Shared.{CacheView}
 use Rattle.answer_cache.specs.Shared.{Told}
 use Rattle.sip_workers.specs.Runs.{AreMade}
 use Rattle.sip_workers.specs.declared.job.Job.{Job}
@@ -31,7 +31,7 @@ abbrev pub InTurn : {Made : Type 0} → (ℕ → Made → Type 0) → ℕ → Li
 InTurn Is first [] = Unit {0}
 InTurn Is first (made ∷ later) = Is first made × InTurn Is (suc first) later
 
-module _ (gives : List ℕ → Type 0) (shows : ℕ → Type 0) (book : Book) where
+module _ (gives : List ℕ → Type 0) (shows : ℕ → Type 0) (book : CacheView) where
   module _ (batches : List (Bor (List Job))) where
     -- what became of the jobs of the batch of this number
     abbrev pub IsBatch : ℕ → Vec (Outcome × Told) → Type 0
@@ -43,8 +43,8 @@ module _ (gives : List ℕ → Type 0) (shows : ℕ → Type 0) (book : Book) wh
     IsPart workers number made = IsDealt IsBatch workers (length batches) number made
 
 -- a promise to make the part of this number, in its own words
-pub record IsPromise (book : Book) (batches : List (Bor (List Job))) (workers number : ℕ)
-    (its_book : Book) (its_batches : List (Bor (List Job))) (its_workers its_number : ℕ)
+pub record IsPromise (book : CacheView) (batches : List (Bor (List Job))) (workers number : ℕ)
+    (its_book : CacheView) (its_batches : List (Bor (List Job))) (its_workers its_number : ℕ)
     : Type 0 where
   pub cache : its_book ≡ book
   pub batches_are : its_batches ≡ batches

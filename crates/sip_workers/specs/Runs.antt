@@ -1,7 +1,7 @@
 -- What a run of many workers is, and what it gives.
 use Rattle.std.specs.Prelude.{◌≡◌, ℕ, ◌+◌, ◌<◌, ◌≤◌, List, length, slice_index_or}
 use Rattle.std.specs.List.{AllZip}
-use Rattle.logbook.specs.Pages.{Book}
+use Rattle.answer_cache.specs.Shared.{CacheView}
 use Rattle.answer_cache.specs.Shared.{Told}
 use Rattle.sip_workers.specs.Outcomes.{IsOutcome}
 use Rattle.sip_workers.specs.declared.job.Job.{Job}
@@ -35,7 +35,7 @@ RefusesRun good Memory = good
 -- ---- what it gives
 
 -- what became of a job, with a notice of this cache
-module _ (gives : List ℕ → Type 0) (shows : ℕ → Type 0) (book : Book) where
+module _ (gives : List ℕ → Type 0) (shows : ℕ → Type 0) (book : CacheView) where
   abbrev pub IsMade : Job → Outcome × Told → Type 0
   IsMade job made = IsOutcome gives shows made.1.seen job made.0 × (made.1.cache ≡ book)
 

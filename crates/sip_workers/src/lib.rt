@@ -31,3 +31,6 @@ pub use outcome::{JobResult, Outcome, TargetList};
 pub use refusal::RunRefusal;
 pub use run::run_workers;
 pub use worker::Worker;
+
+#[cfg(test)]
+mod tests;

@@ -160,7 +160,11 @@ impl<'a, W: Wire, C: Clock> JobResult<'a, W, C> {
         ensures is { (result.0 ≡ self.entry.outcome) × (result.1 ≡ self.entry.notice) }
         ensures says { IsOutcome W.gives C.shows result.1.seen self.entry.job result.0 }
     {
-        let JobResult { outcome, notice, .. } = self;
+        let JobResult {
+            outcome,
+            notice,
+            ..
+        } = self;
         (outcome, notice)
     }
 

@@ -102,11 +102,7 @@ fn unanswered(question: &Question) -> Outcome
 }
 
 /// The requests of these jobs, of which nothing is known yet.
-fn begin<'a, G: Gate>(
-    alloc: Global,
-    jobs: &'a [Job],
-    gate: &G,
-) -> Result<Vec<Task<'a>>, AllocError>
+fn begin<'a, G: Gate>(alloc: Global, jobs: &'a [Job], gate: &G) -> Result<Vec<Task<'a>>, AllocError>
     ensures begun { IfOk result (λ made. All IsBegun made.items) }
     ensures jobs { IfOk result (λ made. map job_of made.items ≡ jobs.now) }
 {

@@ -10,11 +10,10 @@ jobs-init g c = rw c.in_ok-tasks.ensures.items (All-nil IsBegun, refl)
 
 pub jobs-preserved : goal.jobs-preserved
 jobs-preserved g c =
-    rw c.in_ok-push.ensures.items
-    (
+    rw c.in_ok-push.ensures.items (
       All-push IsBegun c.jobs.tasks.items c.in_ok-new.field-0 c.jobs.invariant.0 c.in_ok-new.ensures.0,
       begun-more c.args.jobs.now c.jobs.tasks.items c.jobs.job-index c.in_ok-new.field-0 c.job-item.result c.jobs-test.true c.job-item.is c.in_ok-new.ensures.1
-      c.jobs.invariant.1,
+          c.jobs.invariant.1,
     )
 
 pub returns-clause-begun : goal.returns-clause-begun

@@ -12,8 +12,7 @@ pub tasks-preserved : goal.tasks-preserved
 tasks-preserved g c =
     rw c.in_ok-push.ensures.items
     (rw c.new.ensures
-    (collected-one _ _ c.args.self.now c.args.tasks.items _ _ _ c.in-Some.task c.in-Some.ensures.steps.0 c.tasks.invariant _ refl
-    (
+    (collected-one _ _ c.args.self.now c.args.tasks.items _ _ _ c.in-Some.task c.in-Some.ensures.steps.0 c.tasks.invariant _ refl (
       c.notice.ensures.0 ∙ ap (λ (it : SharedView). it.cache) c.self.view_is,
       c.notice.ensures.1 ∙ ap (λ (it : SharedView). it.seat.seen) c.self.view_is,
     ) c.into_outcome.ensures))

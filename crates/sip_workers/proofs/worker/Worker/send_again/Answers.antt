@@ -18,12 +18,12 @@ returns-in-None-clause-jobs g c = c.dues.invariant.jobs
 pub dues-preserved : goal.dues-preserved
 dues-preserved g c =
     elim c.match-this.branch [
-      in-Some-Resend w ↦ rw (w.self-inside-is, w.tasks-is) c.dues.invariant
-    | in-Some-GaveUp+in-Some w ↦
-      rw (w.self-inside-is, w.tasks-is)
-      (given-up _ _ c.args.self.now _ c.args.tasks.now c.dues.tasks _ _ w.unanswered.result w.in-Some.at w.index-tasks-at.result w.in-Some.ensures.0
-      w.in-Some.ensures.1 w.unanswered.ensures c.dues.invariant)
-    | in-Some-GaveUp+in_default w ↦ rw (w.self-inside-is, w.tasks-is) c.dues.invariant
+      | in-Some-Resend w ↦ rw (w.self-inside-is, w.tasks-is) c.dues.invariant
+      | in-Some-GaveUp+in-Some w ↦
+          rw (w.self-inside-is, w.tasks-is)
+          (given-up _ _ c.args.self.now _ c.args.tasks.now c.dues.tasks _ _ w.unanswered.result w.in-Some.at w.index-tasks-at.result w.in-Some.ensures.0
+          w.in-Some.ensures.1 w.unanswered.ensures c.dues.invariant)
+      | in-Some-GaveUp+in_default w ↦ rw (w.self-inside-is, w.tasks-is) c.dues.invariant
     ]
 
 pub returns-clause-seat : goal.returns-clause-seat

@@ -19,11 +19,11 @@ send_again-requires g c =
     let base' : Working g.W.Wire.gives g.C.Clock.shows c.args.cache.now c.args.self.now c.self.inside.seat c.args.tasks.now c.advance_all.new.tasks = rw c.self.view_is base in
     let so-far : Working g.W.Wire.gives g.C.Clock.shows c.args.cache.now c.args.self.now c.match-receive.self c.args.tasks.now c.match-receive.tasks =
     elim c.match-receive.branch [
-      in-Some-receive+in_ok-hear w ↦
-      rw (w.self-is, w.tasks-is)
-      (working-all g.W.Wire.gives g.C.Clock.shows c.args.cache.now c.args.self.now c.self.inside.seat w.hear.new.self c.args.tasks.now c.advance_all.new.tasks base'
-      w.hear.new.tasks w.hear.ensures.stays w.hear.ensures.works w.hear.ensures.stands w.hear.ensures.jobs)
-    | in_default w ↦ rw (w.self-is, w.tasks-is) base'
+      | in-Some-receive+in_ok-hear w ↦
+          rw (w.self-is, w.tasks-is)
+          (working-all g.W.Wire.gives g.C.Clock.shows c.args.cache.now c.args.self.now c.self.inside.seat w.hear.new.self c.args.tasks.now c.advance_all.new.tasks base'
+          w.hear.new.tasks w.hear.ensures.stays w.hear.ensures.works w.hear.ensures.stands w.hear.ensures.jobs)
+      | in_default w ↦ rw (w.self-is, w.tasks-is) base'
     ] in
     record { stands = so-far.stands }
 
@@ -35,11 +35,11 @@ rounds-preserved g c =
     let base' : Working g.W.Wire.gives g.C.Clock.shows c.args.cache.now c.args.self.now c.self.inside.seat c.args.tasks.now c.advance_all.new.tasks = rw c.self.view_is base in
     let so-far : Working g.W.Wire.gives g.C.Clock.shows c.args.cache.now c.args.self.now c.match-receive.self c.args.tasks.now c.match-receive.tasks =
     elim c.match-receive.branch [
-      in-Some-receive+in_ok-hear w ↦
-      rw (w.self-is, w.tasks-is)
-      (working-all g.W.Wire.gives g.C.Clock.shows c.args.cache.now c.args.self.now c.self.inside.seat w.hear.new.self c.args.tasks.now c.advance_all.new.tasks base'
-      w.hear.new.tasks w.hear.ensures.stays w.hear.ensures.works w.hear.ensures.stands w.hear.ensures.jobs)
-    | in_default w ↦ rw (w.self-is, w.tasks-is) base'
+      | in-Some-receive+in_ok-hear w ↦
+          rw (w.self-is, w.tasks-is)
+          (working-all g.W.Wire.gives g.C.Clock.shows c.args.cache.now c.args.self.now c.self.inside.seat w.hear.new.self c.args.tasks.now c.advance_all.new.tasks base'
+          w.hear.new.tasks w.hear.ensures.stays w.hear.ensures.works w.hear.ensures.stands w.hear.ensures.jobs)
+      | in_default w ↦ rw (w.self-is, w.tasks-is) base'
     ] in
     working-all g.W.Wire.gives g.C.Clock.shows c.args.cache.now c.args.self.now c.match-receive.self c.send_again.new.self c.args.tasks.now c.match-receive.tasks so-far
     c.send_again.new.tasks (rw c.send_again.ensures.seat so-far.belongs) (rw c.send_again.ensures.seat (works-not _ _ c.match-receive.self.seat))
@@ -48,8 +48,8 @@ rounds-preserved g c =
 pub returns-clause-works : goal.returns-clause-works
 returns-clause-works g c =
     elim c.match-next.branch [
-      in-None w ↦ rw w.self-is c.rounds.invariant.works
-    | in-Some+then-all w ↦
-      rw w.self-is
-      (works-through _ _ c.args.self.now.seat c.rounds.self.seat w.advance_all.new.self.seat c.rounds.invariant.works w.advance_all.ensures.works)
+      | in-None w ↦ rw w.self-is c.rounds.invariant.works
+      | in-Some+then-all w ↦
+          rw w.self-is
+          (works-through _ _ c.args.self.now.seat c.rounds.self.seat w.advance_all.new.self.seat c.rounds.invariant.works w.advance_all.ensures.works)
     ]

@@ -1,0 +1,252 @@
+//! Workers over wires in memory to one zone.
+ghost use Rattle.std.specs.Prelude.{◌≤◌, ◌≡◌, IfSome};
+ghost use Rattle.answer_cache.specs.Shared.{Belongs};
+
+use crate::*;
+use answer_cache::SharedCache;
+use dns_answers::Moment;
+use dns_asker::{Clock, DATAGRAM_LIMIT, Wire, WireFault, Zone};
+use sip_selection::{Caps, Families, Request, Target};
+use sip_uri::Transport::Udp;
+use sip_uri::{Address, read_uri};
+use srv_choice::{WORD_COUNT, Words};
+use std::alloc::Global;
+use std::collections::VecDeque;
+use std::sync::Wait;
+use std::sync::atomic::{AtomicU64, Ordering};
+use std::thread::Threads;
+
+/// A zone with one address.
+const ZONE: &str = "a.example. 300 A 192.0.2.7";
+
+/// A request to the name in it, and one to its address.
+const TO_NAME: &str = "sip:a.example:5070";
+
+const TO_ADDRESS: &str = "sip:192.0.2.7:5070";
+
+/// Where both go.
+const TARGET: Target = Target {
+    transport: Udp,
+    address: Address::V4([192, 0, 2, 7]),
+    port: 5070,
+};
+
+/// A wire to a zone, which counts the datagrams that are sent.
+#[derive(Drop)]
+struct ZoneWire<'a> {
+    alloc: Global,
+    zone: &'a Zone,
+    sent: &'a AtomicU64,
+    replies: VecDeque<Vec<u8>>,
+}
+
+impl<'a> Wire for ZoneWire<'a> {
+    ghost use Rattle.std.specs.Prelude.{⊤};
+
+    ghost gives = { λ _. ⊤ };
+
+    ghost failed = { λ _. 0 };
+
+    fn send(&mut self, octets: &[u8]) -> Result<(), WireFault> {
+        self.sent.fetch_add(1, Ordering::SeqCst);
+        if let Ok(Some(reply)) = self.zone.answer_datagram(self.alloc, octets) {
+            let _ = self.replies.push_back(reply);
+        }
+        Ok(())
+    }
+
+    fn receive(&mut self, buffer: &mut [u8; DATAGRAM_LIMIT]) -> Result<Option<usize>, WireFault> {
+        let Some(reply) = self.replies.pop_front() else {
+            return Ok(None);
+        };
+        let count = reply.len().min(DATAGRAM_LIMIT);
+        buffer[..count].copy_from_slice(&reply[..count]);
+        Ok(Some(count))
+    }
+
+    fn failures(&self) -> u64 {
+        0
+    }
+}
+
+/// A clock that stands.
+#[derive(Drop)]
+struct Standing {
+    now: Moment,
+}
+
+impl Clock for Standing {
+    ghost use Rattle.std.specs.Prelude.{⊤};
+
+    ghost shows = { λ _. ⊤ };
+
+    fn now(&self) -> Moment {
+        self.now
+    }
+}
+
+/// How many turns a request waits for another one.
+const TURNS: u32 = 100_000_000;
+
+/// A gate that holds each request until so many have begun, and counts those that saw it.
+#[derive(Drop)]
+struct Meeting {
+    wanted: u64,
+    begun: AtomicU64,
+    met: AtomicU64,
+}
+
+impl Gate for Meeting {
+    fn begun(&self, _number: u64) {
+        self.begun.fetch_add(1, Ordering::SeqCst);
+        for _ in 0..TURNS {
+            if self.begun.load(Ordering::SeqCst) >= self.wanted {
+                self.met.fetch_add(1, Ordering::SeqCst);
+                return;
+            }
+        }
+    }
+
+    fn answered(&self, _number: u64) {}
+}
+
+/// A gate that holds each request until so many have begun.
+fn gate_for(wanted: u64) -> Meeting {
+    Meeting {
+        wanted,
+        begun: AtomicU64::new(0),
+        met: AtomicU64::new(0),
+    }
+}
+
+/// A job over UDP and IPv4 alone, where there is memory for it.
+fn job_of(alloc: Global, number: u64, text: &str) -> Option<Job> {
+    Some(Job {
+        number,
+        request: Request::Uri(read_uri(alloc, text).ok()?),
+        caps: Caps::new(&[Udp], Families::V4)?,
+        words: Words([0; WORD_COUNT]),
+    })
+}
+
+/// Two such jobs.
+fn two_jobs(alloc: Global, first: &str, second: &str) -> Option<Vec<Job>> {
+    let mut jobs = Vec::new(alloc);
+    jobs.push(job_of(alloc, 1, first)?).ok()?;
+    jobs.push(job_of(alloc, 2, second)?).ok()?;
+    Some(jobs)
+}
+
+/// So many wires to this zone.
+fn wires_to<'a>(
+    alloc: Global,
+    zone: &'a Zone,
+    sent: &'a AtomicU64,
+    count: usize,
+) -> Option<Vec<ZoneWire<'a>>> {
+    let mut wires = Vec::new(alloc);
+    for _ in 0..count {
+        let replies = VecDeque::new(alloc);
+        wires
+            .push(ZoneWire {
+                alloc,
+                zone,
+                sent,
+                replies,
+            })
+            .ok()?;
+    }
+    Some(wires)
+}
+
+/// Whether a request goes to the one target.
+fn goes(outcome: &Outcome) -> bool {
+    matches!(outcome, Outcome::Targets(list) if list.as_slice() == [TARGET].as_slice())
+}
+
+/// A clock that stands at the moment 100.
+fn clock_at_100() -> Standing {
+    Standing {
+        now: Moment::new(100).unwrap(),
+    }
+}
+
+/// Whether these jobs, in batches of one, all go to the target.
+fn all_go<R: Threads + Wait + AllocGlobal + Sync>(
+    rt: &R,
+    wires: Vec<ZoneWire<'_>>,
+    jobs: Vec<Job>,
+    gate: &Meeting,
+) -> Option<bool> {
+    let alloc = rt.alloc();
+    let (cache, seats) = SharedCache::new(alloc, wires.len()).ok()?;
+    let clock = clock_at_100();
+    let made = run_workers(rt, alloc, &cache, seats, wires, jobs, 1, &clock, gate).ok()?;
+    Some(made.iter().all(|it| goes(&it.0)))
+}
+
+/// Whether two jobs, in batches of one, go to the target, and how many datagrams were sent.
+fn run_two<R: Threads + Wait + AllocGlobal + Sync>(
+    rt: &R,
+    workers: usize,
+    second: &str,
+    gate: &Meeting,
+) -> Option<(bool, u64)> {
+    let alloc = rt.alloc();
+    let zone = Zone::read(alloc, ZONE).ok()?;
+    let sent = AtomicU64::new(0);
+    let wires = wires_to(alloc, &zone, &sent, workers)?;
+    let jobs = two_jobs(alloc, TO_NAME, second)?;
+    let all = all_go(rt, wires, jobs, gate)?;
+    Some((all, sent.load(Ordering::SeqCst)))
+}
+
+#[test]
+fn what_one_job_learns_serves_the_next(rt: HostRuntime) {
+    assert_eq!(rt; run_two(&rt, 1, TO_NAME, &gate_for(1)), Some((true, 1)));
+}
+
+#[test]
+fn workers_run_at_once(rt: HostRuntime) {
+    let gate = gate_for(2);
+    assert_eq!(rt; run_two(&rt, 2, TO_ADDRESS, &gate), Some((true, 1)));
+    assert_eq!(rt; gate.met.load(Ordering::SeqCst), 2);
+}
+
+/// A worker over this wire, with its cache.
+fn one_worker<'a>(alloc: Global, wire: ZoneWire<'a>) -> Option<(SharedCache, Worker<ZoneWire<'a>>)>
+    ensures { IfSome result (λ made. Belongs made.0 made.1) }
+{
+    let (cache, mut seats) = SharedCache::new(alloc, 1).ok()?;
+    let worker = Worker::new(alloc, seats.pop()?, wire).ok()?;
+    Some((cache, worker))
+}
+
+/// Whether the copy of a result goes to the target.
+fn copy_goes(alloc: Global, it: &JobResult<'_, ZoneWire<'_>, Standing>) -> bool {
+    it.try_clone(alloc).is_ok_and(|copy| goes(copy.outcome()))
+}
+
+/// Whether these jobs go to the target in one batch, by a copy of each result.
+fn all_go_at_once<R: Wait + AllocGlobal>(rt: &R, wire: ZoneWire<'_>, jobs: &[Job]) -> Option<bool> {
+    let alloc = rt.alloc();
+    let (cache, mut worker) = one_worker(alloc, wire)?;
+    let made = worker
+        .batch(rt, &cache, jobs, &clock_at_100(), &gate_for(1))
+        .ok()?;
+    Some(made.iter().all(|it| copy_goes(alloc, it)))
+}
+
+/// Whether two jobs in one batch go to the target.
+fn batch_of_two<R: Wait + AllocGlobal>(rt: &R) -> Option<bool> {
+    let alloc = rt.alloc();
+    let zone = Zone::read(alloc, ZONE).ok()?;
+    let sent = AtomicU64::new(0);
+    let wire = wires_to(alloc, &zone, &sent, 1)?.pop()?;
+    all_go_at_once(rt, wire, &two_jobs(alloc, TO_NAME, TO_ADDRESS)?)
+}
+
+#[test]
+fn a_batch_is_resolved(rt: HostRuntime) {
+    assert_eq!(rt; batch_of_two(&rt), Some(true));
+}
