@@ -77,7 +77,7 @@ pub use seat::{
 pub use shared_cache::SharedCache;
 
 #[cfg(test)]
-mod refusals;
+mod allocations;
 #[cfg(test)]
 mod shared_tests;
 #[cfg(test)]

@@ -34,6 +34,4 @@ pub use refusal::ReplyRefusal;
 pub use reply::answer_of;
 
 #[cfg(test)]
-mod refusals;
-#[cfg(test)]
 mod tests;

@@ -8,6 +8,7 @@ use dns_name::Name;
 use std::alloc::Global;
 
 mod addresses;
+mod allocations;
 pub(crate) mod kinds;
 mod replies;
 mod values;

@@ -50,4 +50,4 @@ pub use server::serve;
 pub use wire::{DATAGRAM_LIMIT, PeerWire, Wire, WireFault};
 
 #[cfg(test)]
-mod asker_tests;
+mod tests;

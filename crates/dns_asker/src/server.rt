@@ -57,8 +57,3 @@ pub fn serve<R: Wait, W: PeerWire>(
     }
     sent
 }
-
-#[cfg(test)]
-mod refusals;
-#[cfg(test)]
-mod tests;

@@ -59,6 +59,4 @@ pub use srv::SrvRecord;
 pub use written::{write_query, write_reply};
 
 #[cfg(test)]
-mod refusals;
-#[cfg(test)]
 mod tests;

@@ -3,6 +3,7 @@ use self::records::SRV_REPLY;
 use super::*;
 use std::alloc::Global;
 
+mod allocations;
 pub(crate) mod messages;
 pub(crate) mod records;
 pub(crate) mod servers;

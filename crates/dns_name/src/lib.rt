@@ -28,6 +28,4 @@ pub use name::Name;
 pub use refusal::{NameReadRefusal, NameRefusal};
 
 #[cfg(test)]
-mod refusals;
-#[cfg(test)]
 mod tests;

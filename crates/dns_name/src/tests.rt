@@ -2,6 +2,8 @@
 use super::*;
 use std::alloc::Global;
 
+mod allocations;
+
 /// A text, and the octets of its name or why it has none (RFC 1035 2.3.1, 2.3.4).
 type TextRow = (&'static str, Result<&'static [u8], NameRefusal>);
 

@@ -2,8 +2,8 @@
 use crate::*;
 use std::alloc::Global;
 
+mod allocations;
 mod lines;
-mod refusals;
 
 /// What the zone of a text replies; nothing where memory or the text is refused.
 pub(crate) fn replied(alloc: Global, zone: &str, octets: &[u8]) -> Option<Option<Vec<u8>>> {

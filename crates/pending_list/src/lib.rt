@@ -35,6 +35,4 @@ pub use refusal::InsertRefusal;
 pub use walk::Walk;
 
 #[cfg(test)]
-mod refusals;
-#[cfg(test)]
 mod tests;

@@ -2,6 +2,8 @@
 use crate::*;
 use std::alloc::AllocError;
 
+mod allocations;
+
 /// What is done with a list. An id is named by its place among all that the list gave.
 enum Step {
     Insert(char, u64, Result<(), InsertRefusal>),

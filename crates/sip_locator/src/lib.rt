@@ -63,6 +63,4 @@ pub use locator::Locator;
 pub use refusal::LocatorRefusal;
 
 #[cfg(test)]
-mod refusals;
-#[cfg(test)]
 mod tests;

@@ -14,6 +14,8 @@ use srv_choice::{WORD_COUNT, Words};
 use std::alloc::Global;
 use std::sync::Wait;
 
+mod allocations;
+
 /// A reply to A of a.example.: 192.0.2.7, TTL 300, with a pointer to the question (RFC 1035 4.1.4).
 pub(crate) const REPLY: [u8; 43] = [
     0x12, 0x34, 0x81, 0x80, 0, 1, 0, 1, 0, 0, 0, 0, 1, b'a', 7, b'e', b'x', b'a', b'm', b'p', b'l',

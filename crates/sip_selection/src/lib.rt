@@ -78,6 +78,4 @@ pub use selection::{GiveRefusal, Next, Selection};
 pub use target::Target;
 
 #[cfg(test)]
-mod refusals;
-#[cfg(test)]
 mod tests;

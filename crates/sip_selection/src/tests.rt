@@ -8,6 +8,7 @@ use srv_choice::{WORD_COUNT, Words};
 use std::alloc::Global;
 use std::sync::Arc;
 
+mod allocations;
 mod caps;
 mod conversations;
 mod failover;

@@ -83,10 +83,4 @@ pub use via::Via;
 pub use via_text::read_via;
 
 #[cfg(test)]
-mod address_tests;
-#[cfg(test)]
-mod refusals;
-#[cfg(test)]
-mod uri_tests;
-#[cfg(test)]
-mod via_tests;
+mod tests;

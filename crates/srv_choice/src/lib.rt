@@ -35,6 +35,4 @@ pub use places::Places;
 pub use words::{WORD_COUNT, Words};
 
 #[cfg(test)]
-mod refusals;
-#[cfg(test)]
 mod tests;

@@ -6,6 +6,8 @@ use std::alloc::Global;
 use std::process::Abort;
 use std::test::Fail;
 
+mod allocations;
+
 /// Priority and weight of a record.
 type Server = (u16, u16);
 

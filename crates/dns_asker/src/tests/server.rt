@@ -1,8 +1,7 @@
 //! The server on a wire in memory.
 ghost use Rattle.std.specs.Prelude.{◌≡◌, ◌+◌, ◌-◌, ◌^◌, ◌<◌, ◌≤◌};
 
-use super::serve;
-use crate::wire::{DATAGRAM_LIMIT, PeerWire, WireFault};
+use crate::{DATAGRAM_LIMIT, PeerWire, WireFault, serve};
 use dns_zone::Zone;
 use std::alloc::Global;
 use std::sync::Wait;

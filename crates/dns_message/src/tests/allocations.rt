@@ -2,7 +2,7 @@
 use crate::tests::records::SRV_REPLY;
 use crate::tests::servers::{KNOT_ALIAS, KNOT_NO_NAME, NSD_NAPTR_REPLY};
 use crate::tests::written::{SRV_PLAIN, written};
-use crate::tests::{QUERY, REPLY, refusal};
+use crate::tests::{QUERY, REPLY};
 use crate::*;
 use dns_name::Name;
 
@@ -15,7 +15,7 @@ fn read_refused(rt: HostRuntime) {
     // No memory is asked for 65,535 answers that are counted and are not there.
     let counts = b"\x00\x07\x80\x00\x00\x00\xff\xff\x00\x00\x00\x00";
     assert_eq!(rt;
-        refusal(rt.alloc(), counts),
+        super::refusal(rt.alloc(), counts),
         Some(MessageRefusal::Malformed(Part::Answers))
     );
 }

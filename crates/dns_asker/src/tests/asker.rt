@@ -5,8 +5,6 @@ use dns_message::{Kind, Question};
 use dns_name::Name;
 use std::alloc::Global;
 
-mod refusals;
-
 /// What happens to an asker, and what is wanted of it.
 #[derive(Drop)]
 pub(crate) enum Step {

@@ -1,5 +1,5 @@
 //! Tests of Vias, with values of RFC 3261, RFC 4475 and RFC 5118 and by hand.
-use crate::address_tests::host_text;
+use super::address::host_text;
 use crate::{UriRefusal, Via, one_via_of_a_text, read_via};
 use std::alloc::Global;
 use std::test::Fail;

@@ -1,0 +1,4 @@
+//! The asker, and the server on a wire in memory.
+mod allocations;
+mod asker;
+mod server;
