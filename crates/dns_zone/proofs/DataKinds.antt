@@ -7,7 +7,7 @@ use Rattle.dns_message.specs.declared.rdata.Rdata.TheVariants.{Addr4, Addr6, Srv
 use Rattle.dns_message.specs.declared.srv.SrvRecord.{SrvRecord}
 use Rattle.dns_name.specs.Texts.{TextOf}
 use Rattle.sip_uri.specs.Addresses.{AddressText}
-use Rattle.sip_uri.specs.declared.numeric.Address.TheVariants.{V4, V6}
+use Rattle.sip_uri.specs.declared.address.Address.TheVariants.{V4, V6}
 use Rattle.dns_zone.specs.Lines.{DataFields, NaptrFields, OneField, SrvFields}
 
 module _ (fields : List (List ℕ)) where

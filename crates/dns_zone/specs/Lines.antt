@@ -12,7 +12,7 @@ use Rattle.dns_name.specs.Labels.{same_name}
 use Rattle.dns_name.specs.Texts.{TextOf}
 use Rattle.sip_uri.specs.Addresses.{AddressText}
 use Rattle.sip_uri.specs.Numbers.{decimal}
-use Rattle.sip_uri.specs.declared.numeric.Address.TheVariants as address
+use Rattle.sip_uri.specs.declared.address.Address.TheVariants as address
 use Rattle.dns_zone.specs.Zones.{Owned, records_at}
 
 -- ---- fields

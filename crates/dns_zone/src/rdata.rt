@@ -3,7 +3,7 @@
 ghost use Rattle.std.specs.Prelude.{◌≡◌, List, ℕ, Ok, IfErr, IfOk, MatchResult};
 ghost use Rattle.dns_name.specs.Texts.{TextOf};
 ghost use Rattle.sip_uri.specs.Addresses.{AddressText};
-ghost use Rattle.sip_uri.specs.declared.numeric.Address.TheVariants as address;
+ghost use Rattle.sip_uri.specs.declared.address.Address.TheVariants as address;
 ghost use Rattle.dns_zone.specs.Lines as spec;
 ghost use Rattle.dns_zone.specs.Views.{texts};
 ghost use Rattle.dns_message.specs.declared.rdata.Rdata as rdata;

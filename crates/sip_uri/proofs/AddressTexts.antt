@@ -2,8 +2,8 @@
 use Rattle.std.proofs.Common.{◌≡◌, ℕ, true, false, List, [], ◌∷◌, ◌++◌, length, Some, None, sym, ap, ◌∙◌, inl, inr, arith}
 use Rattle.std.specs.List.{join_with_byte}
 use Rattle.std.proofs.lemmas.Option.{same_Some}
-use Rattle.sip_uri.specs.declared.numeric.Address.{Address}
-use Rattle.sip_uri.specs.declared.numeric.Address.TheVariants.{V4, V6}
+use Rattle.sip_uri.specs.declared.address.Address.{Address}
+use Rattle.sip_uri.specs.declared.address.Address.TheVariants.{V4, V6}
 use Rattle.sip_uri.specs.Addresses.{V4Text, numbers, AreGroups, V6Text, whole, shortened, AddressText}
 use Rattle.sip_uri.specs.Readers.Texts.{ipv4, ipv6}
 use Rattle.sip_uri.proofs.Lists.{all_of-append}

@@ -5,8 +5,8 @@ use Rattle.std.specs.Char.{is_ascii_hexdigit, digit_value}
 use Rattle.std.proofs.lemmas.Bool.{cases_Bool}
 use Rattle.std.proofs.lemmas.Bool.Decides.{nat_tests}
 use Rattle.std.proofs.lemmas.Str.{digit_value-digit_char}
-use Rattle.sip_uri.specs.declared.numeric.Address.{Address}
-use Rattle.sip_uri.specs.declared.numeric.Address.TheVariants.{V4, V6}
+use Rattle.sip_uri.specs.declared.address.Address.{Address}
+use Rattle.sip_uri.specs.declared.address.Address.TheVariants.{V4, V6}
 use Rattle.sip_uri.specs.Addresses.{NumberText, V4Text, numbers, GroupText, AreGroups, whole, AddressText, AddressFits}
 use Rattle.sip_uri.specs.Numbers.{hexadecimal}
 use Rattle.sip_uri.specs.Shown.{decimal_text, hexadecimal_character, two_digits, hexadecimal_text, ipv4_text, groups_text, address_text}

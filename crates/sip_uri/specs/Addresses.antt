@@ -3,8 +3,8 @@ use Rattle.std.specs.Prelude.{◌≡◌, ℕ, ◌+◌, ◌-◌, ◌/◌, ◌%◌
 use Rattle.std.specs.List.{AllByRecursion, list_all, join_with_byte}
 use Rattle.std.specs.Char.{is_ascii_digit, is_ascii_hexdigit}
 use Rattle.sip_uri.specs.Numbers.{decimal, hexadecimal}
-use Rattle.sip_uri.specs.declared.numeric.Address.{Address}
-use Rattle.sip_uri.specs.declared.numeric.Address.TheVariants.{V4, V6}
+use Rattle.sip_uri.specs.declared.address.Address.{Address}
+use Rattle.sip_uri.specs.declared.address.Address.TheVariants.{V4, V6}
 
 -- one to three digits, leading zeros among them, that spell a number of at most 255
 pub record NumberText (text : List ℕ) (number : ℕ) : Type 0 where

@@ -2,8 +2,8 @@
 use Rattle.std.specs.Prelude.{ℕ, ◌+◌, ◌*◌, ◌/◌, ◌%◌, nat_lt, List, [], ◌∷◌, ◌++◌, map, if◌then◌else◌}
 use Rattle.std.specs.List.{join_with_byte}
 use Rattle.std.specs.Char.{digit_char}
-use Rattle.sip_uri.specs.declared.numeric.Address.{Address}
-use Rattle.sip_uri.specs.declared.numeric.Address.TheVariants.{V4, V6}
+use Rattle.sip_uri.specs.declared.address.Address.{Address}
+use Rattle.sip_uri.specs.declared.address.Address.TheVariants.{V4, V6}
 
 -- a number of at most three decimal digits, without leading zeros
 abbrev pub decimal_text : ℕ → List ℕ

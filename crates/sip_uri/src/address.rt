@@ -1,14 +1,22 @@
-//! Addresses as texts (RFC 3261 25.1, RFC 4291 2.2).
+//! Addresses, and how texts have them (RFC 3261 25.1, RFC 4291 2.2).
 ghost use Rattle.std.specs.Prelude.{◌≡◌, ◌∷◌, ◌++◌, IfSome, IfOk, OnOk, Some};
 ghost use Rattle.std.specs.String.{string_bytes};
 ghost use Rattle.sip_uri.specs.Addresses.{AddressText};
 ghost use Rattle.sip_uri.specs.Shown as spec;
-ghost use Rattle.sip_uri.specs.declared.numeric.Address.{Address};
+ghost use Rattle.sip_uri.specs.declared.address.Address.{Address};
 
 use crate::ipv4::ipv4;
 use crate::ipv6::ipv6;
-use crate::numeric::Address;
 use std::alloc::{AllocError, Global};
+
+/// An address without a port.
+#[derive(Clone, Copy, Debug, PartialEq, Eq)]
+pub enum Address {
+    /// An IPv4 address.
+    V4([u8; 4]),
+    /// An IPv6 address.
+    V6([u8; 16]),
+}
 
 /// The address of a text: an IPv4 address, or an IPv6 address without brackets.
 pub fn address_from_text(text: &str) -> Option<Address>

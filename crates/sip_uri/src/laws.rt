@@ -6,7 +6,7 @@ ghost use Rattle.sip_uri.specs.Shown.{address_text};
 ghost use Rattle.sip_uri.specs.Uris.{UriText};
 ghost use Rattle.sip_uri.specs.Vias.{ViaText};
 ghost use Rattle.sip_uri.specs.declared.host.Host.{Host};
-ghost use Rattle.sip_uri.specs.declared.numeric.Address.{Address};
+ghost use Rattle.sip_uri.specs.declared.address.Address.{Address};
 ghost use Rattle.sip_uri.specs.declared.uri.SipUri.{SipUri};
 ghost use Rattle.sip_uri.specs.declared.via.Via.{Via};
 

@@ -54,27 +54,25 @@ mod ipv4;
 mod ipv6;
 mod laws;
 mod numbers;
-mod numeric;
 mod params;
 mod parts;
 mod refusal;
-mod rows;
 mod transport;
 mod uri;
 mod uri_parts;
 mod uri_text;
-mod user;
+mod userinfo;
 mod via;
+mod via_classes;
 mod via_params;
 mod via_parts;
 mod via_text;
 
-pub use address::{address_from_text, address_text};
+pub use address::{Address, address_from_text, address_text};
 pub use host::Host;
 pub use laws::{
     one_uri_of_a_text, one_via_of_a_text, same_exactly_where_equal, written_address_is_read,
 };
-pub use numeric::Address;
 pub use refusal::UriRefusal;
 pub use transport::{Spoken, Transport};
 pub use uri::SipUri;

@@ -11,7 +11,7 @@ use crate::params::{check_params, value_of};
 use crate::parts::next_part;
 use crate::refusal::UriRefusal;
 use crate::transport::{Spoken, spoken_of};
-use crate::user::is_userinfo;
+use crate::userinfo::is_userinfo;
 
 /// A URI as it stands in a text.
 #[derive(Clone, Copy)]

@@ -7,7 +7,7 @@ ghost use Rattle.sip_uri.specs.Vias.{ViaParams};
 use crate::params::is_same;
 use crate::parts::behind_front;
 use crate::refusal::UriRefusal;
-use crate::rows::{Row, behind_blanks, behind_mark, cut_row};
+use crate::via_classes::{Row, behind_blanks, behind_mark, cut_row};
 
 /// What follows a quoted string, of which the first `"` is passed.
 fn behind_quoted(text: &[u8]) -> Option<&[u8]>

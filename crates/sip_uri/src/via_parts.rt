@@ -9,9 +9,9 @@ use crate::host_part::{HostPart, plain_host};
 use crate::ipv6::ipv6;
 use crate::parts::{behind_front, next_part};
 use crate::refusal::UriRefusal;
-use crate::rows::{Row, behind_blanks, behind_mark, cut_row};
 use crate::transport::{Spoken, spoken_of};
 use crate::uri_parts::port_number;
+use crate::via_classes::{Row, behind_blanks, behind_mark, cut_row};
 
 /// A Via as it stands in a text, without its parameters.
 #[derive(Clone, Copy)]

@@ -6,8 +6,8 @@ use Rattle.std.specs.Str.{str_eq_ignore_ascii_case}
 use Rattle.dns_name.specs.Labels.{small_letters}
 use Rattle.sip_uri.specs.Readers.Texts.{◌>>=◌}
 use Rattle.sip_uri.specs.ViaClasses.{is_blank, is_token_octet, is_in_host, is_in_port, is_value_octet, row, behind_row}
-use Rattle.sip_uri.specs.declared.rows.Row.{Row}
-use Rattle.sip_uri.specs.declared.rows.Row.TheVariants as class
+use Rattle.sip_uri.specs.declared.via_classes.Row.{Row}
+use Rattle.sip_uri.specs.declared.via_classes.Row.TheVariants as class
 
 abbrev pub octets_of : Row → ℕ → Bool
 octets_of class.Blank octet = is_blank octet

@@ -1,7 +1,7 @@
 use Rattle.std.proofs.Common.{sym, ◌∙◌}
 use Rattle.sip_uri.specs.Readers.Vias.{octets_of}
 use Rattle.sip_uri.proofs.RunSteps.{row_to_end, row_front, row_back, row_more_front, row_more_back}
-use Rattle.sip_uri.proofs.rows.cut_row.Goals as goal
+use Rattle.sip_uri.proofs.via_classes.cut_row.Goals as goal
 
 pub returns-then-not-is_of-clause-front : goal.returns-then-not-is_of-clause-front
 returns-then-not-is_of-clause-front c =

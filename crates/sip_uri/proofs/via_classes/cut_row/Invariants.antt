@@ -1,7 +1,7 @@
 use Rattle.std.proofs.Common.{◌≡◌, ◌++◌, take, drop}
 use Rattle.sip_uri.specs.ViaClasses.{row, behind_row}
 use Rattle.sip_uri.specs.Readers.Vias.{octets_of}
-use Rattle.sip_uri.proofs.rows.cut_row.Given as goal
+use Rattle.sip_uri.proofs.via_classes.cut_row.Given as goal
 
 abbrev pub invariant-loop-at : goal.invariant-loop-at
 invariant-loop-at l = record {
