@@ -1,8 +1,13 @@
 //! The header of a message (RFC 1035 4.1.1).
-ghost use Rattle.std.specs.Prelude.{◌<◌, length, MatchOption};
+ghost use Rattle.std.specs.Prelude.{◌<◌, length, MatchOption, ◌≡◌, ◌+◌, ◌++◌, OnOk};
 ghost use Rattle.dns_message.specs.Headers.{HeaderAt, CountsAt};
+ghost use Rattle.dns_message.specs.Fits.{HeaderFits};
+ghost use Rattle.dns_message.specs.Written.{header_octets, count_octets};
+ghost use Rattle.dns_message.specs.Headers as headers;
+ghost use Rattle.dns_message.specs.Written as spec;
 
-use crate::number::u16_at;
+use crate::number::{push_u16, u16_at};
+use std::alloc::AllocError;
 
 /// What a header says, other than how many questions and records there are.
 #[derive(Clone, Copy, Debug, PartialEq, Eq)]
@@ -71,4 +76,71 @@ pub(crate) fn header_at(bytes: &[u8]) -> Option<(Header, Counts)>
         (λ found. HeaderAt bytes.now found.0 × CountsAt bytes.now found.1) }
 {
     Some((flags_at(bytes)?, counts_at(bytes)?))
+}
+
+/// A flag as a bit.
+fn bit(flag: bool) -> u8
+    ensures { result ≡ headers.bit flag }
+{
+    u8::from(flag)
+}
+
+/// The octet of QR, OPCODE, AA, TC and RD.
+fn high_flags(header: Header) -> u8
+    requires { header.opcode < 16 }
+    ensures { result ≡ spec.high_flags header }
+{
+    128 * bit(header.reply)
+        + 8 * header.opcode
+        + 4 * bit(header.authoritative)
+        + 2 * bit(header.truncated)
+        + bit(header.recursion_desired)
+}
+
+/// The octet of RA, Z and RCODE.
+fn low_flags(header: Header) -> u8
+    requires { header.rcode < 16 }
+    ensures { result ≡ spec.low_flags header }
+{
+    128 * bit(header.recursion_available) + header.rcode
+}
+
+/// Appends the number and the flags.
+#[tactic(auto, unfolding(crate::specs::Written::header_octets))]
+fn push_flags(header: Header, out: &mut Vec<u8>) -> Result<(), AllocError>
+    requires opcode { header.opcode < 16 }
+    requires rcode { header.rcode < 16 }
+    ensures ok { OnOk result (out.new.items ≡ out.old.items ++ header_octets header) }
+    ensures fits { OnOk result (HeaderFits header) }
+{
+    push_u16(header.id, out)?;
+    out.extend_from_slice(&[high_flags(header), low_flags(header)])
+}
+
+/// Appends the counts.
+#[tactic(auto, unfolding(crate::specs::Written::count_octets))]
+fn push_counts(counts: Counts, out: &mut Vec<u8>) -> Result<(), AllocError>
+    ensures { OnOk result (out.new.items ≡ out.old.items
+        ++ count_octets counts.questions counts.answers counts.authority counts.additional) }
+{
+    push_u16(counts.questions, out)?;
+    push_u16(counts.answers, out)?;
+    push_u16(counts.authority, out)?;
+    push_u16(counts.additional, out)
+}
+
+/// Appends the header.
+pub(crate) fn push_header(
+    header: Header,
+    counts: Counts,
+    out: &mut Vec<u8>,
+) -> Result<(), AllocError>
+    requires opcode { header.opcode < 16 }
+    requires rcode { header.rcode < 16 }
+    ensures ok { OnOk result (out.new.items ≡ out.old.items ++ header_octets header
+        ++ count_octets counts.questions counts.answers counts.authority counts.additional) }
+    ensures fits { OnOk result (HeaderFits header) }
+{
+    push_flags(header, out)?;
+    push_counts(counts, out)
 }

@@ -2,6 +2,8 @@
 ghost use Rattle.std.specs.Prelude.{◌≡◌};
 ghost use Rattle.dns_message.specs.Kinds.{kind_code};
 
+use crate::codes::{TYPE_A, TYPE_AAAA, TYPE_NAPTR, TYPE_SRV};
+
 /// What is asked of a name.
 #[derive(Clone, Copy, Debug, PartialEq, Eq)]
 pub enum Kind {
@@ -21,10 +23,10 @@ impl Kind {
         ensures { result ≡ kind_code self }
     {
         match self {
-            Kind::A => 1,
-            Kind::Aaaa => 28,
-            Kind::Srv => 33,
-            Kind::Naptr => 35,
+            Kind::A => TYPE_A,
+            Kind::Aaaa => TYPE_AAAA,
+            Kind::Srv => TYPE_SRV,
+            Kind::Naptr => TYPE_NAPTR,
         }
     }
 }

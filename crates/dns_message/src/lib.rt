@@ -23,10 +23,12 @@
 #![tactic(auto)]
 
 mod char_string;
+mod codes;
 mod header;
 mod kind;
 mod laws;
 mod message;
+mod name;
 mod naptr;
 mod number;
 mod other_data;
@@ -38,11 +40,9 @@ mod section;
 mod soa;
 mod srv;
 mod written;
-mod written_data;
-mod written_field;
-mod written_parts;
 
 pub use char_string::CharString;
+pub use codes::CLASS_IN;
 pub use header::Header;
 pub use kind::Kind;
 pub use laws::{one_message_in_front, same_questions_are_equal, written_message_is_read};
@@ -50,7 +50,7 @@ pub use message::{Message, message_in, read_message};
 pub use naptr::NaptrRecord;
 pub use other_data::OtherData;
 pub use question::{Asked, Question};
-pub use rdata::{CLASS_IN, Rdata};
+pub use rdata::Rdata;
 pub use refusal::{MessageRefusal, Part};
 pub use resource::Record;
 pub use section::Section;

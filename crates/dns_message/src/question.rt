@@ -1,12 +1,16 @@
 //! Questions (RFC 1035 4.1.2).
-ghost use Rattle.std.specs.Prelude.{◌≡◌, ◌↔◌, ℕ, List, length, IsTrue, IfOk, IfErr, MatchResult};
+ghost use Rattle.std.specs.Prelude.{◌≡◌, ◌↔◌, ℕ, List, length, IsTrue, IfOk, IfErr, MatchResult, ◌+◌, ◌≤◌, ◌++◌, OnOk, ◌<◌, MatchOption};
 ghost use Rattle.dns_message.specs.Questions.{QuestionAt, same_question};
 ghost use Rattle.dns_message.specs.Places.{NamedAt, AllAt};
 ghost use Rattle.dns_message.specs.Refusals.{IsOfPart};
+ghost use Rattle.dns_message.specs.Written.{question_octets};
+ghost use Rattle.dns_message.specs.Fits.{QuestionFits};
+ghost use Rattle.std.specs.List.{flat_map, AllByRecursion};
 ghost use Rattle.dns_message.specs.declared.question.Asked as asked;
 
 use crate::kind::Kind;
-use crate::number::u16_at;
+use crate::name::{name_length, push_name};
+use crate::number::{push_u16, u16_at};
 use crate::refusal::{EntryRefusal, MessageRefusal, Part};
 use crate::section::Section;
 use dns_name::{Name, name_rests_before_its_end, one_name_at_a_place, read_name};
@@ -187,4 +191,57 @@ pub(crate) fn question_section_at(
         Ok((questions, after)) => Ok((Section::from_vec(questions), after)),
         Err(refusal) => Err(refusal.of_part(Part::Questions)),
     }
+}
+
+/// How many octets a question has.
+#[tactic(auto, using(crate::proofs::WrittenOctets::lengths))]
+pub(crate) fn question_length(name: &Name) -> usize
+    ensures is { (code class_code : ℕ) → result
+        ≡ length (question_octets
+        (record { name = name.now; code = code; class_code = class_code })) }
+    ensures short { result ≤ 259 }
+{
+    usize::from(name_length(name)) + 4
+}
+
+/// Appends the question of a name, type and class.
+#[tactic(auto, unfolding(crate::specs::Written::question_octets))]
+pub(crate) fn push_question(
+    name: &Name,
+    code: u16,
+    class_code: u16,
+    out: &mut Vec<u8>,
+) -> Result<(), AllocError>
+    ensures ok { OnOk result (out.new.items ≡ out.old.items
+        ++ question_octets (record { name = name.now; code = code; class_code = class_code })) }
+    ensures fits { OnOk result
+        (QuestionFits (record { name = name.now; code = code; class_code = class_code })) }
+{
+    push_name(name, out)?;
+    push_u16(code, out)?;
+    push_u16(class_code, out)
+}
+
+/// How many octets are left of this room after these questions, if they fit.
+pub(crate) fn room_behind_questions(room: usize, questions: &[Asked]) -> Option<usize>
+    ensures { MatchOption result (room < length (flat_map question_octets questions.now))
+        (λ left. left + length (flat_map question_octets questions.now) ≡ room) }
+{
+    let mut room = room;
+    for asked in questions {
+        room = room.checked_sub(question_length(&asked.name))?;
+    }
+    Some(room)
+}
+
+/// Appends questions.
+pub(crate) fn push_questions(questions: &[Asked], out: &mut Vec<u8>) -> Result<(), AllocError>
+    ensures ok { OnOk result
+        (out.new.items ≡ out.old.items ++ flat_map question_octets questions.now) }
+    ensures fits { OnOk result (AllByRecursion QuestionFits questions.now) }
+{
+    for asked in questions {
+        push_question(&asked.name, asked.code, asked.class_code, out)?;
+    }
+    Ok(())
 }

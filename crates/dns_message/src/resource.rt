@@ -1,12 +1,16 @@
 //! Resource records (RFC 1035 4.1.3).
-ghost use Rattle.std.specs.Prelude.{◌≡◌, ◌+◌, ◌<◌, ◌≤◌, ℕ, List, length, IfOk, IfErr, MatchOption, MatchResult};
+ghost use Rattle.std.specs.Prelude.{◌≡◌, ◌+◌, ◌<◌, ◌≤◌, ℕ, List, length, IfOk, IfErr, MatchOption, MatchResult, ◌++◌, OnOk};
 ghost use Rattle.dns_message.specs.Places.{NamedAt, AllAt};
 ghost use Rattle.dns_message.specs.Refusals.{IsOfPart};
 ghost use Rattle.dns_message.specs.Records.{FixedAt, RecordAt};
+ghost use Rattle.dns_message.specs.Written.{record_octets};
+ghost use Rattle.dns_message.specs.Fits.{RecordFits};
+ghost use Rattle.std.specs.List.{flat_map, AllByRecursion};
 ghost use Rattle.dns_message.specs.declared.resource.Record as resource;
 
-use crate::number::{u16_at, u32_at};
-use crate::rdata::{Rdata, rdata_at};
+use crate::name::{name_length, push_name};
+use crate::number::{push_u16, push_u32, u16_at, u32_at};
+use crate::rdata::{Rdata, data_length, push_data, rdata_at};
 use crate::refusal::{EntryRefusal, MessageRefusal, Part};
 use crate::section::Section;
 use dns_name::{Name, name_rests_before_its_end, one_name_at_a_place, read_name};
@@ -136,4 +140,49 @@ pub(crate) fn record_section_at(
         Ok((records, after)) => Ok((Section::from_vec(records), after)),
         Err(refusal) => Err(refusal.of_part(part)),
     }
+}
+
+/// How many octets a record has.
+#[tactic(auto, using(crate::proofs::WrittenOctets::lengths))]
+fn record_length(entry: &Record) -> usize
+    ensures { result ≡ length (record_octets entry.now) }
+{
+    usize::from(name_length(&entry.owner)) + 10 + usize::from(data_length(&entry.rdata))
+}
+
+/// Appends a record.
+#[tactic(auto, unfolding(crate::specs::Written::record_octets))]
+fn push_record(entry: &Record, out: &mut Vec<u8>) -> Result<(), AllocError>
+    ensures ok { OnOk result (out.new.items ≡ out.old.items ++ record_octets entry.now) }
+    ensures fits { OnOk result (RecordFits entry.now) }
+{
+    push_name(&entry.owner, out)?;
+    push_u16(entry.rdata.code(), out)?;
+    push_u16(entry.rdata.class_code(), out)?;
+    push_u32(entry.ttl, out)?;
+    push_u16(data_length(&entry.rdata), out)?;
+    push_data(&entry.rdata, out)
+}
+
+/// How many octets are left of this room after these records, if they fit.
+pub(crate) fn room_behind_records(room: usize, records: &[Record]) -> Option<usize>
+    ensures { MatchOption result (room < length (flat_map record_octets records.now))
+        (λ left. left + length (flat_map record_octets records.now) ≡ room) }
+{
+    let mut room = room;
+    for entry in records {
+        room = room.checked_sub(record_length(entry))?;
+    }
+    Some(room)
+}
+
+/// Appends records.
+pub(crate) fn push_records(records: &[Record], out: &mut Vec<u8>) -> Result<(), AllocError>
+    ensures ok { OnOk result (out.new.items ≡ out.old.items ++ flat_map record_octets records.now) }
+    ensures fits { OnOk result (AllByRecursion RecordFits records.now) }
+{
+    for entry in records {
+        push_record(entry, out)?;
+    }
+    Ok(())
 }

@@ -4,14 +4,13 @@ ghost use Rattle.dns_message.specs.Fits.{MessageFits};
 ghost use Rattle.dns_message.specs.Messages.{Spells};
 ghost use Rattle.dns_message.specs.Written.{plain, cut, fitted, query_of};
 
-use crate::header::{Counts, Header};
+use crate::codes::CLASS_IN;
+use crate::header::{Counts, Header, push_header};
 use crate::message::{HEADER_END, Message};
-use crate::question::Question;
-use crate::rdata::CLASS_IN;
-use crate::written_parts::{
-    push_header, push_question, push_questions, push_records, question_length,
-    room_behind_questions, room_behind_records,
+use crate::question::{
+    Question, push_question, push_questions, question_length, room_behind_questions,
 };
+use crate::resource::{push_records, room_behind_records};
 use dns_name::written_name_is_read;
 use std::alloc::{AllocError, Global};
 

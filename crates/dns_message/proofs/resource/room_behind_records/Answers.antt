@@ -1,7 +1,7 @@
 use Rattle.std.proofs.Common.{arith}
 use Rattle.dns_message.specs.Written.{record_octets}
 use Rattle.dns_message.proofs.WrittenOctets.{length-flat_map-item}
-use Rattle.dns_message.proofs.written_parts.room_behind_records.Goals as goal
+use Rattle.dns_message.proofs.resource.room_behind_records.Goals as goal
 
 pub returns-in_err-room : goal.returns-in_err-room
 returns-in_err-room c =

@@ -1,7 +1,7 @@
 use Rattle.std.proofs.Common.{◌∙◌, append_assoc}
 use Rattle.std.proofs.lemmas.Result.{on_ok_weaker}
 use Rattle.dns_message.specs.Written.{soa_octets}
-use Rattle.dns_message.proofs.written_data.push_soa.Goals as goal
+use Rattle.dns_message.proofs.soa.push_soa.Goals as goal
 
 pub returns-clause-ok : goal.returns-clause-ok
 unfolding soa_octets

@@ -1,7 +1,7 @@
 use Rattle.dns_message.specs.Fits.{RecordFits}
 use Rattle.dns_message.specs.Written.{record_octets}
 use Rattle.dns_message.proofs.WrittenOctets.{octets-next, all-next}
-use Rattle.dns_message.proofs.written_parts.push_records.Goals as goal
+use Rattle.dns_message.proofs.resource.push_records.Goals as goal
 
 pub loop-entry-preserved : goal.loop-entry-preserved
 loop-entry-preserved c =

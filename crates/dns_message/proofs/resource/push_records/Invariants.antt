@@ -2,7 +2,7 @@ use Rattle.std.proofs.Common.{◌≡◌, ◌++◌, take}
 use Rattle.std.specs.List.{AllByRecursion, flat_map}
 use Rattle.dns_message.specs.Fits.{RecordFits}
 use Rattle.dns_message.specs.Written.{record_octets}
-use Rattle.dns_message.proofs.written_parts.push_records.Given as goal
+use Rattle.dns_message.proofs.resource.push_records.Given as goal
 
 abbrev pub invariant-loop-entry : goal.invariant-loop-entry
 invariant-loop-entry l = record {

@@ -1,7 +1,7 @@
 use Rattle.dns_message.specs.Fits.{QuestionFits}
 use Rattle.dns_message.specs.Written.{question_octets}
 use Rattle.dns_message.proofs.WrittenOctets.{octets-next, all-next}
-use Rattle.dns_message.proofs.written_parts.push_questions.Goals as goal
+use Rattle.dns_message.proofs.question.push_questions.Goals as goal
 
 pub loop-asked-preserved : goal.loop-asked-preserved
 loop-asked-preserved c =
