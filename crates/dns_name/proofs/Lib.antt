@@ -4,4 +4,5 @@ mod Finding
 mod Pieces
 mod Places
 mod TextLabels
+pub mod ClosingDots
 mod TextNames
