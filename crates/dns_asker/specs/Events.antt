@@ -1,4 +1,5 @@
--- What happens to the questions that were sent. Each event tells what becomes of the tickets, and what is answered to it.
+-- What happens to the questions that were sent. Each event tells what becomes of the tickets, and
+-- what is answered to it.
 use Rattle.std.specs.Prelude.{◌≡◌, ℕ, ◌+◌, ◌-◌, ◌^◌, ◌<◌, ◌≤◌, ◌⊎◌, List, ◌∷◌, length, Option, Some, None, IsSome, Result, Ok, Err, ⊤}
 use Rattle.std.specs.Borrow.{Bor}
 use Rattle.std.specs.List.{All}
@@ -33,24 +34,32 @@ sent_octets id question = plain (query_of id question)
 -- it gets a ticket, and is sent for the first time
 abbrev pub asked : ℕ → Question → ℕ → Asking → Asking
 asked id question now asking = record asking {
-  tickets = waiting_too (record { sent = record { id = id; question = question; sends = 1 }; deadline = now + 1 }) asking.tickets;
+  tickets = waiting_too (record {
+    sent = record { id = id; question = question; sends = 1 };
+    deadline = now + 1;
+  }) asking.tickets;
   serial = asking.serial + 1;
 }
 
--- Each refusal comes exactly where this is so, in the order of the checks. Memory is wanted only for what would be taken.
+-- Each refusal comes exactly where this is so, in the order of the checks. Memory is wanted only
+-- for what would be taken.
 abbrev pub Refuses : Asking → ℕ → AskRefusal → Type 0
 Refuses asking id IdTaken = IsSome (ticket_of id asking.tickets)
-Refuses asking id Full = (ticket_of id asking.tickets ≡ None) × (length asking.tickets ≡ asking.limit)
+Refuses asking id Full = (ticket_of id asking.tickets ≡ None)
+    × (length asking.tickets ≡ asking.limit)
 Refuses asking id Spent =
-    (ticket_of id asking.tickets ≡ None) × (length asking.tickets < asking.limit) × (asking.serial ≡ 2 ^ 64 - 1)
+    (ticket_of id asking.tickets ≡ None) × (length asking.tickets < asking.limit)
+    × (asking.serial ≡ 2 ^ 64 - 1)
 Refuses asking id Memory =
-    (ticket_of id asking.tickets ≡ None) × (length asking.tickets < asking.limit) × (asking.serial < 2 ^ 64 - 1)
+    (ticket_of id asking.tickets ≡ None) × (length asking.tickets < asking.limit)
+    × (asking.serial < 2 ^ 64 - 1)
 
 -- what asking leaves, and gives
 abbrev pub Asks : Asking → Asking → ℕ → Question → ℕ → Result (Bor (List ℕ)) AskRefusal → Type 0
 Asks old new id question now (Ok octets) =
     (octets.now ≡ sent_octets id question) × (new ≡ asked id question now old)
-    × (ticket_of id old.tickets ≡ None) × (length old.tickets < old.limit) × (old.serial < 2 ^ 64 - 1)
+    × (ticket_of id old.tickets ≡ None) × (length old.tickets < old.limit)
+    × (old.serial < 2 ^ 64 - 1)
 Asks old new id question now (Err refusal) = (new ≡ old) × Refuses old id refusal
 
 -- ---- octets come in
@@ -65,8 +74,10 @@ EndsWait reply.Memory = ⊥
 
 -- how the wait ends by a message: by its answer, or by its first fault
 abbrev pub EndsBy : Question → Message → Ending → Type 0
-EndsBy question message (Answered found) = (reply_refusal question message ≡ None) × (found ≡ answer question message)
-EndsBy question message (Faulty refusal) = (reply_refusal question message ≡ Some refusal) × EndsWait refusal
+EndsBy question message (Answered found) = (reply_refusal question message ≡ None)
+    × (found ≡ answer question message)
+EndsBy question message (Faulty refusal) = (reply_refusal question message ≡ Some refusal)
+    × EndsWait refusal
 
 -- why it is no reply to the question
 abbrev pub IsNoReply : Question → Message → Why → Type 0
@@ -77,7 +88,8 @@ IsNoReply question message OtherQuestion = reply_refusal question message ≡ So
 
 -- what a message means for the ticket of its id
 abbrev pub Says : Ticket → Message → Incoming → Type 0
-Says ticket message (Ended id question ending) = (id ≡ ticket.sent.id) × (question ≡ ticket.sent.question) × EndsBy ticket.sent.question message ending
+Says ticket message (Ended id question ending) = (id ≡ ticket.sent.id)
+    × (question ≡ ticket.sent.question) × EndsBy ticket.sent.question message ending
 Says ticket message (Ignored why) = IsNoReply ticket.sent.question message why
 
 -- a message stands in front of the octets, its id has a ticket, and this is what it means for that
@@ -91,7 +103,8 @@ pub record Tells (asking : Asking) (octets : List ℕ) (incoming : Incoming) : T
 -- What octets mean. No two of these can be so of the same octets.
 abbrev pub Means : Asking → List ℕ → Incoming → Type 0
 Means asking octets (Ignored NotSpelled) = (it : Message) → Begins octets it → ⊥
-Means asking octets (Ignored UnknownId) = (it : Message) × Begins octets it × (ticket_of it.header.id asking.tickets ≡ None)
+Means asking octets (Ignored UnknownId) = (it : Message) × Begins octets it
+    × (ticket_of it.header.id asking.tickets ≡ None)
 Means asking octets (Ignored NotReply) = Tells asking octets (Ignored NotReply)
 Means asking octets (Ignored OtherQuestion) = Tells asking octets (Ignored OtherQuestion)
 Means asking octets (Ended id question ending) = Tells asking octets (Ended id question ending)
@@ -105,9 +118,11 @@ abbrev pub left_by : Incoming → Asking → Asking
 left_by (Ended id question ending) asking = closed id asking
 left_by (Ignored why) asking = asking
 
--- Memory is wanted where a name stands behind the header, and for the answer of a message without a fault.
+-- Memory is wanted where a name stands behind the header, and for the answer of a message without a
+-- fault.
 abbrev pub MayWant : Asking → List ℕ → Type 0
-MayWant asking octets = (length octets ≤ 65535) × (NamedAt octets 12 ⊎ ((found : AnswerValue) × (id : ℕ) × (question : Question)
+MayWant asking octets = (length octets ≤ 65535)
+    × (NamedAt octets 12 ⊎ ((found : AnswerValue) × (id : ℕ) × (question : Question)
     × Tells asking octets (Ended id question (Answered found))))
 
 -- ---- time goes on

@@ -18,7 +18,11 @@ abbrev pub ticket_in : Entry Sent → Ticket
 ticket_in entry = record { sent = entry.item; deadline = entry.deadline }
 
 abbrev pub asking_of : Pending Sent → Asking
-asking_of list = record { tickets = map ticket_in list.entries; limit = list.limit; serial = list.serial }
+asking_of list = record {
+  tickets = map ticket_in list.entries;
+  limit = list.limit;
+  serial = list.serial;
+}
 
 abbrev pub is_of : ℕ → Entry Sent → Bool
 is_of id entry = entry.item.id == id
@@ -40,9 +44,11 @@ abbrev pub CannotOpen : Pending Sent → ℕ → AskRefusal → Type 0
 CannotOpen list id IdTaken = IsSome (find (is_of id) list.entries)
 CannotOpen list id Full = (find (is_of id) list.entries ≡ None) × (length list.entries ≡ list.limit)
 CannotOpen list id Spent =
-    (find (is_of id) list.entries ≡ None) × (length list.entries < list.limit) × (list.serial ≡ 2 ^ 64 - 1)
+    (find (is_of id) list.entries ≡ None) × (length list.entries < list.limit)
+    × (list.serial ≡ 2 ^ 64 - 1)
 CannotOpen list id Memory =
-    (find (is_of id) list.entries ≡ None) × (length list.entries < list.limit) × (list.serial < 2 ^ 64 - 1)
+    (find (is_of id) list.entries ≡ None) × (length list.entries < list.limit)
+    × (list.serial < 2 ^ 64 - 1)
 
 -- what opening a ticket leaves and gives
 abbrev pub Opens : Pending Sent → Pending Sent → Sent → ℕ → Result Id AskRefusal → Type 0
@@ -52,7 +58,8 @@ Opens old new sent now (Ok at) =
       serial = old.serial + 1;
     })
     × (entry_of at new.entries ≡ Some (record { id = at; deadline = now + 1; item = sent }))
-    × (find (is_of sent.id) old.entries ≡ None) × (length old.entries < old.limit) × (old.serial < 2 ^ 64 - 1)
+    × (find (is_of sent.id) old.entries ≡ None) × (length old.entries < old.limit)
+    × (old.serial < 2 ^ 64 - 1)
 Opens old new sent now (Err refusal) = (new ≡ old) × CannotOpen old sent.id refusal
 
 -- the first entry, and the others
@@ -70,7 +77,8 @@ IsOverdue old new now (Some (Again at)) =
     × (new.list ≡ record old { entries = placed (resent (now + 1) first.entry) first.others })
     × (entry_of at new.list.entries ≡ Some (resent (now + 1) first.entry))
 IsOverdue old new now (Some Over) =
-    (first : IsFirst old.entries now) × (3 ≤ first.entry.item.sends) × (new.given_up ≡ Some first.entry.item)
+    (first : IsFirst old.entries now) × (3 ≤ first.entry.item.sends)
+    × (new.given_up ≡ Some first.entry.item)
     × (new.list ≡ record old { entries = first.others })
 
 -- what is overdue is in the list, or was given up

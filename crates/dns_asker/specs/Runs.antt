@@ -8,22 +8,26 @@ use Rattle.dns_asker.specs.declared.due.Due.{Due}
 use Rattle.dns_asker.specs.declared.incoming.Incoming.{Incoming}
 use Rattle.dns_asker.specs.declared.refusal.AskRefusal.{AskRefusal}
 
--- what a user of an asker can do: ask a question under an id at a moment, hand octets in, and let a moment come
+-- what a user of an asker can do: ask a question under an id at a moment, hand octets in, and let a
+-- moment come
 pub data Event : Type 0 where
   ask : ℕ → Question → ℕ → Event
   hear : List ℕ → Event
   wait : ℕ → Event
 
--- What an event leaves, whatever is answered to it. Octets for whose reading memory is refused leave all as it was.
+-- What an event leaves, whatever is answered to it. Octets for whose reading memory is refused
+-- leave all as it was.
 pub data Step (old new : Asking) : Event → Type 0 where
   asked : {id : ℕ} {question : Question} {now : ℕ} (result : Result (Bor (List ℕ)) AskRefusal)
       → Asks old new id question now result → Step old new (ask id question now)
-  heard : {octets : List ℕ} (incoming : Incoming) → Means old octets incoming → new ≡ left_by incoming old → Step old new (hear octets)
+  heard : {octets : List ℕ} (incoming : Incoming) → Means old octets incoming
+      → new ≡ left_by incoming old → Step old new (hear octets)
   unheard : {octets : List ℕ} → new ≡ old → Step old new (hear octets)
   waited : {now : ℕ} (due : Option Due) → Dues old new now due → Step old new (wait now)
 
 -- one event after the other
 pub data Runs (first : Asking) : List Event → Asking → Type 0 where
   begun : Runs first [] first
-  further : (events : List Event) (event : Event) (old new : Asking) → Runs first events old → Step old new event
+  further : (events : List Event) (event : Event) (old new : Asking) → Runs first events old
+      → Step old new event
       → Runs first (events ++ event ∷ []) new

@@ -31,7 +31,8 @@ ticket_of id tickets = find (has_id id) tickets
 abbrev pub without : ℕ → List Ticket → List Ticket
 without id tickets = filter (λ it. not (has_id id it)) tickets
 
--- the tickets with one more: it stands behind all whose deadlines are not greater, in front of the others
+-- the tickets with one more: it stands behind all whose deadlines are not greater, in front of the
+-- others
 abbrev pub waiting_too : Ticket → List Ticket → List Ticket
 waiting_too ticket tickets =
     filter (λ it. nat_le it.deadline ticket.deadline) tickets

@@ -34,7 +34,8 @@ impl Asker {
     ghost use Rattle.std.specs.Io.BufRead.{Rests};
     ghost use Rattle.dns_asker.specs.contracts.asker.Asker.{the_row};
 
-    /// Nothing is asked. At most so many questions wait at once; the tickets are numbered from the serial on.
+    /// Nothing is asked. At most so many questions wait at once; the tickets are numbered from the
+    /// serial on.
     pub fn new(alloc: Global, limit: usize, serial: u64) -> Result<Asker, AllocError>
         requires some { 1 ≤ limit }
         requires few { limit ≤ 256 }
@@ -46,8 +47,8 @@ impl Asker {
         })
     }
 
-    /// A law: the tickets stand by deadline, each of an id of its own, sent once to three times, and they are no more than
-    /// the limit. A call does nothing: its contract tells its caller so.
+    /// A law: the tickets stand by deadline, each of an id of its own, sent once to three times,
+    /// and they are no more than the limit. A call does nothing: its contract tells its caller so.
     pub fn stands_in_order(&self)
         ensures { IsAsking self.now }
     {
@@ -64,7 +65,8 @@ impl Asker {
 
     /// Asks a question under an id that is not open, and gives the octets to send for it.
     pub fn ask(&mut self, question: Question, id: u16, now: Moment) -> Result<&[u8], AskRefusal>
-        ensures* asks { sem 𝓛 (Rests the_row self.entry (λ ended. Asks self.old ended id question now result)) }
+        ensures* asks { sem 𝓛 (Rests the_row self.entry
+            (λ ended. Asks self.old ended id question now result)) }
     {
         match self.tickets.open(self.alloc, question, id, now) {
             Ok(at) => Ok(self.tickets.octets_at(at)),
@@ -93,8 +95,8 @@ impl Asker {
         Ok(Incoming::Ended(id, question, ending))
     }
 
-    /// What is to be done at a moment about the first question whose reply did not come in time. There may be more of them:
-    /// it is called again until it gives nothing. Takes no memory.
+    /// What is to be done at a moment about the first question whose reply did not come in time.
+    /// There may be more of them: it is called again until it gives nothing. Takes no memory.
     #[must_use]
     pub fn due(&mut self, now: Moment) -> Option<Due<'_>>
         ensures* dues { sem 𝓛 (Rests the_row self.entry (λ ended. Dues self.old ended now result)) }

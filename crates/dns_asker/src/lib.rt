@@ -1,31 +1,36 @@
-//! Questions to DNS servers until they end, the wires that they go through, and the loop of a small DNS server.
+//! Questions to DNS servers until they end, the wires that they go through, and the loop of a small
+//! DNS server.
 //!
-//! Nothing here opens a socket, reads a clock or draws a random number: octets and moments are handed in, and octets to
-//! send are handed out.
+//! Nothing here opens a socket, reads a clock or draws a random number: octets and moments are
+//! handed in, and octets to send are handed out.
 //!
-//! An `Asker` keeps the questions that were sent and have no reply yet, each under the id of its messages (RFC 1035 4.1.1).
-//! `ask` opens a ticket for a question and gives the octets to send. `incoming` takes octets that came in: it says which
-//! question they end, by an answer or by a fault of the server, or why they are no reply to any. A message whose id fits
-//! and whose question does not is no reply, and the question waits on. `due` says which question is to be sent once more,
-//! and which one is given up after three times; it is called again until it gives nothing.
+//! An `Asker` keeps the questions that were sent and have no reply yet, each under the id of its
+//! messages (RFC 1035 4.1.1). `ask` opens a ticket for a question and gives the octets to send.
+//! `incoming` takes octets that came in: it says which question they end, by an answer or by a
+//! fault of the server, or why they are no reply to any. A message whose id fits and whose question
+//! does not is no reply, and the question waits on. `due` says which question is to be sent once
+//! more, and which one is given up after three times; it is called again until it gives nothing.
 //!
 //! ```text
 //! let mut asker = Asker::new(alloc, 8, 0)?;
 //! wire.send(asker.ask(question, id, now)?)?;
-//! while let Some(due) = asker.due(now) { .. }              // Due::Resend(id, octets), Due::GaveUp(id, question)
-//! match asker.incoming(octets)? { .. }                     // Incoming::Ended(id, question, ending), Incoming::Ignored(why)
+//! // Due::Resend(id, octets), Due::GaveUp(id, question)
+//! while let Some(due) = asker.due(now) { .. }
+//! // Incoming::Ended(id, question, ending), Incoming::Ignored(why)
+//! match asker.incoming(octets)? { .. }
 //! ```
 //!
-//! `Wire` and `PeerWire` say what may be known of who carries datagrams, to one server or to many peers, and `Clock` of
-//! who tells the time. `serve` replies from a zone (`dns_zone`) over a `PeerWire`, until it is told to stop.
+//! `Wire` and `PeerWire` say what may be known of who carries datagrams, to one server or to many
+//! peers, and `Clock` of who tells the time. `serve` replies from a zone (`dns_zone`) over a
+//! `PeerWire`, until it is told to stop.
 //!
 //! ```text
 //! let zone = Zone::read(alloc, "a.example. 60 CNAME b.example.\nb.example. 300 A 192.0.2.7")?;
 //! let replies = serve(&rt, alloc, &mut wire, &zone, &stop);
 //! ```
 //!
-//! Read `specs/Tickets.antt` and `specs/Events.antt` first: what waits, and what each event does to it. Then
-//! `specs/Servers.antt`: what a server does.
+//! Read `specs/Tickets.antt` and `specs/Events.antt` first: what waits, and what each event does to
+//! it. Then `specs/Servers.antt`: what a server does.
 #![tactic(auto)]
 
 mod asker;

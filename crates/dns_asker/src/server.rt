@@ -27,12 +27,14 @@ fn round<W: PeerWire>(
     wire.send(&reply, peer).is_ok()
 }
 
-/// Answers what the wire receives from the zone, until `stop` is set, and gives the number of replies that were sent.
+/// Answers what the wire receives from the zone, until `stop` is set, and gives the number of
+/// replies that were sent.
 ///
-/// After each receive, and the reply to what came, `stop` is read, and where it is set the run ends. So what came last is
-/// still answered, and the wire has to come back from a receive now and then. A datagram is left unanswered where the
-/// zone has no reply, and where the wire or the memory fails. The run also ends where the faults of the wire, or the
-/// replies, have reached `u64::MAX`.
+/// After each receive, and the reply to what came, `stop` is read, and where it is set the run
+/// ends. So what came last is still answered, and the wire has to come back from a receive now and
+/// then. A datagram is left unanswered where the zone has no reply, and where the wire or the
+/// memory fails. The run also ends where the faults of the wire, or the replies, have reached
+/// `u64::MAX`.
 pub fn serve<R: Wait, W: PeerWire>(
     rt: &R,
     alloc: Global,

@@ -28,7 +28,8 @@ pub(crate) enum Overdue {
     Over,
 }
 
-/// The tickets by their deadlines, at most one of each id, and the last one that was given up, for who is told of it.
+/// The tickets by their deadlines, at most one of each id, and the last one that was given up, for
+/// who is told of it.
 #[derive(Drop)]
 pub(crate) struct Tickets {
     list: PendingList<Ticket>,
@@ -53,7 +54,8 @@ impl Tickets {
     pub(crate) fn new(alloc: Global, limit: usize, serial: u64) -> Result<Tickets, AllocError>
         requires some { 1 ≤ limit }
         requires few { limit ≤ 256 }
-        ensures { IfOk result (λ it. it.list ≡ record { entries = []; limit = limit; serial = serial }) }
+        ensures { IfOk result
+            (λ it. it.list ≡ record { entries = []; limit = limit; serial = serial }) }
     {
         Ok(Tickets {
             list: PendingList::new(alloc, limit, serial)?,
@@ -70,7 +72,8 @@ impl Tickets {
 
     /// The place of the ticket of an id.
     pub(crate) fn place_of(&self, id: u16) -> Option<PendingId>
-        ensures { MatchOption result (find (is_of id) self.now.list.entries ≡ None) (Finds self.now.list.entries id) }
+        ensures { MatchOption result (find (is_of id) self.now.list.entries ≡ None)
+            (Finds self.now.list.entries id) }
     {
         self.list.stands_in_order();
         for (at, _, ticket) in self.list.walk() {
@@ -84,7 +87,8 @@ impl Tickets {
     /// The question of the ticket at a place.
     pub(crate) fn question_at(&self, at: PendingId) -> &Question
         requires { IsSome (entry_of at self.now.list.entries) }
-        ensures { (entry : Entry Sent) → entry_of at self.now.list.entries ≡ Some entry → result.now ≡ entry.item.question }
+        ensures { (entry : Entry Sent) → entry_of at self.now.list.entries ≡ Some entry
+            → result.now ≡ entry.item.question }
     {
         match self.list.get(at) {
             Some(ticket) => ticket.question(),
@@ -100,7 +104,8 @@ impl Tickets {
         id: u16,
         now: Moment,
     ) -> Result<PendingId, AskRefusal>
-        ensures { Opens self.old.list self.new.list (record { id = id; question = question; sends = 1 }) now result }
+        ensures { Opens self.old.list self.new.list
+            (record { id = id; question = question; sends = 1 }) now result }
     {
         if self.place_of(id).is_some() {
             return Err(AskRefusal::IdTaken);
@@ -183,7 +188,8 @@ impl Tickets {
 
 /// Whether the ticket at a place may be sent once more.
 fn may_be_sent_again(list: &PendingList<Ticket>, at: PendingId) -> bool
-    ensures { (entry : Entry Sent) → entry_of at list.now.entries ≡ Some entry → (IsTrue result ↔ (entry.item.sends < 3)) }
+    ensures { (entry : Entry Sent) → entry_of at list.now.entries ≡ Some entry
+        → (IsTrue result ↔ (entry.item.sends < 3)) }
 {
     match list.get(at) {
         Some(ticket) => ticket.may_be_sent_again(),
@@ -193,9 +199,12 @@ fn may_be_sent_again(list: &PendingList<Ticket>, at: PendingId) -> bool
 
 /// Counts one send more of the ticket at a place, and gives it another deadline.
 fn send_again(list: &mut PendingList<Ticket>, at: PendingId, deadline: u64)
-    requires { (entry : Entry Sent) → entry_of at list.old.entries ≡ Some entry → entry.item.sends < 3 }
+    requires { (entry : Entry Sent) → entry_of at list.old.entries ≡ Some entry
+        → entry.item.sends < 3 }
     ensures { (entry : Entry Sent) → entry_of at list.old.entries ≡ Some entry
-        → (list.new ≡ record list.old { entries = placed (resent deadline entry) (without at list.old.entries) })
+        → (list.new ≡ record list.old {
+          entries = placed (resent deadline entry) (without at list.old.entries);
+        })
         × (entry_of at list.new.entries ≡ Some (resent deadline entry)) }
 {
     if let Some(ticket) = list.get_mut(at) {

@@ -14,8 +14,8 @@ pub struct WireFault;
 
 /// A wire to one peer: datagrams go to it and come from it alone.
 ///
-/// A datagram may be lost, and may come twice or late. The wire counts its faults, and neither call may be made once
-/// they have reached `u64::MAX`.
+/// A datagram may be lost, and may come twice or late. The wire counts its faults, and neither call
+/// may be made once they have reached `u64::MAX`.
 pub trait Wire {
     // What it may give.
     ghost gives: { List ℕ → Type 0 };
@@ -29,13 +29,14 @@ pub trait Wire {
         ensures fault { OnErr result (failed self.new ≡ failed self.old + 1) }
         ensures no_fault { OnOk result (failed self.new ≡ failed self.old) };
 
-    /// Receives a datagram: it stands in front of the buffer, and the result is the number of its octets. `None`: none
-    /// came in the time that the wire waits.
+    /// Receives a datagram: it stands in front of the buffer, and the result is the number of its
+    /// octets. `None`: none came in the time that the wire waits.
     fn receive(&mut self, buffer: &mut [u8; DATAGRAM_LIMIT]) -> Result<Option<usize>, WireFault>
         requires { failed self.old < 2 ^ 64 - 1 }
         ensures fault { OnErr result (failed self.new ≡ failed self.old + 1) }
         ensures no_fault { OnOk result (failed self.new ≡ failed self.old) }
-        ensures given { IfOk result (λ given. IfSome given (λ count. IsGiven gives count buffer.new)) };
+        ensures given { IfOk result
+            (λ given. IfSome given (λ count. IsGiven gives count buffer.new)) };
 
     /// How often a call has failed.
     fn failures(&self) -> u64
@@ -63,8 +64,8 @@ pub trait PeerWire {
         ensures no_fault { OnOk result (failed self.new ≡ failed self.old) }
         ensures did { does self.old (dispatch result octets.now peer) self.new };
 
-    /// Receives a datagram: it stands in front of the buffer, and the result is the number of its octets, and who sent
-    /// it. `None`: none came in the time that the wire waits.
+    /// Receives a datagram: it stands in front of the buffer, and the result is the number of its
+    /// octets, and who sent it. `None`: none came in the time that the wire waits.
     fn receive(
         &mut self,
         buffer: &mut [u8; DATAGRAM_LIMIT],

@@ -24,12 +24,15 @@ pub record IsAnswered (old new : SelectionValue) (history : List Store) (now : �
   pub found : cached history question now ≡ Some answer
   pub is : new ≡ given_too old question answer
 
--- One question after the other was answered, each from a history between these two, which goes on to the history of
--- the next one.
-pub data Gains (last : List Store) (now : ℕ) : List Store → SelectionValue → SelectionValue → Type 0 where
-  nothing : {first : List Store} {old new : SelectionValue} → new ≡ old → Gains last now first old new
-  one : {first : List Store} {old new : SelectionValue} (history : List Store) (middle : SelectionValue)
-      → IsBetween first last history → IsAnswered old middle history now → Gains last now history middle new
+-- One question after the other was answered, each from a history between these two, which goes on
+-- to the history of the next one.
+pub data Gains (last : List Store) (now : ℕ) : List Store → SelectionValue → SelectionValue
+    → Type 0 where
+  nothing : {first : List Store} {old new : SelectionValue} → new ≡ old
+      → Gains last now first old new
+  one : {first : List Store} {old new : SelectionValue} (history : List Store)
+      (middle : SelectionValue) → IsBetween first last history → IsAnswered old middle history now
+      → Gains last now history middle new
       → Gains last now first old new
 
 -- a history between these two held no answer to the question
@@ -44,17 +47,21 @@ pub record Lacks (first last : List Store) (now : ℕ) (question : Question) : T
 abbrev pub LookedUp : SelectionValue → SelectionValue → List Store → ℕ → Bool → Type 0
 LookedUp old new history now true = IsAnswered old new history now
 LookedUp old new history now false =
-    (new ≡ old) × ((question : Question) → now_of old ≡ need question → cached history question now ≡ None)
+    (new ≡ old)
+    × ((question : Question) → now_of old ≡ need question → cached history question now ≡ None)
 
 -- ---- all look-ups
 
--- With the answers gained this is what is next, and where that is a question, the book lacked its answer.
-pub record IsNext (old new : SelectionValue) (first last : List Store) (now : ℕ) (resolution : Resolution) : Type 0 where
+-- With the answers gained this is what is next, and where that is a question, the book lacked its
+-- answer.
+pub record IsNext (old new : SelectionValue) (first last : List Store) (now : ℕ)
+    (resolution : Resolution) : Type 0 where
   pub gains : Gains last now first old new
   pub is : resolution ≡ now_of new
   pub lacks : (question : Question) → resolution ≡ need question → Lacks first last now question
 
 -- the same of what a step gives; where memory was refused, the answers gained stay
-abbrev pub Steps : SelectionValue → SelectionValue → List Store → List Store → ℕ → Result Next AllocError → Type 0
+abbrev pub Steps : SelectionValue → SelectionValue → List Store → List Store → ℕ
+    → Result Next AllocError → Type 0
 Steps old new first last now (Ok next) = IsNext old new first last now (next_of next)
 Steps old new first last now (Err refusal) = Gains last now first old new

@@ -26,7 +26,8 @@ pub record Answers (question : Question) (octets : List ℕ) (found : AnswerValu
   pub taken : reply_refusal question it ≡ None
   pub is : found ≡ answer question it
 
--- Memory is taken for octets only here: to read a name after the header, or for the answer of a message without a fault.
+-- Memory is taken for octets only here: to read a name after the header, or for the answer of a
+-- message without a fault.
 abbrev pub MayAnswer : Question → List ℕ → Type 0
 MayAnswer question octets =
     NamedAt octets 12 ⊎ ((it : Message) × Begins octets it × (reply_refusal question it ≡ None))
@@ -45,7 +46,8 @@ MessageFault octets (message.Malformed part) =
 MessageFault octets message.Memory = ⊥
 
 -- why the message in front of the octets does not answer the question: its first fault
-pub record AnswerFault (question : Question) (octets : List ℕ) (refusal : ReplyRefusal) : Type 0 where
+pub record AnswerFault (question : Question) (octets : List ℕ)
+    (refusal : ReplyRefusal) : Type 0 where
   pub it : Message
   pub begins : Begins octets it
   pub fault : reply_refusal question it ≡ Some refusal
@@ -54,21 +56,25 @@ pub record AnswerFault (question : Question) (octets : List ℕ) (refusal : Repl
 -- Why octets are refused while this is what is known of a request, in the order of the checks.
 abbrev pub Refuses : Resolution → List ℕ → LocatorRefusal → Type 0
 Refuses resolution octets locator.NothingAsked = (question : Question) → resolution ≢ need question
-Refuses resolution octets (locator.Message refusal) = IsAsking resolution × MessageFault octets refusal
+Refuses resolution octets (locator.Message refusal) = IsAsking resolution
+    × MessageFault octets refusal
 Refuses resolution octets (locator.Reply refusal) =
     (question : Question) × (resolution ≡ need question) × AnswerFault question octets refusal
 Refuses resolution octets locator.Memory =
-    (question : Question) × (resolution ≡ need question) × (length octets ≤ 65535) × MayAnswer question octets
+    (question : Question) × (resolution ≡ need question) × (length octets ≤ 65535)
+    × MayAnswer question octets
 
 -- ---- a reply that is taken
 
 -- whether the answer was stored
 abbrev pub Keeps : SeatView → SeatView → Question → AnswerValue → ℕ → Kept → Type 0
 Keeps old new question found now Yes = IsStored old new (offer_of question found now)
-Keeps old new question found now (No refusal) = IsRefused old new (offer_of question found now) refusal
+Keeps old new question found now (No refusal) =
+    IsRefused old new (offer_of question found now) refusal
 
 -- the answer to the question that was asked counts, and was handed to the book
-pub record IsTaken (old new : SelectionValue) (seat seat' : SeatView) (octets : List ℕ) (now : ℕ) (kept : Kept) : Type 0 where
+pub record IsTaken (old new : SelectionValue) (seat seat' : SeatView) (octets : List ℕ) (now : ℕ)
+    (kept : Kept) : Type 0 where
   pub question : Question
   pub found : AnswerValue
   pub asked : now_of old ≡ need question

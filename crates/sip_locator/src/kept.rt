@@ -15,7 +15,8 @@ pub enum Kept {
 impl Kept {
     /// What became of a store.
     pub(crate) fn of(stored: Result<(), StoreRefusal>) -> Kept
-        ensures { MatchResult stored (λ _. result ≡ Kept.Yes) (λ refusal. result ≡ Kept.No refusal) }
+        ensures { MatchResult stored (λ _. result ≡ Kept.Yes)
+            (λ refusal. result ≡ Kept.No refusal) }
     {
         match stored {
             Ok(()) => Kept::Yes,

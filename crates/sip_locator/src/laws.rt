@@ -14,13 +14,16 @@ ghost use Rattle.sip_locator.specs.declared.refusal.LocatorRefusal.TheVariants a
 
 use dns_message::one_message_in_front;
 
-/// The message in front of the octets decides: what is taken is its answer, and a refusal other than for want of memory
-/// is its first fault.
+/// The message in front of the octets decides: what is taken is its answer, and a refusal other
+/// than for want of memory is its first fault.
 pub fn messages_decide()
-    ensures taken { (question : Question) (octets : List ℕ) (it : Message) (found : AnswerValue) → Begins octets it
-        → Answers question octets found → (reply_refusal question it ≡ None) × (found ≡ answer question it) }
-    ensures refused { (resolution : Resolution) (question : Question) (octets : List ℕ) (it : Message)
-        (refusal : LocatorRefusal) → resolution ≡ need question → Begins octets it → Refuses resolution octets refusal
+    ensures taken { (question : Question) (octets : List ℕ) (it : Message) (found : AnswerValue)
+        → Begins octets it
+        → Answers question octets found
+        → (reply_refusal question it ≡ None) × (found ≡ answer question it) }
+    ensures refused { (resolution : Resolution) (question : Question) (octets : List ℕ)
+        (it : Message) (refusal : LocatorRefusal) → resolution ≡ need question → Begins octets it
+        → Refuses resolution octets refusal
         → (refusal ≡ refusals.Memory) ⊎ ((fault : ReplyRefusal) × (refusal ≡ refusals.Reply fault)
         × (reply_refusal question it ≡ Some fault)) }
 {

@@ -1,8 +1,9 @@
 //! Where a SIP request or response goes (RFC 3263 4, 5), over DNS answers that requests share.
 //!
-//! A `Locator` makes the choice of one request. It does no input or output of its own. It looks its questions up in a
-//! book of answers, an `AnswerBook` of `answer_cache`, and asks its caller only for what the book has no answer to. The
-//! answers that its caller brings go into the book, where the locators of other requests find them.
+//! A `Locator` makes the choice of one request. It does no input or output of its own. It looks its
+//! questions up in a book of answers, an `AnswerBook` of `answer_cache`, and asks its caller only
+//! for what the book has no answer to. The answers that its caller brings go into the book, where
+//! the locators of other requests find them.
 //!
 //! ```text
 //! let mut locator = Locator::new(alloc, request, caps, words)?;
@@ -15,12 +16,14 @@
 //!     // the octets that came back
 //!     match locator.reply(rt, &book, &mut seat, now, octets) {
 //!         Ok(_) => { /* the answer counts */ }
-//!         Err(refusal) => { /* the next step asks the same question, if the book has no answer by then */ }
+//!         // The next step asks the same question, if the book has no answer by then.
+//!         Err(refusal) => { .. }
 //!     }
 //! }
 //! ```
 //!
-//! For `sip:a.example:5070`, a caller with UDP, and IPv4 alone, it can go so, where a moment is a number of seconds:
+//! For `sip:a.example:5070`, a caller with UDP, and IPv4 alone, it can go so, where a moment is a
+//! number of seconds:
 //!
 //! ```text
 //! step at 100:   ask A a.example.
@@ -28,27 +31,30 @@
 //! step at 100:   UDP to 192.0.2.7, port 5070
 //! ```
 //!
-//! The first step of another request to that URI, over the same book, gives the target up to the moment 399, and asks
-//! at 400.
+//! The first step of another request to that URI, over the same book, gives the target up to the
+//! moment 399, and asks at 400.
 //!
-//! `step` looks up one question after the other, until the book has no answer to one, or no more is asked. Each answer
-//! that it uses is the one that the book has for the question at that moment. What it gives is what `sip_selection`
-//! says of all answers used. It gives a question only where the book had no answer to it. `step` stores nothing. Where
-//! memory is refused, the answers found before it stay used, and `step` can be called again.
+//! `step` looks up one question after the other, until the book has no answer to one, or no more is
+//! asked. Each answer that it uses is the one that the book has for the question at that moment.
+//! What it gives is what `sip_selection` says of all answers used. It gives a question only where
+//! the book had no answer to it. `step` stores nothing. Where memory is refused, the answers found
+//! before it stay used, and `step` can be called again.
 //!
-//! `reply` takes the octets of one DNS message. Where the message answers the question that is asked, the answer counts
-//! for this request, and the book is then told to store it. `Kept` says whether it did. An answer whose store was
-//! refused still counts: one that may not be kept, say, is used for this request, and no other finds it. Otherwise
-//! `reply` says why: no question is asked, no message is in front of the octets, the message does not answer the
-//! question, or memory was refused. The locator and the seat are then as before, so a bad reply does no harm. The
-//! message has to repeat the question that is asked, and no other. Who sent it, and its number, are for the caller to
-//! compare. The message in front of the octets decides all this (`messages_decide`).
+//! `reply` takes the octets of one DNS message. Where the message answers the question that is
+//! asked, the answer counts for this request, and the book is then told to store it. `Kept` says
+//! whether it did. An answer whose store was refused still counts: one that may not be kept, say,
+//! is used for this request, and no other finds it. Otherwise `reply` says why: no question is
+//! asked, no message is in front of the octets, the message does not answer the question, or memory
+//! was refused. The locator and the seat are then as before, so a bad reply does no harm. The
+//! message has to repeat the question that is asked, and no other. Who sent it, and its number, are
+//! for the caller to compare. The message in front of the octets decides all this
+//! (`messages_decide`).
 //!
-//! A locator uses at most 521 answers (`Locator::answers_are_few`), so a caller that brings an answer to each question
-//! comes to an end.
+//! A locator uses at most 521 answers (`Locator::answers_are_few`), so a caller that brings an
+//! answer to each question comes to an end.
 //!
-//! Read `specs/Gains.antt` first: it says which answers a step uses, and what it gives. Then read `specs/Replies.antt`:
-//! it says what the octets of a reply do.
+//! Read `specs/Gains.antt` first: it says which answers a step uses, and what it gives. Then read
+//! `specs/Replies.antt`: it says what the octets of a reply do.
 #![tactic(auto)]
 
 mod kept;

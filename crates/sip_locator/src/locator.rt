@@ -83,7 +83,8 @@ impl<B: AnswerBook> Locator<B> {
         ensures stays { B.belongs book.now seat.new }
         ensures goes_on { GoesOn (B.shown seat.old) (B.shown seat.new) }
         ensures stores_nothing { StoresNothing (B.shown seat.old) (B.shown seat.new) }
-        ensures found { IfOk result (λ found. LookedUp self.old self.new (B.shown seat.new).seen now found) }
+        ensures found { IfOk result
+            (λ found. LookedUp self.old self.new (B.shown seat.new).seen now found) }
         ensures unchanged { OnErr result (self.new ≡ self.old) }
     {
         let Next::Ask(question) = self.selection.next() else {
@@ -105,8 +106,10 @@ impl<B: AnswerBook> Locator<B> {
         ensures stays { B.belongs book.now seat.new }
         ensures goes_on { GoesOn (B.shown seat.old) (B.shown seat.new) }
         ensures stores_nothing { StoresNothing (B.shown seat.old) (B.shown seat.new) }
-        ensures gains { Gains (B.shown seat.new).seen now (B.shown seat.old).seen self.old self.new }
-        ensures lacks { OnOk result ((question : question.Question) → now_of self.new ≡ need question
+        ensures gains { Gains (B.shown seat.new).seen now (B.shown seat.old).seen
+            self.old self.new }
+        ensures lacks { OnOk result ((question : question.Question)
+            → now_of self.new ≡ need question
             → Lacks (B.shown seat.old).seen (B.shown seat.new).seen now question) }
     {
         for _round in 0..ROUND_LIMIT {
@@ -118,8 +121,9 @@ impl<B: AnswerBook> Locator<B> {
         Ok(())
     }
 
-    /// Looks up each question that is asked, until the book has no answer to one, and gives what is next then. Where
-    /// memory is refused, the answers found before it stay used, and `step` can be called again.
+    /// Looks up each question that is asked, until the book has no answer to one, and gives what is
+    /// next then. Where memory is refused, the answers found before it stay used, and `step` can be
+    /// called again.
     pub fn step(
         &mut self,
         book: &B,
@@ -131,14 +135,16 @@ impl<B: AnswerBook> Locator<B> {
         ensures goes_on { GoesOn (B.shown seat.old) (B.shown seat.new) }
         ensures stores_nothing { StoresNothing (B.shown seat.old) (B.shown seat.new) }
         ensures* steps { sem 𝓛 (Rests (the_row B.row) self.entry
-            (λ ended. Steps self.old ended (B.shown seat.old).seen (B.shown seat.new).seen now result)) }
+            (λ ended. Steps self.old ended (B.shown seat.old).seen (B.shown seat.new).seen
+            now result)) }
     {
         self.look_all_up(book, seat, now)?;
         Ok(self.selection.next())
     }
 
-    /// Takes the octets of a reply to the question that is asked: its answer is used for this request, and then stored
-    /// in the book. Where the book does not store it, it stays used. After a refusal all is as before.
+    /// Takes the octets of a reply to the question that is asked: its answer is used for this
+    /// request, and then stored in the book. Where the book does not store it, it stays used. After
+    /// a refusal all is as before.
     pub fn reply<R: Wait>(
         &mut self,
         rt: &R,
@@ -150,7 +156,8 @@ impl<B: AnswerBook> Locator<B> {
         requires { B.belongs book.now seat.old }
         ensures stays { B.belongs book.now seat.new }
         ensures goes_on { GoesOn (B.shown seat.old) (B.shown seat.new) }
-        ensures taken { IfOk result (IsTaken self.old self.new (B.shown seat.old) (B.shown seat.new) octets.now now) }
+        ensures taken { IfOk result (IsTaken self.old self.new (B.shown seat.old) (B.shown seat.new)
+            octets.now now) }
         ensures refused { IfErr result (Refuses (now_of self.old) octets.now) }
         ensures unchanged { OnErr result ((self.new ≡ self.old) × (seat.new ≡ seat.old)) }
     {

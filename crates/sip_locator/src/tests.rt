@@ -46,7 +46,8 @@ pub(crate) enum Gives {
     Other,
 }
 
-/// The choice of a request to port 5070 of a.example, over UDP and IPv4 alone, where there is memory for it.
+/// The choice of a request to port 5070 of a.example, over UDP and IPv4 alone, where there is
+/// memory for it.
 fn begun<B: AnswerBook>(alloc: Global) -> Option<Locator<B>> {
     let request = Request::Uri(read_uri(alloc, "sip:a.example:5070").ok()?);
     let caps = Caps::new(&[Udp], Families::V4)?;
@@ -97,8 +98,8 @@ pub(crate) fn one_seat(alloc: Global) -> Option<(SharedCache, Seat)>
     Some((cache, seat))
 }
 
-/// What becomes of a reply at the moment 100, what the first locator gives then, what becomes of the same reply again,
-/// and what the second locator gives at a later moment.
+/// What becomes of a reply at the moment 100, what the first locator gives then, what becomes of
+/// the same reply again, and what the second locator gives at a later moment.
 type Outcome = (
     Result<Kept, LocatorRefusal>,
     Gives,

@@ -46,7 +46,8 @@ const LATER_QUERY: &[u8] =
 
 /// A reply for a.example., whose record has a pointer to the question.
 const REPLY: &[u8] =
-    b"\x12\x34\x81\x80\x00\x01\x00\x01\x00\x00\x00\x00\x01a\x07example\x00\x00\x01\x00\x01\xc0\x0c\x00\x01\x00\x01\x00\x00\x01\x2c\x00\x04\xc0\x00\x02\x07";
+    b"\x12\x34\x81\x80\x00\x01\x00\x01\x00\x00\x00\x00\x01a\x07example\x00\x00\x01\x00\x01\xc0\x0c\
+    \x00\x01\x00\x01\x00\x00\x01\x2c\x00\x04\xc0\x00\x02\x07";
 
 /// A reply for b.example. that was cut, and one of a server that failed.
 const CUT_REPLY: &[u8] =
@@ -142,7 +143,8 @@ fn dues(asker: &mut Asker, now: u64, wanted: &Wanted) -> Option<bool> {
     Some(asks)
 }
 
-/// Does a step, and answers whether the asker did as the step says; nothing where memory is refused.
+/// Does a step, and answers whether the asker did as the step says; nothing where memory is
+/// refused.
 pub(crate) fn does(alloc: Global, asker: &mut Asker, step: &Step) -> Option<bool> {
     match step {
         Step::Ask(id, name, now, wanted) => asks(alloc, asker, (*id, *name, *now), *wanted),

@@ -13,7 +13,8 @@ const QUERY: &[u8; 27] =
 
 /// The reply to it: 192.0.2.7, for 300 seconds.
 const REPLY: &[u8; 52] =
-    b"\x12\x34\x85\x00\x00\x01\x00\x01\x00\x00\x00\x00\x01a\x07example\x00\x00\x01\x00\x01\x01a\x07example\x00\x00\x01\x00\x01\x00\x00\x01\x2c\x00\x04\xc0\x00\x02\x07";
+    b"\x12\x34\x85\x00\x00\x01\x00\x01\x00\x00\x00\x00\x01a\x07example\x00\x00\x01\x00\x01\x01a\
+    \x07example\x00\x00\x01\x00\x01\x00\x00\x01\x2c\x00\x04\xc0\x00\x02\x07";
 
 /// What a receive does.
 #[derive(Clone, Copy, Debug)]
@@ -124,8 +125,8 @@ impl<'a> PeerWire for Script<'a> {
     }
 }
 
-/// What a server sends over these receives and with these failures, if there is memory for its zone: the number that it
-/// gives, what the wire counted, and the failures.
+/// What a server sends over these receives and with these failures, if there is memory for its
+/// zone: the number that it gives, what the wire counted, and the failures.
 pub(crate) fn served(
     rt: &impl Wait,
     alloc: Global,

@@ -1,4 +1,5 @@
-//! Where memory is refused: the call then says so, or has its answer all the same, and done again it has it.
+//! Where memory is refused: the call then says so, or has its answer all the same, and done again
+//! it has it.
 
 use crate::tests::{Desk, Gives, REPLY, one_seat, open_desk, told};
 use crate::*;
@@ -6,8 +7,8 @@ use answer_cache::{AnswerBook, ListCache, StoreRefusal};
 use dns_answers::Moment;
 use std::sync::Wait;
 
-/// What becomes of the reply, and what both locators then give, where memory is refused at most once: a call that it
-/// was refused to is done again.
+/// What becomes of the reply, and what both locators then give, where memory is refused at most
+/// once: a call that it was refused to is done again.
 fn outcome<B: AnswerBook>(
     rt: &impl Wait,
     desk: &mut Desk<B>,
