@@ -1,7 +1,7 @@
 -- Numbers, octets and lists of parts at places.
-use Rattle.std.proofs.Common.{◌≡◌, ℕ, suc, ◌+◌, ◌<◌, ◌≤◌, List, [], ◌∷◌, ◌++◌, length, take, drop, slice_index, slice_range, get_or, refl, sym, ap, ◌∙◌, subst, drop-cons, arith}
+use Rattle.std.proofs.Common.{◌≡◌, ℕ, suc, ◌+◌, ◌<◌, ◌≤◌, List, [], ◌∷◌, ◌++◌, length, take, drop, slice_index, slice_range, get_or, refl, sym, ap, ◌∙◌, subst, drop-cons, append_assoc, arith}
 use Rattle.std.specs.Int.{Width, byte_len}
-use Rattle.std.proofs.lemmas.List.{length-take, take-take, get_or-take, get_or-drop, drop-drop}
+use Rattle.std.proofs.lemmas.List.{append-nil, length-append, length_push, length-take, take-take, get_or-take, get_or-drop, drop-drop}
 use Rattle.std.proofs.lemmas.Slice.{between_is}
 use Rattle.dns_message.specs.Places.{NumberAt, OctetsAt, AllAt, none, next}
 
@@ -114,15 +114,48 @@ module _ {X : Type 0} (At : ℕ → X → ℕ → Type 0) where
       let rest = AllAt-one one after end end' xs xs' others (rw (k.1) others') (omega (arith, same)) in
       (rw (k.0, rest.0) refl, rest.1)
 
+  -- whatever stands from the start on, and is as long as these, begins with these, and goes on from the place
+  abbrev pub Follows : ℕ → ℕ → List X → Type 0
+  Follows start place xs = (others : List X) (end : ℕ) → AllAt At start others end → length xs ≤ length others
+      → (back : List X) × (others ≡ xs ++ back) × AllAt At place back end
+
+  one_more : (place after end : ℕ) (x : X) (xs others back : List X)
+      → ((x' : X) (after' : ℕ) → At place x' after' → (x ≡ x') × (after ≡ after')) → length xs < length others → others ≡ xs ++ back
+      → AllAt At place back end → (back' : List X) × (others ≡ (xs ++ x ∷ []) ++ back') × AllAt At after back' end
+  one_more place after end x xs others [] one longer e there = absurd (omega (arith, ap length e, length-append xs []))
+  one_more place after end x xs others (y ∷ ys) one longer e (next after' first behind) =
+      let k = one y after' first in
+      (ys, rw (k.0, append_assoc) e, rw k.1 behind)
+
+  pub Follows-push : (start place after : ℕ) (x : X) (xs : List X) → Follows start place xs
+      → ((x' : X) (after' : ℕ) → At place x' after' → (x ≡ x') × (after ≡ after')) → Follows start after (xs ++ x ∷ [])
+  Follows-push start place after x xs follows one = λ others end there size.
+      let k = follows others end there (omega (arith, size, length_push xs x)) in
+      one_more place after end x xs others k.0 one (omega (arith, size, length_push xs x)) k.1 k.2
+
+  next_of : (place end : ℕ) (xs others back : List X) → length xs < length others → others ≡ xs ++ back → AllAt At place back end
+      → (x : X) × (after : ℕ) × At place x after
+  next_of place end xs others [] fewer e there = absurd (omega (arith, ap length e, length-append xs []))
+  next_of place end xs others (x ∷ back) fewer e (next after first behind) = (x, after, first)
+
   -- where fewer were read, the next one stands behind them
-  pub AllAt-next : AtMostOne → (p end end' : ℕ) (xs xs' : List X) → AllAt At p xs end → AllAt At p xs' end' → length xs < length xs'
-      → (x : X) × (after : ℕ) × At end x after
-  AllAt-next one p end end' [] [] (none e) (none e') fewer = absurd (omega (arith, fewer))
-  AllAt-next one p end end' [] (x' ∷ xs') (none e) (next after first others) fewer = (x', after, rw e first)
-  AllAt-next one p end end' (x ∷ xs) [] (next after first others) (none e) fewer = absurd (omega (arith, fewer))
-  AllAt-next one p end end' (x ∷ xs) (x' ∷ xs') (next after first others) (next after' first' others') fewer =
-      let k = one p after after' x x' first first' in
-      AllAt-next one after end end' xs xs' others (rw (k.1) others') (omega (arith, fewer))
+  pub Follows-next : (start place end : ℕ) (xs others : List X) → Follows start place xs → AllAt At start others end
+      → length xs < length others → (x : X) × (after : ℕ) × At place x after
+  Follows-next start place end xs others follows there fewer =
+      let k = follows others end there (omega (arith, fewer)) in
+      next_of place end xs others k.0 fewer k.1 k.2
+
+  all_of : (place end : ℕ) (xs others back : List X) → length others ≡ length xs → others ≡ xs ++ back → AllAt At place back end
+      → (xs ≡ others) × (place ≡ end)
+  all_of place end xs others [] same e (none ends) = (sym (rw append-nil at e), sym ends)
+  all_of place end xs others (x ∷ back) same e there = absurd (omega (arith, same, ap length e, length-append xs (x ∷ back)))
+
+  -- where as many were read, they are the same
+  pub Follows-all : (start place end : ℕ) (xs others : List X) → Follows start place xs → AllAt At start others end
+      → length others ≡ length xs → (xs ≡ others) × (place ≡ end)
+  Follows-all start place end xs others follows there same =
+      let k = follows others end there (omega (arith, same)) in
+      all_of place end xs others k.0 same k.1 k.2
 
 pub AllAt-other : {X : Type 0} (At At' : ℕ → X → ℕ → Type 0) (limit : ℕ) → GoesOn At
     → ((p end : ℕ) (x : X) → At p x end → end ≤ limit → At' p x end)

@@ -24,6 +24,7 @@
 
 mod char_string;
 mod codes;
+mod entry;
 mod header;
 mod kind;
 mod laws;

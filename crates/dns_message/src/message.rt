@@ -5,10 +5,11 @@ ghost use Rattle.dns_message.specs.Places.{NamedAt};
 ghost use Rattle.dns_message.specs.declared.refusal.Part as part;
 ghost use Rattle.dns_message.specs.declared.message.Message as message;
 
+use crate::entry::section_at;
 use crate::header::{Header, header_at};
-use crate::question::{Asked, question_section_at};
+use crate::question::Asked;
 use crate::refusal::{MessageRefusal, Part};
-use crate::resource::{Record, record_section_at};
+use crate::resource::Record;
 use crate::section::Section;
 use dns_name::{name_rests_before_its_end, one_name_at_a_place};
 use std::alloc::{AllocError, Global};
@@ -62,22 +63,16 @@ pub fn read_message(alloc: Global, bytes: &[u8]) -> Result<Message, MessageRefus
         return Err(MessageRefusal::TooLong);
     }
     let (header, counts) = header_at(bytes).ok_or(MessageRefusal::Malformed(Part::Header))?;
-    let (questions, place) = question_section_at(alloc, bytes, HEADER_END, counts.questions)?;
-    let (answers, place) = record_section_at(alloc, bytes, place, counts.answers, Part::Answers)?;
-    let (authority, place) = record_section_at(
+    let (questions, place) = section_at(
         alloc,
         bytes,
-        place,
-        counts.authority,
-        Part::Authority,
+        HEADER_END,
+        counts.questions,
+        Part::Questions,
     )?;
-    let (additional, _) = record_section_at(
-        alloc,
-        bytes,
-        place,
-        counts.additional,
-        Part::Additional,
-    )?;
+    let (answers, place) = section_at(alloc, bytes, place, counts.answers, Part::Answers)?;
+    let (authority, place) = section_at(alloc, bytes, place, counts.authority, Part::Authority)?;
+    let (additional, _) = section_at(alloc, bytes, place, counts.additional, Part::Additional)?;
     Ok(Message {
         header,
         questions,

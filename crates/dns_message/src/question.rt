@@ -1,18 +1,15 @@
 //! Questions (RFC 1035 4.1.2).
-ghost use Rattle.std.specs.Prelude.{◌≡◌, ◌↔◌, ℕ, List, length, IsTrue, IfOk, IfErr, MatchResult, ◌+◌, ◌≤◌, ◌++◌, OnOk, ◌<◌, MatchOption};
+ghost use Rattle.std.specs.Prelude.{◌≡◌, ◌↔◌, ℕ, length, IsTrue, IfOk, ◌+◌, ◌≤◌, ◌++◌, OnOk, ◌<◌, MatchOption};
 ghost use Rattle.dns_message.specs.Questions.{QuestionAt, same_question};
-ghost use Rattle.dns_message.specs.Places.{NamedAt, AllAt};
-ghost use Rattle.dns_message.specs.Refusals.{IsOfPart};
 ghost use Rattle.dns_message.specs.Written.{question_octets};
 ghost use Rattle.dns_message.specs.Fits.{QuestionFits};
 ghost use Rattle.std.specs.List.{flat_map, AllByRecursion};
-ghost use Rattle.dns_message.specs.declared.question.Asked as asked;
 
+use crate::entry::Entry;
 use crate::kind::Kind;
 use crate::name::{name_length, push_name};
 use crate::number::{push_u16, u16_at};
-use crate::refusal::{EntryRefusal, MessageRefusal, Part};
-use crate::section::Section;
+use crate::refusal::EntryRefusal;
 use dns_name::{Name, name_rests_before_its_end, one_name_at_a_place, read_name};
 use std::alloc::{AllocError, Global};
 use std::hash::{Hash, Hasher};
@@ -117,79 +114,25 @@ impl Asked {
     }
 }
 
-/// Reads the question at a place, and gives the place after it.
-fn question_at(alloc: Global, bytes: &[u8], place: usize) -> Result<(Asked, usize), EntryRefusal>
-    ensures found { IfOk result (λ found. QuestionAt bytes.now place found.0 found.1) }
-    ensures read { (question : asked.Asked) (end : ℕ) → QuestionAt bytes.now place question end
-        → MatchResult result (λ found. (found.0 ≡ question) × (found.1 ≡ end))
-        (λ refusal. refusal ≡ EntryRefusal.Memory) }
-    ensures memory { IfErr result (λ refusal. refusal ≡ EntryRefusal.Memory
-        → NamedAt bytes.now place) }
-{
-    name_rests_before_its_end();
-    one_name_at_a_place();
-    let (name, place) = read_name(alloc, bytes, place)?;
-    let code = u16_at(bytes, place).ok_or(EntryRefusal::Malformed)?;
-    let class_code = u16_at(bytes, place + 2).ok_or(EntryRefusal::Malformed)?;
-    Ok((
-        Asked {
-            name,
-            code,
-            class_code,
-        },
-        place + 4,
-    ))
-}
+impl Entry for Asked {
+    ghost stands = { QuestionAt };
 
-/// Reads so many questions from a place on, and gives the place after them.
-fn questions_at(
-    alloc: Global,
-    bytes: &[u8],
-    place: usize,
-    count: u16,
-) -> Result<(Vec<Asked>, usize), EntryRefusal>
-    ensures found { IfOk result (λ found. AllAt (QuestionAt bytes.now) place found.0.items found.1
-        × (length found.0.items ≡ count)) }
-    ensures read { (questions : List asked.Asked) (end : ℕ)
-        → AllAt (QuestionAt bytes.now) place questions end
-        → length questions ≡ count
-        → MatchResult result (λ found. (found.0.items ≡ questions) × (found.1 ≡ end))
-        (λ refusal. refusal ≡ EntryRefusal.Memory) }
-    ensures memory { IfErr result (λ refusal. refusal ≡ EntryRefusal.Memory
-        → NamedAt bytes.now place) }
-{
-    one_name_at_a_place();
-    let mut questions = Vec::new(alloc);
-    let mut place = place;
-    for _ in 0..count {
-        let (question, after) = question_at(alloc, bytes, place)?;
-        questions.push(question)?;
-        place = after;
-    }
-    Ok((questions, place))
-}
+    ghost named = { λ message place end asked there. (asked.name, there.after, there.name) };
 
-/// Reads the section of so many questions, and gives the place after it.
-pub(crate) fn question_section_at(
-    alloc: Global,
-    bytes: &[u8],
-    place: usize,
-    count: u16,
-) -> Result<(Section<Asked>, usize), MessageRefusal>
-    ensures found { IfOk result (λ found. AllAt (QuestionAt bytes.now) place found.0 found.1
-        × (length found.0 ≡ count)) }
-    ensures read { (questions : List asked.Asked) (end : ℕ)
-        → AllAt (QuestionAt bytes.now) place questions end
-        → length questions ≡ count
-        → MatchResult result (λ found. (found.0 ≡ questions) × (found.1 ≡ end))
-        (λ refusal. refusal ≡ MessageRefusal.Memory) }
-    ensures refused { IfErr result (λ refusal. IsOfPart refusal Part.Questions) }
-    ensures memory { IfErr result
-        (λ refusal. refusal ≡ MessageRefusal.Memory → NamedAt bytes.now place) }
-{
-    match questions_at(alloc, bytes, place, count) {
-        Ok((questions, after)) => Ok((Section::from_vec(questions), after)),
-        Err(refusal) => Err(refusal.of_part(Part::Questions)),
+    fn read_at(alloc: Global, bytes: &[u8], place: usize) -> Result<(Asked, usize), EntryRefusal> {
+        name_rests_before_its_end();
+        one_name_at_a_place();
+        let (name, place) = read_name(alloc, bytes, place)?;
+        let code = u16_at(bytes, place).ok_or(EntryRefusal::Malformed)?;
+        let class_code = u16_at(bytes, place + 2).ok_or(EntryRefusal::Malformed)?;
+        Ok((
+            Asked {
+                name,
+                code,
+                class_code,
+            },
+            place + 4,
+        ))
     }
 }
 

@@ -4,8 +4,8 @@ use Rattle.dns_message.specs.Questions.{QuestionAt}
 use Rattle.dns_message.specs.Refusals.{refusal_of_name}
 use Rattle.dns_message.specs.declared.question.Asked.{Asked}
 use Rattle.dns_message.proofs.Questions.{one_question}
-use Rattle.dns_message.proofs.question.question_at.Goals as goal
-use Rattle.dns_message.proofs.question.question_at.Goals.{In_ok-class_code}
+use Rattle.dns_message.proofs.question.AskedEntry.read_at.Goals as goal
+use Rattle.dns_message.proofs.question.AskedEntry.read_at.Goals.{In_ok-class_code}
 
 abbrev question_read : In_ok-class_code → Asked
 question_read c = record { name = c.in_ok-name.name; code = c.in_ok-code.code; class_code = c.in_ok-class_code.class_code }

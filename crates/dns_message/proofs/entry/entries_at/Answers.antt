@@ -1,0 +1,55 @@
+use Rattle.std.proofs.Common.{refl, sym, arith, ◌∙◌}
+use Rattle.std.proofs.lemmas.List.{length_push}
+use Rattle.std.proofs.lemmas.Result.{err_from_is_err_and}
+use Rattle.dns_message.specs.Places.{NamedAt, none}
+use Rattle.dns_message.proofs.Places.{AllAt-push, AllAt-first, Follows-push, Follows-next, Follows-all}
+use Rattle.dns_message.proofs.entry.entries_at.Goals as goal
+
+pub loop-init : goal.loop-init
+loop-init g c =
+    rw c.new-entries.ensures.items (record {
+      so_far = none refl;
+      follows = λ others end there size. (others, refl, there);
+      count = refl;
+    })
+
+pub loop-preserved : goal.loop-preserved
+loop-preserved g c =
+    let l = c.loop in
+    let stands = g.E.Entry.stands c.args.bytes.now in
+    let read = c.in_ok-entry in
+    rw c.in_ok-push.ensures.items (record {
+      so_far = AllAt-push stands read.after read.entry l.invariant.so_far read.ensures.found;
+      follows = Follows-push stands c.args.place l.place read.after read.entry l.entries.items l.invariant.follows read.ensures.read;
+      count = length_push l.entries.items read.entry ∙ omega arith;
+    })
+
+pub returns-clause-read : goal.returns-clause-read
+returns-clause-read g c = λ entries end there count.
+    let l = c.loop in
+    Follows-all (g.E.Entry.stands c.args.bytes.now) c.args.place l.place end l.entries.items entries l.invariant.follows there
+    (omega (arith, count))
+
+pub returns-in_err-entry-clause-read : goal.returns-in_err-entry-clause-read
+returns-in_err-entry-clause-read g c = λ entries end there count.
+    let l = c.loop in
+    let here = Follows-next (g.E.Entry.stands c.args.bytes.now) c.args.place l.place end l.entries.items entries l.invariant.follows there
+    (omega (arith, count)) in
+    let p = err_from_is_err_and c.from_residual.result c.from_residual.ensures.1 in
+    rw p.1 (p.2 ∙ c.in_err-entry.ensures.read here.0 here.1 here.2)
+
+-- a name stands where the entries begin, if one stands where the next one would
+pub returns-in_err-entry-clause-memory : goal.returns-in_err-entry-clause-memory
+returns-in_err-entry-clause-memory g c =
+    let bytes = c.args.bytes.now in
+    let p = err_from_is_err_and c.from_residual.result c.from_residual.ensures.1 in
+    rw p.1 (λ is. AllAt-first (g.E.Entry.stands bytes) (NamedAt bytes) (g.met.E.Entry.named bytes) c.loop.invariant.so_far
+    (c.in_err-entry.ensures.memory (sym p.2 ∙ is)))
+
+pub returns-in_err-push-clause-memory : goal.returns-in_err-push-clause-memory
+returns-in_err-push-clause-memory g c =
+    let bytes = c.args.bytes.now in
+    let read = c.in_ok-entry in
+    let p = err_from_is_err_and c.from_residual-in_err-push.result c.from_residual-in_err-push.ensures.1 in
+    rw p.1 (λ is. AllAt-first (g.E.Entry.stands bytes) (NamedAt bytes) (g.met.E.Entry.named bytes) c.loop.invariant.so_far
+    (g.met.E.Entry.named bytes c.loop.place read.after read.entry read.ensures.found))

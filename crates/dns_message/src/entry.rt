@@ -1,0 +1,77 @@
+//! What a section of a message has, one after the other: questions or records (RFC 1035 4.1).
+ghost use Rattle.std.specs.Prelude.{◌≡◌, ℕ, List, length, IfOk, IfErr, MatchResult};
+ghost use Rattle.dns_message.specs.Places.{NamedAt, AllAt};
+ghost use Rattle.dns_message.specs.Refusals.{IsOfPart};
+
+use crate::refusal::{EntryRefusal, MessageRefusal, Part};
+use crate::section::Section;
+use std::alloc::Global;
+
+/// A question or a record.
+pub(crate) trait Entry: Sized + Drop {
+    // It stands in a message from a place to another.
+    ghost stands: { List ℕ → ℕ → Self → ℕ → Type 0 };
+
+    /// Reads the one at a place, and gives the place after it.
+    fn read_at(alloc: Global, bytes: &[u8], place: usize) -> Result<(Self, usize), EntryRefusal>
+        ensures found { IfOk result (λ found. stands bytes.now place found.0 found.1) }
+        ensures read { (entry : Self) (end : ℕ) → stands bytes.now place entry end
+            → MatchResult result (λ found. (found.0 ≡ entry) × (found.1 ≡ end))
+            (λ refusal. refusal ≡ EntryRefusal.Memory) }
+        ensures memory { IfErr result (λ refusal. refusal ≡ EntryRefusal.Memory
+            → NamedAt bytes.now place) };
+
+    // It begins with a name.
+    ghost named: { (message : List ℕ) (place end : ℕ) (entry : Self)
+        → stands message place entry end → NamedAt message place };
+}
+
+/// Reads so many from a place on, and gives the place after them.
+fn entries_at<E: Entry>(
+    alloc: Global,
+    bytes: &[u8],
+    place: usize,
+    count: u16,
+) -> Result<(Vec<E>, usize), EntryRefusal>
+    ensures found { IfOk result (λ found. AllAt (E.stands bytes.now) place found.0.items found.1
+        × (length found.0.items ≡ count)) }
+    ensures read { (entries : List E) (end : ℕ) → AllAt (E.stands bytes.now) place entries end
+        → length entries ≡ count
+        → MatchResult result (λ found. (found.0.items ≡ entries) × (found.1 ≡ end))
+        (λ refusal. refusal ≡ EntryRefusal.Memory) }
+    ensures memory { IfErr result (λ refusal. refusal ≡ EntryRefusal.Memory
+        → NamedAt bytes.now place) }
+{
+    let mut entries = Vec::new(alloc);
+    let mut place = place;
+    for _ in 0..count {
+        let (entry, after) = E::read_at(alloc, bytes, place)?;
+        entries.push(entry)?;
+        place = after;
+    }
+    Ok((entries, place))
+}
+
+/// Reads the section of so many, as this part of the message, and gives the place after it.
+pub(crate) fn section_at<E: Entry>(
+    alloc: Global,
+    bytes: &[u8],
+    place: usize,
+    count: u16,
+    part: Part,
+) -> Result<(Section<E>, usize), MessageRefusal>
+    ensures found { IfOk result (λ found. AllAt (E.stands bytes.now) place found.0 found.1
+        × (length found.0 ≡ count)) }
+    ensures read { (entries : List E) (end : ℕ) → AllAt (E.stands bytes.now) place entries end
+        → length entries ≡ count
+        → MatchResult result (λ found. (found.0 ≡ entries) × (found.1 ≡ end))
+        (λ refusal. refusal ≡ MessageRefusal.Memory) }
+    ensures refused { IfErr result (λ refusal. IsOfPart refusal part) }
+    ensures memory { IfErr result
+        (λ refusal. refusal ≡ MessageRefusal.Memory → NamedAt bytes.now place) }
+{
+    match entries_at(alloc, bytes, place, count) {
+        Ok((entries, after)) => Ok((Section::from_vec(entries), after)),
+        Err(refusal) => Err(refusal.of_part(part)),
+    }
+}
