@@ -4,13 +4,18 @@
 //! other message it is said why it is no reply. Aliases are followed inside the reply, at most
 //! eight. No records means that there are none: an answer too, and kept for a while.
 //!
-//! ```text
+//! ```
+//! let name = Name::from_text(alloc, "a.example")?;
+//! let question = Question {
+//!     name,
+//!     kind: Kind::A,
+//! };
+//! let message = read_message(alloc, octets)?;
 //! let answer = answer_of(alloc, &question, &message)?;
 //! if let Records::V4(addresses) = answer.records() {
-//!     for [a, b, c, d] in addresses.as_slice() {
-//!         println!(rt; "{a}.{b}.{c}.{d} for {} seconds", answer.life())?;
-//!     }
+//!     assert_eq!(rt; addresses.as_slice(), [[192, 0, 2, 7]].as_slice());
 //! }
+//! assert_eq!(rt; answer.life(), 300);
 //! ```
 #![tactic(auto)]
 

@@ -10,6 +10,7 @@ use std::alloc::Global;
 mod addresses;
 mod allocations;
 pub(crate) mod kinds;
+mod page;
 mod replies;
 mod values;
 

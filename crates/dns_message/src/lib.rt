@@ -10,13 +10,18 @@
 //! Queries and replies are written without pointers, and what is written is read again as the same
 //! message. A reply that does not fit into a datagram of 512 octets is cut to its question.
 //!
-//! ```text
+//! ```
+//! let name = Name::from_text(alloc, "a.example")?;
+//! let question = Question {
+//!     name,
+//!     kind: Kind::A,
+//! };
 //! let query = write_query(alloc, 0x1234, &question)?;
+//! // the octets that a server gave for these
 //! let message = read_message(alloc, octets)?;
 //! for record in message.answers.as_slice() {
-//!     if let Rdata::Srv(server) = &record.rdata {
-//!         let target = server.target.text()?;
-//!         println!(rt; "{target} at {} for {} seconds", server.port, record.ttl)?;
+//!     if let Rdata::Addr4(address) = &record.rdata {
+//!         assert_eq!(rt; (*address, record.ttl), ([192, 0, 2, 7], 300));
 //!     }
 //! }
 //! ```

@@ -5,6 +5,7 @@ use std::alloc::Global;
 
 mod allocations;
 pub(crate) mod messages;
+mod page;
 pub(crate) mod records;
 pub(crate) mod servers;
 mod texts;

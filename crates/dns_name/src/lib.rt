@@ -5,10 +5,13 @@
 //! message leads to a whole run of labels before the one that it closes, so no message makes a
 //! reader go round.
 //!
-//! ```text
+//! ```
 //! let domain = Name::from_text(alloc, "B.example")?;
-//! let service = domain.prefixed("_sip", "_udp")?;       // _sip._udp.b.example.
-//! let (owner, after) = read_name(alloc, message, 12)?;  // the name at octet 12, and what is after
+//! let service = domain.prefixed("_sip", "_udp")?;
+//! assert_eq!(rt; service.text()?.as_str(), "_sip._udp.b.example.");
+//! // the name at octet 0 of a message, and the place after it
+//! let (name, after) = read_name(alloc, b"\x01b\x07example\x00", 0)?;
+//! assert!(rt; name == domain && after == 11);
 //! ```
 #![tactic(auto)]
 

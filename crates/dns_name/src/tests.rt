@@ -3,6 +3,7 @@ use super::*;
 use std::alloc::Global;
 
 mod allocations;
+mod page;
 
 /// A text, and the octets of its name or why it has none (RFC 1035 2.3.1, 2.3.4).
 type TextRow = (&'static str, Result<&'static [u8], NameRefusal>);

@@ -6,10 +6,14 @@
 //! set. Octets that are no query get no reply. It opens no socket: octets are handed in, and octets
 //! to send are handed out.
 //!
-//! ```text
-//! let zone = Zone::read(alloc, "a.example. 60 CNAME b.example.\nb.example. 300 A 192.0.2.7")?;
+//! ```
+//! let zone = Zone::read(
+//!     alloc,
+//!     "a.example. 60 CNAME b.example.\nb.example. 300 A 192.0.2.7",
+//! )?;
+//! // octets that ask for A of a.example.
 //! if let Some(reply) = zone.answer_datagram(alloc, octets)? {
-//!     wire.send(&reply, peer)?;
+//!     assert!(rt; reply.ends_with(b"\xc0\x00\x02\x07"));
 //! }
 //! ```
 //!

@@ -4,6 +4,7 @@ use std::alloc::Global;
 
 mod allocations;
 mod lines;
+mod page;
 
 /// What the zone of a text replies; nothing where memory or the text is refused.
 pub(crate) fn replied(alloc: Global, zone: &str, octets: &[u8]) -> Option<Option<Vec<u8>>> {

@@ -8,14 +8,16 @@
 //! A list has a limit. It makes the room for so many entries when it is made, and its calls but
 //! `insert` take no memory and always answer.
 //!
-//! ```text
+//! ```
 //! let mut list = PendingList::new(alloc, 3, 0)?;
-//! let x = list.insert(5, "x")?;
-//! let y = list.insert(5, "y")?;                     // x, y
-//! list.insert(3, "z")?;                             // z, x, y
-//! list.move_to(x, 9);                               // z, y, x
-//! list.pop_due(4);                                  // z, whose deadline is over at 4
-//! list.remove(x);                                   // x
+//! let x = list.insert(5, 'x')?;
+//! list.insert(5, 'y')?;
+//! list.insert(3, 'z')?;
+//! // z, x, y
+//! list.move_to(x, 9);
+//! // z, y, x; the deadline of z is over at 4
+//! assert_eq!(rt; list.pop_due(4).map(|due| due.2), Some('z'));
+//! assert_eq!(rt; list.remove(x), Some('x'));
 //! ```
 //!
 //! Read `specs/Pending.antt` first: `placed` says where an entry is put, and `moved` what another

@@ -3,6 +3,7 @@ use crate::*;
 use std::alloc::AllocError;
 
 mod allocations;
+mod page;
 
 /// What is done with a list. An id is named by its place among all that the list gave.
 enum Step {

@@ -7,7 +7,7 @@
 //! alone. `address_from_text` and `address_text` read and write addresses of IPv4 and IPv6.
 //!
 //! ```
-//! let uri = read_uri(rt.alloc(), "sips:alice@c.example:5061;transport=tcp")?;
+//! let uri = read_uri(alloc, "sips:alice@c.example:5061;transport=tcp")?;
 //! assert!(rt; uri.secure);
 //! assert_eq!(rt; uri.port, Some(5061));
 //! assert_eq!(rt; uri.transport, Some(Spoken::Known(Transport::Tcp)));

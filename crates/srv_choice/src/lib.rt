@@ -4,13 +4,17 @@
 //! weights decide, by chance. The random words are handed in, so the same records and words give
 //! the same order.
 //!
-//! ```text
-//! match order(alloc, records, &words, from)? {
-//!     SrvOutcome::Listed(places, next) => {
-//!         /* records[places.as_slice()[0]] is tried first; the next words stand from `next` on */
+//! ```
+//! // records of priority 20 and 10
+//! match order(alloc, records.as_slice(), &words, 0)? {
+//!     // the places of the records, and how many words are used
+//!     SrvOutcome::Listed(places, used) => {
+//!         assert_eq!(rt; (places.as_slice(), used), ([1, 0].as_slice(), 2));
 //!     }
-//!     SrvOutcome::Absent => { /* no records: the addresses of the name itself are tried */ }
-//!     SrvOutcome::Denied => { /* the service is not offered */ }
+//!     // no records: the addresses of the name itself are tried
+//!     SrvOutcome::Absent => assert!(rt; false),
+//!     // the service is not offered
+//!     SrvOutcome::Denied => assert!(rt; false),
 //! }
 //! ```
 //!

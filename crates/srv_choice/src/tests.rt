@@ -7,6 +7,7 @@ use std::process::Abort;
 use std::test::Fail;
 
 mod allocations;
+mod page;
 
 /// Priority and weight of a record.
 type Server = (u16, u16);
