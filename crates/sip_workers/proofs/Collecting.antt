@@ -10,7 +10,6 @@ use Rattle.sip_workers.specs.Outcomes.{IsOutcome, ResultView}
 use Rattle.sip_workers.specs.Tasks.{IsDone, job_of}
 use Rattle.sip_workers.specs.Works.{IsOutcomeAt}
 use Rattle.sip_workers.specs.declared.job.Job.{Job}
-use Rattle.sip_workers.specs.declared.outcome.Outcome.TheVariants.{Targets}
 use Rattle.sip_workers.specs.declared.outcome.Outcome.{Outcome}
 use Rattle.sip_workers.specs.declared.task.Stage.TheVariants.{Done}
 use Rattle.sip_workers.specs.declared.task.Task.{Task}
@@ -25,14 +24,16 @@ abbrev pub job_in : ResultView → Job
 job_in it = it.job
 
 -- the results of some requests, and the others
-pub record Collected (gives : List ℕ → Type 0) (shows : ℕ → Type 0) (seat : SharedView) (all others : List Task) (made : List ResultView) : Type 0 where
+pub record Collected (gives : List ℕ → Type 0) (shows : ℕ → Type 0) (seat : SharedView) (all others : List Task)
+    (made : List ResultView) : Type 0 where
   pub done : All (IsDone gives shows seat.seat) others
   pub jobs : map job_in made ++ map job_of others ≡ map job_of all
   pub notices : All (Notes seat) made
   pub outcomes : All (Became gives shows seat) made
 
 module _ (gives : List ℕ → Type 0) (shows : ℕ → Type 0) (seat : SharedView) (all : List Task) where
-  pub collected-none : All (IsDone gives shows seat.seat) all → (others : List Task) → others ≡ all → Collected gives shows seat all others []
+  pub collected-none : All (IsDone gives shows seat.seat) all → (others : List Task) → others ≡ all
+      → Collected gives shows seat all others []
   collected-none done others is =
       rw is (record { done = done; jobs = refl; notices = All-nil (Notes seat); outcomes = All-nil (Became gives shows seat) })
 

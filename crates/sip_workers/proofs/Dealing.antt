@@ -4,8 +4,7 @@ use Rattle.std.proofs.lemmas.List.{take_more, flat_map_more, take-append-drop}
 use Rattle.std.specs.Borrow.{Bor}
 use Rattle.std.specs.Global.{Vec}
 use Rattle.std.specs.List.{AllZip, HoldsAt}
-use Rattle.answer_cache.specs.Shared.{CacheView}
-use Rattle.answer_cache.specs.Shared.{Told}
+use Rattle.answer_cache.specs.Shared.{CacheView, Told}
 use Rattle.sip_workers.specs.Deals.{InTurn, IsCut, IsPart, IsPromise}
 use Rattle.sip_workers.specs.declared.job.Job.{Job}
 use Rattle.sip_workers.specs.declared.outcome.Outcome.{Outcome}
@@ -45,9 +44,9 @@ whole size jobs (batch ∷ later) this =
     rw (this.1, whole size (drop size jobs) later this.2) (take-append-drop size jobs)
 
 -- a kept promise is the part that was promised
-pub kept : (gives : List ℕ → Type 0) (shows : ℕ → Type 0) (book : CacheView) (batches : List (Bor (List Job))) (workers number : ℕ)
-    (its_book : CacheView) (its_batches : List (Bor (List Job))) (its_workers its_number : ℕ) (made : List (Vec (Outcome × Told)))
-    → IsPromise book batches workers number its_book its_batches its_workers its_number
-    → IsPart gives shows its_book its_batches its_workers its_number made → IsPart gives shows book batches workers number made
-kept gives shows book batches workers number its_book its_batches its_workers its_number made promise part =
-    rw (sym promise.cache, sym promise.batches_are, sym promise.workers_are, sym promise.number_is) part
+pub kept : (gives : List ℕ → Type 0) (shows : ℕ → Type 0) (cache : CacheView) (batches : List (Bor (List Job))) (workers number : ℕ)
+    (its_cache : CacheView) (its_batches : List (Bor (List Job))) (its_workers its_number : ℕ) (made : List (Vec (Outcome × Told)))
+    → IsPromise cache batches workers number its_cache its_batches its_workers its_number
+    → IsPart gives shows its_cache its_batches its_workers its_number made → IsPart gives shows cache batches workers number made
+kept gives shows cache batches workers number its_cache its_batches its_workers its_number made promise part =
+    rw (sym promise.cache_is, sym promise.batches_are, sym promise.workers_are, sym promise.number_is) part

@@ -1,10 +1,9 @@
 -- How a request goes on.
-use Rattle.std.proofs.Common.{◌≡◌, ℕ, ◌⊎◌, inl, inr, List, [], ◌∷◌, ◌++◌, refl, sym, ap, ◌∙◌, Some}
+use Rattle.std.proofs.Common.{◌≡◌, ℕ, inl, inr, List, [], ◌∷◌, ◌++◌, sym, ◌∙◌}
 use Rattle.std.proofs.lemmas.List.{append-nil}
 use Rattle.std.proofs.lemmas.List.Elements.{All-nil, All-push, Contains-push}
-use Rattle.std.specs.List.{All, Contains}
+use Rattle.std.specs.List.{All}
 use Rattle.dns_answers.specs.Values.{AnswerValue}
-use Rattle.dns_answers.specs.declared.refusal.ReplyRefusal.{ReplyRefusal}
 use Rattle.dns_message.specs.declared.question.Question.{Question}
 use Rattle.dns_asker.specs.Events.{Means}
 use Rattle.dns_asker.specs.Tickets.{Asking}
@@ -21,14 +20,14 @@ use Rattle.sip_selection.specs.Choice.{Resolution, need}
 use Rattle.sip_selection.specs.Known.{Given}
 use Rattle.sip_selection.specs.Selections.{SelectionValue, given_too, now_of}
 use Rattle.sip_workers.proofs.Standing.{of-later, prefix-self, works-quietly}
-use Rattle.sip_workers.specs.Outcomes.{IsCached, IsChosen, IsFaulty, IsLacking, IsReplied}
+use Rattle.sip_workers.specs.Outcomes.{IsChosen, IsLacking, IsReplied}
 use Rattle.sip_workers.specs.Tasks.{IsAt, IsEndedBy, IsOf, IsUnanswered, Leaves}
-use Rattle.sip_workers.specs.Works.{CountsAt, IsHanded, IsHeard, IsOutcomeAt, Works, offer_in}
+use Rattle.sip_workers.specs.Works.{CountsAt, IsHeard, IsOutcomeAt, Works, offer_in}
 use Rattle.sip_workers.specs.declared.job.Job.{Job}
 use Rattle.sip_workers.specs.declared.outcome.Outcome.{Outcome}
 use Rattle.sip_workers.specs.declared.outcome.Outcome.TheVariants.{Targets, Refused, NoAnswer, BadReply, Memory}
 use Rattle.sip_workers.specs.declared.task.Stage.{Stage}
-use Rattle.sip_workers.specs.declared.task.Stage.TheVariants.{Ready, Waiting, Done}
+use Rattle.sip_workers.specs.declared.task.Stage.TheVariants.{Ready, Held, Waiting, Done}
 
 module _ (gives : List ℕ → Type 0) (shows : ℕ → Type 0) (seat : SeatView) (job : Job) where
   counts : Given → Type 0
@@ -72,10 +71,12 @@ module _ (gives : List ℕ → Type 0) (shows : ℕ → Type 0) (seat : SeatView
       record { given = selection.given; counted = it.counted; is = rw (← it.request, ← it.caps, ← it.words) is }
 
   -- how far a request is, of which this is next
-  pub left-at : (selection : SelectionValue) (stage : Stage) → Leaves (now_of selection) stage → IsOf (CountsAt gives shows seat) job selection
+  pub left-at : (selection : SelectionValue) (stage : Stage) → Leaves (now_of selection) stage
+      → IsOf (CountsAt gives shows seat) job selection
       → ((question : Question) → now_of selection ≡ need question → IsLacking shows seat.seen question)
       → IsAt gives shows seat job selection stage
   left-at selection Ready leaves it lacks = tt
+  left-at selection Held leaves it lacks = tt
   left-at selection (Waiting id) leaves it lacks = lacks
   left-at selection (Done (Targets list)) leaves it lacks = chosen selection _ leaves it
   left-at selection (Done (Refused reason)) leaves it lacks = chosen selection _ leaves it
@@ -108,8 +109,9 @@ module _ (gives : List ℕ → Type 0) (shows : ℕ → Type 0) (seat : SeatView
 
 -- ---- a reply
 
-module _ (gives : List ℕ → Type 0) (shows : ℕ → Type 0) (old new : SelectionValue) (seat seat' : SeatView) (octets : List ℕ) (now : ℕ)
-    (kept : Kept) (given : gives octets) (shown : shows now) (on : GoesOn seat seat') (it : IsTaken old new seat seat' octets now kept) where
+module _ (gives : List ℕ → Type 0) (shows : ℕ → Type 0) (old new : SelectionValue) (seat seat' : SeatView)
+    (octets : List ℕ) (now : ℕ) (kept : Kept) (given : gives octets) (shown : shows now) (on : GoesOn seat seat')
+    (it : IsTaken old new seat seat' octets now kept) where
   abbrev offer : Offer
   offer = offer_of it.question it.found now
 
@@ -118,11 +120,10 @@ module _ (gives : List ℕ → Type 0) (shows : ℕ → Type 0) (old new : Selec
 
   stored : (kept : Kept) → Keeps seat seat' it.question it.found now kept
       → (stores : List Store) × (seat'.own ≡ seat.own ++ stores) × All (λ store. IsHeard gives shows (offer_in store)) stores
-  stored Yes keeps = (
-    store_of seat offer ∷ [],
-    keeps.own,
-    All-push (λ store. IsHeard gives shows (offer_in store)) [] (store_of seat offer) (All-nil (λ store. IsHeard gives shows (offer_in store))) (replied, shown),
-  )
+  stored Yes keeps =
+      let none = All-nil (λ store. IsHeard gives shows (offer_in store)) in
+      let one = All-push (λ store. IsHeard gives shows (offer_in store)) [] (store_of seat offer) none (replied, shown) in
+      (store_of seat offer ∷ [], keeps.own, one)
   stored (No refusal) keeps = ([], keeps.0 ∙ sym (append-nil seat.own), All-nil (λ store. IsHeard gives shows (offer_in store)))
 
   pub works-reply : Works gives shows seat seat'

@@ -1,5 +1,6 @@
 mod Collecting
 mod Dealing
+mod FreeIds
 mod Going
 mod Standing
 mod Working

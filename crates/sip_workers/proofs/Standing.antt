@@ -1,21 +1,21 @@
 -- What stays so while a worker goes on.
-use Rattle.std.proofs.Common.{◌≡◌, ℕ, ◌<◌, ◌⊎◌, inl, inr, List, [], ◌∷◌, ◌++◌, map, set, get_or, length, take, ◌+◌, refl, sym, ap, ◌∙◌, append_assoc, arith}
+use Rattle.std.proofs.Common.{◌≡◌, ℕ, ◌<◌, inl, inr, List, [], ◌∷◌, ◌++◌, map, set, get_or, length, take, ◌+◌, refl, sym, ap, ◌∙◌, append_assoc}
 use Rattle.std.proofs.lemmas.List.{append-nil, get_or-map, map-append, map-set, set-get_or, take_more}
-use Rattle.std.proofs.lemmas.List.Elements.{All-nil, All-append, All-get_or, All-set, All-weaker, All-push, Contains-append_left, Contains-push}
-use Rattle.std.specs.List.{All, Contains}
+use Rattle.std.proofs.lemmas.List.Elements.{All-nil, All-append, All-set, All-weaker, Contains-append_left}
+use Rattle.std.specs.List.{All}
 use mathlib.Core.List.{IsPrefix}
-use Rattle.dns_answers.specs.Values.{AnswerValue}
 use Rattle.dns_message.specs.declared.question.Question.{Question}
 use Rattle.answer_log.specs.declared.store.Store.{Store}
-use Rattle.answer_cache.specs.Seats.{GoesOn, Offer, SeatView, StoresNothing, offer_of}
+use Rattle.answer_cache.specs.Seats.{GoesOn, SeatView, StoresNothing, offer_of}
+use Rattle.sip_selection.specs.Choice.{Resolution, need, refused, targets}
 use Rattle.sip_selection.specs.Known.{Given}
-use Rattle.sip_workers.specs.Outcomes.{Counts, IsCached, IsChosen, IsLacking, IsOutcome, IsReplied, Says}
+use Rattle.sip_workers.specs.Outcomes.{Counts, IsCached, IsChosen, IsLacking, IsOutcome, Says}
 use Rattle.sip_workers.specs.Tasks.{IsAt, IsOf, Stands, job_of}
-use Rattle.sip_workers.specs.Works.{CountsAt, IsHanded, IsHeard, IsOutcomeAt, Works, offer_in}
+use Rattle.sip_workers.specs.Works.{CountsAt, IsHeard, IsOutcomeAt, Works, offer_in}
 use Rattle.sip_workers.specs.declared.job.Job.{Job}
 use Rattle.sip_workers.specs.declared.outcome.Outcome.{Outcome}
 use Rattle.sip_workers.specs.declared.outcome.Outcome.TheVariants.{Targets, Refused, NoAnswer, BadReply, Memory}
-use Rattle.sip_workers.specs.declared.task.Stage.TheVariants.{Ready, Waiting, Done}
+use Rattle.sip_workers.specs.declared.task.Stage.TheVariants.{Ready, Held, Waiting, Done}
 use Rattle.sip_workers.specs.declared.task.Stage.{Stage}
 use Rattle.sip_workers.specs.declared.task.Task.{Task}
 use Rattle.sip_selection.specs.Selections.{SelectionValue}
@@ -47,29 +47,25 @@ module _ (gives : List ℕ → Type 0) (shows : ℕ → Type 0) where
       none = it.none;
     }
 
-    -- an outcome goes on to be one where all that counted counts still
-    says-later : (counts counts' : Given → Type 0) → ((given : Given) → counts given → counts' given) → (job : Job) (outcome : Outcome)
-        → Says gives shows seen counts job outcome → Says gives shows later counts' job outcome
-    says-later counts counts' weaker job (Targets list) it =
-        record { given = it.given; counted = All-weaker counts counts' weaker it.given it.counted; is = it.is }
-    says-later counts counts' weaker job (Refused reason) it =
-        record { given = it.given; counted = All-weaker counts counts' weaker it.given it.counted; is = it.is }
-    says-later counts counts' weaker job (NoAnswer question) it = (
-      record { given = it.0.given; counted = All-weaker counts counts' weaker it.0.given it.0.counted; is = it.0.is },
-      lacking-later question it.1,
-    )
-    says-later counts counts' weaker job (BadReply question refusal) it = (
-      record { given = it.0.given; counted = All-weaker counts counts' weaker it.0.given it.0.counted; is = it.0.is },
-      it.1,
-    )
-    says-later counts counts' weaker job Memory it = it
+    module _ (counts counts' : Given → Type 0) (weaker : (given : Given) → counts given → counts' given) (job : Job) where
+      chosen-later : (resolution : Resolution) → IsChosen counts job resolution → IsChosen counts' job resolution
+      chosen-later resolution it =
+          record { given = it.given; counted = All-weaker counts counts' weaker it.given it.counted; is = it.is }
+
+      -- an outcome goes on to be one where all that counted counts still
+      says-later : (outcome : Outcome) → Says gives shows seen counts job outcome → Says gives shows later counts' job outcome
+      says-later (Targets list) it = chosen-later (targets list) it
+      says-later (Refused reason) it = chosen-later (refused reason) it
+      says-later (NoAnswer question) it = (chosen-later (need question) it.0, lacking-later question it.1)
+      says-later (BadReply question refusal) it = (chosen-later (need question) it.0, it.1)
+      says-later Memory it = it
 
   -- what a seat's outcome says to all
   pub told : (seat : SeatView) (job : Job) (outcome : Outcome) → IsOutcomeAt gives shows seat job outcome
       → IsOutcome gives shows seat.seen job outcome
   told seat job outcome it =
-      let weaker : (given : Given) → CountsAt gives shows seat given → Counts gives shows seat.seen given = λ given. weaker-at given in
-      says-later seat.seen seat.seen (prefix-self seat.seen) (CountsAt gives shows seat) (Counts gives shows seat.seen) weaker job outcome it
+      says-later seat.seen seat.seen (prefix-self seat.seen) (CountsAt gives shows seat) (Counts gives shows seat.seen)
+      (λ given. weaker-at given) job outcome it
     where
       weaker-at : (given : Given) → CountsAt gives shows seat given → Counts gives shows seat.seen given
       weaker-at given (inl cached) = inl cached
@@ -92,7 +88,8 @@ module _ (gives : List ℕ → Type 0) (shows : ℕ → Type 0) where
     outcome-later job outcome it =
         says-later old.seen new.seen works.goes_on.seen (CountsAt gives shows old) (CountsAt gives shows new) counts-later job outcome it
 
-    pub of-later : (job : Job) (selection : SelectionValue) → IsOf (CountsAt gives shows old) job selection → IsOf (CountsAt gives shows new) job selection
+    pub of-later : (job : Job) (selection : SelectionValue) → IsOf (CountsAt gives shows old) job selection
+        → IsOf (CountsAt gives shows new) job selection
     of-later job selection it = record {
       request = it.request;
       caps = it.caps;
@@ -100,9 +97,12 @@ module _ (gives : List ℕ → Type 0) (shows : ℕ → Type 0) where
       counted = All-weaker (CountsAt gives shows old) (CountsAt gives shows new) counts-later selection.given it.counted;
     }
 
-    at-later : (job : Job) (selection : SelectionValue) (stage : Stage) → IsAt gives shows old job selection stage → IsAt gives shows new job selection stage
+    at-later : (job : Job) (selection : SelectionValue) (stage : Stage) → IsAt gives shows old job selection stage
+        → IsAt gives shows new job selection stage
     at-later job selection Ready it = it
-    at-later job selection (Waiting id) it = λ question needs. lacking-later old.seen new.seen works.goes_on.seen question (it question needs)
+    at-later job selection Held it = it
+    at-later job selection (Waiting id) it =
+        λ question needs. lacking-later old.seen new.seen works.goes_on.seen question (it question needs)
     at-later job selection (Done outcome) it = outcome-later job outcome it
 
     pub stands-later : (task : Task) → Stands gives shows old task → Stands gives shows new task
@@ -158,8 +158,9 @@ same-jobs tasks at task old within same =
     ∙ set-get_or (map job_of tasks) at (job_of task)
 
 -- all stand on where one has gone on
-pub one-later : (gives : List ℕ → Type 0) (shows : ℕ → Type 0) (old new : SeatView) → Works gives shows old new → (tasks : List Task) (at : ℕ) (task : Task)
-    → All (Stands gives shows old) tasks → Stands gives shows new task → All (Stands gives shows new) (set tasks at task)
+pub one-later : (gives : List ℕ → Type 0) (shows : ℕ → Type 0) (old new : SeatView) → Works gives shows old new
+    → (tasks : List Task) (at : ℕ) (task : Task) → All (Stands gives shows old) tasks → Stands gives shows new task
+    → All (Stands gives shows new) (set tasks at task)
 one-later gives shows old new works tasks at task all stands =
     All-set (Stands gives shows new) tasks at task stands (all-later gives shows old new works tasks all)
 

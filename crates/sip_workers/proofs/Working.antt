@@ -3,18 +3,18 @@ use Rattle.std.proofs.Common.{◌≡◌, ℕ, ◌<◌, List, map, set, get_or, l
 use Rattle.std.proofs.lemmas.List.Elements.{All-get_or, All-set}
 use Rattle.std.specs.List.{All, HoldsAt}
 use Rattle.dns_message.specs.declared.question.Question.{Question}
-use Rattle.answer_cache.specs.Shared.{CacheView}
 use Rattle.answer_cache.specs.Seats.{SeatView}
-use Rattle.answer_cache.specs.Shared.{Belongs, SharedView}
+use Rattle.answer_cache.specs.Shared.{Belongs, CacheView, SharedView}
 use Rattle.sip_workers.proofs.Going.{unanswered-at}
-use Rattle.sip_workers.proofs.Standing.{all-later, one-later, same-jobs, works-not, works-through}
+use Rattle.sip_workers.proofs.Standing.{one-later, same-jobs, works-not, works-through}
 use Rattle.sip_workers.specs.Tasks.{IsUnanswered, Stands, WaitsFor, job_of}
 use Rattle.sip_workers.specs.Works.{Works}
 use Rattle.sip_workers.specs.declared.outcome.Outcome.{Outcome}
 use Rattle.sip_workers.specs.declared.task.Stage.TheVariants.{Done}
 use Rattle.sip_workers.specs.declared.task.Task.{Task}
 
-pub record Working (gives : List ℕ → Type 0) (shows : ℕ → Type 0) (cache : CacheView) (old now : SharedView) (before tasks : List Task) : Type 0 where
+pub record Working (gives : List ℕ → Type 0) (shows : ℕ → Type 0) (cache : CacheView) (old now : SharedView)
+    (before tasks : List Task) : Type 0 where
   pub belongs : Belongs cache now
   pub works : Works gives shows old.seat now.seat
   pub stands : All (Stands gives shows now.seat) tasks
@@ -29,7 +29,8 @@ module _ (gives : List ℕ → Type 0) (shows : ℕ → Type 0) (cache : CacheVi
   module _ (old now next : SharedView) (before tasks : List Task) (so-far : Working gives shows cache old now before tasks) where
     -- one request went on
     pub working-one : (at : ℕ) (task d : Task) → at < length tasks → Belongs cache next → Works gives shows now.seat next.seat
-        → Stands gives shows next.seat task → job_of task ≡ job_of (get_or tasks at d) → Working gives shows cache old next before (set tasks at task)
+        → Stands gives shows next.seat task → job_of task ≡ job_of (get_or tasks at d)
+        → Working gives shows cache old next before (set tasks at task)
     working-one at task d within belongs works stands same = record {
       belongs = belongs;
       works = works-through gives shows old.seat now.seat next.seat so-far.works works;
@@ -38,8 +39,8 @@ module _ (gives : List ℕ → Type 0) (shows : ℕ → Type 0) (cache : CacheVi
     }
 
     -- all went on
-    pub working-all : (later : List Task) → Belongs cache next → Works gives shows now.seat next.seat → All (Stands gives shows next.seat) later
-        → map job_of later ≡ map job_of tasks → Working gives shows cache old next before later
+    pub working-all : (later : List Task) → Belongs cache next → Works gives shows now.seat next.seat
+        → All (Stands gives shows next.seat) later → map job_of later ≡ map job_of tasks → Working gives shows cache old next before later
     working-all later belongs works stands same = record {
       belongs = belongs;
       works = works-through gives shows old.seat now.seat next.seat so-far.works works;
@@ -67,15 +68,19 @@ module _ (gives : List ℕ → Type 0) (shows : ℕ → Type 0) where
       → IsUnanswered question outcome → Stands gives shows seat task → Stands gives shows seat (ended outcome task)
   stands-ended seat id question outcome task waits is it =
       let lacks = rw waits.waiting at it.1 in
-      (it.0, unanswered-at gives shows seat task.job.now task.locator question outcome is waits.needs it.0 (lacks question waits.needs))
+      let lacking = lacks question waits.needs in
+      (it.0, unanswered-at gives shows seat task.job.now task.locator question outcome is waits.needs it.0 lacking)
 
   pub given-up : (old now : SharedView) (before tasks : List Task) (id : ℕ) (question : Question) (outcome : Outcome) (at : ℕ) (d : Task)
-      → at < length tasks → HoldsAt (WaitsFor id question) tasks at → IsUnanswered question outcome → Staying gives shows old now before tasks
+      → at < length tasks → HoldsAt (WaitsFor id question) tasks at → IsUnanswered question outcome
+      → Staying gives shows old now before tasks
       → Staying gives shows old now before (set tasks at (ended outcome (get_or tasks at d)))
   given-up old now before tasks id question outcome at d within waits is so-far =
+      let task = get_or tasks at d in
       let stands = All-get_or (Stands gives shows old.seat) tasks at d within so-far.stands in
+      let stands' = stands-ended old.seat id question outcome task (waits d) is stands in
       record {
         seat = so-far.seat;
-        stands = All-set (Stands gives shows old.seat) tasks at (ended outcome (get_or tasks at d)) (stands-ended old.seat id question outcome (get_or tasks at d) (waits d) is stands) so-far.stands;
-        jobs = same-jobs tasks at (ended outcome (get_or tasks at d)) d within refl ∙ so-far.jobs;
+        stands = All-set (Stands gives shows old.seat) tasks at (ended outcome task) stands' so-far.stands;
+        jobs = same-jobs tasks at (ended outcome task) d within refl ∙ so-far.jobs;
       }

@@ -3,8 +3,7 @@ use Rattle.std.specs.Prelude.{◌≡◌, ℕ, suc, ◌+◌, ◌<◌, ◌≤◌, 
 use Rattle.std.specs.Borrow.{Bor}
 use Rattle.std.specs.Global.{Vec}
 use Rattle.std.specs.List.{HoldsAt}
-use Rattle.answer_cache.specs.Shared.{CacheView}
-use Rattle.answer_cache.specs.Shared.{Told}
+use Rattle.answer_cache.specs.Shared.{CacheView, Told}
 use Rattle.sip_workers.specs.Runs.{AreMade}
 use Rattle.sip_workers.specs.declared.job.Job.{Job}
 use Rattle.sip_workers.specs.declared.outcome.Outcome.{Outcome}
@@ -31,11 +30,12 @@ abbrev pub InTurn : {Made : Type 0} → (ℕ → Made → Type 0) → ℕ → Li
 InTurn Is first [] = Unit {0}
 InTurn Is first (made ∷ later) = Is first made × InTurn Is (suc first) later
 
-module _ (gives : List ℕ → Type 0) (shows : ℕ → Type 0) (book : CacheView) where
+module _ (gives : List ℕ → Type 0) (shows : ℕ → Type 0) (cache : CacheView) where
   module _ (batches : List (Bor (List Job))) where
     -- what became of the jobs of the batch of this number
     abbrev pub IsBatch : ℕ → Vec (Outcome × Told) → Type 0
-    IsBatch number made = HoldsAt (λ jobs. AreMade gives shows book jobs.now made.items) batches number
+    IsBatch number made =
+        HoldsAt (λ jobs. AreMade gives shows cache jobs.now made.items) batches number
 
     -- What a worker made of its batches: the first is the one of its own number, and each one
     -- more stands behind it by the number of the workers.
@@ -43,10 +43,10 @@ module _ (gives : List ℕ → Type 0) (shows : ℕ → Type 0) (book : CacheVie
     IsPart workers number made = IsDealt IsBatch workers (length batches) number made
 
 -- a promise to make the part of this number, in its own words
-pub record IsPromise (book : CacheView) (batches : List (Bor (List Job))) (workers number : ℕ)
-    (its_book : CacheView) (its_batches : List (Bor (List Job))) (its_workers its_number : ℕ)
+pub record IsPromise (cache : CacheView) (batches : List (Bor (List Job))) (workers number : ℕ)
+    (its_cache : CacheView) (its_batches : List (Bor (List Job))) (its_workers its_number : ℕ)
     : Type 0 where
-  pub cache : its_book ≡ book
+  pub cache_is : its_cache ≡ cache
   pub batches_are : its_batches ≡ batches
   pub workers_are : its_workers ≡ workers
   pub number_is : its_number ≡ number

@@ -22,7 +22,8 @@ use Rattle.sip_workers.specs.declared.outcome.Outcome.TheVariants.{Targets, Refu
 -- ---- where an answer comes from
 
 -- octets that the wire gave answer the question so
-pub record IsReplied (gives : List ℕ → Type 0) (question : Question) (answer : AnswerValue) : Type 0 where
+pub record IsReplied (gives : List ℕ → Type 0) (question : Question) (answer : AnswerValue)
+    : Type 0 where
   pub octets : List ℕ
   pub given : gives octets
   pub answers : Answers question octets answer
@@ -37,7 +38,8 @@ pub record IsCached (shows : ℕ → Type 0) (seen : List Store) (given : Given)
 
 -- an answer that was looked up, or that a reply had
 abbrev pub Counts : (List ℕ → Type 0) → (ℕ → Type 0) → List Store → Given → Type 0
-Counts gives shows seen given = IsCached shows seen given ⊎ IsReplied gives given.question given.answer
+Counts gives shows seen given =
+    IsCached shows seen given ⊎ IsReplied gives given.question given.answer
 
 -- ---- where the lack of an answer comes from
 
@@ -50,7 +52,8 @@ pub record IsLacking (shows : ℕ → Type 0) (seen : List Store) (question : Qu
   pub none : cached history question now ≡ None
 
 -- octets that the wire gave end the wait for an answer with this fault
-pub record IsFaulty (gives : List ℕ → Type 0) (question : Question) (refusal : ReplyRefusal) : Type 0 where
+pub record IsFaulty (gives : List ℕ → Type 0) (question : Question) (refusal : ReplyRefusal)
+    : Type 0 where
   pub octets : List ℕ
   pub given : gives octets
   pub it : Message
@@ -73,7 +76,8 @@ pub record IsChosen (counts : Given → Type 0) (job : Job) (resolution : Resolu
   pub is : locate job.request job.caps job.words.0 given ≡ resolution
 
 -- what an outcome says of a job, where these answers count; of want of memory nothing
-abbrev pub Says : (List ℕ → Type 0) → (ℕ → Type 0) → List Store → (Given → Type 0) → Job → Outcome → Type 0
+abbrev pub Says : (List ℕ → Type 0) → (ℕ → Type 0) → List Store → (Given → Type 0)
+    → Job → Outcome → Type 0
 Says gives shows seen counts job (Targets list) = IsChosen counts job (targets list)
 Says gives shows seen counts job (Refused reason) = IsChosen counts job (refused reason)
 Says gives shows seen counts job (NoAnswer question) =
@@ -82,7 +86,8 @@ Says gives shows seen counts job (BadReply question refusal) =
     IsChosen counts job (need question) × IsFaulty gives question refusal
 Says gives shows seen counts job Memory = Unit {0}
 
--- The outcome of a job, over a history, a wire and a clock: it is the choice of RFC 3263 over answers of that history,
--- at moments that the clock showed, and of replies that the wire gave; or the question whose answer is missing.
+-- The outcome of a job, over a history, a wire and a clock: it is the choice of RFC 3263 over
+-- answers of that history, at moments that the clock showed, and of replies that the wire gave; or
+-- the question whose answer is missing.
 abbrev pub IsOutcome : (List ℕ → Type 0) → (ℕ → Type 0) → List Store → Job → Outcome → Type 0
 IsOutcome gives shows seen job outcome = Says gives shows seen (Counts gives shows seen) job outcome

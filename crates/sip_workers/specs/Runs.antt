@@ -1,8 +1,7 @@
 -- What a run of many workers is, and what it gives.
 use Rattle.std.specs.Prelude.{◌≡◌, ℕ, ◌+◌, ◌<◌, ◌≤◌, List, length, slice_index_or}
 use Rattle.std.specs.List.{AllZip}
-use Rattle.answer_cache.specs.Shared.{CacheView}
-use Rattle.answer_cache.specs.Shared.{Told}
+use Rattle.answer_cache.specs.Shared.{CacheView, Told}
 use Rattle.sip_workers.specs.Outcomes.{IsOutcome}
 use Rattle.sip_workers.specs.declared.job.Job.{Job}
 use Rattle.sip_workers.specs.declared.outcome.Outcome.{Outcome}
@@ -35,9 +34,9 @@ RefusesRun good Memory = good
 -- ---- what it gives
 
 -- what became of a job, with a notice of this cache
-module _ (gives : List ℕ → Type 0) (shows : ℕ → Type 0) (book : CacheView) where
+module _ (gives : List ℕ → Type 0) (shows : ℕ → Type 0) (cache : CacheView) where
   abbrev pub IsMade : Job → Outcome × Told → Type 0
-  IsMade job made = IsOutcome gives shows made.1.seen job made.0 × (made.1.cache ≡ book)
+  IsMade job made = IsOutcome gives shows made.1.seen job made.0 × (made.1.cache ≡ cache)
 
   -- of each job, in order
   abbrev pub AreMade : List Job → List (Outcome × Told) → Type 0

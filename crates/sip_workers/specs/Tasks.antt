@@ -14,7 +14,7 @@ use Rattle.sip_workers.specs.declared.job.Job.{Job}
 use Rattle.sip_workers.specs.declared.outcome.Outcome.{Outcome}
 use Rattle.sip_workers.specs.declared.outcome.Outcome.TheVariants.{Targets, Refused, NoAnswer, BadReply, Memory}
 use Rattle.sip_workers.specs.declared.task.Stage.{Stage}
-use Rattle.sip_workers.specs.declared.task.Stage.TheVariants.{Ready, Waiting, Done}
+use Rattle.sip_workers.specs.declared.task.Stage.TheVariants.{Ready, Held, Waiting, Done}
 use Rattle.sip_workers.specs.declared.task.Task.{Task}
 
 abbrev pub job_of : Task → Job
@@ -28,8 +28,10 @@ pub record IsOf (counts : Given → Type 0) (job : Job) (selection : SelectionVa
   pub counted : All counts selection.given
 
 -- the question that it waits for was lacking, and the outcome is the job's
-abbrev pub IsAt : (List ℕ → Type 0) → (ℕ → Type 0) → SeatView → Job → SelectionValue → Stage → Type 0
+abbrev pub IsAt : (List ℕ → Type 0) → (ℕ → Type 0) → SeatView
+    → Job → SelectionValue → Stage → Type 0
 IsAt gives shows seat job selection Ready = Unit {0}
+IsAt gives shows seat job selection Held = Unit {0}
 IsAt gives shows seat job selection (Waiting id) =
     (question : Question) → now_of selection ≡ need question → IsLacking shows seat.seen question
 IsAt gives shows seat job selection (Done outcome) = IsOutcomeAt gives shows seat job outcome
@@ -58,7 +60,8 @@ IsEndedBy gives question (Answered answer) = Unit {0}
 IsEndedBy gives question (Faulty refusal) = IsFaulty gives question refusal
 
 -- its outcome stands
-pub record IsDone (gives : List ℕ → Type 0) (shows : ℕ → Type 0) (seat : SeatView) (task : Task) : Type 0 where
+pub record IsDone (gives : List ℕ → Type 0) (shows : ℕ → Type 0) (seat : SeatView) (task : Task)
+    : Type 0 where
   pub outcome : Outcome
   pub done : task.stage ≡ Done outcome
   pub is : IsOutcomeAt gives shows seat task.job.now outcome
@@ -71,6 +74,7 @@ pub record WaitsFor (id : ℕ) (question : Question) (task : Task) : Type 0 wher
 -- how far a request is of which this is known
 abbrev pub Leaves : Resolution → Stage → Type 0
 Leaves resolution Ready = Unit {0}
+Leaves resolution Held = Unit {0}
 Leaves resolution (Waiting id) = Unit {0}
 Leaves resolution (Done (Targets list)) = resolution ≡ targets list
 Leaves resolution (Done (Refused reason)) = resolution ≡ refused reason

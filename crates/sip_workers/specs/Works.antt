@@ -15,8 +15,10 @@ IsHeard gives shows offer = IsReplied gives offer.question offer.answer × shows
 abbrev pub offer_in : Store → Offer
 offer_in store = offer_of store.question store.answer store.moment
 
--- It goes on with the history, and hands to the cache what replies had and nothing else. So what it stores is of them.
-pub record Works (gives : List ℕ → Type 0) (shows : ℕ → Type 0) (old new : SeatView) : Type 0 where
+-- It goes on with the history, and hands to the cache what replies had and nothing else. So what
+-- it stores is of them.
+pub record Works (gives : List ℕ → Type 0) (shows : ℕ → Type 0) (old new : SeatView)
+    : Type 0 where
   pub goes_on : GoesOn old new
   pub offers : List Offer
   pub offered : new.offered ≡ old.offered ++ offers
@@ -30,11 +32,14 @@ pub record IsHanded (offered : List Offer) (given : Given) : Type 0 where
   pub now : ℕ
   pub stands : Contains offered (offer_of given.question given.answer now)
 
--- an answer that was looked up by this seat, or that a reply had, which was then handed to the cache by this seat
+-- an answer that was looked up by this seat, or that a reply had, which was then handed to the
+-- cache by this seat
 abbrev pub CountsAt : (List ℕ → Type 0) → (ℕ → Type 0) → SeatView → Given → Type 0
 CountsAt gives shows seat given =
-    IsCached shows seat.seen given ⊎ (IsReplied gives given.question given.answer × IsHanded seat.offered given)
+    IsCached shows seat.seen given
+    ⊎ (IsReplied gives given.question given.answer × IsHanded seat.offered given)
 
 -- the outcome of a job at a seat
 abbrev pub IsOutcomeAt : (List ℕ → Type 0) → (ℕ → Type 0) → SeatView → Job → Outcome → Type 0
-IsOutcomeAt gives shows seat job outcome = Says gives shows seat.seen (CountsAt gives shows seat) job outcome
+IsOutcomeAt gives shows seat job outcome =
+    Says gives shows seat.seen (CountsAt gives shows seat) job outcome

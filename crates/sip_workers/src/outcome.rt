@@ -73,7 +73,8 @@ pub enum Outcome {
     Refused(Reason),
     /// This question has no answer: it was sent three times, or could not be sent.
     NoAnswer(Question),
-    /// The reply to this question was cut (`Truncated`), or tells a fault of the server (`ServerFault`).
+    /// The reply to this question was cut (`Truncated`), or tells a fault of the server
+    /// (`ServerFault`).
     BadReply(Question, ReplyRefusal),
     /// Memory was refused.
     Memory,

@@ -278,10 +278,10 @@ fn run_plan<R: Threads + Wait + Sync, W: Wire + Drop + Send, C: Clock + Sync, G:
 /// `b % seats.len()`. The result has what became of each job, in order, with its worker's notice
 /// taken then. The seats and the wires are given up in each case.
 ///
-/// `BadCount` exactly where there are no seats or not as many wires as seats, a batch is not of 1 to
-/// 8 jobs, the numbers of the jobs do not rise strictly, or there are over 10,000 jobs; `NoThread`
-/// where a thread could not be made, and `Memory` where memory was refused. The threads that run are
-/// waited for in each case.
+/// `BadCount` exactly where there are no seats or not as many wires as seats, a batch is not of 1
+/// to 8 jobs, the numbers of the jobs do not rise strictly, or there are over 10,000 jobs;
+/// `NoThread` where a thread could not be made, and `Memory` where memory was refused. The threads
+/// that run are waited for in each case.
 pub fn run_workers<
     R: Threads + Wait + Sync,
     W: Wire + Drop + Send,

@@ -16,6 +16,8 @@ use std::alloc::{AllocError, Global};
 pub(crate) enum Stage {
     /// It can go on.
     Ready,
+    /// Its question finds as many others out as can be, and it goes on after one of them ended.
+    Held,
     /// It waits for the reply to the message of this id.
     Waiting(u16),
     /// This is what became of it.

@@ -1,5 +1,5 @@
 //! A worker: it resolves a batch of requests at once, over its wire and the shared cache.
-ghost use Rattle.std.specs.Prelude.{◌≡◌, ◌<◌, IfOk, IfSome, None, length, map};
+ghost use Rattle.std.specs.Prelude.{◌≡◌, ◌<◌, ◌≤◌, IfOk, IfSome, None, length, map};
 ghost use Rattle.std.specs.List.{All, HoldsAt};
 ghost use Rattle.dns_asker.specs.Tickets.{ticket_of};
 ghost use Rattle.dns_asker.specs.Wires.{IsGiven};
@@ -28,6 +28,9 @@ use std::sync::Wait;
 /// How many questions a worker has out at once.
 const ASKER_LIMIT: usize = 8;
 
+/// The last id that has eight behind it.
+const LAST_FIRST: u16 = u16::MAX - 8;
+
 /// A seat at a shared cache, with a wire to a DNS server.
 #[derive(Drop)]
 pub struct Worker<W> {
@@ -36,6 +39,8 @@ pub struct Worker<W> {
     seat: Seat,
     wire: W,
     next_id: u16,
+    /// As many questions are out as can be, and none of them ended since that was found.
+    full: bool,
 }
 
 impl<W> Model for Worker<W> {
@@ -44,9 +49,14 @@ impl<W> Model for Worker<W> {
     ghost Value = { SharedView };
 
     ghost view = { λ it. it.seat };
+
+    ghost use Rattle.std.specs.Prelude.{◌≤◌};
+
+    ghost invariant = { λ it. it.asker.limit ≤ 8 };
 }
 
-/// Sends a datagram. One that fails counts as lost, and a wire that cannot count its faults any more is silent.
+/// Sends a datagram. One that fails counts as lost, and a wire that cannot count its faults any
+/// more is silent.
 fn send<W: Wire>(wire: &mut W, octets: &[u8]) {
     if wire.failures() < u64::MAX {
         let _ = wire.send(octets);
@@ -63,23 +73,27 @@ fn receive<W: Wire>(wire: &mut W, buffer: &mut [u8; DATAGRAM_LIMIT]) -> Option<u
     wire.receive(buffer).unwrap_or(None)
 }
 
-/// An id that no question is out under, from this one on; after 65,535 it goes on from 0.
-fn free_id(asker: &Asker, first: u16) -> Option<u16>
-    ensures { IfSome result (λ id. ticket_of id asker.now.tickets ≡ None) }
+/// An id that no question is out under: this one or one of the eight behind it, where there are so
+/// many, and else one of the first nine.
+fn free_id(asker: &Asker, next: u16) -> u16
+    requires { asker.now.limit ≤ 8 }
+    ensures { ticket_of result asker.now.tickets ≡ None }
 {
-    let mut id = first;
-    'ids: for _id in 0..ASKER_LIMIT + 1 {
+    asker.stands_in_order();
+    let first = if next <= LAST_FIRST { next } else { 0 };
+    let last = first + 8;
+    'ids: for id in first..last {
         if !asker.is_open(id) {
-            return Some(id);
+            return id;
         }
-        id = id.wrapping_add(1);
     }
-    None
+    last
 }
 
 /// The place of the request that waits for the answer to this question under this id.
 fn place_of(tasks: &[Task<'_>], id: u16, question: &Question) -> Option<usize>
-    ensures { IfSome result (λ at. (at < length tasks.now) × HoldsAt (WaitsFor id question.now) tasks.now at) }
+    ensures { IfSome result (λ at.
+        (at < length tasks.now) × HoldsAt (WaitsFor id question.now) tasks.now at) }
 {
     tasks.iter().position(|task| task.waits_for(id, question))
 }
@@ -91,7 +105,8 @@ fn tell<G: Gate>(gate: &G, task: &Task<'_>) {
     }
 }
 
-/// What becomes of a request whose question got no reply in time.
+/// What becomes of a request whose question has no answer: no reply came in time, or it could not
+/// be sent.
 fn unanswered(question: &Question) -> Outcome
     ensures { IsUnanswered question.now result }
 {
@@ -125,6 +140,7 @@ impl<W: Wire + Drop> Worker<W> {
             seat,
             wire,
             next_id: 0,
+            full: false,
         })
     }
 
@@ -132,9 +148,7 @@ impl<W: Wire + Drop> Worker<W> {
     fn ask(&mut self, question: &Question, now: Moment) -> Result<u16, AskRefusal>
         ensures seat { self.new ≡ self.old }
     {
-        let Some(id) = free_id(&self.asker, self.next_id) else {
-            return Err(AskRefusal::Full);
-        };
+        let id = free_id(&self.asker, self.next_id);
         let Ok(question) = question.try_clone() else {
             return Err(AskRefusal::Memory);
         };
@@ -144,15 +158,18 @@ impl<W: Wire + Drop> Worker<W> {
         Ok(id)
     }
 
-    /// How far a request is that needs the answer to a question: where as many questions are out as can be, it goes on
-    /// later.
+    /// How far a request is that needs the answer to a question: where as many questions are out as
+    /// can be, it is held.
     fn stage_of(&mut self, question: &Question, now: Moment) -> Stage
         ensures seat { self.new ≡ self.old }
         ensures leaves { Leaves (need question.now) result }
     {
         match self.ask(question, now) {
             Ok(id) => Stage::Waiting(id),
-            Err(AskRefusal::IdTaken | AskRefusal::Full) => Stage::Ready,
+            Err(AskRefusal::IdTaken | AskRefusal::Full) => {
+                self.full = true;
+                Stage::Held
+            }
             Err(AskRefusal::Memory) => Stage::Done(Outcome::Memory),
             Err(AskRefusal::Spent) => Stage::Done(unanswered(question)),
         }
@@ -183,7 +200,8 @@ impl<W: Wire + Drop> Worker<W> {
         requires made_here { Belongs cache.now self.old }
         ensures stays { Belongs cache.now self.new }
         ensures works { Works W.gives C.shows self.old.seat self.new.seat }
-        ensures goes_on { (job : Wanted) → IsOf (CountsAt W.gives C.shows self.old.seat) job locator.old
+        ensures goes_on { (job : Wanted)
+            → IsOf (CountsAt W.gives C.shows self.old.seat) job locator.old
             → IsOf (CountsAt W.gives C.shows self.new.seat) job locator.new
             × IsAt W.gives C.shows self.new.seat job locator.new result }
     {
@@ -191,6 +209,15 @@ impl<W: Wire + Drop> Worker<W> {
         match locator.step(cache, &mut self.seat, now) {
             Ok(next) => self.stage_after(next, now),
             Err(AllocError) => Stage::Done(Outcome::Memory),
+        }
+    }
+
+    /// Whether a request goes on that is so far.
+    fn goes_on(&self, stage: &Stage) -> bool {
+        match stage {
+            Stage::Ready => true,
+            Stage::Held => !self.full,
+            Stage::Waiting(_) | Stage::Done(_) => false,
         }
     }
 
@@ -209,7 +236,7 @@ impl<W: Wire + Drop> Worker<W> {
         ensures stands { Stands W.gives C.shows self.new.seat task.new }
         ensures job { task.new.job.now ≡ task.old.job.now }
     {
-        if !matches!(task.stage, Stage::Ready) {
+        if !self.goes_on(&task.stage) {
             return;
         }
         task.stage = self.stage_now(cache, clock, &mut task.locator);
@@ -236,8 +263,8 @@ impl<W: Wire + Drop> Worker<W> {
         }
     }
 
-    /// How far a request is whose question ended so by these octets. Where they are an answer, nothing but memory can
-    /// be wanting for it.
+    /// How far a request is whose question ended so by these octets. Where they are an answer,
+    /// nothing but memory can be wanting for it.
     fn stage_heard<R: Wait, C: Clock>(
         &mut self,
         rt: &R,
@@ -254,7 +281,8 @@ impl<W: Wire + Drop> Worker<W> {
         requires heard { IsEndedBy W.gives question ending }
         ensures stays { Belongs cache.now self.new }
         ensures works { Works W.gives C.shows self.old.seat self.new.seat }
-        ensures goes_on { (job : Wanted) → IsOf (CountsAt W.gives C.shows self.old.seat) job locator.old
+        ensures goes_on { (job : Wanted)
+            → IsOf (CountsAt W.gives C.shows self.old.seat) job locator.old
             → IsOf (CountsAt W.gives C.shows self.new.seat) job locator.new
             × IsAt W.gives C.shows self.new.seat job locator.new result }
     {
@@ -289,6 +317,7 @@ impl<W: Wire + Drop> Worker<W> {
         let Incoming::Ended(id, question, ending) = self.asker.incoming(octets)? else {
             return Ok(());
         };
+        self.full = false;
         let Some(at) = place_of(tasks, id, &question) else {
             return Ok(());
         };
@@ -299,7 +328,31 @@ impl<W: Wire + Drop> Worker<W> {
         Ok(())
     }
 
-    /// Sends the questions once more whose replies did not come in time, and gives up those that were sent three times.
+    /// Takes what the wire gives, where it gives something.
+    fn listen<R: Wait, C: Clock, G: Gate>(
+        &mut self,
+        rt: &R,
+        cache: &SharedCache,
+        clock: &C,
+        gate: &G,
+        tasks: &mut [Task<'_>],
+        buffer: &mut [u8; DATAGRAM_LIMIT],
+    ) -> Result<(), AllocError>
+        requires made_here { Belongs cache.now self.old }
+        requires stands { All (Stands W.gives C.shows self.old.seat) tasks.old }
+        ensures stays { Belongs cache.now self.new }
+        ensures works { Works W.gives C.shows self.old.seat self.new.seat }
+        ensures stands { All (Stands W.gives C.shows self.new.seat) tasks.new }
+        ensures jobs { map job_of tasks.new ≡ map job_of tasks.old }
+    {
+        match receive(&mut self.wire, buffer) {
+            Some(count) => self.hear(rt, cache, clock, gate, tasks, &buffer[..count]),
+            None => Ok(()),
+        }
+    }
+
+    /// Sends the questions once more whose replies did not come in time, and gives up those that
+    /// were sent three times.
     fn send_again<C: Clock, G: Gate>(&mut self, clock: &C, gate: &G, tasks: &mut [Task<'_>])
         requires stands { All (Stands W.gives C.shows self.old.seat) tasks.old }
         ensures seat { self.new ≡ self.old }
@@ -312,6 +365,7 @@ impl<W: Wire + Drop> Worker<W> {
                 None => return,
                 Some(Due::Resend(_, octets)) => send(&mut self.wire, octets),
                 Some(Due::GaveUp(id, question)) => {
+                    self.full = false;
                     if let Some(at) = place_of(tasks, id, question) {
                         tasks[at].stage = Stage::Done(unanswered(question));
                         tell(gate, &tasks[at]);
@@ -343,9 +397,7 @@ impl<W: Wire + Drop> Worker<W> {
             if tasks.iter().all(|task| task.is_done()) {
                 break;
             }
-            if let Some(count) = receive(&mut self.wire, &mut buffer) {
-                self.hear(rt, cache, clock, gate, tasks, &buffer[..count])?;
-            }
+            self.listen(rt, cache, clock, gate, tasks, &mut buffer)?;
             self.send_again(clock, gate, tasks);
         }
         Ok(())
@@ -357,7 +409,8 @@ impl<W: Wire + Drop> Worker<W> {
         tasks: Vec<Task<'a>>,
     ) -> Result<Vec<JobResult<'a, W, C>>, AllocError>
         requires done { All (IsDone W.gives C.shows self.now.seat) tasks.items }
-        ensures jobs { IfOk result (λ made. map (λ it. it.job) made.items ≡ map job_of tasks.entry.items) }
+        ensures jobs { IfOk result (λ made.
+            map (λ it. it.job) made.items ≡ map job_of tasks.entry.items) }
         ensures notices { IfOk result (λ made. All (λ it. (it.notice.cache ≡ self.now.cache)
             × (it.notice.seen ≡ self.now.seat.seen)) made.items) }
         ensures outcomes { IfOk result (λ made. All (λ it.
@@ -371,8 +424,8 @@ impl<W: Wire + Drop> Worker<W> {
         Ok(results)
     }
 
-    /// Resolves these jobs, all at once, and gives what became of each, in their order. Where memory is refused, what
-    /// was stored stays stored.
+    /// Resolves these jobs, all at once, and gives what became of each, in their order. Where
+    /// memory is refused, what was stored stays stored.
     pub fn batch<'a, R: Wait, C: Clock, G: Gate>(
         &mut self,
         rt: &R,

@@ -12,8 +12,8 @@ pub jobs-preserved : goal.jobs-preserved
 jobs-preserved g c =
     rw c.in_ok-push.ensures.items (
       All-push IsBegun c.jobs.tasks.items c.in_ok-new.field-0 c.jobs.invariant.0 c.in_ok-new.ensures.0,
-      begun-more c.args.jobs.now c.jobs.tasks.items c.jobs.job-index c.in_ok-new.field-0 c.job-item.result c.jobs-test.true c.job-item.is c.in_ok-new.ensures.1
-          c.jobs.invariant.1,
+      begun-more c.args.jobs.now c.jobs.tasks.items c.jobs.job-index c.in_ok-new.field-0 c.job-item.result c.jobs-test.true c.job-item.is
+          c.in_ok-new.ensures.1 c.jobs.invariant.1,
     )
 
 pub returns-clause-begun : goal.returns-clause-begun

@@ -1,4 +1,4 @@
-use Rattle.std.proofs.Common.{◌≡◌, ap, sym, ◌∙◌}
+use Rattle.std.proofs.Common.{ap, sym, ◌∙◌}
 use Rattle.sip_selection.specs.Choice.{need}
 use Rattle.sip_workers.specs.declared.task.Stage.TheVariants.{Waiting}
 use Rattle.sip_workers.proofs.task.Task.waits_for.Goals as goal

@@ -1,4 +1,3 @@
-use Rattle.std.proofs.Common.{◌<◌, ap, sym, length}
 use Rattle.sip_workers.proofs.Working.{stands-at, working-not, working-one}
 use Rattle.sip_workers.proofs.worker.Worker.advance_all.Goals as goal
 
@@ -16,7 +15,8 @@ advance-requires-clause-stands g c =
 pub tasks-preserved : goal.tasks-preserved
 tasks-preserved g c =
     working-one _ _ c.args.cache.now c.args.self.now c.tasks.self c.advance.new.self c.args.tasks.now c.tasks.tasks c.tasks.invariant
-    c.tasks.at c.advance.new.task c.index-tasks-at.result (rw c.tasks.auto.tasks c.tasks-test.true) c.advance.ensures.stays c.advance.ensures.works
+    c.tasks.at c.advance.new.task c.index-tasks-at.result (rw c.tasks.auto.tasks c.tasks-test.true) c.advance.ensures.stays
+    c.advance.ensures.works
     c.advance.ensures.stands c.advance.ensures.job
 
 pub returns-clause-stays : goal.returns-clause-stays

@@ -19,9 +19,11 @@ returns-clause-stands g c =
     let old = slice_index_or c.args.tasks.now c.in-Some.at c.index-tasks-at.result in
     let all : All (Stands g.W.Wire.gives g.C.Clock.shows c.self.inside.seat.seat) c.args.tasks.now = rw c.self.view_is c.requires.stands in
     let stands =
-    All-get_or (Stands g.W.Wire.gives g.C.Clock.shows c.self.inside.seat.seat) c.args.tasks.now c.in-Some.at c.index-tasks-at.result c.in-Some.ensures.0 all in
+    All-get_or (Stands g.W.Wire.gives g.C.Clock.shows c.self.inside.seat.seat) c.args.tasks.now c.in-Some.at
+    c.index-tasks-at.result c.in-Some.ensures.0 all in
     one-later _ _ _ _ c.stage_heard.ensures.works c.args.tasks.now c.in-Some.at
-    (record { job = old.job; locator = c.stage_heard.new.locator; stage = c.stage_heard.result }) all (c.stage_heard.ensures.goes_on old.job.now stands.0)
+    (record { job = old.job; locator = c.stage_heard.new.locator; stage = c.stage_heard.result }) all
+    (c.stage_heard.ensures.goes_on old.job.now stands.0)
 
 pub returns-clause-jobs : goal.returns-clause-jobs
 returns-clause-jobs g c = same-jobs c.args.tasks.now c.in-Some.at _ c.index-tasks-at.result c.in-Some.ensures.0 refl

@@ -5,8 +5,9 @@ use Rattle.sip_workers.proofs.worker.Worker.results.Goals as goal
 
 pub new-requires : goal.new-requires
 new-requires g c =
-    outcome-told _ _ c.args.self.now c.args.tasks.items _ _ _ c.in-Some.task c.in-Some.ensures.steps.0 c.tasks.invariant c.into_outcome.result
-    c.notice.result.seen c.into_outcome.ensures (c.notice.ensures.1 ∙ ap (λ (it : SharedView). it.seat.seen) c.self.view_is)
+    outcome-told _ _ c.args.self.now c.args.tasks.items _ _ _ c.in-Some.task c.in-Some.ensures.steps.0 c.tasks.invariant
+    c.into_outcome.result c.notice.result.seen c.into_outcome.ensures
+    (c.notice.ensures.1 ∙ ap (λ (it : SharedView). it.seat.seen) c.self.view_is)
 
 pub tasks-preserved : goal.tasks-preserved
 tasks-preserved g c =

@@ -11,8 +11,8 @@ pub returns-in-Ok-clause-goes_on : goal.returns-in-Ok-clause-goes_on
 returns-in-Ok-clause-goes_on g c =
     let steps = rw c.in-Ok.is at c.step.follows.holds-at-none in
     rw (c.stage_after.ensures.seat, ← c.self.view_is)
-    (λ job it. on-next _ _ c.self.inside.seat.seat c.step.new.seat.seat _ c.now-now.ensures c.step.ensures.goes_on c.step.ensures.stores_nothing _ _ job it
-    _ c.stage_after.result steps c.stage_after.ensures.leaves)
+    (λ job it. on-next _ _ c.self.inside.seat.seat c.step.new.seat.seat _ c.now-now.ensures c.step.ensures.goes_on
+    c.step.ensures.stores_nothing _ _ job it _ c.stage_after.result steps c.stage_after.ensures.leaves)
 
 pub returns-in-Err-clause-works : goal.returns-in-Err-clause-works
 returns-in-Err-clause-works g c =
@@ -23,5 +23,5 @@ pub returns-in-Err-clause-goes_on : goal.returns-in-Err-clause-goes_on
 returns-in-Err-clause-goes_on g c =
     let steps = rw c.in-Err.is at c.step.follows.holds-at-none in
     rw (← c.self.view_is)
-    (λ job it. on-want _ _ c.self.inside.seat.seat c.step.new.seat.seat _ c.now-now.ensures c.step.ensures.goes_on c.step.ensures.stores_nothing _ _ job it
-    steps)
+    (λ job it. on-want _ _ c.self.inside.seat.seat c.step.new.seat.seat _ c.now-now.ensures c.step.ensures.goes_on
+    c.step.ensures.stores_nothing _ _ job it steps)
