@@ -2,4 +2,5 @@ pub mod Seats
 pub mod Chains
 pub mod Lists
 pub mod Nodes
+pub mod Notes
 pub mod Shared

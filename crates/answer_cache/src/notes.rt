@@ -1,127 +1,96 @@
 //! What contracts note of a seat, and nothing at run time.
 ghost use Rattle.std.specs.Prelude.{◌≡◌, ◌+◌, ◌∷◌, ◌++◌, []};
 ghost use Rattle.std.specs.Arc.{arc_value};
-ghost use Rattle.answer_cache.specs.Seats.{Noted, offer_of};
+ghost use Rattle.answer_cache.specs.Seats.{offer_of};
 
 use dns_answers::{Answer, Moment};
 use dns_message::Question;
-use std::marker::{Model, PhantomData};
+use std::marker::Model;
+use std::snapshot::Snapshot;
 use std::sync::Arc;
 
-/// What stores were handed, and how many links and tries there were. It has no octets.
+/// A note, and what was noted before it.
+#[derive(Drop)]
+#[cycle(notes)]
+pub(crate) enum Note {
+    /// Nothing is noted yet.
+    Nothing,
+    /// A store was handed this.
+    Offered {
+        before: Snapshot<Notes>,
+        question: Snapshot<Question>,
+        answer: Snapshot<Arc<Answer>>,
+        moment: Moment,
+    },
+    /// A call went along a link.
+    Link(Snapshot<Notes>),
+    /// A store tried to place a node.
+    Try(Snapshot<Notes>),
+}
+
+/// What stores were handed, and how many links and tries there were: a snapshot of the last note.
+/// It has no octets.
+#[derive(Drop)]
+#[cycle(notes)]
 pub(crate) struct Notes {
-    marker: PhantomData<()>,
-    pub ghost noted: { Noted },
+    last: Snapshot<Note>,
 }
 
 impl Model for Notes {
-    ghost use base.Fml.{ftrue};
+    ghost use Rattle.std.specs.Prelude.{◌+◌, length};
+    ghost use Rattle.answer_cache.specs.Seats.{Noted};
 
-    ghost also_owns = { λ _. ftrue };
-}
+    ghost Value = { Noted };
 
-/// How notes are read off a value.
-trait Reads<X> {
-    ghost notes: { X → Noted };
-}
+    ghost use Rattle.answer_cache.specs.Notes.{noted_with};
 
-struct Nothing;
+    ghost view = { λ it. noted_with it.last.value };
 
-impl Reads<()> for Nothing {
-    ghost use Rattle.std.specs.Prelude.{[]};
-
-    ghost notes = { λ _. record { offered = []; links = 0; tries = 0 } };
-}
-
-/// What was noted, and what a store was handed.
-#[derive(Clone, Copy)]
-struct Offered<'a> {
-    before: &'a Notes,
-    question: &'a Question,
-    answer: &'a Arc<Answer>,
-    now: Moment,
-}
-
-struct OneOffer;
-
-impl<'a> Reads<Offered<'a>> for OneOffer {
-    ghost use Rattle.std.specs.Prelude.{◌∷◌, ◌++◌, []};
-    ghost use Rattle.std.specs.Arc.{arc_value};
-    ghost use Rattle.answer_cache.specs.Seats.{offer_of};
-
-    ghost notes = { λ more. record more.before.now.noted {
-      offered = more.before.now.noted.offered
-          ++ offer_of more.question.now (arc_value more.answer.now) more.now ∷ [];
-    } };
-}
-
-struct OneTry;
-
-impl Reads<Notes> for OneTry {
-    ghost use Rattle.std.specs.Prelude.{◌+◌};
-
-    ghost notes = { λ before. record before.noted { tries = before.noted.tries + 1 } };
-}
-
-struct OneLink;
-
-impl Reads<Notes> for OneLink {
-    ghost use Rattle.std.specs.Prelude.{◌+◌};
-
-    ghost notes = { λ before. record before.noted { links = before.noted.links + 1 } };
+    // How many notes there are.
+    ghost size = { λ it. length it.offered + it.links + it.tries };
 }
 
 impl Notes {
-    // Those that are read off a value.
-    fn of<X, M: Reads<X>>(value: &X) -> Notes
-        ensures { result.noted ≡ M.notes value.now }
-    {
-        let _ = value;
-        Notes {
-            marker: PhantomData,
-        }
-    }
-
     /// None.
     pub(crate) fn none() -> Notes
-        ensures { result.noted ≡ record { offered = []; links = 0; tries = 0 } }
+        ensures { result ≡ record { offered = []; links = 0; tries = 0 } }
     {
-        Notes::of::<(), Nothing>(&())
+        Notes {
+            last: Snapshot::of(&Note::Nothing),
+        }
     }
 
     /// With one more that a store was handed.
     pub(crate) fn with(&self, question: &Question, answer: &Arc<Answer>, now: Moment) -> Notes
-        ensures { result.noted ≡ record self.now.noted {
-          offered = self.now.noted.offered ++ offer_of question.now (arc_value answer.now) now ∷ [];
+        ensures { result ≡ record self.now {
+          offered = self.now.offered ++ offer_of question.now (arc_value answer.now) now ∷ [];
         } }
     {
-        Notes::of::<Offered<'_>, OneOffer>(&Offered {
-            before: self,
-            question,
-            answer,
-            now,
-        })
+        Notes {
+            last: Snapshot::of(&Note::Offered {
+                before: Snapshot::of(self),
+                question: Snapshot::of(question),
+                answer: Snapshot::of(answer),
+                moment: now,
+            }),
+        }
     }
 
     /// With one try more.
     pub(crate) fn with_try(&self) -> Notes
-        ensures { result.noted ≡ record self.now.noted { tries = self.now.noted.tries + 1 } }
+        ensures { result ≡ record self.now { tries = self.now.tries + 1 } }
     {
-        Notes::of::<Notes, OneTry>(self)
+        Notes {
+            last: Snapshot::of(&Note::Try(Snapshot::of(self))),
+        }
     }
 
     /// With one link more.
     pub(crate) fn with_link(&self) -> Notes
-        ensures { result.noted ≡ record self.now.noted { links = self.now.noted.links + 1 } }
+        ensures { result ≡ record self.now { links = self.now.links + 1 } }
     {
-        Notes::of::<Notes, OneLink>(self)
+        Notes {
+            last: Snapshot::of(&Note::Link(Snapshot::of(self))),
+        }
     }
 }
-
-impl Drop for Notes {
-    fn drop(self) {
-        let Self { marker: _ } = self;
-    }
-}
-
-unsafe impl Send for Notes {}

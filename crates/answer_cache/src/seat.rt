@@ -20,7 +20,7 @@ impl Model for Seat {
 
     ghost Value = { SharedView };
 
-    ghost view = { λ it. view_of it.hand it.notes.noted };
+    ghost view = { λ it. view_of it.hand it.notes };
 
     ghost invariant = { λ it. IsHand it.hand };
 }

@@ -159,11 +159,11 @@ impl SharedCache {
             → Meets self.now.book walk.new left (option_map (λ node. node.now) found)) }
         ensures tagged { IfOk result
             (λ found. IfSome found (λ node. node.now.tag ≡ hash_of (hashed_of node.now.question))) }
-        ensures link { Costs notes.old.noted notes.new.noted 1 0 }
+        ensures link { Costs notes.old notes.new 1 0 }
         ensures counted { IfOk result
-            (λ found. IfSome found (λ _. notes.new.noted.links ≡ notes.old.noted.links + 1)) }
-        ensures none { IfOk result (λ found. IfNone found (notes.new.noted ≡ notes.old.noted)) }
-        ensures failed { IfErr result (λ _. notes.new.noted ≡ notes.old.noted) }
+            (λ found. IfSome found (λ _. notes.new.links ≡ notes.old.links + 1)) }
+        ensures none { IfOk result (λ found. IfNone found (notes.new ≡ notes.old)) }
+        ensures failed { IfErr result (λ _. notes.new ≡ notes.old) }
     {
         let Some(next) = walk.next() else {
             return Ok(None);
@@ -188,7 +188,7 @@ impl SharedCache {
         ensures last { IfOk result
             (λ found. IsLastOf question.now (history walk.old.seen.log)
             (option_map (λ node. node.now) found)) }
-        ensures costs { Costs notes.old.noted notes.new.noted 4096 0 }
+        ensures costs { Costs notes.old notes.new 4096 0 }
     {
         log_keeps_its_rule(&walk.seen);
         let tag = hash(question);
@@ -208,7 +208,7 @@ impl SharedCache {
         requires ahead { Ahead walk.old (history walk.old.seen.log) }
         ensures full { IfOk result
             (λ full. IsTrue full ↔ (64 ≤ length (in_group group (history walk.old.seen.log)))) }
-        ensures costs { Costs notes.old.noted notes.new.noted 4096 0 }
+        ensures costs { Costs notes.old notes.new 4096 0 }
     {
         log_keeps_its_rule(&walk.seen);
         let mut count = 0usize;
@@ -239,7 +239,7 @@ impl SharedCache {
         ensures holds { Holds self.now.book hand.old hand.new }
         ensures seen { SeesMore hand.old.number hand.old.book.log hand.new.book.log }
         ensures places { hand.new.places ≡ hand.old.places }
-        ensures costs { Costs notes.old.noted notes.new.noted 4096 0 }
+        ensures costs { Costs notes.old notes.new 4096 0 }
         ensures room { IfOk result (λ old. (old ≡ top hand.new.book.log)
             × (IsFull (history hand.new.book.log) asked.now.question.now → ⊥)) }
         ensures full { IfErr result (WhyNoRoom asked.now.question.now (history hand.new.book.log)) }
@@ -355,8 +355,8 @@ impl SharedCache {
         requires sound { IsSound (store_in hand.old.number node.now) }
         requires room { HadRoom hand.old.book.log old node.now.question }
         ensures holds { Holds self.now.book hand.old hand.new }
-        ensures costs { Costs notes.old.noted notes.new.noted 0 1 }
-        ensures counted { notes.new.noted.tries ≡ notes.old.noted.tries + 1 }
+        ensures costs { Costs notes.old notes.new 0 1 }
+        ensures counted { notes.new.tries ≡ notes.old.tries + 1 }
         ensures placed { MatchBool result
             (EndsWith (store_in hand.old.number node.now) (history hand.old.book.log)
             (history hand.new.book.log))
@@ -398,7 +398,7 @@ impl SharedCache {
         requires tagged { node.now.tag ≡ hash_of (hashed_of node.now.question) }
         requires room { HadRoom hand.old.book.log old node.now.question }
         ensures holds { Holds self.now.book hand.old hand.new }
-        ensures costs { Costs notes.old.noted notes.new.noted (15 * 4096) 16 }
+        ensures costs { Costs notes.old notes.new (15 * 4096) 16 }
         ensures competed { MatchResult result
             (λ _. EndsWith (store_in hand.old.number node.now) (history hand.old.book.log)
             (history hand.new.book.log))
@@ -439,7 +439,7 @@ impl SharedCache {
             (arc_value wanted.now.answer.now) wanted.now.moment) }
         requires hash { wanted.now.hash ≡ hash_of (hashed_of wanted.now.question.now) }
         ensures holds { Holds self.now.book hand.old hand.new }
-        ensures costs { Costs notes.old.noted notes.new.noted (16 * 4096) 16 }
+        ensures costs { Costs notes.old notes.new (16 * 4096) 16 }
         ensures put { MatchResult result
             (λ _. EndsWith (store_by hand.old.number wanted.now.question.now
             (arc_value wanted.now.answer.now) wanted.now.moment) (history hand.old.book.log)

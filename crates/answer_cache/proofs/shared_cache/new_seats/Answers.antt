@@ -8,7 +8,7 @@ seats-preserved c =
     let i = c.seats.invariant in
     let cache = cache_view c.args.hands.now.seen.book c.args.seats in
     let dealt = c.deal.ensures in
-    let seat = new-view c.deal.result c.none.result.noted cache c.seats.hands.seen.book c.seats.hands.next c.seats.hands.seats c.seats._seat
+    let seat = new-view c.deal.result c.none.result cache c.seats.hands.seen.book c.seats.hands.next c.seats.hands.seats c.seats._seat
     dealt.hand (λ j. cache_view (i.book j) (i.next.1 j)) i.next.0 c.none.ensures in record {
       hands = dealt.hands;
       next = (dealt.next ∙ ap (λ n. n + 1) i.next.0, dealt.seats ∙ i.next.1);

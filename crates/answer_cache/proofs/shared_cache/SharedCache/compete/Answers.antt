@@ -71,6 +71,6 @@ tries-preserved g c =
           let n = c.tries.number in
           let l = i.least in
           costs.within _ _ ((n - 2) * 4096 + 4096 + 0) ((n + 1 - 2) * 4096) ((n - 1) + 0 + 1) (n + 1 - 1) (omega arith) (omega arith)
-          (costs.both _ c.room.new.notes.noted _ ((n - 2) * 4096 + 4096) 0 ((n - 1) + 0) 1
-          (costs.both _ c.tries.notes.noted _ ((n - 2) * 4096) 4096 (n - 1) 0 i.costs c.in_ok-old.ensures.costs) it.costs);
+          (costs.both _ c.room.new.notes _ ((n - 2) * 4096 + 4096) 0 ((n - 1) + 0) 1
+          (costs.both _ c.tries.notes _ ((n - 2) * 4096) 4096 (n - 1) 0 i.costs c.in_ok-old.ensures.costs) it.costs);
     }

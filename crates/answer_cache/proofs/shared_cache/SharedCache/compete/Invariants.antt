@@ -16,5 +16,5 @@ invariant-tries g l = record {
   seen : SeesMore l.fn.hand.number l.fn.hand.book.log l.hand.book.log;
   count : (seen : List Event) → IsPrefix seen l.fn.hand.book.log → top seen ≡ l.fn.old
       → length (history seen) + (l.number - 1) ≤ length (history l.hand.book.log);
-  costs : Costs l.fn.notes.noted l.notes.noted ((l.number - 2) * 4096) (l.number - 1);
+  costs : Costs l.fn.notes l.notes ((l.number - 2) * 4096) (l.number - 1);
 }

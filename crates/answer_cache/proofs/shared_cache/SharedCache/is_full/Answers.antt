@@ -31,7 +31,7 @@ returns-then-count-eq-GROUP_LIMIT-clause-costs c =
     let few = count-within c.args.group (history c.args.walk.now.seen.log) c.links.walk c.links.count c.links._link it.counts here.0
     (store_in here.1 c.in-Some.node.now) here.2 c.log_keeps_its_rule.ensures.size in
     costs.within _ _ (c.links._link + 1) 4096 0 0 few (omega arith)
-    (costs.both _ c.links.notes.noted _ c.links._link 1 0 0 it.costs c.in_ok-node.ensures.link)
+    (costs.both _ c.links.notes _ c.links._link 1 0 0 it.costs c.in_ok-node.ensures.link)
 
 pub links-preserved : goal.links-preserved
 links-preserved c =
@@ -48,5 +48,5 @@ links-preserved c =
             (count-none c.args.group (history c.args.walk.now.seen.log) c.links.walk c.links.count c.links._link it.counts here.0
             (store_in here.1 c.in-Some.node.now) here.2 c.step.new.walk (sym c.is_in.ensures ∙ w.if-is_in.false) here.3)
       ];
-      costs = costs.both _ c.links.notes.noted _ c.links._link 1 0 0 it.costs c.in_ok-node.ensures.link;
+      costs = costs.both _ c.links.notes _ c.links._link 1 0 0 it.costs c.in_ok-node.ensures.link;
     }

@@ -9,7 +9,7 @@ pub links-init : goal.links-init
 links-init c = record {
   book = c.requires.book;
   searches = begins c.args.question.now (history c.args.walk.now.seen.log) c.args.walk.now c.requires.ahead;
-  costs = costs.free c.args.notes.now.noted;
+  costs = costs.free c.args.notes.now;
 }
 
 pub step-requires-clause-book : goal.step-requires-clause-book
@@ -24,7 +24,7 @@ returns-in_err-step-clause-costs c =
     let few = short c.args.question.now (history c.args.walk.now.seen.log) c.links.walk c.links._link it.searches
     c.log_keeps_its_rule.ensures.size in
     costs.within _ _ c.links._link 4096 0 0 few (omega arith)
-    (costs.same _ c.links.notes.noted _ c.links._link 0 c.in_err-step.ensures.failed it.costs)
+    (costs.same _ c.links.notes _ c.links._link 0 c.in_err-step.ensures.failed it.costs)
 
 pub returns-in-None-clause-last : goal.returns-in-None-clause-last
 returns-in-None-clause-last c =
@@ -38,7 +38,7 @@ returns-in-None-clause-costs c =
     let none = rw c.in-None.is at c.in_ok-step.ensures.none in
     let few = short c.args.question.now (history c.args.walk.now.seen.log) c.links.walk c.links._link it.searches
     c.log_keeps_its_rule.ensures.size in
-    costs.within _ _ c.links._link 4096 0 0 few (omega arith) (costs.same _ c.links.notes.noted _ c.links._link 0 none it.costs)
+    costs.within _ _ c.links._link 4096 0 0 few (omega arith) (costs.same _ c.links.notes _ c.links._link 0 none it.costs)
 
 pub returns-in-Some-clause-last : goal.returns-in-Some-clause-last
 returns-in-Some-clause-last c =
@@ -58,7 +58,7 @@ returns-in-Some-clause-costs c =
     let few = within c.args.question.now (history c.args.walk.now.seen.log) c.links.walk c.links._link it.searches here.0
     (store_in here.1 c.in-Some.node.now) here.2 c.log_keeps_its_rule.ensures.size in
     costs.within _ _ (c.links._link + 1) 4096 0 0 few (omega arith)
-    (costs.both _ c.links.notes.noted _ c.links._link 1 0 0 it.costs c.in_ok-step.ensures.link)
+    (costs.both _ c.links.notes _ c.links._link 1 0 0 it.costs c.in_ok-step.ensures.link)
 
 pub links-preserved : goal.links-preserved
 links-preserved c =
@@ -68,7 +68,7 @@ links-preserved c =
       book = c.in_ok-step.ensures.book;
       searches = goes-on c.args.question.now (history c.args.walk.now.seen.log) c.links.walk c.links._link it.searches here.0
           (store_in here.1 c.in-Some.node.now) c.step.new.walk here.2 (sym c.is_of.ensures ∙ c.if-is_of.false) here.3;
-      costs = costs.both _ c.links.notes.noted _ c.links._link 1 0 0 it.costs c.in_ok-step.ensures.link;
+      costs = costs.both _ c.links.notes _ c.links._link 1 0 0 it.costs c.in_ok-step.ensures.link;
     }
 
 pub unreachable-requires : goal.unreachable-requires

@@ -8,5 +8,5 @@ abbrev pub invariant-links : goal.invariant-links
 invariant-links l = record {
   book : l.walk.seen.book ≡ l.self.book;
   searches : Searches l.question (history l.fn.walk.seen.log) l.walk l._link;
-  costs : Costs l.fn.notes.noted l.notes.noted l._link 0;
+  costs : Costs l.fn.notes l.notes l._link 0;
 }
