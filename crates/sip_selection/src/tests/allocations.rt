@@ -4,55 +4,56 @@ use crate::*;
 use dns_message::{Kind, Question};
 use sip_uri::Transport::{Tcp, Udp};
 use srv_choice::{WORD_COUNT, Words};
-use std::alloc::AllocError;
+use std::alloc::Global;
 
 const WORDS: Words = Words([0; WORD_COUNT]);
 
+/// Whether a new choice asks, where there is memory for it.
+fn new_asks(alloc: Global) -> Option<bool> {
+    let request = request_of(alloc, "sip:b.example;transport=tcp")?;
+    let caps = Caps::new(&[Udp, Tcp], Families::V4)?;
+    let selection = Selection::new(alloc, request, caps, WORDS).ok()?;
+    Some(matches!(selection.next(), Next::Ask(_)))
+}
+
 #[test]
 fn new_refused(rt: HostRuntime) {
-    if let Some(request) = request_of(rt.alloc(), "sip:b.example;transport=tcp")
-        && let Some(caps) = Caps::new(&[Udp, Tcp], Families::V4)
-    {
-        match Selection::new(rt.alloc(), request, caps, WORDS) {
-            Ok(selection) => assert!(rt; matches!(selection.next(), Next::Ask(_))),
-            Err(AllocError) => {}
-        }
-    }
+    assert!(rt; new_asks(rt.alloc()) != Some(false));
+}
+
+/// Whether a copy of a request is equal to it, where there is memory for it.
+fn copy_is_equal(alloc: Global) -> Option<bool> {
+    let request = request_of(alloc, "sip:b.example;maddr=m.example")?;
+    let copy = request.try_clone().ok()?;
+    Some(copy == request)
 }
 
 #[test]
 fn copy_refused(rt: HostRuntime) {
-    if let Some(request) = request_of(rt.alloc(), "sip:b.example;maddr=m.example") {
-        match request.try_clone() {
-            Ok(copy) => assert!(rt; copy == request),
-            Err(AllocError) => {}
-        }
+    assert!(rt; copy_is_equal(rt.alloc()) != Some(false));
+}
+
+/// Whether a choice has its targets when an answer was taken, and else asks the question again that
+/// it asked.
+fn is_after(given: Result<(), GiveRefusal>, selection: &Selection, question: &Question) -> bool {
+    match (given, selection.next()) {
+        (Ok(()), Next::Targets(_)) => true,
+        (Err(GiveRefusal::Memory), Next::Ask(asked)) => asked == question,
+        _ => false,
     }
 }
 
-/// Whether this question is asked.
-fn is_asked(selection: &Selection, question: &Question) -> bool {
-    matches!(selection.next(), Next::Ask(asked) if asked == question)
+/// Whether an answer is taken, or left for want of memory, where there is memory for what comes
+/// before.
+fn answer_is_given(alloc: Global) -> Option<bool> {
+    let mut selection = begun(alloc, "sip:b.example:5070", &[Udp], Families::V4, WORDS)?;
+    let question = question_of(alloc, Kind::A, "b.example")?;
+    let answer = answer_of(alloc, Kind::A, Says::A(&[[192, 0, 2, 5]]))?;
+    let given = selection.give(alloc, &question, answer);
+    Some(is_after(given, &selection, &question))
 }
 
 #[test]
 fn give_refused(rt: HostRuntime) {
-    if let Some(mut selection) = begun(
-        rt.alloc(),
-        "sip:b.example:5070",
-        &[Udp],
-        Families::V4,
-        WORDS,
-    )
-        && let Some(question) = question_of(rt.alloc(), Kind::A, "b.example")
-        && let Some(answer) = answer_of(rt.alloc(), Kind::A, Says::A(&[[192, 0, 2, 5]]))
-    {
-        match selection.give(rt.alloc(), &question, answer) {
-            Ok(()) => assert!(rt; matches!(selection.next(), Next::Targets(_))),
-            Err(refusal) => {
-                assert_eq!(rt; refusal, GiveRefusal::Memory);
-                assert!(rt; is_asked(&selection, &question));
-            }
-        }
-    }
+    assert!(rt; answer_is_given(rt.alloc()) != Some(false));
 }

@@ -187,20 +187,25 @@ fn agrees(alloc: Global, run: &mut Run) -> Option<bool> {
 }
 
 /// Whether a request asks the same questions and goes to the same places, one answer after the
-/// other and all at once.
-fn is_right(alloc: Global, text: &str, seed: u64) -> bool {
-    match run_of(alloc, text, seed) {
-        Some(mut run) => agrees(alloc, &mut run) == Some(true),
-        None => false,
+/// other and all at once, where there is memory.
+fn is_right(alloc: Global, text: &str, seed: u64) -> Option<bool> {
+    let mut run = run_of(alloc, text, seed)?;
+    agrees(alloc, &mut run)
+}
+
+/// The first of the requests that is not right.
+fn first_wrong(alloc: Global, seed: u64) -> Option<&'static str> {
+    for request in REQUESTS {
+        if is_right(alloc, request, seed) != Some(true) {
+            return Some(*request);
+        }
     }
+    None
 }
 
 #[test]
 fn choices_agree(rt: HostRuntime) {
     for seed in 1..80 {
-        let differs = REQUESTS
-            .iter()
-            .find(|request| !is_right(rt.alloc(), request, seed));
-        assert!(rt; differs.is_none(), "{seed}: {differs:?}");
+        assert_eq!(rt; first_wrong(rt.alloc(), seed), None, "{seed}");
     }
 }
