@@ -43,14 +43,19 @@ fn is_after(given: Result<(), GiveRefusal>, selection: &Selection, question: &Qu
     }
 }
 
-/// Whether an answer is taken, or left for want of memory, where there is memory for what comes
-/// before.
-fn answer_is_given(alloc: Global) -> Option<bool> {
-    let mut selection = begun(alloc, "sip:b.example:5070", &[Udp], Families::V4, WORDS)?;
+/// Whether the answer to its question is taken, or left for want of memory, where there is memory
+/// for both.
+fn is_given(alloc: Global, selection: &mut Selection) -> Option<bool> {
     let question = question_of(alloc, Kind::A, "b.example")?;
     let answer = answer_of(alloc, Kind::A, Says::A(&[[192, 0, 2, 5]]))?;
     let given = selection.give(alloc, &question, answer);
-    Some(is_after(given, &selection, &question))
+    Some(is_after(given, selection, &question))
+}
+
+/// As `is_given`, with a new choice, where there is memory for it.
+fn answer_is_given(alloc: Global) -> Option<bool> {
+    let mut selection = begun(alloc, "sip:b.example:5070", &[Udp], Families::V4, WORDS)?;
+    is_given(alloc, &mut selection)
 }
 
 #[test]

@@ -227,21 +227,24 @@ fn char_string(alloc: Global, text: &str) -> Option<CharString> {
     CharString::new(Vec::from_slice(alloc, text.as_bytes()).ok()?)
 }
 
+/// The record of a rule, where there is memory for it.
+fn record_of(alloc: Global, rule: &Rule) -> Option<NaptrRecord> {
+    let (order, preference, flags, services, regexp, replacement) = *rule;
+    Some(NaptrRecord {
+        order,
+        preference,
+        flags: char_string(alloc, flags)?,
+        services: char_string(alloc, services)?,
+        regexp: char_string(alloc, regexp)?,
+        replacement: Name::from_text(alloc, replacement).ok()?,
+    })
+}
+
 /// Records of these rules, where there is memory for them.
 pub(crate) fn records(alloc: Global, rules: &[Rule]) -> Option<Vec<NaptrRecord>> {
     let mut records = Vec::new(alloc);
     for rule in rules {
-        let (order, preference, flags, services, regexp, replacement) = *rule;
-        records
-            .push(NaptrRecord {
-                order,
-                preference,
-                flags: char_string(alloc, flags)?,
-                services: char_string(alloc, services)?,
-                regexp: char_string(alloc, regexp)?,
-                replacement: Name::from_text(alloc, replacement).ok()?,
-            })
-            .ok()?;
+        records.push(record_of(alloc, rule)?).ok()?;
     }
     Some(records)
 }
