@@ -1,3 +1,7 @@
+mod Commands
+mod Counts
+mod Parts
+mod Runs
 mod Talks
 mod Resolutions
 mod Colons

@@ -3,13 +3,15 @@ use Rattle.std.specs.Prelude.{◌≡◌, ◌≤◌, ◌⊎◌, ⊤, ℕ, List, O
 use Rattle.std.specs.Io.KnownBytes.{Appends}
 use Rattle.std.specs.String.{string_bytes}
 use Rattle.sip_selection.specs.declared.caps.Families.{Families}
+use Rattle.siplocate.specs.declared.input.InputRefusal.{InputRefusal}
 use Rattle.siplocate.specs.declared.input.InputRefusal.TheVariants.{Input, Memory}
 use Rattle.siplocate.specs.declared.job.Job.{Job}
 use Rattle.siplocate.specs.declared.job.Job.TheVariants as job
 use Rattle.siplocate.specs.declared.job.Told.{Told}
-use Rattle.siplocate.specs.declared.job.Told.TheVariants.{Text, Usage, NoInput, NoMemory}
+use Rattle.siplocate.specs.declared.job.Told.TheVariants.{Text, Usage, NoInput, NoMemory, NoThread, NoNet}
 use Rattle.sip_selection.specs.Choice.{Resolution}
 use Rattle.siplocate.specs.Requests.{LocatesTo}
+use Rattle.siplocate.specs.Served.{IsCountOfWorkers, IsServed}
 use Rattle.siplocate.specs.Words as words
 
 -- of the request in a text: what becomes of it, or else what is wrong
@@ -27,26 +29,47 @@ TellsText families text (Text printed status) = TellsOne families text (string_b
 TellsText families text Usage = ⊥
 TellsText families text NoInput = ⊥
 TellsText families text NoMemory = ⊤
+TellsText families text NoThread = ⊥
+TellsText families text NoNet = ⊥
+
+-- of a zone and requests: what is printed of the requests, over answers to what was asked, or that the zone is none
+abbrev pub TellsRun : ℕ → List ℕ → Told → Type 0
+TellsRun workers text (Text printed status) = IsServed text (string_bytes printed) status
+TellsRun workers text Usage = IsCountOfWorkers workers → ⊥
+TellsRun workers text NoInput = ⊤
+TellsRun workers text NoMemory = ⊤
+TellsRun workers text NoThread = ⊤
+TellsRun workers text NoNet = ⊤
+
+-- what is told of an input that was not taken
+abbrev pub refused : InputRefusal → Told
+refused Input = NoInput
+refused Memory = NoMemory
 
 -- what is told for a job
 abbrev pub Tells : Job → Told → Type 0
 Tells (job.One families (Ok text)) told = TellsText families (string_bytes text) told
-Tells (job.One families (Err Input)) told = told ≡ NoInput
-Tells (job.One families (Err Memory)) told = told ≡ NoMemory
+Tells (job.One families (Err refusal)) told = told ≡ refused refusal
+Tells (job.Run workers (Ok text)) told = TellsRun workers (string_bytes text) told
+Tells (job.Run workers (Err refusal)) told = told ≡ refused refusal
 Tells job.Usage told = told ≡ Usage
 
 -- its text, and its status
 abbrev pub printed : Told → List ℕ
 printed (Text text own) = string_bytes text
-printed Usage = codes "usage: siplocate one [4|6|46|64]\n"
+printed Usage = codes "usage: siplocate one [4|6|46|64] | run WORKERS\n"
 printed NoInput = codes "fault input\n"
 printed NoMemory = codes "fault memory\n"
+printed NoThread = codes "fault thread\n"
+printed NoNet = codes "fault net\n"
 
 abbrev pub status : Told → ℕ
 status (Text text own) = own
 status Usage = 4
 status NoInput = 5
 status NoMemory = 5
+status NoThread = 5
+status NoNet = 5
 
 -- the text was written behind what had been, and the status is its own, or else output failed
 abbrev pub IsReported : Option (List ℕ) → Option (List ℕ) → Told → ℕ → Type 0

@@ -1,4 +1,8 @@
 pub mod Commands
+pub mod Parts
+pub mod Outcomes
+pub mod Runs
+pub mod Served
 pub mod Jobs
 pub mod Refusals
 pub mod Replies

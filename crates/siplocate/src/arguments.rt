@@ -1,7 +1,8 @@
 //! The words after the program's name.
-ghost use Rattle.std.specs.Prelude.{◌≡◌, map};
+ghost use Rattle.std.specs.Prelude.{◌≡◌, ◌+◌, ◌≤◌, ℕ, IfSome, Some, map};
+ghost use Rattle.std.specs.Fmt.{decimal};
 ghost use Rattle.std.specs.String.{string_bytes};
-ghost use Rattle.siplocate.specs.Commands.{command_of, families_of};
+ghost use Rattle.siplocate.specs.Commands.{IsCount, Means, families_of};
 
 use sip_selection::Families;
 
@@ -10,6 +11,8 @@ use sip_selection::Families;
 pub enum Command {
     /// To locate one request.
     One(Families),
+    /// To locate many requests, by so many workers at once.
+    Run(usize),
     /// Nothing that it knows.
     Usage,
 }
@@ -27,15 +30,60 @@ fn families_of(word: &str) -> Option<Families>
     }
 }
 
+/// The most workers.
+const MOST_WORKERS: usize = 64;
+
+/// The number of a decimal digit.
+fn digit_of(octet: u8) -> Option<usize>
+    ensures found { IfSome result (λ digit. (octet ≡ 48 + digit) × (digit ≤ 9)) }
+    ensures all { (digit : ℕ) → digit ≤ 9 → octet ≡ 48 + digit → result ≡ Some digit }
+{
+    if octet.is_ascii_digit() {
+        Some(usize::from(octet - b'0'))
+    } else {
+        None
+    }
+}
+
+/// The number below 100 that these octets spell, in decimal digits without a leading zero.
+fn number_of(octets: &[u8]) -> Option<usize>
+    ensures found { IfSome result (λ number. (number ≤ 99) × (octets.now ≡ decimal number)) }
+    ensures all { (number : ℕ) → number ≤ 99 → octets.now ≡ decimal number → result ≡ Some number }
+{
+    match octets {
+        [ones] => digit_of(*ones),
+        [tens, ones] if *tens != b'0' => Some(digit_of(*tens)? * 10 + digit_of(*ones)?),
+        _ => None,
+    }
+}
+
+/// The number of workers of a word: 1 to 64, in decimal digits without a leading zero.
+fn workers_of(word: &str) -> Option<usize>
+    ensures found { IfSome result (IsCount word.now) }
+    ensures all { (count : ℕ) → IsCount word.now count → result ≡ Some count }
+{
+    let count = number_of(word.as_bytes())?;
+    if count >= 1 && count <= MOST_WORKERS {
+        Some(count)
+    } else {
+        None
+    }
+}
+
 /// The command of these words.
 pub fn arguments(words: &[String]) -> Command
-    ensures { result ≡ command_of (map string_bytes words.now) }
+    ensures { Means (map string_bytes words.now) result }
 {
     match words {
         [one] if one.as_str() == "one" => Command::One(Families::V4),
-        [one, families] if one.as_str() == "one" => {
-            families_of(families).map_or(Command::Usage, Command::One)
-        }
+        [one, families] if one.as_str() == "one" => match families_of(families) {
+            Some(families) => Command::One(families),
+            None => Command::Usage,
+        },
+        [run, workers] if run.as_str() == "run" => match workers_of(workers) {
+            Some(workers) => Command::Run(workers),
+            None => Command::Usage,
+        },
         _ => Command::Usage,
     }
 }

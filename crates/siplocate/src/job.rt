@@ -5,10 +5,14 @@ ghost use Rattle.siplocate.specs.Jobs as spec;
 
 use crate::input::InputRefusal;
 use crate::one::one_text;
+use crate::server::tell_run;
 use sip_selection::Families;
 use std::alloc::{AllocError, Global};
 use std::io::{self, Write};
+use std::net::Net;
 use std::sync::Wait;
+use std::thread::Threads;
+use std::time::Clock;
 
 /// The status where memory, input or output failed.
 const FAULT_STATUS: u8 = 5;
@@ -18,6 +22,8 @@ const FAULT_STATUS: u8 = 5;
 pub enum Job {
     /// To locate one request, from the text that was read.
     One(Families, Result<String, InputRefusal>),
+    /// To locate many requests by so many workers, from the text that was read.
+    Run(usize, Result<String, InputRefusal>),
     /// To tell how it is used.
     Usage,
 }
@@ -33,6 +39,10 @@ pub enum Told {
     NoInput,
     /// That memory was refused.
     NoMemory,
+    /// That a thread could not be made.
+    NoThread,
+    /// That a socket could not be opened.
+    NoNet,
 }
 
 /// What is told of the request in a text.
@@ -46,15 +56,25 @@ fn tell_one<R: Wait>(rt: &R, alloc: Global, families: Families, text: &str) -> T
     }
 }
 
+/// What is told of an input that was not taken.
+fn tell_refused(refusal: InputRefusal) -> Told
+    ensures { result ≡ spec.refused refusal }
+{
+    match refusal {
+        InputRefusal::Input => Told::NoInput,
+        InputRefusal::Memory => Told::NoMemory,
+    }
+}
+
 /// What is told for a job.
-pub fn tell<R: Wait>(rt: &R, alloc: Global, job: &Job) -> Told
+pub fn tell<R: Net + Threads + Wait + Clock + Sync>(rt: &R, alloc: Global, job: &Job) -> Told
     ensures told { spec.Tells job.now result }
     ensures range { spec.status result ≤ 5 }
 {
     match job {
         Job::One(families, Ok(text)) => tell_one(rt, alloc, *families, text),
-        Job::One(_, Err(InputRefusal::Input)) => Told::NoInput,
-        Job::One(_, Err(InputRefusal::Memory)) => Told::NoMemory,
+        Job::Run(workers, Ok(text)) => tell_run(rt, alloc, *workers, text),
+        Job::One(_, Err(refusal)) | Job::Run(_, Err(refusal)) => tell_refused(*refusal),
         Job::Usage => Told::Usage,
     }
 }
@@ -65,9 +85,11 @@ fn printed(told: &Told) -> &str
 {
     match told {
         Told::Text(text, _) => text,
-        Told::Usage => "usage: siplocate one [4|6|46|64]\n",
+        Told::Usage => "usage: siplocate one [4|6|46|64] | run WORKERS\n",
         Told::NoInput => "fault input\n",
         Told::NoMemory => "fault memory\n",
+        Told::NoThread => "fault thread\n",
+        Told::NoNet => "fault net\n",
     }
 }
 
@@ -78,7 +100,7 @@ fn status(told: &Told) -> u8
     match told {
         Told::Text(_, status) => *status,
         Told::Usage => 4,
-        Told::NoInput | Told::NoMemory => FAULT_STATUS,
+        Told::NoInput | Told::NoMemory | Told::NoThread | Told::NoNet => FAULT_STATUS,
     }
 }
 

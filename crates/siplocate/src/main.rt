@@ -1,16 +1,23 @@
-//! The program `siplocate`: where a SIP request is sent (RFC 3263), over DNS replies that it is given.
+//! The program `siplocate`: where SIP requests are sent (RFC 3263), over DNS replies that it is given, or that it asks
+//! a server on this host for.
 #![tactic(auto)]
 
 ghost use Rattle.std.specs.Prelude.{◌≡◌, ◌≤◌, ◌↔◌, IfOk, IsErr};
 
 mod arguments;
+mod caller;
+mod clock;
 mod draw;
+mod fate;
 mod input;
 mod job;
 mod one;
 mod output;
 mod reply;
 mod request;
+mod requests;
+mod run;
+mod server;
 mod talk;
 #[cfg(test)]
 mod tests;
@@ -21,9 +28,12 @@ use input::input_text;
 use job::{Job, Told, report, tell};
 use std::alloc::AllocError;
 use std::io::ErrorKind;
+use std::net::Net;
 use std::process::ExitCode;
 use std::rt::Env;
 use std::sync::Wait;
+use std::thread::Threads;
+use std::time::Clock;
 use std::{env, io};
 
 /// What the program is asked to do where its words cannot be had: they are no text, but for want of
@@ -56,12 +66,16 @@ fn read_job<R: Env + Input + AllocGlobal>(rt: &R) -> Result<Job, AllocError> {
             let input = input_text(rt.alloc(), &mut rt.reader());
             Ok(Job::One(families, input))
         }
+        Command::Run(workers) => {
+            let input = input_text(rt.alloc(), &mut rt.reader());
+            Ok(Job::Run(workers, input))
+        }
         Command::Usage => Ok(Job::Usage),
     }
 }
 
 /// Does what the program is asked to do, and gives its status.
-fn run<R: Env + Input + Print + Wait + AllocGlobal>(rt: &R) -> u8
+fn perform<R: Env + Input + Print + Net + Threads + Wait + Clock + AllocGlobal + Sync>(rt: &R) -> u8
     ensures { result ≤ 5 }
 {
     let told = match read_job(rt) {
@@ -72,5 +86,5 @@ fn run<R: Env + Input + Print + Wait + AllocGlobal>(rt: &R) -> u8
 }
 
 fn main(rt: HostRuntime) -> ExitCode {
-    ExitCode::from(run(&rt))
+    ExitCode::from(perform(&rt))
 }

@@ -23,7 +23,7 @@ fn transport_word(transport: Transport) -> &'static str
     }
 }
 
-fn reason_word(reason: Reason) -> &'static str
+pub fn reason_word(reason: Reason) -> &'static str
     ensures { result.now ≡ spec.reason_word reason }
 {
     match reason {
@@ -34,7 +34,7 @@ fn reason_word(reason: Reason) -> &'static str
     }
 }
 
-fn kind_word(kind: Kind) -> &'static str
+pub fn kind_word(kind: Kind) -> &'static str
     ensures { result.now ≡ spec.kind_word kind }
 {
     match kind {
@@ -46,7 +46,7 @@ fn kind_word(kind: Kind) -> &'static str
 }
 
 /// The line of a target.
-fn target_line(alloc: Global, target: &Target) -> Result<String, AllocError>
+pub fn target_line(alloc: Global, target: &Target) -> Result<String, AllocError>
     ensures { IfOk result (λ line. string_bytes line ≡ spec.target_line target.now) }
 {
     let address = address_text(alloc, target.address)?;
@@ -104,7 +104,7 @@ pub fn status_of(next: Next<'_>) -> u8
     }
 }
 
-fn request_word(refusal: UriRefusal) -> &'static str
+pub fn request_word(refusal: UriRefusal) -> &'static str
     ensures { result.now ≡ spec.request_word refusal }
 {
     match refusal {
@@ -121,6 +121,18 @@ fn request_word(refusal: UriRefusal) -> &'static str
     }
 }
 
+pub fn refusal_word(refusal: ReplyRefusal) -> &'static str
+    ensures { result.now ≡ spec.refusal_word refusal }
+{
+    match refusal {
+        ReplyRefusal::NotReply => "NotReply",
+        ReplyRefusal::OtherQuestion => "OtherQuestion",
+        ReplyRefusal::Truncated => "Truncated",
+        ReplyRefusal::ServerFault(_) => "ServerFault",
+        ReplyRefusal::Memory => "Memory",
+    }
+}
+
 fn reply_word(reply: BadReply) -> &'static str
     ensures { result.now ≡ spec.reply_word reply }
 {
@@ -129,11 +141,7 @@ fn reply_word(reply: BadReply) -> &'static str
         BadReply::NothingAsked => "NothingAsked",
         BadReply::TooLong => "TooLong",
         BadReply::Malformed => "Malformed",
-        BadReply::NoAnswer(ReplyRefusal::NotReply) => "NotReply",
-        BadReply::NoAnswer(ReplyRefusal::OtherQuestion) => "OtherQuestion",
-        BadReply::NoAnswer(ReplyRefusal::Truncated) => "Truncated",
-        BadReply::NoAnswer(ReplyRefusal::ServerFault(_)) => "ServerFault",
-        BadReply::NoAnswer(ReplyRefusal::Memory) => "Memory",
+        BadReply::NoAnswer(refusal) => refusal_word(refusal),
         BadReply::Memory => "Memory",
     }
 }

@@ -9,14 +9,13 @@ ghost use Rattle.siplocate.specs.Talks as spec;
 ghost use Rattle.siplocate.specs.Words as words;
 ghost use Rattle.std.specs.String.{string_bytes};
 
-use crate::draw::draw_words;
+use crate::caller::{own_caps, own_words};
 use crate::output::{shown, status_of};
 use crate::reply::{BadReply, octets_of};
 use answer_cache::{ListCache, ListSeat};
 use dns_answers::Moment;
 use sip_locator::{Locator, messages_decide};
-use sip_selection::{Caps, Families, Request, questions_are_missing};
-use sip_uri::Transport;
+use sip_selection::{Families, Request, questions_are_missing};
 use std::alloc::{AllocError, Global};
 use std::marker::Model;
 use std::sync::Wait;
@@ -52,16 +51,9 @@ impl Talk {
     pub fn new(alloc: Global, families: Families, request: Request) -> Result<Talk, AllocError>
         ensures { IfOk result (λ it. it ≡ spec.selected families request []) }
     {
-        let transports = [
-            Transport::Udp,
-            Transport::Tcp,
-            Transport::Tls,
-            Transport::Sctp,
-        ];
-        let caps = Caps::new(&transports, families).unwrap();
         let (book, seat) = ListCache::new(alloc);
         Ok(Talk {
-            locator: Locator::new(alloc, request, caps, draw_words([0; 32], 1))?,
+            locator: Locator::new(alloc, request, own_caps(families), own_words(1))?,
             book,
             seat,
         })

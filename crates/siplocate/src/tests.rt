@@ -411,8 +411,6 @@ fn commands(rt: HostRuntime) -> Result<(), Fail> {
     let alloc = rt.alloc();
     let one = vec![in alloc; String::from_str(alloc, "one")?]?;
     assert_eq!(rt; arguments(&one), Command::One(Families::V4));
-    let run = vec![in alloc; String::from_str(alloc, "run")?]?;
-    assert_eq!(rt; arguments(&run), Command::Usage);
     let words = vec![in alloc;
         String::from_str(alloc, "one")?,
         String::from_str(alloc, "64")?,

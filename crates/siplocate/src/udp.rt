@@ -190,4 +190,4 @@ impl Wire for UdpWire {
 }
 
 #[cfg(test)]
-mod tests;
+pub(crate) mod tests;

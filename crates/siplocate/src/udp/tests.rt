@@ -62,7 +62,7 @@ fn is_answered<R: Net + AllocGlobal>(rt: &R, server: SocketAddr) -> io::Result<b
 }
 
 /// The server that the environment names, if it does.
-fn named_server<R: Env + AllocGlobal>(rt: &R) -> Result<Option<SocketAddr>, Fail> {
+pub(crate) fn named_server<R: Env + AllocGlobal>(rt: &R) -> Result<Option<SocketAddr>, Fail> {
     match env::var(rt, SERVER) {
         Ok(text) => match text.as_str().parse::<SocketAddr>() {
             Ok(server) => Ok(Some(server)),

@@ -1,0 +1,44 @@
+use Rattle.std.proofs.Common.{◌≡◌, ◌<◌, length, get_or, ◌∙◌, rules}
+use Rattle.std.specs.Str.Lines.{lines}
+use Rattle.std.proofs.lemmas.Iterator.Splits.{YieldsList-from_lines}
+use Rattle.std.proofs.lemmas.Iterator.Consumers.{YieldsList-from_enumerate, YieldsList-turn, YieldsList-end}
+use Rattle.std.proofs.lemmas.List.{length_push}
+use Rattle.std.proofs.lemmas.List.FromFn.{length-enumerate_from}
+use Rattle.siplocate.proofs.Runs.{all_read, numbered, one_more}
+use Rattle.siplocate.proofs.requests.read_requests.Goals as goal
+use Rattle.siplocate.proofs.requests.read_requests.Goals.{In-Some, In-None}
+
+-- the line of this turn, and its place
+turn : (c : In-Some) → (c.in-Some.at ≡ length c.lines.yielded) × (length c.lines.yielded < length (lines c.args.text.now))
+    × (c.in-Some.line.now ≡ get_or (lines c.args.text.now) (length c.lines.yielded) c.in-Some.line.now)
+turn c =
+    let whole = YieldsList-from_enumerate (YieldsList-from_lines c.args.text.now (cc)) (cc) in
+    let this = YieldsList-turn whole c.lines.yielded _ c.lines.yielded_by _ _
+    (c.in-Some.at, c.in-Some.line) c.in-Some.is c.next.ensures.steps in
+    numbered (lines c.args.text.now) (length c.lines.yielded) c.in-Some.at c.in-Some.line.now this.0 this.1
+
+-- every line had its turn
+all_turns : (c : In-None) → length c.lines.yielded ≡ length (lines c.args.text.now)
+all_turns c =
+    let whole = YieldsList-from_enumerate (YieldsList-from_lines c.args.text.now (cc)) (cc) in
+    let all = YieldsList-end whole c.lines.yielded _ c.lines.yielded_by _ _ c.in-None.is c.next.ensures.steps in
+    all.1 ∙ length-enumerate_from 0 (lines c.args.text.now)
+
+pub lines-preserved : goal.lines-preserved
+lines-preserved c =
+    let l = c.lines in
+    let this = turn (goal.at.lines-preserved c).In-Some in
+    let entry = rw this.0 at c.in_ok-read_entry.ensures.entry in
+    let more = one_more (lines c.args.text.now) (length l.yielded) c.in-Some.line.now l.entries.items l.jobs.items
+    c.read_entry.new.jobs.items c.in_ok-read_entry.field-0 this.1 this.2 l.invariant.read entry in
+    record {
+      can_next = search rules;
+      is_finite = search rules;
+      read = rw (length_push l.yielded (c.in-Some.at, c.in-Some.line), c.in_ok-push.ensures.items) more;
+    }
+
+pub returns : goal.returns
+returns c = record {
+  entries = all_read (lines c.args.text.now) (length c.lines.yielded) c.lines.entries.items c.lines.jobs.items
+      (all_turns (goal.at.returns c).In-None) c.lines.invariant.read;
+}

@@ -1,0 +1,61 @@
+-- What the program prints of many requests.
+use Rattle.std.specs.Prelude.{ℕ, Bool, true, false, List, [], ◌∷◌, ◌++◌, ◌+◌, codes, if◌then◌else◌}
+use Rattle.std.specs.Fmt.{decimal}
+use Rattle.std.specs.List.{flat_map, list_any, list_all}
+use Rattle.dns_name.specs.Texts.{text_of}
+use Rattle.dns_message.specs.declared.question.Question.{Question}
+use Rattle.sip_selection.specs.declared.target.Target.{Target}
+use Rattle.sip_workers.specs.declared.outcome.Outcome.{Outcome}
+use Rattle.sip_workers.specs.declared.outcome.Outcome.TheVariants as outcome
+use Rattle.siplocate.specs.Words.{target_line, reason_word, kind_word, refusal_word, request_word}
+use Rattle.siplocate.specs.declared.fate.Fate.{Fate}
+use Rattle.siplocate.specs.declared.fate.Fate.TheVariants as fate
+
+-- a number, and what follows it
+abbrev pub numbered : ℕ → List ℕ → List ℕ
+numbered number text = decimal number ++ 32 ∷ text
+
+-- a question: its kind and its name
+abbrev pub question_words : Question → List ℕ
+question_words question = kind_word question.kind ++ 32 ∷ text_of question.name
+
+-- the lines of an outcome, each behind the number of its request
+abbrev pub outcome_lines : ℕ → Outcome → List ℕ
+outcome_lines number (outcome.Targets list) = flat_map (λ (target : Target). numbered number (target_line target)) list
+outcome_lines number (outcome.Refused reason) = numbered number (codes "refused " ++ reason_word reason ++ 10 ∷ [])
+outcome_lines number (outcome.NoAnswer question) = numbered number (codes "gaveup " ++ question_words question ++ 10 ∷ [])
+outcome_lines number (outcome.BadReply question refusal) =
+    numbered number (codes "badreply " ++ question_words question ++ 32 ∷ refusal_word refusal ++ 10 ∷ [])
+outcome_lines number outcome.Memory = numbered number (codes "fault memory\n")
+
+-- the lines of what became of a line
+abbrev pub fate_lines : ℕ → Fate → List ℕ
+fate_lines number (fate.Became outcome) = outcome_lines number outcome
+fate_lines number (fate.Bad refusal) = numbered number (codes "bad " ++ request_word refusal ++ 10 ∷ [])
+
+-- of lines that are numbered from this number on
+abbrev pub shown_from : ℕ → List Fate → List ℕ
+shown_from number [] = []
+shown_from number (fate ∷ fates) = fate_lines number fate ++ shown_from (number + 1) fates
+
+-- ---- the status
+
+abbrev pub has_targets : Fate → Bool
+has_targets (fate.Became (outcome.Targets list)) = true
+has_targets (fate.Became (outcome.Refused reason)) = false
+has_targets (fate.Became (outcome.NoAnswer question)) = false
+has_targets (fate.Became (outcome.BadReply question refusal)) = false
+has_targets (fate.Became outcome.Memory) = false
+has_targets (fate.Bad refusal) = false
+
+abbrev pub lacks_memory : Fate → Bool
+lacks_memory (fate.Became (outcome.Targets list)) = false
+lacks_memory (fate.Became (outcome.Refused reason)) = false
+lacks_memory (fate.Became (outcome.NoAnswer question)) = false
+lacks_memory (fate.Became (outcome.BadReply question refusal)) = false
+lacks_memory (fate.Became outcome.Memory) = true
+lacks_memory (fate.Bad refusal) = false
+
+-- 5 where memory was refused for one, 0 where each has targets, else 2
+abbrev pub status_of_all : List Fate → ℕ
+status_of_all fates = if list_any lacks_memory fates then 5 else (if list_all has_targets fates then 0 else 2)

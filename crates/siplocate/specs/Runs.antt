@@ -1,0 +1,83 @@
+-- Many requests at once: what stands in their lines, and what becomes of each.
+use Rattle.std.specs.Prelude.{◌≡◌, ◌≢◌, ◌+◌, ◌++◌, ⊤, ℕ, List, [], ◌∷◌, replicate}
+use Rattle.std.specs.Str.Lines.{lines}
+use Rattle.answer_cache.specs.Shared.{CacheView, Told}
+use Rattle.sip_selection.specs.declared.caps.Families.TheVariants.{V4ThenV6}
+use Rattle.sip_selection.specs.declared.request.Request.{Request}
+use Rattle.sip_uri.specs.declared.refusal.UriRefusal.{UriRefusal}
+use Rattle.sip_uri.specs.declared.refusal.UriRefusal.TheVariants as uri
+use Rattle.sip_workers.specs.Runs.{IsMade}
+use Rattle.sip_workers.specs.declared.job.Job.{Job}
+use Rattle.sip_workers.specs.declared.outcome.Outcome.{Outcome}
+use Rattle.siplocate.specs.Draws.{drawn}
+use Rattle.siplocate.specs.Outcomes.{shown_from, status_of_all}
+use Rattle.siplocate.specs.Requests.{RequestText}
+use Rattle.siplocate.specs.Talks.{own_caps}
+use Rattle.siplocate.specs.declared.fate.Fate.{Fate}
+use Rattle.siplocate.specs.declared.fate.Fate.TheVariants as fate
+use Rattle.siplocate.specs.declared.requests.Entry.{Entry}
+use Rattle.siplocate.specs.declared.requests.Entry.TheVariants as entry
+
+-- ---- what stands in a line of the requests
+
+-- the job of the request in the line of this number
+pub record IsJob (number : ℕ) (line : List ℕ) (job : Job) : Type 0 where
+  pub numbered : job.number ≡ number
+  pub spelled : RequestText line job.request
+  pub can : job.caps ≡ own_caps V4ThenV6
+  pub draws : job.words.0 ≡ drawn (replicate 32 0) number
+
+-- no request, which is refused as this
+pub record IsNoRequest (line : List ℕ) (refusal : UriRefusal) : Type 0 where
+  pub none : (request : Request) → RequestText line request → ⊥
+  pub said : refusal ≢ uri.Memory
+
+-- what stands in the line of this number, and the jobs before and after it
+abbrev pub IsEntry : ℕ → List ℕ → List Job → List Job → Entry → Type 0
+IsEntry number line jobs after entry.Request = (job : Job) × IsJob number line job × (after ≡ jobs ++ job ∷ [])
+IsEntry number line jobs after (entry.Bad refusal) = IsNoRequest line refusal × (after ≡ jobs)
+
+-- what stands in lines that are numbered from this number on, and the jobs of those that are requests
+abbrev pub AreEntries : ℕ → List (List ℕ) → List Entry → List Job → Type 0
+AreEntries number [] [] [] = ⊤
+AreEntries number (line ∷ lines) (entry.Request ∷ entries) (job ∷ jobs) =
+    IsJob number line job × AreEntries (number + 1) lines entries jobs
+AreEntries number (line ∷ lines) (entry.Bad refusal ∷ entries) jobs =
+    IsNoRequest line refusal × AreEntries (number + 1) lines entries jobs
+AreEntries number lines entries jobs = ⊥
+
+-- ---- what becomes of it
+
+-- of what stands in lines, where this became of the requests among them, in order
+abbrev pub fates_of : List Entry → List (Outcome × Told) → List Fate
+fates_of [] made = []
+fates_of (entry.Bad refusal ∷ entries) made = fate.Bad refusal ∷ fates_of entries made
+fates_of (entry.Request ∷ entries) [] = []
+fates_of (entry.Request ∷ entries) (first ∷ made) = fate.Became first.0 ∷ fates_of entries made
+
+-- over a wire, a clock and a cache
+module _ (gives : List ℕ → Type 0) (shows : ℕ → Type 0) (cache : CacheView) where
+  -- the line of this number is a request, and this is its outcome
+  pub record IsLocated (number : ℕ) (line : List ℕ) (outcome : Outcome) : Type 0 where
+    pub job : Job
+    pub is : IsJob number line job
+    pub told : Told
+    pub made : IsMade gives shows cache job (outcome, told)
+
+  -- what becomes of the line of this number
+  abbrev pub IsFate : ℕ → List ℕ → Fate → Type 0
+  IsFate number line (fate.Became outcome) = IsLocated number line outcome
+  IsFate number line (fate.Bad refusal) = IsNoRequest line refusal
+
+  -- of lines that are numbered from this number on
+  abbrev pub AreFates : ℕ → List (List ℕ) → List Fate → Type 0
+  AreFates number [] [] = ⊤
+  AreFates number (line ∷ lines) (fate ∷ fates) = IsFate number line fate × AreFates (number + 1) lines fates
+  AreFates number lines fates = ⊥
+
+  -- what is printed of the requests of a text, whose lines are numbered from 1, and the status
+  pub record IsRun (text printed : List ℕ) (status : ℕ) : Type 0 where
+    pub fates : List Fate
+    pub are : AreFates 1 (lines text) fates
+    pub shown : printed ≡ shown_from 1 fates
+    pub status_is : status ≡ status_of_all fates

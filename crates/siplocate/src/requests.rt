@@ -1,0 +1,116 @@
+//! A zone and many requests: the input of a run.
+ghost use Rattle.std.specs.Prelude.{◌≡◌, ◌<◌, ◌≤◌, ◌≢◌, ◌==◌, ◌⊎◌, ◌∷◌, [], ℕ, List, Decides, IfErr, IfOk, MatchOption, length};
+ghost use Rattle.std.specs.List.{after_first, before_first, position_or_len};
+ghost use Rattle.std.specs.Str.Lines.{lines};
+ghost use Rattle.siplocate.specs.Parts.{AreParts};
+ghost use Rattle.siplocate.specs.Runs.{AreEntries, IsEntry, IsJob};
+ghost use Rattle.siplocate.specs.Requests.{RequestText};
+ghost use Rattle.sip_workers.specs.declared.refusal.RunRefusal.TheVariants.{BadCount, NoThread};
+
+use crate::caller::{own_caps, own_words};
+use crate::request::read_request;
+use sip_selection::{Families, Request};
+use sip_uri::UriRefusal;
+use sip_workers::{Job, RunRefusal};
+use std::alloc::Global;
+
+/// The most requests of a run.
+const REQUEST_LIMIT: usize = 10_000;
+
+/// What stands before and after the first line feed.
+fn at_line_feed(text: &str) -> Option<(&str, &str)>
+    ensures { MatchOption result (position_or_len (λ b. b == 10) text.now ≡ length text.now)
+        (λ parts. (parts.0.now ≡ before_first (λ b. b == 10) text.now)
+        × (parts.1.now ≡ after_first (λ b. b == 10) text.now)
+        × (position_or_len (λ b. b == 10) text.now < length text.now)) }
+{
+    text.split_once('\n')
+}
+
+/// Whether nothing stands in a line, whose line end may have a carriage return.
+fn is_blank(line: &str) -> bool
+    ensures { Decides result ((line.now ≡ []) ⊎ (line.now ≡ 13 ∷ [])) }
+{
+    line.is_empty() || line == "\r"
+}
+
+/// The zone and the requests of a text, which its first empty line parts.
+pub fn parts(text: &str) -> (&str, &str)
+    ensures { AreParts text.now result.0.now result.1.now }
+{
+    let mut rest = text;
+    'lines: while let Some((line, later)) = at_line_feed(rest) {
+        if is_blank(line) {
+            return (&text[..text.len() - rest.len()], later);
+        }
+        rest = later;
+    }
+    (text, "")
+}
+
+/// What stands in a line of the requests.
+#[derive(Clone, Copy, Debug, PartialEq, Eq)]
+pub enum Entry {
+    /// A request: the next one of the jobs.
+    Request,
+    /// No request.
+    Bad(UriRefusal),
+}
+
+/// The requests of a text.
+#[derive(Drop)]
+pub struct Requests {
+    /// What stands in each line.
+    pub entries: Vec<Entry>,
+    /// The jobs of those that are requests.
+    pub jobs: Vec<Job>,
+}
+
+/// The job of a request, whose number is that of its line.
+fn job_of(number: u64, request: Request) -> Job
+    ensures { (line : List ℕ) → RequestText line request → IsJob number line result }
+{
+    Job {
+        number,
+        request,
+        caps: own_caps(Families::V4ThenV6),
+        words: own_words(number),
+    }
+}
+
+/// What stands in the line of this number. The job of a request is added to the others.
+fn read_entry(
+    alloc: Global,
+    number: u64,
+    line: &str,
+    jobs: &mut Vec<Job>,
+) -> Result<Entry, RunRefusal>
+    ensures entry { IfOk result (IsEntry number line.now jobs.old.items jobs.new.items) }
+    ensures refused { IfErr result (λ refusal. refusal ≢ NoThread) }
+    ensures full { IfErr result (λ refusal. refusal ≡ BadCount → 10000 ≤ length jobs.old.items) }
+{
+    match read_request(alloc, line) {
+        Ok(request) if jobs.len() < REQUEST_LIMIT => {
+            jobs.push(job_of(number, request))?;
+            Ok(Entry::Request)
+        }
+        Ok(_) => Err(RunRefusal::BadCount),
+        Err(UriRefusal::Memory) => Err(RunRefusal::Memory),
+        Err(refusal) => Ok(Entry::Bad(refusal)),
+    }
+}
+
+/// The requests of a text, whose lines are numbered from 1.
+///
+/// `BadCount` where there are over 10,000, `Memory` where memory was refused.
+pub fn read_requests(alloc: Global, text: &str) -> Result<Requests, RunRefusal>
+    ensures entries { IfOk result (λ requests.
+        AreEntries 1 (lines text.now) requests.entries.items requests.jobs.items) }
+{
+    let mut entries = Vec::new(alloc);
+    let mut jobs = Vec::new(alloc);
+    'lines: for (at, line) in text.lines().enumerate() {
+        entries.push(read_entry(alloc, at as u64 + 1, line, &mut jobs)?)?;
+    }
+    Ok(Requests { entries, jobs })
+}

@@ -1,0 +1,45 @@
+//! Many requests at once, from their text to what is printed.
+ghost use Rattle.std.specs.Prelude.{◌≤◌, IfOk};
+ghost use Rattle.std.specs.List.{All};
+ghost use Rattle.std.specs.String.{string_bytes};
+ghost use Rattle.answer_cache.specs.Shared.{Belongs};
+ghost use Rattle.siplocate.specs.Runs.{IsRun};
+
+use crate::fate::{fates_of, printed, status};
+use crate::requests::{Requests, read_requests};
+use answer_cache::{Seat, SharedCache};
+use dns_asker::{Clock, Wire};
+use sip_workers::{Gate, RunRefusal, run_workers};
+use std::alloc::Global;
+use std::sync::Wait;
+use std::thread::Threads;
+
+/// How many requests a worker takes at a time.
+const BATCH: usize = 8;
+
+/// What is printed of the requests of a text, and the status, where a worker for each seat asks over
+/// a wire of its own.
+pub fn run_text<R: Threads + Wait + Sync, W: Wire + Drop + Send, C: Clock + Sync, G: Gate + Sync>(
+    rt: &R,
+    alloc: Global,
+    text: &str,
+    cache: &SharedCache,
+    seats: Vec<Seat>,
+    wires: Vec<W>,
+    clock: &C,
+    gate: &G,
+) -> Result<(String, u8), RunRefusal>
+    requires made_here { All (Belongs cache.now) seats.items }
+    ensures run { IfOk result (λ told.
+        IsRun W.gives C.shows cache.now text.now (string_bytes told.0) told.1) }
+    ensures range { IfOk result (λ told. told.1 ≤ 5) }
+{
+    let Requests { entries, jobs } = read_requests(alloc, text)?;
+    let made = run_workers(rt, alloc, cache, seats, wires, jobs, BATCH, clock, gate)?;
+    let fates = fates_of(alloc, entries, made)?;
+    let lines = printed(alloc, fates.as_slice())?;
+    Ok((lines, status(fates.as_slice())))
+}
+
+#[cfg(test)]
+pub(crate) mod tests;

@@ -1,0 +1,236 @@
+//! A run over UDP, to a server on this host that answers from a zone.
+ghost use Rattle.std.specs.Prelude.{◌≡◌, ◌≢◌, ◌≤◌, IfErr, IfOk, length};
+ghost use Rattle.std.specs.IoError.{error_kind};
+ghost use Rattle.std.specs.Str.Lines.{lines};
+ghost use Rattle.std.specs.String.{string_bytes};
+ghost use Rattle.siplocate.specs.Jobs as spec;
+ghost use Rattle.siplocate.specs.Served.{FitsWorkers, IsAsked, IsBadZone, IsServed, of_cache, of_io, of_run};
+ghost use Rattle.siplocate.specs.declared.server.RunFault.TheVariants as faults;
+ghost use Rattle.dns_zone.specs.Refusals.{RefusedFor};
+
+use crate::clock::SystemClock;
+use crate::job::Told;
+use crate::requests::parts;
+use crate::run::run_text;
+use crate::udp::{UdpServerWire, UdpWire};
+use answer_cache::{CacheRefusal, SharedCache};
+use dns_asker::serve;
+use dns_zone::{Zone, ZoneRefusal};
+use sip_workers::{Gate, RunRefusal};
+use std::alloc::{AllocError, AllocFailed, Global};
+use std::io::{self, ErrorKind};
+use std::net::{Ipv4Addr, Net, SocketAddr};
+use std::sync::Wait;
+use std::sync::atomic::{AtomicBool, Ordering};
+use std::thread::{self, Threads};
+use std::time::Clock;
+use thiserror::Error;
+
+/// The status where the zone is none.
+const BAD_ZONE_STATUS: u8 = 3;
+
+/// Why nothing becomes of a run.
+#[derive(Clone, Copy, Debug, PartialEq, Eq, Error)]
+pub enum RunFault {
+    /// No run has so many workers.
+    #[error("a run has 1 to 64 workers")]
+    Workers,
+    /// There are too many requests.
+    #[error("a run has 10,000 requests at most")]
+    Requests,
+    /// Memory was refused.
+    #[error("out of memory")]
+    Memory,
+    /// A thread could not be made.
+    #[error("a thread could not be made")]
+    Thread,
+    /// A socket could not be opened.
+    #[error("a socket could not be opened")]
+    Net,
+}
+
+impl From<AllocError> for RunFault {
+    ghost from_gives = { λ _ fault. fault ≡ faults.Memory };
+
+    fn from(_: AllocError) -> RunFault {
+        RunFault::Memory
+    }
+}
+
+impl<T: Drop> From<AllocFailed<T>> for RunFault {
+    ghost from_gives = { λ _ fault. fault ≡ faults.Memory };
+
+    fn from(_: AllocFailed<T>) -> RunFault {
+        RunFault::Memory
+    }
+}
+
+impl From<io::Error> for RunFault {
+    ghost from_gives = { λ error fault. fault ≡ of_io (error_kind error) };
+
+    fn from(error: io::Error) -> RunFault {
+        match error.kind() {
+            ErrorKind::OutOfMemory => RunFault::Memory,
+            _ => RunFault::Net,
+        }
+    }
+}
+
+impl From<CacheRefusal> for RunFault {
+    ghost from_gives = { λ refusal fault. fault ≡ of_cache refusal };
+
+    fn from(refusal: CacheRefusal) -> RunFault {
+        match refusal {
+            CacheRefusal::BadCount => RunFault::Workers,
+            CacheRefusal::Memory => RunFault::Memory,
+        }
+    }
+}
+
+impl From<RunRefusal> for RunFault {
+    ghost from_gives = { λ refusal fault. fault ≡ of_run refusal };
+
+    fn from(refusal: RunRefusal) -> RunFault {
+        match refusal {
+            RunRefusal::BadCount => RunFault::Requests,
+            RunRefusal::NoThread => RunFault::Thread,
+            RunRefusal::Memory => RunFault::Memory,
+        }
+    }
+}
+
+/// A gate that holds nothing up.
+#[derive(Drop)]
+struct OpenGate;
+
+impl Gate for OpenGate {
+    fn begun(&self, _number: u64) {}
+
+    fn answered(&self, _number: u64) {}
+}
+
+/// So many wires to a server.
+fn wires_to<R: Net>(
+    rt: &R,
+    alloc: Global,
+    server: SocketAddr,
+    count: usize,
+) -> Result<Vec<UdpWire>, RunFault>
+    ensures all { IfOk result (λ wires. length wires.items ≡ count) }
+    ensures refused { IfErr result (λ fault. fault ≢ RunFault.Workers) }
+{
+    let mut wires = Vec::new(alloc);
+    'wires: for _wire in 0..count {
+        wires.push(UdpWire::connect(rt, server)?)?;
+    }
+    Ok(wires)
+}
+
+/// What is printed of the requests of a text, and the status, where so many workers ask a server.
+fn run_to_server<R: Net + Threads + Wait + Clock + Sync>(
+    rt: &R,
+    alloc: Global,
+    server: SocketAddr,
+    workers: usize,
+    requests: &str,
+) -> Result<(String, u8), RunFault>
+    ensures asked { IfOk result (λ told. IsAsked requests.now (string_bytes told.0) told.1) }
+    ensures refused { IfErr result (FitsWorkers workers) }
+    ensures range { IfOk result (λ told. told.1 ≤ 5) }
+{
+    let (cache, seats) = SharedCache::new(alloc, workers)?;
+    let wires = wires_to(rt, alloc, server, workers)?;
+    let clock = SystemClock::new(rt);
+    Ok(run_text(rt, alloc, requests, &cache, seats, wires, &clock, &OpenGate)?)
+}
+
+/// What is printed of the requests of a text, and the status, where so many workers ask a server
+/// on this host, which answers from a zone as long as they run.
+fn run_over_zone<R: Net + Threads + Wait + Clock + Sync>(
+    rt: &R,
+    alloc: Global,
+    workers: usize,
+    zone: &Zone,
+    requests: &str,
+) -> Result<(String, u8), RunFault>
+    ensures asked { IfOk result (λ told. IsAsked requests.now (string_bytes told.0) told.1) }
+    ensures refused { IfErr result (FitsWorkers workers) }
+    ensures range { IfOk result (λ told. told.1 ≤ 5) }
+{
+    let mut wire = UdpServerWire::bind(rt, SocketAddr::from((Ipv4Addr::LOCALHOST, 0)))?;
+    let address = wire.address()?;
+    let stop = AtomicBool::new(false);
+    thread::scope(
+        thread::scope_env(),
+        rt,
+        |scope| -> Result<(String, u8), RunFault>
+            ensures asked { IfOk result (λ told.
+                IsAsked requests.entry.now (string_bytes told.0) told.1) }
+            ensures refused { IfErr result (FitsWorkers workers) }
+            ensures range { IfOk result (λ told. told.1 ≤ 5) }
+        {
+            let _server = scope
+                .spawn(|| serve(rt, alloc, &mut wire, zone, &stop))
+                .map_err(|_| RunFault::Thread)?;
+            let told = run_to_server(rt, alloc, address, workers, requests);
+            stop.store(true, Ordering::SeqCst);
+            told
+        },
+    )
+}
+
+/// What is told of a text that is no zone.
+fn tell_bad_zone(alloc: Global, zone: &str, refusal: ZoneRefusal) -> Result<(String, u8), RunFault>
+    requires refused { RefusedFor refusal (lines zone.now) }
+    ensures bad { IfOk result (λ told. (told.1 ≡ 3) × IsBadZone zone.now (string_bytes told.0)) }
+    ensures refused { IfErr result (λ fault. fault ≡ RunFault.Memory) }
+    ensures range { IfOk result (λ told. told.1 ≤ 5) }
+{
+    let line = match refusal {
+        ZoneRefusal::BadLine(number) => format!(in alloc; "bad zone {number}\n")?,
+        ZoneRefusal::TooMany => String::from_str(alloc, "bad zone TooMany\n")?,
+        ZoneRefusal::Memory => return Err(RunFault::Memory),
+    };
+    Ok((line, BAD_ZONE_STATUS))
+}
+
+/// What is printed of a zone and requests, and the status, with so many workers.
+fn run_both<R: Net + Threads + Wait + Clock + Sync>(
+    rt: &R,
+    alloc: Global,
+    workers: usize,
+    text: &str,
+) -> Result<(String, u8), RunFault>
+    ensures served { IfOk result (λ told. IsServed text.now (string_bytes told.0) told.1) }
+    ensures refused { IfErr result (FitsWorkers workers) }
+    ensures range { IfOk result (λ told. told.1 ≤ 5) }
+{
+    let (zone, requests) = parts(text);
+    match Zone::read(alloc, zone) {
+        Ok(records) => run_over_zone(rt, alloc, workers, &records, requests),
+        Err(refusal) => tell_bad_zone(alloc, zone, refusal),
+    }
+}
+
+/// What is told of a zone and requests, with so many workers.
+pub fn tell_run<R: Net + Threads + Wait + Clock + Sync>(
+    rt: &R,
+    alloc: Global,
+    workers: usize,
+    text: &str,
+) -> Told
+    ensures told { spec.TellsRun workers text.now result }
+    ensures range { spec.status result ≤ 5 }
+{
+    match run_both(rt, alloc, workers, text) {
+        Ok((printed, status)) => Told::Text(printed, status),
+        Err(RunFault::Workers) => Told::Usage,
+        Err(RunFault::Requests) => Told::NoInput,
+        Err(RunFault::Memory) => Told::NoMemory,
+        Err(RunFault::Thread) => Told::NoThread,
+        Err(RunFault::Net) => Told::NoNet,
+    }
+}
+
+#[cfg(test)]
+mod tests;
