@@ -1,5 +1,5 @@
 -- Of nine ids one is free where eight tickets are open; and how many may be open stays so.
-use Rattle.std.proofs.Common.{◌≡◌, ◌≢◌, inl, inr, ℕ, ◌+◌, ◌<◌, ◌≤◌, List, [], ◌∷◌, length, Option, None, Some, IsSome, refl, sym, ap, ◌∙◌, arith}
+use Rattle.std.proofs.Common.{◌≡◌, ◌≢◌, inl, inr, ℕ, ◌+◌, ◌%◌, ◌<◌, ◌≤◌, List, [], ◌∷◌, length, Option, None, Some, IsSome, refl, sym, ap, ◌∙◌, arith}
 use Rattle.std.proofs.lemmas.Bool.Decides.{eqb_tells}
 use Rattle.dns_asker.specs.Events.{Dues}
 use Rattle.dns_asker.specs.Tickets.{Asking, Ticket, ticket_of, without}
@@ -40,35 +40,38 @@ other-stands id other (ticket ∷ later) apart =
       ]
     ]
 
--- tickets, those of the ids from the first one up to this one taken away: each was open
-pub record AreOpen (tickets : List Ticket) (first id : ℕ) : Type 0 where
+-- so many steps behind an id
+abbrev pub behind : ℕ → ℕ → ℕ
+behind first step = (first + step) % 65536
+
+-- tickets, those of so many ids from the first one on taken away: each was open
+pub record AreOpen (tickets : List Ticket) (first steps : ℕ) : Type 0 where
   pub others : List Ticket
-  pub few : length others + id ≤ first + 8
-  pub same : (other : ℕ) → id ≤ other → ticket_of other others ≡ ticket_of other tickets
+  pub few : length others + steps ≤ 8
+  pub same : (step : ℕ) → steps ≤ step → step ≤ 8 → ticket_of (behind first step) others ≡ ticket_of (behind first step) tickets
 
-pub open-none : (tickets : List Ticket) (first : ℕ) → length tickets ≤ 8 → AreOpen tickets first first
-open-none tickets first few = record { others = tickets; few = omega arith; same = λ other behind. refl }
+pub open-none : (tickets : List Ticket) (first : ℕ) → length tickets ≤ 8 → AreOpen tickets first 0
+open-none tickets first few = record { others = tickets; few = omega arith; same = λ step l m. refl }
 
-pub open-one : (tickets : List Ticket) (first id : ℕ) → AreOpen tickets first id → IsSome (ticket_of id tickets)
-    → AreOpen tickets first (id + 1)
-open-one tickets first id it found =
-    let fewer = shorter id it.others (rw (it.same id (omega arith)) found) in
+pub open-one : (tickets : List Ticket) (first steps : ℕ) → AreOpen tickets first steps
+    → IsSome (ticket_of (behind first steps) tickets) → AreOpen tickets first (steps + 1)
+open-one tickets first steps it found =
     let few = it.few in
+    let fewer = shorter (behind first steps) it.others (rw (it.same steps (omega arith) (omega (arith, few))) found) in
     record {
-      others = without id it.others;
-      few = omega arith;
-      same = λ other behind. other-stands id other it.others (λ is. absurd (omega (arith, is, behind)))
-          ∙ it.same other (omega (arith, behind));
+      others = without (behind first steps) it.others;
+      few = omega (arith, few, fewer);
+      same = λ step l m. other-stands (behind first steps) (behind first step) it.others (λ is. absurd (omega (arith, is, l, m)))
+          ∙ it.same step (omega (arith, l)) m;
     }
 
 -- where eight are open, the ninth is free
-pub ninth-free : (tickets : List Ticket) (first id : ℕ) → AreOpen tickets first id → first + 8 ≤ id
-    → ticket_of (first + 8) tickets ≡ None
-ninth-free tickets first id it all =
+pub ninth-free : (tickets : List Ticket) (first : ℕ) → AreOpen tickets first 8 → ticket_of (behind first 8) tickets ≡ None
+ninth-free tickets first it =
     let few = it.few in
-    sym (it.same (first + 8) (omega arith)) ∙ none it.others (omega arith)
+    sym (it.same 8 (omega arith) (omega arith)) ∙ none it.others (omega (arith, few))
   where
-    none : (others : List Ticket) → length others ≡ 0 → ticket_of (first + 8) others ≡ None
+    none : (others : List Ticket) → length others ≡ 0 → ticket_of (behind first 8) others ≡ None
     none [] empty = refl
     none (ticket ∷ later) empty = absurd (omega (arith, empty))
 

@@ -28,9 +28,6 @@ use std::sync::Wait;
 /// How many questions a worker has out at once.
 const ASKER_LIMIT: usize = 8;
 
-/// The last id that has eight behind it.
-const LAST_FIRST: u16 = u16::MAX - 8;
-
 /// A seat at a shared cache, with a wire to a DNS server.
 #[derive(Drop)]
 pub struct Worker<W> {
@@ -73,21 +70,21 @@ fn receive<W: Wire>(wire: &mut W, buffer: &mut [u8; DATAGRAM_LIMIT]) -> Option<u
     wire.receive(buffer).unwrap_or(None)
 }
 
-/// An id that no question is out under: this one or one of the eight behind it, where there are so
-/// many, and else one of the first nine.
-fn free_id(asker: &Asker, next: u16) -> u16
+/// An id that no question is out under: this one or one of the eight behind it. Behind 65,535 stands
+/// 0.
+fn free_id(asker: &Asker, first: u16) -> u16
     requires { asker.now.limit ≤ 8 }
     ensures { ticket_of result asker.now.tickets ≡ None }
 {
     asker.stands_in_order();
-    let first = if next <= LAST_FIRST { next } else { 0 };
-    let last = first + 8;
-    'ids: for id in first..last {
+    let mut id = first;
+    'ids: for _step in 0..ASKER_LIMIT {
         if !asker.is_open(id) {
             return id;
         }
+        id = id.wrapping_add(1);
     }
-    last
+    id
 }
 
 /// The place of the request that waits for the answer to this question under this id.
