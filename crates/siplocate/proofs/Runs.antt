@@ -1,14 +1,21 @@
 -- The requests of a text, and what becomes of them.
-use Rattle.std.proofs.Common.{◌≡◌, ℕ, ◌+◌, ◌<◌, List, [], ◌∷◌, ◌++◌, length, drop, get_or, sym, ap, ◌∙◌, arith}
+use Rattle.std.proofs.Common.{◌≡◌, ◌≢◌, ℕ, zero, suc, ◌+◌, ◌<◌, ◌≤◌, List, [], ◌∷◌, ◌++◌, length, drop, get_or, slice_index_or, inl, inr, refl, sym, ap, ◌∙◌, arith}
 use Rattle.std.specs.List.{AllZip, enumerate_from}
 use Rattle.std.proofs.lemmas.List.FromFn.{length-enumerate_from, get_or-enumerate_from}
-use Rattle.std.proofs.lemmas.List.{append_assoc, append-nil, drop_more}
+use Rattle.std.proofs.lemmas.List.{append_assoc, append-nil, drop_more, length-append}
 use Rattle.std.proofs.Math.Seq.{drop-length}
 use Rattle.answer_cache.specs.Shared.{CacheView, Told}
-use Rattle.sip_workers.specs.Runs.{IsMade}
 use Rattle.sip_workers.specs.declared.job.Job.{Job}
 use Rattle.sip_workers.specs.declared.outcome.Outcome.{Outcome}
-use Rattle.siplocate.specs.Runs.{AreEntries, AreFates, IsEntry, fates_of}
+use Rattle.sip_workers.specs.declared.refusal.RunRefusal.{RunRefusal}
+use Rattle.sip_workers.specs.declared.refusal.RunRefusal.TheVariants.{BadCount, NoThread, Memory}
+use Rattle.std.specs.Str.Lines.{lines}
+use Rattle.sip_workers.specs.Runs.{IsMade, MayRun, RefusesRun, Rises}
+use Rattle.siplocate.specs.Runs.{AreEntries, AreFates, FitsSeats, HasRequests, HasTooMany, IsEntry, IsRequest, RefusesText, fates_of}
+use Rattle.siplocate.specs.Jobs.{TellsRun, faulted}
+use Rattle.siplocate.specs.Served.{Faults, IsCountOfWorkers, IsOverfull, of_run}
+use Rattle.siplocate.specs.declared.server.RunFault.{RunFault}
+use Rattle.siplocate.specs.declared.server.RunFault.TheVariants as fault
 use Rattle.siplocate.specs.declared.requests.Entry.{Entry}
 use Rattle.siplocate.specs.declared.requests.Entry.TheVariants as entry
 
@@ -42,6 +49,160 @@ one_more lines count line entries jobs after (entry.Bad refusal) l is has (no_re
     drop_more lines count line l ∙ ap (λ (x : List ℕ). x ∷ drop (count + 1) lines) (sym is) in
     let all = has (entry.Bad refusal ∷ more) others (rw rest (no_request, are)) in
     rw (append_assoc entries (entry.Bad refusal ∷ []) more, after_is) all
+
+-- ---- how many requests there are
+
+no_successor : (n : ℕ) → suc n ≤ 0 → ⊥
+no_successor n l = omega (arith, l)
+
+none_of_none : 0 < 0 → ⊥
+none_of_none l = omega (arith, l)
+
+pub fewer : (lines : List (List ℕ)) (count less : ℕ) → less ≤ count → HasRequests count lines → HasRequests less lines
+fewer lines count zero l has = tt
+fewer lines zero (suc less) l has = elim (no_successor less l) [ ]
+fewer [] (suc count) (suc less) l has = elim has [ ]
+fewer (line ∷ lines) (suc count) (suc less) l (inl (is, others)) = inl (is, fewer lines count less (omega (arith, l)) others)
+fewer (line ∷ lines) (suc count) (suc less) l (inr others) = inr (fewer lines (suc count) (suc less) l others)
+
+-- a line more holds no fewer
+pub passed : (line : List ℕ) (lines : List (List ℕ)) (count : ℕ) → HasRequests count lines → HasRequests count (line ∷ lines)
+passed line lines zero has = tt
+passed line lines (suc count) has = inr has
+
+-- the jobs of lines are as many as their requests
+pub no_more : (number : ℕ) (lines : List (List ℕ)) (entries : List Entry) (jobs : List Job) (count : ℕ)
+    → AreEntries number lines entries jobs → HasRequests count lines → count ≤ length jobs
+no_more number lines entries jobs zero are has = omega (arith)
+no_more number [] entries jobs (suc count) are has = elim has [ ]
+no_more number (line ∷ lines) [] jobs (suc count) are has = elim are [ ]
+no_more number (line ∷ lines) (entry.Request ∷ entries) [] (suc count) are has = elim are [ ]
+no_more number (line ∷ lines) (entry.Request ∷ entries) (job ∷ jobs) (suc count) are (inl (is, others)) =
+    let less = no_more (number + 1) lines entries jobs count are.1 others in
+    omega (arith, less)
+no_more number (line ∷ lines) (entry.Request ∷ entries) (job ∷ jobs) (suc count) are (inr others) =
+    let less = no_more (number + 1) lines entries jobs (suc count) are.1 others in
+    omega (arith, less)
+no_more number (line ∷ lines) (entry.Bad refusal ∷ entries) jobs (suc count) are (inl (is, others)) =
+    elim (are.0.none is.0 is.1) [ ]
+no_more number (line ∷ lines) (entry.Bad refusal ∷ entries) jobs (suc count) are (inr others) =
+    no_more (number + 1) lines entries jobs (suc count) are.1 others
+
+pub not_too_many : (text : List ℕ) (entries : List Entry) (jobs : List Job)
+    → AreEntries 1 (lines text) entries jobs → length jobs ≤ 10000 → HasTooMany text → ⊥
+not_too_many text entries jobs are few many =
+    let less = no_more 1 (lines text) entries jobs 10001 are many in
+    omega (arith, few, less)
+
+-- so many lines have been read: the jobs so far and the requests in the others are requests of all
+abbrev pub HasCounted : List (List ℕ) → ℕ → List Job → Type 0
+HasCounted lines count jobs = (more : ℕ) → HasRequests more (drop count lines) → HasRequests (length jobs + more) lines
+
+add_zero_left : (n : ℕ) → 0 + n ≡ n
+add_zero_left n = omega (arith)
+
+pub nothing_counted : (lines : List (List ℕ)) → HasCounted lines 0 []
+nothing_counted lines = λ more has. rw (add_zero_left more) has
+
+pub one_more_counted : (lines : List (List ℕ)) (count number : ℕ) (line : List ℕ) (jobs after : List Job) (one : Entry)
+    → count < length lines → line ≡ get_or lines count line → HasCounted lines count jobs
+    → IsEntry number line jobs after one → HasCounted lines (count + 1) after
+one_more_counted lines count number line jobs after entry.Request l is has (job, job_is, after_is) = λ more others.
+    let rest : drop count lines ≡ line ∷ drop (count + 1) lines =
+    drop_more lines count line l ∙ ap (λ (x : List ℕ). x ∷ drop (count + 1) lines) (sym is) in
+    let all = has (suc more) (rw rest (inl ((job.request, job_is.spelled), others))) in
+    let sum : length after + more ≡ length jobs + suc more =
+    omega (arith, ap length after_is, length-append jobs (job ∷ [])) in
+    rw sum all
+one_more_counted lines count number line jobs after (entry.Bad refusal) l is has (no_request, after_is) = λ more others.
+    let rest : drop count lines ≡ line ∷ drop (count + 1) lines =
+    drop_more lines count line l ∙ ap (λ (x : List ℕ). x ∷ drop (count + 1) lines) (sym is) in
+    rw after_is (has more (rw rest (passed line (drop (count + 1) lines) more others)))
+
+-- a request where there are as many jobs as there may be
+pub one_too_many : (lines : List (List ℕ)) (count : ℕ) (line : List ℕ) (jobs : List Job)
+    → count < length lines → line ≡ get_or lines count line → HasCounted lines count jobs → IsRequest line
+    → HasRequests (length jobs + 1) lines
+one_too_many lines count line jobs l is has request =
+    let rest : drop count lines ≡ line ∷ drop (count + 1) lines =
+    drop_more lines count line l ∙ ap (λ (x : List ℕ). x ∷ drop (count + 1) lines) (sym is) in
+    has 1 (rw rest (inl (request, tt)))
+
+-- ---- the numbers of the jobs
+
+-- they are no less than that of the first line
+pub begins : (number : ℕ) (lines : List (List ℕ)) (entries : List Entry) (jobs : List Job) (other : Job)
+    → AreEntries number lines entries jobs → 0 < length jobs → number ≤ (slice_index_or jobs 0 other).number
+begins number [] [] [] other are l = elim (none_of_none l) [ ]
+begins number [] [] (job ∷ jobs) other are l = elim are [ ]
+begins number [] (one ∷ entries) jobs other are l = elim are [ ]
+begins number (line ∷ lines) [] jobs other are l = elim are [ ]
+begins number (line ∷ lines) (entry.Request ∷ entries) [] other are l = elim are [ ]
+begins number (line ∷ lines) (entry.Request ∷ entries) (job ∷ jobs) other are l = omega (arith, are.0.numbered)
+begins number (line ∷ lines) (entry.Bad refusal ∷ entries) jobs other are l =
+    let later = begins (number + 1) lines entries jobs other are.1 l in
+    omega (arith, later)
+
+not_below : (k : ℕ) → k + 1 < 0 → ⊥
+not_below k l = omega (arith, l)
+
+-- they rise
+pub rise : (number : ℕ) (lines : List (List ℕ)) (entries : List Entry) (jobs : List Job)
+    → AreEntries number lines entries jobs → Rises jobs
+rise number [] [] [] are k other l = elim (not_below k l) [ ]
+rise number [] [] (job ∷ jobs) are k other l = elim are [ ]
+rise number [] (one ∷ entries) jobs are k other l = elim are [ ]
+rise number (line ∷ lines) [] jobs are k other l = elim are [ ]
+rise number (line ∷ lines) (entry.Request ∷ entries) [] are k other l = elim are [ ]
+rise number (line ∷ lines) (entry.Request ∷ entries) (job ∷ jobs) are zero other l =
+    let later = begins (number + 1) lines entries jobs other are.1 (omega (arith, l)) in
+    omega (arith, later, are.0.numbered)
+rise number (line ∷ lines) (entry.Request ∷ entries) (job ∷ jobs) are (suc k) other l =
+    let next : suc k + 1 ≡ suc (k + 1) = omega (arith) in
+    rw next (rise (number + 1) lines entries jobs are.1 k other (omega (arith, l)))
+rise number (line ∷ lines) (entry.Bad refusal ∷ entries) jobs are k other l =
+    rise (number + 1) lines entries jobs are.1 k other l
+
+-- ---- why nothing becomes of them
+
+pub refuses_reading : (text : List ℕ) (seats wires : ℕ) (refusal : RunRefusal)
+    → (refusal ≡ BadCount → HasTooMany text) → refusal ≢ NoThread → RefusesText text seats wires refusal
+refuses_reading text seats wires BadCount full never = inl (full refl)
+refuses_reading text seats wires NoThread full never = elim (never refl) [ ]
+refuses_reading text seats wires Memory full never = tt
+
+pub refuses_running : (text : List ℕ) (seats wires : ℕ) (entries : List Entry) (jobs : List Job)
+    → AreEntries 1 (lines text) entries jobs → length jobs ≤ 10000
+    → (refusal : RunRefusal) → RefusesRun (MayRun seats wires jobs 8) refusal → RefusesText text seats wires refusal
+refuses_running text seats wires entries jobs are few BadCount refused = inr (λ fits. refused (record {
+  some = fits.0;
+  alike = fits.1;
+  full = omega (arith);
+  small = omega (arith);
+  rises = rise 1 (lines text) entries jobs are;
+  few = few;
+}))
+refuses_running text seats wires entries jobs are few NoThread may =
+    ((may.some, may.alike), not_too_many text entries jobs are few)
+refuses_running text seats wires entries jobs are few Memory may = tt
+
+-- where there is a wire for each of so many workers, only too many requests are refused as that
+pub faults_of : (workers : ℕ) (text : List ℕ) (seats wires : ℕ) (refusal : RunRefusal)
+    → FitsSeats seats wires → RefusesText text seats wires refusal → Faults workers text (of_run refusal)
+faults_of workers text seats wires BadCount fits (inl many) = many
+faults_of workers text seats wires BadCount fits (inr unfit) = elim (unfit fits) [ ]
+faults_of workers text seats wires NoThread fits refused = tt
+faults_of workers text seats wires Memory fits refused = tt
+
+-- what is told of a fault
+pub tells_fault : (workers : ℕ) (text : List ℕ) (it : RunFault)
+    → (it ≡ fault.Workers → IsCountOfWorkers workers → ⊥) → (it ≡ fault.Requests → IsOverfull text)
+    → TellsRun workers text (faulted it)
+tells_fault workers text fault.Workers unfit many = unfit refl
+tells_fault workers text fault.Requests unfit many = many refl
+tells_fault workers text fault.Memory unfit many = tt
+tells_fault workers text fault.Thread unfit many = tt
+tells_fault workers text fault.Net unfit many = tt
 
 -- ---- what becomes of them
 

@@ -11,7 +11,9 @@ use Rattle.siplocate.specs.declared.job.Told.{Told}
 use Rattle.siplocate.specs.declared.job.Told.TheVariants.{Text, Usage, NoInput, NoMemory, NoThread, NoNet}
 use Rattle.sip_selection.specs.Choice.{Resolution}
 use Rattle.siplocate.specs.Requests.{LocatesTo}
-use Rattle.siplocate.specs.Served.{IsCountOfWorkers, IsServed}
+use Rattle.siplocate.specs.Served.{IsCountOfWorkers, IsOverfull, IsServed}
+use Rattle.siplocate.specs.declared.server.RunFault.{RunFault}
+use Rattle.siplocate.specs.declared.server.RunFault.TheVariants as fault
 use Rattle.siplocate.specs.Words as words
 
 -- of the request in a text: what becomes of it, or else what is wrong
@@ -36,10 +38,18 @@ TellsText families text NoNet = ⊥
 abbrev pub TellsRun : ℕ → List ℕ → Told → Type 0
 TellsRun workers text (Text printed status) = IsServed text (string_bytes printed) status
 TellsRun workers text Usage = IsCountOfWorkers workers → ⊥
-TellsRun workers text NoInput = ⊤
+TellsRun workers text NoInput = IsOverfull text
 TellsRun workers text NoMemory = ⊤
 TellsRun workers text NoThread = ⊤
 TellsRun workers text NoNet = ⊤
+
+-- what is told where nothing becomes of a run
+abbrev pub faulted : RunFault → Told
+faulted fault.Workers = Usage
+faulted fault.Requests = NoInput
+faulted fault.Memory = NoMemory
+faulted fault.Thread = NoThread
+faulted fault.Net = NoNet
 
 -- what is told of an input that was not taken
 abbrev pub refused : InputRefusal → Told

@@ -1,5 +1,5 @@
 -- Many requests at once: what stands in their lines, and what becomes of each.
-use Rattle.std.specs.Prelude.{◌≡◌, ◌≢◌, ◌+◌, ◌++◌, ⊤, ℕ, List, [], ◌∷◌, replicate}
+use Rattle.std.specs.Prelude.{◌≡◌, ◌≢◌, ◌+◌, ◌<◌, ◌⊎◌, ◌++◌, ⊤, ℕ, zero, suc, List, [], ◌∷◌, replicate}
 use Rattle.std.specs.Str.Lines.{lines}
 use Rattle.answer_cache.specs.Shared.{CacheView, Told}
 use Rattle.sip_selection.specs.declared.caps.Families.TheVariants.{V4ThenV6}
@@ -9,6 +9,8 @@ use Rattle.sip_uri.specs.declared.refusal.UriRefusal.TheVariants as uri
 use Rattle.sip_workers.specs.Runs.{IsMade}
 use Rattle.sip_workers.specs.declared.job.Job.{Job}
 use Rattle.sip_workers.specs.declared.outcome.Outcome.{Outcome}
+use Rattle.sip_workers.specs.declared.refusal.RunRefusal.{RunRefusal}
+use Rattle.sip_workers.specs.declared.refusal.RunRefusal.TheVariants.{BadCount, NoThread, Memory}
 use Rattle.siplocate.specs.Draws.{drawn}
 use Rattle.siplocate.specs.Outcomes.{shown_from, status_of_all}
 use Rattle.siplocate.specs.Requests.{RequestText}
@@ -45,6 +47,32 @@ AreEntries number (line ∷ lines) (entry.Request ∷ entries) (job ∷ jobs) =
 AreEntries number (line ∷ lines) (entry.Bad refusal ∷ entries) jobs =
     IsNoRequest line refusal × AreEntries (number + 1) lines entries jobs
 AreEntries number lines entries jobs = ⊥
+
+-- ---- how many requests there are
+
+-- this is a request
+abbrev pub IsRequest : List ℕ → Type 0
+IsRequest line = (request : Request) × RequestText line request
+
+-- so many of these lines are requests, or more
+abbrev pub HasRequests : ℕ → List (List ℕ) → Type 0
+HasRequests zero lines = ⊤
+HasRequests (suc count) [] = ⊥
+HasRequests (suc count) (line ∷ lines) = (IsRequest line × HasRequests count lines) ⊎ HasRequests (suc count) lines
+
+-- a text has more requests than a run takes
+abbrev pub HasTooMany : List ℕ → Type 0
+HasTooMany text = HasRequests 10001 (lines text)
+
+-- there are seats, with a wire for each
+abbrev pub FitsSeats : ℕ → ℕ → Type 0
+FitsSeats seats wires = (0 < seats) × (wires ≡ seats)
+
+-- The counts are bad only where there are too many requests, or the wires do not fit the seats.
+abbrev pub RefusesText : List ℕ → ℕ → ℕ → RunRefusal → Type 0
+RefusesText text seats wires BadCount = HasTooMany text ⊎ (FitsSeats seats wires → ⊥)
+RefusesText text seats wires NoThread = FitsSeats seats wires × (HasTooMany text → ⊥)
+RefusesText text seats wires Memory = ⊤
 
 -- ---- what becomes of it
 

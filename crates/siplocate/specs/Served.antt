@@ -15,7 +15,7 @@ use Rattle.dns_zone.specs.declared.refusal.ZoneRefusal.TheVariants as zone
 use Rattle.sip_workers.specs.declared.refusal.RunRefusal.{RunRefusal}
 use Rattle.sip_workers.specs.declared.refusal.RunRefusal.TheVariants as run
 use Rattle.siplocate.specs.Parts.{AreParts}
-use Rattle.siplocate.specs.Runs.{IsRun}
+use Rattle.siplocate.specs.Runs.{HasTooMany, IsRun}
 use Rattle.siplocate.specs.declared.server.RunFault.{RunFault}
 use Rattle.siplocate.specs.declared.server.RunFault.TheVariants.{Workers, Requests, Memory, Thread, Net}
 
@@ -38,20 +38,28 @@ of_run run.Memory = Memory
 abbrev pub IsCountOfWorkers : ℕ → Type 0
 IsCountOfWorkers workers = (1 ≤ workers) × (workers ≤ 64)
 
--- only a wrong number of workers is refused as one
-abbrev pub FitsWorkers : ℕ → RunFault → Type 0
-FitsWorkers workers Workers = IsCountOfWorkers workers → ⊥
-FitsWorkers workers Requests = ⊤
-FitsWorkers workers Memory = ⊤
-FitsWorkers workers Thread = ⊤
-FitsWorkers workers Net = ⊤
+-- only a wrong number of workers is refused as one, and only too many requests are
+abbrev pub Faults : ℕ → List ℕ → RunFault → Type 0
+Faults workers requests Workers = IsCountOfWorkers workers → ⊥
+Faults workers requests Requests = HasTooMany requests
+Faults workers requests Memory = ⊤
+Faults workers requests Thread = ⊤
+Faults workers requests Net = ⊤
 
 -- ---- what is printed
 
 -- of requests, over a cache of their own and a network of which nothing is known
 pub record IsAsked (requests printed : List ℕ) (status : ℕ) : Type 0 where
+  pub few : HasTooMany requests → ⊥
   pub cache : CacheView
   pub run : IsRun (λ _. ⊤) (λ _. ⊤) cache requests printed status
+
+-- the requests of a text are too many
+pub record IsOverfull (text : List ℕ) : Type 0 where
+  pub zone : List ℕ
+  pub requests : List ℕ
+  pub parts : AreParts text zone requests
+  pub many : HasTooMany requests
 
 -- the line of a text that is no zone
 abbrev pub bad_zone_line : ZoneRefusal → List ℕ

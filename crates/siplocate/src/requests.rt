@@ -3,7 +3,7 @@ ghost use Rattle.std.specs.Prelude.{◌≡◌, ◌<◌, ◌≤◌, ◌≢◌, �
 ghost use Rattle.std.specs.List.{after_first, before_first, position_or_len};
 ghost use Rattle.std.specs.Str.Lines.{lines};
 ghost use Rattle.siplocate.specs.Parts.{AreParts};
-ghost use Rattle.siplocate.specs.Runs.{AreEntries, IsEntry, IsJob};
+ghost use Rattle.siplocate.specs.Runs.{AreEntries, HasTooMany, IsEntry, IsJob, IsRequest};
 ghost use Rattle.siplocate.specs.Requests.{RequestText};
 ghost use Rattle.sip_workers.specs.declared.refusal.RunRefusal.TheVariants.{BadCount, NoThread};
 
@@ -86,8 +86,11 @@ fn read_entry(
     jobs: &mut Vec<Job>,
 ) -> Result<Entry, RunRefusal>
     ensures entry { IfOk result (IsEntry number line.now jobs.old.items jobs.new.items) }
+    ensures limit { IfOk result (λ _.
+        length jobs.old.items ≤ 10000 → length jobs.new.items ≤ 10000) }
     ensures refused { IfErr result (λ refusal. refusal ≢ NoThread) }
-    ensures full { IfErr result (λ refusal. refusal ≡ BadCount → 10000 ≤ length jobs.old.items) }
+    ensures full { IfErr result (λ refusal. refusal ≡ BadCount →
+        (10000 ≤ length jobs.old.items) × IsRequest line.now) }
 {
     match read_request(alloc, line) {
         Ok(request) if jobs.len() < REQUEST_LIMIT => {
@@ -102,10 +105,13 @@ fn read_entry(
 
 /// The requests of a text, whose lines are numbered from 1.
 ///
-/// `BadCount` where there are over 10,000, `Memory` where memory was refused.
+/// `BadCount` exactly where there are over 10,000, but for want of memory, and `Memory` for that.
 pub fn read_requests(alloc: Global, text: &str) -> Result<Requests, RunRefusal>
     ensures entries { IfOk result (λ requests.
         AreEntries 1 (lines text.now) requests.entries.items requests.jobs.items) }
+    ensures few { IfOk result (λ requests. length requests.jobs.items ≤ 10000) }
+    ensures full { IfErr result (λ refusal. refusal ≡ BadCount → HasTooMany text.now) }
+    ensures refused { IfErr result (λ refusal. refusal ≢ NoThread) }
 {
     let mut entries = Vec::new(alloc);
     let mut jobs = Vec::new(alloc);

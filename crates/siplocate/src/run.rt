@@ -1,9 +1,9 @@
 //! Many requests at once, from their text to what is printed.
-ghost use Rattle.std.specs.Prelude.{◌≤◌, IfOk};
+ghost use Rattle.std.specs.Prelude.{◌≤◌, IfErr, IfOk, OnOk, length};
 ghost use Rattle.std.specs.List.{All};
 ghost use Rattle.std.specs.String.{string_bytes};
 ghost use Rattle.answer_cache.specs.Shared.{Belongs};
-ghost use Rattle.siplocate.specs.Runs.{IsRun};
+ghost use Rattle.siplocate.specs.Runs.{FitsSeats, HasTooMany, IsRun, RefusesText};
 
 use crate::fate::{fates_of, printed, status};
 use crate::requests::{Requests, read_requests};
@@ -19,6 +19,10 @@ const BATCH: usize = 8;
 
 /// What is printed of the requests of a text, and the status, where a worker for each seat asks over
 /// a wire of its own.
+///
+/// `BadCount` exactly where there are no seats, or not as many wires as seats, or over 10,000
+/// requests, but for want of memory; `NoThread` where a thread could not be made, and `Memory` where
+/// memory was refused.
 pub fn run_text<R: Threads + Wait + Sync, W: Wire + Drop + Send, C: Clock + Sync, G: Gate + Sync>(
     rt: &R,
     alloc: Global,
@@ -33,6 +37,10 @@ pub fn run_text<R: Threads + Wait + Sync, W: Wire + Drop + Send, C: Clock + Sync
     ensures run { IfOk result (λ told.
         IsRun W.gives C.shows cache.now text.now (string_bytes told.0) told.1) }
     ensures range { IfOk result (λ told. told.1 ≤ 5) }
+    ensures good { OnOk result (FitsSeats (length seats.items) (length wires.items)) }
+    ensures few { IfOk result (λ _. HasTooMany text.now → ⊥) }
+    ensures refused { IfErr result
+        (RefusesText text.now (length seats.items) (length wires.items)) }
 {
     let Requests { entries, jobs } = read_requests(alloc, text)?;
     let made = run_workers(rt, alloc, cache, seats, wires, jobs, BATCH, clock, gate)?;

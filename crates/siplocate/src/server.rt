@@ -4,7 +4,7 @@ ghost use Rattle.std.specs.IoError.{error_kind};
 ghost use Rattle.std.specs.Str.Lines.{lines};
 ghost use Rattle.std.specs.String.{string_bytes};
 ghost use Rattle.siplocate.specs.Jobs as spec;
-ghost use Rattle.siplocate.specs.Served.{FitsWorkers, IsAsked, IsBadZone, IsServed, of_cache, of_io, of_run};
+ghost use Rattle.siplocate.specs.Served.{Faults, IsAsked, IsBadZone, IsCountOfWorkers, IsOverfull, IsServed, of_cache, of_io, of_run};
 ghost use Rattle.siplocate.specs.declared.server.RunFault.TheVariants as faults;
 ghost use Rattle.dns_zone.specs.Refusals.{RefusedFor};
 
@@ -117,7 +117,7 @@ fn wires_to<R: Net>(
     count: usize,
 ) -> Result<Vec<UdpWire>, RunFault>
     ensures all { IfOk result (λ wires. length wires.items ≡ count) }
-    ensures refused { IfErr result (λ fault. fault ≢ RunFault.Workers) }
+    ensures refused { IfErr result (λ fault. fault ≢ faults.Workers × fault ≢ faults.Requests) }
 {
     let mut wires = Vec::new(alloc);
     'wires: for _wire in 0..count {
@@ -135,7 +135,7 @@ fn run_to_server<R: Net + Threads + Wait + Clock + Sync>(
     requests: &str,
 ) -> Result<(String, u8), RunFault>
     ensures asked { IfOk result (λ told. IsAsked requests.now (string_bytes told.0) told.1) }
-    ensures refused { IfErr result (FitsWorkers workers) }
+    ensures refused { IfErr result (Faults workers requests.now) }
     ensures range { IfOk result (λ told. told.1 ≤ 5) }
 {
     let (cache, seats) = SharedCache::new(alloc, workers)?;
@@ -154,7 +154,7 @@ fn run_over_zone<R: Net + Threads + Wait + Clock + Sync>(
     requests: &str,
 ) -> Result<(String, u8), RunFault>
     ensures asked { IfOk result (λ told. IsAsked requests.now (string_bytes told.0) told.1) }
-    ensures refused { IfErr result (FitsWorkers workers) }
+    ensures refused { IfErr result (Faults workers requests.now) }
     ensures range { IfOk result (λ told. told.1 ≤ 5) }
 {
     let mut wire = UdpServerWire::bind(rt, SocketAddr::from((Ipv4Addr::LOCALHOST, 0)))?;
@@ -166,7 +166,7 @@ fn run_over_zone<R: Net + Threads + Wait + Clock + Sync>(
         |scope| -> Result<(String, u8), RunFault>
             ensures asked { IfOk result (λ told.
                 IsAsked requests.entry.now (string_bytes told.0) told.1) }
-            ensures refused { IfErr result (FitsWorkers workers) }
+            ensures refused { IfErr result (Faults workers requests.entry.now) }
             ensures range { IfOk result (λ told. told.1 ≤ 5) }
         {
             let _server = scope
@@ -202,13 +202,28 @@ fn run_both<R: Net + Threads + Wait + Clock + Sync>(
     text: &str,
 ) -> Result<(String, u8), RunFault>
     ensures served { IfOk result (λ told. IsServed text.now (string_bytes told.0) told.1) }
-    ensures refused { IfErr result (FitsWorkers workers) }
+    ensures workers { IfErr result (λ fault.
+        fault ≡ faults.Workers → IsCountOfWorkers workers → ⊥) }
+    ensures requests { IfErr result (λ fault. fault ≡ faults.Requests → IsOverfull text.now) }
     ensures range { IfOk result (λ told. told.1 ≤ 5) }
 {
     let (zone, requests) = parts(text);
     match Zone::read(alloc, zone) {
         Ok(records) => run_over_zone(rt, alloc, workers, &records, requests),
         Err(refusal) => tell_bad_zone(alloc, zone, refusal),
+    }
+}
+
+/// What is told where nothing becomes of a run.
+fn tell_fault(fault: RunFault) -> Told
+    ensures { result ≡ spec.faulted fault }
+{
+    match fault {
+        RunFault::Workers => Told::Usage,
+        RunFault::Requests => Told::NoInput,
+        RunFault::Memory => Told::NoMemory,
+        RunFault::Thread => Told::NoThread,
+        RunFault::Net => Told::NoNet,
     }
 }
 
@@ -224,11 +239,7 @@ pub fn tell_run<R: Net + Threads + Wait + Clock + Sync>(
 {
     match run_both(rt, alloc, workers, text) {
         Ok((printed, status)) => Told::Text(printed, status),
-        Err(RunFault::Workers) => Told::Usage,
-        Err(RunFault::Requests) => Told::NoInput,
-        Err(RunFault::Memory) => Told::NoMemory,
-        Err(RunFault::Thread) => Told::NoThread,
-        Err(RunFault::Net) => Told::NoNet,
+        Err(fault) => tell_fault(fault),
     }
 }
 

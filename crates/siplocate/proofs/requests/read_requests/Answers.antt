@@ -1,10 +1,11 @@
-use Rattle.std.proofs.Common.{◌≡◌, ◌<◌, length, get_or, ◌∙◌, rules}
+use Rattle.std.proofs.Common.{◌≡◌, ◌<◌, ◌+◌, length, get_or, sym, ◌∙◌, arith, rules}
 use Rattle.std.specs.Str.Lines.{lines}
 use Rattle.std.proofs.lemmas.Iterator.Splits.{YieldsList-from_lines}
 use Rattle.std.proofs.lemmas.Iterator.Consumers.{YieldsList-from_enumerate, YieldsList-turn, YieldsList-end}
 use Rattle.std.proofs.lemmas.List.{length_push}
+use Rattle.std.proofs.lemmas.Result.{err_from_is_err_and}
 use Rattle.std.proofs.lemmas.List.FromFn.{length-enumerate_from}
-use Rattle.siplocate.proofs.Runs.{all_read, numbered, one_more}
+use Rattle.siplocate.proofs.Runs.{all_read, fewer, numbered, one_more, one_more_counted, one_too_many}
 use Rattle.siplocate.proofs.requests.read_requests.Goals as goal
 use Rattle.siplocate.proofs.requests.read_requests.Goals.{In-Some, In-None}
 
@@ -35,10 +36,25 @@ lines-preserved c =
       can_next = search rules;
       is_finite = search rules;
       read = rw (length_push l.yielded (c.in-Some.at, c.in-Some.line), c.in_ok-push.ensures.items) more;
+      counted = rw (length_push l.yielded (c.in-Some.at, c.in-Some.line))
+          (one_more_counted (lines c.args.text.now) (length l.yielded) (length l.yielded + 1) c.in-Some.line.now l.jobs.items
+          c.read_entry.new.jobs.items c.in_ok-read_entry.field-0 this.1 this.2 l.invariant.counted entry);
+      limit = c.in_ok-read_entry.ensures.limit l.invariant.limit;
     }
 
-pub returns : goal.returns
-returns c = record {
-  entries = all_read (lines c.args.text.now) (length c.lines.yielded) c.lines.entries.items c.lines.jobs.items
-      (all_turns (goal.at.returns c).In-None) c.lines.invariant.read;
-}
+pub returns-in_err-read_entry-clause-full : goal.returns-in_err-read_entry-clause-full
+returns-in_err-read_entry-clause-full c =
+    let this = turn (goal.at.returns-in_err-read_entry-clause-full c).In-Some in
+    let e = err_from_is_err_and c.from_residual.result c.from_residual.ensures.1 in
+    rw e.1 (λ full.
+    let crowd = c.in_err-read_entry.ensures.full (sym e.2 ∙ full) in
+    let all = one_too_many (lines c.args.text.now) (length c.lines.yielded) c.in-Some.line.now c.lines.jobs.items this.1 this.2
+    c.lines.invariant.counted crowd.1 in
+    fewer (lines c.args.text.now) (length c.lines.jobs.items + 1) 10001 (omega (arith, crowd.0)) all)
+
+pub returns-clause-entries : goal.returns-clause-entries
+returns-clause-entries c = all_read (lines c.args.text.now) (length c.lines.yielded) c.lines.entries.items c.lines.jobs.items
+    (all_turns (goal.at.returns-clause-entries c).In-None) c.lines.invariant.read
+
+pub returns-clause-few : goal.returns-clause-few
+returns-clause-few c = c.lines.invariant.limit

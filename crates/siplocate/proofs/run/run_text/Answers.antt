@@ -1,8 +1,9 @@
-use Rattle.std.proofs.Common.{List, ap, ◌∙◌}
+use Rattle.std.proofs.Common.{List, length, ap, ◌∙◌}
 use Rattle.std.specs.Str.Lines.{lines}
+use Rattle.std.proofs.lemmas.Result.{err_from_is_err_and}
 use Rattle.siplocate.specs.Outcomes.{shown_from, status_of_all}
 use Rattle.siplocate.specs.declared.fate.Fate.{Fate}
-use Rattle.siplocate.proofs.Runs.{fates_are}
+use Rattle.siplocate.proofs.Runs.{fates_are, not_too_many, refuses_running}
 use Rattle.siplocate.proofs.run.run_text.Goals as goal
 
 pub returns-clause-run : goal.returns-clause-run
@@ -16,3 +17,17 @@ returns-clause-run g c =
       shown = c.in_ok-lines.ensures ∙ ap (λ (fates : List Fate). shown_from 1 fates) c.as_slice.ensures.value;
       status_is = c.status.ensures.status ∙ ap status_of_all c.as_slice-2.ensures.value;
     }
+
+pub returns-clause-few : goal.returns-clause-few
+returns-clause-few g c =
+    let requests = c.in_ok-entries.field-0 in
+    not_too_many c.args.text.now requests.entries.items requests.jobs.items c.in_ok-entries.ensures.entries
+    c.in_ok-entries.ensures.few
+
+pub returns-in_err-made-clause-refused : goal.returns-in_err-made-clause-refused
+returns-in_err-made-clause-refused g c =
+    let requests = c.in_ok-entries.field-0 in
+    let e = err_from_is_err_and c.from_residual-in_err-made.result c.from_residual-in_err-made.ensures.1 in
+    rw e.1 (refuses_running c.args.text.now (length c.args.seats.items) (length c.args.wires.items) requests.entries.items
+    requests.jobs.items c.in_ok-entries.ensures.entries c.in_ok-entries.ensures.few e.0
+    (rw e.2 c.in_err-made.ensures.refused))
