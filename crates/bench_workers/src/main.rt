@@ -5,16 +5,14 @@
 #![tactic(auto)]
 
 mod jobs;
-mod wire;
 mod zone_text;
 
 use crate::jobs::jobs_of;
-use crate::wire::{Idle, Standing, wires_to};
 use crate::zone_text::zone_text;
 use answer_cache::{Notice, SharedCache};
 use dns_answers::Moment;
-use dns_asker::Zone;
-use sip_workers::{Outcome, run_workers};
+use dns_asker::{StandingClock, Zone, ZoneWire};
+use sip_workers::{OpenGate, Outcome, run_workers};
 use std::env;
 use std::rt::Env;
 use std::sync::Wait;
@@ -59,14 +57,17 @@ fn measure<R: Threads + Wait + Clock + AllocGlobal + Sync>(
 ) -> Option<Measured> {
     let alloc = rt.alloc();
     let sent = AtomicU64::new(0);
-    let wires = wires_to(alloc, zone, &sent, workers)?;
+    let wires = ZoneWire::several(alloc, zone, &sent, workers).ok()?;
     let jobs = jobs_of(alloc, requests)?;
     let (cache, seats) = SharedCache::new(alloc, workers).ok()?;
-    let clock = Standing {
-        now: Moment::new(100)?,
+    let clock = StandingClock {
+        moment: Moment::new(100)?,
     };
     let start = Instant::now(rt).ok()?;
-    let made = run_workers(rt, alloc, &cache, seats, wires, jobs, BATCH, &clock, &Idle).ok()?;
+    let made = run_workers(
+        rt, alloc, &cache, seats, wires, jobs, BATCH, &clock, &OpenGate,
+    )
+    .ok()?;
     let time = start.elapsed(rt).ok()?;
     Some(Measured {
         milliseconds: time.as_millis(),

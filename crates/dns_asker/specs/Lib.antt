@@ -6,3 +6,4 @@ pub mod TicketLists
 pub mod Listed
 pub mod Wires
 pub mod Servers
+pub mod ZoneWires

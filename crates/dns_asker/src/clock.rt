@@ -12,3 +12,20 @@ pub trait Clock {
     fn now(&self) -> Moment
         ensures { shows result };
 }
+
+/// A clock that always shows this moment, for tests and measurements.
+#[derive(Clone, Copy, Debug)]
+pub struct StandingClock {
+    /// What it shows.
+    pub moment: Moment,
+}
+
+impl Clock for StandingClock {
+    ghost use Rattle.std.specs.Prelude.{⊤};
+
+    ghost shows = { λ _. ⊤ };
+
+    fn now(&self) -> Moment {
+        self.moment
+    }
+}

@@ -22,7 +22,8 @@
 //!
 //! `Wire` and `PeerWire` say what may be known of who carries datagrams, to one server or to many
 //! peers, and `Clock` of who tells the time. `serve` replies from a zone (`dns_zone`) over a
-//! `PeerWire`, until it is told to stop.
+//! `PeerWire`, until it is told to stop. For tests and measurements there are a wire in memory to a
+//! zone's server (`ZoneWire`) and a clock that stands (`StandingClock`).
 //!
 //! ```text
 //! let zone = Zone::read(alloc, "a.example. 60 CNAME b.example.\nb.example. 300 A 192.0.2.7")?;
@@ -43,16 +44,18 @@ mod server;
 mod ticket;
 mod tickets;
 mod wire;
+mod zone_wire;
 
 pub use asker::Asker;
 pub use asker_laws::asking_stays_in_order;
-pub use clock::Clock;
+pub use clock::{Clock, StandingClock};
 pub use dns_zone::{Zone, ZoneEntry, ZoneRefusal, zone_follows_aliases};
 pub use due::Due;
 pub use incoming::{Ending, Incoming, Why};
 pub use refusal::AskRefusal;
 pub use server::serve;
 pub use wire::{DATAGRAM_LIMIT, PeerWire, Wire, WireFault};
+pub use zone_wire::ZoneWire;
 
 #[cfg(test)]
 mod tests;

@@ -9,3 +9,13 @@ pub trait Gate {
     /// The outcome of the request of this number stands.
     fn answered(&self, number: u64);
 }
+
+/// A gate that holds nobody up, for who wants no word of the work.
+#[derive(Clone, Copy, Debug)]
+pub struct OpenGate;
+
+impl Gate for OpenGate {
+    fn begun(&self, _number: u64) {}
+
+    fn answered(&self, _number: u64) {}
+}

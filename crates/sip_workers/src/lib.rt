@@ -30,7 +30,7 @@ mod run;
 mod task;
 mod worker;
 
-pub use gate::Gate;
+pub use gate::{Gate, OpenGate};
 pub use job::Job;
 pub use outcome::{JobResult, Outcome, TargetList};
 pub use refusal::RunRefusal;

@@ -5,13 +5,12 @@ ghost use Rattle.answer_cache.specs.Shared.{Belongs};
 use crate::*;
 use answer_cache::SharedCache;
 use dns_answers::Moment;
-use dns_asker::{Clock, DATAGRAM_LIMIT, Wire, WireFault, Zone};
+use dns_asker::{StandingClock, Zone, ZoneWire};
 use sip_selection::{Caps, Families, Request, Target};
 use sip_uri::Transport::Udp;
 use sip_uri::{Address, read_uri};
 use srv_choice::{WORD_COUNT, Words};
 use std::alloc::Global;
-use std::collections::VecDeque;
 use std::sync::Wait;
 use std::sync::atomic::{AtomicU64, Ordering};
 use std::thread::Threads;
@@ -30,60 +29,6 @@ const TARGET: Target = Target {
     address: Address::V4([192, 0, 2, 7]),
     port: 5070,
 };
-
-/// A wire to a zone, which counts the datagrams that are sent.
-#[derive(Drop)]
-struct ZoneWire<'a> {
-    alloc: Global,
-    zone: &'a Zone,
-    sent: &'a AtomicU64,
-    replies: VecDeque<Vec<u8>>,
-}
-
-impl<'a> Wire for ZoneWire<'a> {
-    ghost use Rattle.std.specs.Prelude.{⊤};
-
-    ghost gives = { λ _. ⊤ };
-
-    ghost failed = { λ _. 0 };
-
-    fn send(&mut self, octets: &[u8]) -> Result<(), WireFault> {
-        self.sent.fetch_add(1, Ordering::SeqCst);
-        if let Ok(Some(reply)) = self.zone.answer_datagram(self.alloc, octets) {
-            let _ = self.replies.push_back(reply);
-        }
-        Ok(())
-    }
-
-    fn receive(&mut self, buffer: &mut [u8; DATAGRAM_LIMIT]) -> Result<Option<usize>, WireFault> {
-        let Some(reply) = self.replies.pop_front() else {
-            return Ok(None);
-        };
-        let count = reply.len().min(DATAGRAM_LIMIT);
-        buffer[..count].copy_from_slice(&reply[..count]);
-        Ok(Some(count))
-    }
-
-    fn failures(&self) -> u64 {
-        0
-    }
-}
-
-/// A clock that stands.
-#[derive(Drop)]
-struct Standing {
-    now: Moment,
-}
-
-impl Clock for Standing {
-    ghost use Rattle.std.specs.Prelude.{⊤};
-
-    ghost shows = { λ _. ⊤ };
-
-    fn now(&self) -> Moment {
-        self.now
-    }
-}
 
 /// How many turns a request waits for another one.
 const TURNS: u32 = 100_000_000;
@@ -137,37 +82,15 @@ fn two_jobs(alloc: Global, first: &str, second: &str) -> Option<Vec<Job>> {
     Some(jobs)
 }
 
-/// So many wires to this zone.
-fn wires_to<'a>(
-    alloc: Global,
-    zone: &'a Zone,
-    sent: &'a AtomicU64,
-    count: usize,
-) -> Option<Vec<ZoneWire<'a>>> {
-    let mut wires = Vec::new(alloc);
-    for _ in 0..count {
-        let replies = VecDeque::new(alloc);
-        wires
-            .push(ZoneWire {
-                alloc,
-                zone,
-                sent,
-                replies,
-            })
-            .ok()?;
-    }
-    Some(wires)
-}
-
 /// Whether a request goes to the one target.
 fn goes(outcome: &Outcome) -> bool {
     matches!(outcome, Outcome::Targets(list) if list.as_slice() == [TARGET].as_slice())
 }
 
 /// A clock that stands at the moment 100.
-fn clock_at_100() -> Standing {
-    Standing {
-        now: Moment::new(100).unwrap(),
+fn clock_at_100() -> StandingClock {
+    StandingClock {
+        moment: Moment::new(100).unwrap(),
     }
 }
 
@@ -195,7 +118,7 @@ fn run_two<R: Threads + Wait + AllocGlobal + Sync>(
     let alloc = rt.alloc();
     let zone = Zone::read(alloc, ZONE).ok()?;
     let sent = AtomicU64::new(0);
-    let wires = wires_to(alloc, &zone, &sent, workers)?;
+    let wires = ZoneWire::several(alloc, &zone, &sent, workers).ok()?;
     let jobs = two_jobs(alloc, TO_NAME, second)?;
     let all = all_go(rt, wires, jobs, gate)?;
     Some((all, sent.load(Ordering::SeqCst)))
@@ -223,7 +146,7 @@ fn one_worker<'a>(alloc: Global, wire: ZoneWire<'a>) -> Option<(SharedCache, Wor
 }
 
 /// Whether the copy of a result goes to the target.
-fn copy_goes(alloc: Global, it: &JobResult<'_, ZoneWire<'_>, Standing>) -> bool {
+fn copy_goes(alloc: Global, it: &JobResult<'_, ZoneWire<'_>, StandingClock>) -> bool {
     it.try_clone(alloc).is_ok_and(|copy| goes(copy.outcome()))
 }
 
@@ -242,7 +165,7 @@ fn batch_of_two<R: Wait + AllocGlobal>(rt: &R) -> Option<bool> {
     let alloc = rt.alloc();
     let zone = Zone::read(alloc, ZONE).ok()?;
     let sent = AtomicU64::new(0);
-    let wire = wires_to(alloc, &zone, &sent, 1)?.pop()?;
+    let wire = ZoneWire::new(alloc, &zone, &sent);
     all_go_at_once(rt, wire, &two_jobs(alloc, TO_NAME, TO_ADDRESS)?)
 }
 
