@@ -13,3 +13,4 @@ pub mod Talks
 pub mod Takings
 pub mod Books
 pub mod Datagrams
+pub mod Clocks

@@ -1,5 +1,7 @@
 //! The clock of the system.
-ghost use Rattle.std.specs.Prelude.{◌≡◌};
+ghost use Rattle.std.specs.Prelude.{◌≡◌, IfErr, IfOk};
+ghost use Rattle.std.specs.Time.{system_time_nanos};
+ghost use Rattle.siplocate.specs.Clocks.{IsMomentOf};
 
 use dns_answers::Moment;
 use dns_asker::Clock;
@@ -19,13 +21,25 @@ impl<'a, R> SystemClock<'a, R> {
     }
 }
 
-/// The moment of a reading, which is 0 where there is none, or where it is no moment.
-fn moment_of(reading: io::Result<SystemTime>) -> Moment {
-    reading
-        .ok()
-        .and_then(|time| time.duration_since(SystemTime::UNIX_EPOCH).ok())
-        .and_then(|since| Moment::new(since.as_secs()))
-        .unwrap_or(beginning())
+/// The moment of a time, which is 0 where its seconds are no moment.
+fn moment_at(time: SystemTime) -> Moment
+    ensures { IsMomentOf (system_time_nanos time) result }
+{
+    match time.duration_since(SystemTime::UNIX_EPOCH) {
+        Ok(since) => Moment::new(since.as_secs()).unwrap_or(beginning()),
+        Err(_) => beginning(),
+    }
+}
+
+/// The moment of a reading, which is 0 where there is none.
+fn moment_of(reading: io::Result<SystemTime>) -> Moment
+    ensures read { IfOk reading (λ time. IsMomentOf (system_time_nanos time) result) }
+    ensures unread { IfErr reading (λ _. result ≡ 0) }
+{
+    match reading {
+        Ok(time) => moment_at(time),
+        Err(_) => beginning(),
+    }
 }
 
 /// The moment 0.

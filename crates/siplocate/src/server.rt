@@ -16,7 +16,7 @@ use crate::udp::{UdpServerWire, UdpWire};
 use answer_cache::{CacheRefusal, SharedCache};
 use dns_asker::serve;
 use dns_zone::{Zone, ZoneRefusal};
-use sip_workers::{Gate, RunRefusal};
+use sip_workers::{OpenGate, RunRefusal};
 use std::alloc::{AllocError, AllocFailed, Global};
 use std::io::{self, ErrorKind};
 use std::net::{Ipv4Addr, Net, SocketAddr};
@@ -97,16 +97,6 @@ impl From<RunRefusal> for RunFault {
             RunRefusal::Memory => RunFault::Memory,
         }
     }
-}
-
-/// A gate that holds nothing up.
-#[derive(Drop)]
-struct OpenGate;
-
-impl Gate for OpenGate {
-    fn begun(&self, _number: u64) {}
-
-    fn answered(&self, _number: u64) {}
 }
 
 /// So many wires to a server.
