@@ -82,7 +82,8 @@ front-by test first front it false t rest e =
     let both = rest (rw t at e) in
     (rw t both.0, both.1)
 
-find-front : (test : Given → Bool) (front : List Given) (it : Given) → find test (front ++ it ∷ []) ≡ None → (find test front ≡ None) × (test it ≡ false)
+find-front : (test : Given → Bool) (front : List Given) (it : Given) → find test (front ++ it ∷ []) ≡ None
+    → (find test front ≡ None) × (test it ≡ false)
 find-front test [] it e = (refl, last-by test it (test it) refl e)
 find-front test (first ∷ front) it e = front-by test first front it (test first) refl (find-front test front it) e
 
@@ -98,11 +99,18 @@ module _ (given : List Given) (asked : Question) (found : AnswerValue) (question
   none-before : find_answer given question ≡ None
   none-before = ap (option_map (λ (it : Given). it.answer)) parts.0
 
-module _ (old new : SelectionValue) (before after : SeatView) (octets : List ℕ) (now : ℕ) (fits : BookFits old.given before) (there : IsListSeat after) where
+module _ (old new : SelectionValue) (before after : SeatView) (octets : List ℕ) (now : ℕ) (fits : BookFits old.given before)
+    (there : IsListSeat after) where
   own-by : (kept : Kept) (taken : IsTaken old new before after octets now kept) → (question : Question)
       → same_question taken.question question ≡ false → stores_of question before.own ≡ [] → stores_of question after.own ≡ []
   own-by Yes taken question other none =
-      rw (taken.keeps.own, filter-append (λ store. same_question store.question question) before.own (store_of before (offer_of taken.question taken.found now) ∷ []), other, none) refl
+      rw (
+        taken.keeps.own,
+        filter-append (λ store. same_question store.question question) before.own
+            (store_of before (offer_of taken.question taken.found now) ∷ []),
+        other,
+        none,
+      ) refl
   own-by (No refusal) taken question other none = rw taken.keeps.0 none
 
   pub taken-fits : (kept : Kept) → IsTaken old new before after octets now kept → BookFits new.given after

@@ -29,7 +29,8 @@ place (x ∷ word) rest (k ∷ key) e n =
     let more = place word rest key (cc) (search rules) in
     rw first (omega arith)
 
-module _ (line word rest key : List ℕ) (joined : line ≡ word ++ 58 ∷ rest) (is : small_letters word ≡ key) (none : list_all (λ (k : ℕ). not (k == 58)) key ≡ true) where
+module _ (line word rest key : List ℕ) (joined : line ≡ word ++ 58 ∷ rest) (is : small_letters word ≡ key)
+    (none : list_all (λ (k : ℕ). not (k == 58)) key ≡ true) where
   pub at_word : position_or_len (λ (b : ℕ). b == 58) line ≡ length word
   at_word = rw joined (place word rest key is none)
 
@@ -54,7 +55,8 @@ shift n x xs =
 
 -- a line with a colon is what stands before the first one, the colon, and what stands behind it
 around_by : (x : ℕ) (xs : List ℕ) (b : Bool) → (x == 58) ≡ b
-    → (position_or_len (λ (b : ℕ). b == 58) xs < length xs → xs ≡ before_first (λ (b : ℕ). b == 58) xs ++ 58 ∷ after_first (λ (b : ℕ). b == 58) xs)
+    → (position_or_len (λ (b : ℕ). b == 58) xs < length xs → xs ≡ before_first (λ (b : ℕ). b == 58) xs
+    ++ 58 ∷ after_first (λ (b : ℕ). b == 58) xs)
     → position_or_len (λ (b : ℕ). b == 58) (x ∷ xs) < length (x ∷ xs)
     → x ∷ xs ≡ before_first (λ (b : ℕ). b == 58) (x ∷ xs) ++ 58 ∷ after_first (λ (b : ℕ). b == 58) (x ∷ xs)
 around_by x xs true e h l = rw e (ap (λ (y : ℕ). y ∷ xs) (eqb-true x 58 e))
@@ -78,7 +80,8 @@ heads a b xs ys l e =
     absurd (omega arith)
 
 -- the scheme of a URI is the word before the first colon
-scheme_is : (line : List ℕ) (uri : SipUri) (secure : Bool) (text : UriText line uri) → uri.secure ≡ secure → small_letters (before_first (λ (b : ℕ). b == 58) line) ≡ codes "via" → ⊥
+scheme_is : (line : List ℕ) (uri : SipUri) (secure : Bool) (text : UriText line uri) → uri.secure ≡ secure
+    → small_letters (before_first (λ (b : ℕ). b == 58) line) ≡ codes "via" → ⊥
 scheme_is line uri false text e v =
     let is : small_letters text.scheme ≡ codes "sip" = rw e at text.is_scheme in
     let b = before_is line text.scheme _ (codes "sip") text.joined is refl in
@@ -91,4 +94,5 @@ scheme_is line uri true text e v =
 -- no URI begins with `Via:`
 pub not_both : (line rest : List ℕ) (uri : SipUri) → UriText line uri → BeginsVia line rest → ⊥
 not_both line rest uri text begins =
-    scheme_is line uri uri.secure text refl (ap small_letters (before_is line begins.word rest (codes "via") begins.joined begins.is refl) ∙ begins.is)
+    scheme_is line uri uri.secure text refl (ap small_letters (before_is line begins.word rest (codes "via") begins.joined begins.is refl)
+    ∙ begins.is)

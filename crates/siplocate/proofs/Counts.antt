@@ -24,7 +24,11 @@ spelled n l = by_size (cases_lt n 10)
     by_size : (n < 10) ⊎ (10 ≤ n) → Spelled n
     by_size (inl less) = inl (omega arith, decimal_digit n less)
     by_size (inr more) =
-        inr (more, decimal_step n more (omega arith) ∙ ap (λ (l : List ℕ). l ++ ((48 + n % 10) ∷ [])) (decimal_digit (n / 10) (omega arith)))
+        inr (
+          more,
+          decimal_step n more (omega arith) ∙ ap (λ (l : List ℕ). l ++ ((48 + n % 10) ∷ []))
+              (decimal_digit (n / 10) (omega arith)),
+        )
 
 -- octets that spell a number below 100
 module _ (octets : List ℕ) (n : ℕ) (few : n ≤ 99) (is : octets ≡ decimal n) where

@@ -57,8 +57,13 @@ end_of text other others has = by_end has.line has.ends has.joined
         let all : text ≡ other ++ (10 ∷ others) = joined ∙ append_assoc other line others ∙ ap (λ (l : List ℕ). other ++ (l ++ others)) e in
         inl (behind text other (10 ∷ others) 0 (length other) all (omega arith))
     by_end line (inr e) joined =
-        let all : text ≡ other ++ (13 ∷ 10 ∷ others) = joined ∙ append_assoc other line others ∙ ap (λ (l : List ℕ). other ++ (l ++ others)) e in
-        inr (behind text other (13 ∷ 10 ∷ others) 0 (length other) all (omega arith), behind text other (13 ∷ 10 ∷ others) 1 (length other + 1) all refl)
+        let all : text ≡ other ++ (13 ∷ 10 ∷ others) = joined ∙ append_assoc other line others
+        ∙ ap (λ (l : List ℕ). other ++ (l ++ others)) e in
+        inr (
+          behind text other (13 ∷ 10 ∷ others) 0 (length other) all (omega arith),
+          behind text other (13 ∷ 10 ∷ others) 1
+              (length other + 1) all refl,
+        )
 
 -- ---- one line more
 
@@ -120,7 +125,11 @@ module _ (text front rest : List ℕ) (joined : text ≡ front ++ rest)
   -- so the next one begins behind it
   pub later : (other others : List ℕ) → HasEmptyLine text other others → length front ≤ length other
       → length front + feed rest + 1 ≤ length other
-  later other others has l = omega (arith, lt_of_not-le {n = length other + 1} {m = length front + feed rest + 1} (λ m. by_place (eq-or-lt_of_le l) m))
+  later other others has l = omega (
+    arith,
+    lt_of_not-le {n = length other + 1} {m = length front + feed rest + 1}
+        (λ m. by_place (eq-or-lt_of_le l) m),
+  )
     where
       by_place : (length front ≡ length other) ⊎ (length front < length other)
           → length other + 1 ≤ length front + feed rest + 1 → ⊥
@@ -143,7 +152,13 @@ next text rest s l full no_return =
       joined = s.joined ∙ ap (λ (l : List ℕ). s.front ++ l) (around rest l) ∙ sym (append_assoc s.front line (10 ∷ after))
           ∙ sym (append_assoc (s.front ++ line) (10 ∷ []) after);
       begins = inr (s.front ++ line, refl);
-      first = λ other others has. omega (arith, long, size, later text s.front rest s.joined full no_return other others has (s.first other others has));
+      first = λ other others has. omega (
+        arith,
+        long,
+        size,
+        later text s.front rest s.joined full no_return other others has
+            (s.first other others has),
+      );
     }
 
 -- an empty line
@@ -181,7 +196,8 @@ none_left text rest s l front others has = by_end (end_of text front others has)
         (sym (behind text s.front rest (i - length s.front) i s.joined (omega (arith, le))) ∙ e)
 
     size : length front + length has.line + length others ≡ length text
-    size = sym (ap length has.joined ∙ length-append (front ++ has.line) others ∙ ap (λ (n : ℕ). n + length others) (length-append front has.line))
+    size = sym (ap length has.joined ∙ length-append (front ++ has.line) others ∙ ap (λ (n : ℕ). n + length others)
+        (length-append front has.line))
 
     one : IsLineEnd has.line → 0 < length has.line
     one (inl e) = omega (arith, ap length e)
@@ -197,7 +213,8 @@ none_left text rest s l front others has = by_end (end_of text front others has)
       where
         by_line : IsLineEnd has.line → ⊥
         by_line (inl e) =
-            let all : text ≡ front ++ (10 ∷ others) = has.joined ∙ append_assoc front has.line others ∙ ap (λ (l : List ℕ). front ++ (l ++ others)) e in
+            let all : text ≡ front ++ (10 ∷ others) = has.joined ∙ append_assoc front has.line others
+            ∙ ap (λ (l : List ℕ). front ++ (l ++ others)) e in
             here (length front) le (omega (arith, size, one has.ends)) (behind text front (10 ∷ others) 0 (length front) all (omega arith))
         by_line (inr e) = here (length front + 1) (omega (arith, le)) (omega (arith, size, ap length e)) both.1
 

@@ -16,9 +16,11 @@ use Rattle.siplocate.specs.Replies.{ReplyLine, FailsAt}
 use Rattle.siplocate.specs.Requests.{LocatesTo, RequestText, first_line, other_lines}
 
 -- a text that locates to a resolution has this request, and what it was told
-pub told_to : (families : Families) (text : List ℕ) (request : Request) → ((other : Request) → RequestText (first_line text) other → request ≡ other)
+pub told_to : (families : Families) (text : List ℕ) (request : Request) → ((other : Request) → RequestText (first_line text) other
+    → request ≡ other)
     → (resolution : Resolution) → LocatesTo families text resolution
-    → (messages : List Message) × (given : List Given) × AllZip ReplyLine (other_lines text) messages × (talk families request messages ≡ Some given) × (resolution ≡ goes families request given)
+    → (messages : List Message) × (given : List Given) × AllZip ReplyLine (other_lines text) messages
+    × (talk families request messages ≡ Some given) × (resolution ≡ goes families request given)
 told_to families text request one resolution to =
     let same = one to.request to.spelled in
     (to.messages, to.given, to.replies, rw same to.talked, rw same to.is)
@@ -26,14 +28,16 @@ told_to families text request one resolution to =
 -- ---- what is refused
 
 module _ (families : Families) (text : List ℕ) where
-  pub bad_request : (refusal : UriRefusal) → ((request : Request) → RequestText (first_line text) request → refusal ≡ uri.Memory) → RefusedAs (of_request refusal) families text
+  pub bad_request : (refusal : UriRefusal) → ((request : Request) → RequestText (first_line text) request → refusal ≡ uri.Memory)
+      → RefusedAs (of_request refusal) families text
   bad_request uri.Memory memory = tt
   bad_request refusal memory = record {
     none = λ request spelled. let e = memory request spelled in absurd cc;
     said = λ e. absurd cc;
   }
 
-  pub bad_reply : (reply : BadReply) (request : Request) → RequestText (first_line text) request → (reply ≡ bad.Memory) ⊎ FailsAt families request (other_lines text) reply
+  pub bad_reply : (reply : BadReply) (request : Request) → RequestText (first_line text) request
+      → (reply ≡ bad.Memory) ⊎ FailsAt families request (other_lines text) reply
       → RefusedAs (of_reply reply) families text
   bad_reply bad.Memory request spelled fails = tt
   bad_reply reply request spelled (inl e) = absurd cc

@@ -55,7 +55,8 @@ module _ (old new : SelectionValue) (line octets : List ℕ) (decoded : Digits l
         → told (now_of old) it ≡ Some (record { question = given.question; answer = given.found })
     taken-each given it reply =
         let is = decides given.question octets it given.found (begins it reply) given.answers in
-        told-is (now_of old) given.question it given.asked is.0 ∙ ap (λ (value : AnswerValue). Some (given_of given.question value)) (sym is.1)
+        told-is (now_of old) given.question it given.asked is.0 ∙ ap (λ (value : AnswerValue). Some (given_of given.question value))
+        (sym is.1)
 
     taken-is : IsGiven old new octets → IsTaken old new line
     taken-is given =
@@ -75,9 +76,11 @@ module _ (old new : SelectionValue) (line octets : List ℕ) (decoded : Digits l
 
     module _ (refuses : (resolution : Resolution) (question : Question) (octets : List ℕ) (it : Message) (refusal : LocatorRefusal)
         → resolution ≡ need question → Begins octets it → Refuses resolution octets refusal
-        → (refusal ≡ locator.Memory) ⊎ ((fault : ReplyRefusal) × (refusal ≡ locator.Reply fault) × (reply_refusal question it ≡ Some fault))) where
+        → (refusal ≡ locator.Memory) ⊎ ((fault : ReplyRefusal) × (refusal ≡ locator.Reply fault)
+        × (reply_refusal question it ≡ Some fault))) where
       memory-by : (refusal : LocatorRefusal) (question : Question) (it : Message) → reply_refusal question it ≡ None
-          → (refusal ≡ locator.Memory) ⊎ ((fault : ReplyRefusal) × (refusal ≡ locator.Reply fault) × (reply_refusal question it ≡ Some fault))
+          → (refusal ≡ locator.Memory) ⊎ ((fault : ReplyRefusal) × (refusal ≡ locator.Reply fault)
+          × (reply_refusal question it ≡ Some fault))
           → of_locator refusal ≡ Memory
       memory-by refusal question it none (inl is) = rw is refl
       memory-by refusal question it none (inr said) =
@@ -91,7 +94,8 @@ module _ (old new : SelectionValue) (line octets : List ℕ) (decoded : Digits l
           given.is ∙ ap (λ (value : Given). given_too old value.question value.answer) same
       read-of (Err bad) given refusal it more reply e =
           let asks = told-asks (now_of old) it more e in
-          refusal.is ∙ memory-by refusal.refusal asks.0 it asks.2 (refuses (now_of old) asks.0 octets it refusal.refusal asks.1 (begins it reply) refusal.refuses)
+          refusal.is ∙ memory-by refusal.refusal asks.0 it asks.2 (refuses (now_of old) asks.0 octets it refusal.refusal asks.1
+          (begins it reply) refusal.refuses)
 
   bad-by : (refusal : LocatorRefusal) → Refuses (now_of old) octets refusal → IsFault (of_locator refusal) (now_of old) line
   bad-by locator.NothingAsked refuses = (octets, decoded, refuses)
@@ -108,6 +112,7 @@ module _ (old new : SelectionValue) (line octets : List ℕ) (decoded : Digits l
   )
   bad-by locator.Memory refuses = tt
 
-  pub bad-of : (result : Result (Unit {0}) BadReply) → IfErr result (IsRefusedAs old octets) → IfErr result (λ reply. IsFault reply (now_of old) line)
+  pub bad-of : (result : Result (Unit {0}) BadReply) → IfErr result (IsRefusedAs old octets)
+      → IfErr result (λ reply. IsFault reply (now_of old) line)
   bad-of (Ok u) none = none
   bad-of (Err bad) refusal = rw refusal.is (bad-by refusal.refusal refusal.refuses)

@@ -9,4 +9,5 @@ use Rattle.sip_selection.specs.Known.{Given, find_answer}
 -- a question that has no answer yet has no store
 pub record BookFits (given : List Given) (seat : SeatView) : Type 0 where
   pub is : IsListSeat seat
-  pub unknown : (question : Question) → find_answer given question ≡ None → stores_of question seat.seen ≡ []
+  pub unknown : (question : Question) → find_answer given question ≡ None
+      → stores_of question seat.seen ≡ []

@@ -34,7 +34,8 @@ TellsText families text NoMemory = ⊤
 TellsText families text NoThread = ⊥
 TellsText families text NoNet = ⊥
 
--- of a zone and requests: what is printed of the requests, over answers to what was asked, or that the zone is none
+-- of a zone and requests: what is printed of the requests, over answers to what was asked, or that
+-- the zone is none
 abbrev pub TellsRun : ℕ → List ℕ → Told → Type 0
 TellsRun workers text (Text printed status) = IsServed text (string_bytes printed) status
 TellsRun workers text Usage = IsCountOfWorkers workers → ⊥
@@ -83,4 +84,5 @@ status NoNet = 5
 
 -- the text was written behind what had been, and the status is its own, or else output failed
 abbrev pub IsReported : Option (List ℕ) → Option (List ℕ) → Told → ℕ → Type 0
-IsReported old new told given = (Appends old new (printed told) × (given ≡ status told)) ⊎ (given ≡ 5)
+IsReported old new told given = (Appends old new (printed told) × (given ≡ status told))
+    ⊎ (given ≡ 5)

@@ -21,17 +21,22 @@ question_words question = kind_word question.kind ++ 32 ∷ text_of question.nam
 
 -- the lines of an outcome, each behind the number of its request
 abbrev pub outcome_lines : ℕ → Outcome → List ℕ
-outcome_lines number (outcome.Targets list) = flat_map (λ (target : Target). numbered number (target_line target)) list
-outcome_lines number (outcome.Refused reason) = numbered number (codes "refused " ++ reason_word reason ++ 10 ∷ [])
-outcome_lines number (outcome.NoAnswer question) = numbered number (codes "gaveup " ++ question_words question ++ 10 ∷ [])
+outcome_lines number (outcome.Targets list) =
+    flat_map (λ (target : Target). numbered number (target_line target)) list
+outcome_lines number (outcome.Refused reason) =
+    numbered number (codes "refused " ++ reason_word reason ++ 10 ∷ [])
+outcome_lines number (outcome.NoAnswer question) =
+    numbered number (codes "gaveup " ++ question_words question ++ 10 ∷ [])
 outcome_lines number (outcome.BadReply question refusal) =
-    numbered number (codes "badreply " ++ question_words question ++ 32 ∷ refusal_word refusal ++ 10 ∷ [])
+    numbered number (codes "badreply " ++ question_words question ++ 32 ∷ refusal_word refusal
+    ++ 10 ∷ [])
 outcome_lines number outcome.Memory = numbered number (codes "fault memory\n")
 
 -- the lines of what became of a line
 abbrev pub fate_lines : ℕ → Fate → List ℕ
 fate_lines number (fate.Became outcome) = outcome_lines number outcome
-fate_lines number (fate.Bad refusal) = numbered number (codes "bad " ++ request_word refusal ++ 10 ∷ [])
+fate_lines number (fate.Bad refusal) = numbered number (codes "bad " ++ request_word refusal
+    ++ 10 ∷ [])
 
 -- of lines that are numbered from this number on
 abbrev pub shown_from : ℕ → List Fate → List ℕ
@@ -58,4 +63,5 @@ lacks_memory (fate.Bad refusal) = false
 
 -- 5 where memory was refused for one, 0 where each has targets, else 2
 abbrev pub status_of_all : List Fate → ℕ
-status_of_all fates = if list_any lacks_memory fates then 5 else (if list_all has_targets fates then 0 else 2)
+status_of_all fates =
+    if list_any lacks_memory fates then 5 else (if list_all has_targets fates then 0 else 2)

@@ -43,9 +43,9 @@ of_locator locator.Memory = Memory
 
 -- ---- what is wrong with a line
 
--- The fault of a line while this is what is known of a request. The checks come in this order, and each
--- fault says that those before it found none: the digits, that something is asked, how many octets
--- there are, that they begin with a message, that it answers the question.
+-- The fault of a line while this is what is known of a request. The checks come in this order, and
+-- each fault says that those before it found none: the digits, that something is asked, how many
+-- octets there are, that they begin with a message, that it answers the question.
 abbrev pub IsFault : BadReply → Resolution → List ℕ → Type 0
 IsFault NotHex resolution line = (octets : List ℕ) → Digits line octets → ⊥
 IsFault NothingAsked resolution line =
@@ -56,13 +56,16 @@ IsFault Malformed resolution line =
     (octets : List ℕ) × Digits line octets × IsAsking resolution × (length octets ≤ 65535)
     × ((message : Message) → Begins octets message → ⊥)
 IsFault (NoAnswer refusal) resolution line =
-    (question : Question) × (message : Message) × (resolution ≡ need question) × ReplyLine line message
+    (question : Question) × (message : Message) × (resolution ≡ need question)
+    × ReplyLine line message
     × (reply_refusal question message ≡ Some refusal)
 -- memory can be refused at any line
 IsFault Memory resolution line = ⊤
 
--- the first of these lines are replies, each to the question that is needed then, and the next one has this fault
-pub record FailsAt (families : Families) (request : Request) (lines : List (List ℕ)) (reply : BadReply) : Type 0 where
+-- the first of these lines are replies, each to the question that is needed then, and the next one
+-- has this fault
+pub record FailsAt (families : Families) (request : Request) (lines : List (List ℕ))
+    (reply : BadReply) : Type 0 where
   pub front : List (List ℕ)
   pub line : List ℕ
   pub back : List (List ℕ)

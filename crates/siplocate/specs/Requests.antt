@@ -36,8 +36,8 @@ abbrev pub RequestText : List ℕ → Request → Type 0
 RequestText line (Uri uri) = UriText line uri
 RequestText line (Via via) = (rest : List ℕ) × BeginsVia line rest × ViaText rest via
 
--- What becomes of the request in the first line: each of the other lines is a reply to the question that is
--- needed then.
+-- What becomes of the request in the first line: each of the other lines is a reply to the question
+-- that is needed then.
 pub record LocatesTo (families : Families) (text : List ℕ) (resolution : Resolution) : Type 0 where
   pub request : Request
   pub messages : List Message
@@ -54,7 +54,8 @@ pub record HasBadRequest (text : List ℕ) (refusal : UriRefusal) : Type 0 where
   pub none : (request : Request) → RequestText (first_line text) request → ⊥
   pub said : refusal ≢ uri.Memory
 
--- the first line is a request, and of the others the first that is no reply to what is needed then has this fault
+-- the first line is a request, and of the others the first that is no reply to what is needed then
+-- has this fault
 pub record HasBadReply (families : Families) (text : List ℕ) (reply : BadReply) : Type 0 where
   pub request : Request
   pub spelled : RequestText (first_line text) request

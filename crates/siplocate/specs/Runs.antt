@@ -36,10 +36,12 @@ pub record IsNoRequest (line : List ℕ) (refusal : UriRefusal) : Type 0 where
 
 -- what stands in the line of this number, and the jobs before and after it
 abbrev pub IsEntry : ℕ → List ℕ → List Job → List Job → Entry → Type 0
-IsEntry number line jobs after entry.Request = (job : Job) × IsJob number line job × (after ≡ jobs ++ job ∷ [])
+IsEntry number line jobs after entry.Request = (job : Job) × IsJob number line job
+    × (after ≡ jobs ++ job ∷ [])
 IsEntry number line jobs after (entry.Bad refusal) = IsNoRequest line refusal × (after ≡ jobs)
 
--- what stands in lines that are numbered from this number on, and the jobs of those that are requests
+-- what stands in lines that are numbered from this number on, and the jobs of those that are
+-- requests
 abbrev pub AreEntries : ℕ → List (List ℕ) → List Entry → List Job → Type 0
 AreEntries number [] [] [] = ⊤
 AreEntries number (line ∷ lines) (entry.Request ∷ entries) (job ∷ jobs) =
@@ -58,7 +60,8 @@ IsRequest line = (request : Request) × RequestText line request
 abbrev pub HasRequests : ℕ → List (List ℕ) → Type 0
 HasRequests zero lines = ⊤
 HasRequests (suc count) [] = ⊥
-HasRequests (suc count) (line ∷ lines) = (IsRequest line × HasRequests count lines) ⊎ HasRequests (suc count) lines
+HasRequests (suc count) (line ∷ lines) = (IsRequest line × HasRequests count lines)
+    ⊎ HasRequests (suc count) lines
 
 -- a text has more requests than a run takes
 abbrev pub HasTooMany : List ℕ → Type 0
@@ -100,7 +103,8 @@ module _ (gives : List ℕ → Type 0) (shows : ℕ → Type 0) (cache : CacheVi
   -- of lines that are numbered from this number on
   abbrev pub AreFates : ℕ → List (List ℕ) → List Fate → Type 0
   AreFates number [] [] = ⊤
-  AreFates number (line ∷ lines) (fate ∷ fates) = IsFate number line fate × AreFates (number + 1) lines fates
+  AreFates number (line ∷ lines) (fate ∷ fates) = IsFate number line fate
+      × AreFates (number + 1) lines fates
   AreFates number lines fates = ⊥
 
   -- what is printed of the requests of a text, whose lines are numbered from 1, and the status

@@ -81,4 +81,5 @@ pub record IsServed (text printed : List ℕ) (status : ℕ) : Type 0 where
   pub parts : AreParts text zone requests
   pub printed_is :
       ((status ≡ 3) × IsBadZone zone printed)
-      ⊎ (((records : List Record) × LinesSay (lines zone) records) × IsAsked requests printed status)
+      ⊎ (((records : List Record) × LinesSay (lines zone) records)
+      × IsAsked requests printed status)

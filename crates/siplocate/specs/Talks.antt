@@ -30,8 +30,8 @@ abbrev pub selected : Families → Request → List Given → SelectionValue
 selected families request given =
     record { request = request; caps = own_caps families; words = own_words; given = given }
 
--- the question that is needed and the answer that a message has for it, unless nothing is needed or the message is no
--- reply to it
+-- the question that is needed and the answer that a message has for it, unless nothing is needed or
+-- the message is no reply to it
 abbrev pub told : Resolution → Message → Option Given
 told (need question) message =
     if is_none (reply_refusal question message)

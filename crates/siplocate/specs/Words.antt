@@ -83,11 +83,13 @@ IsBadLine families text line =
 -- a target's line
 abbrev pub target_line : Target → List ℕ
 target_line target =
-    transport_word target.transport ++ (32 ∷ address_text target.address) ++ (32 ∷ decimal target.port) ++ 10 ∷ []
+    transport_word target.transport ++ (32 ∷ address_text target.address)
+    ++ (32 ∷ decimal target.port) ++ 10 ∷ []
 
 -- a question's line
 abbrev pub question_line : Question → List ℕ
-question_line question = codes "ask " ++ kind_word question.kind ++ 32 ∷ text_of question.name ++ 10 ∷ []
+question_line question = codes "ask " ++ kind_word question.kind ++ 32 ∷ text_of question.name
+    ++ 10 ∷ []
 
 -- the lines of a resolution, and its status
 abbrev pub shown : Resolution → List ℕ

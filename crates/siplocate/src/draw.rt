@@ -7,8 +7,8 @@ use rand_core::SeedableRng;
 use rand_core::utils::NextWord;
 use srv_choice::{WORD_COUNT, Words};
 
-/// The words of the draw of a number: the first of the stream of that number which ChaCha20 (RFC 8439 2.3, with a block
-/// counter and a nonce of 64 bits each) makes of the key. Each has 32 bits.
+/// The words of the draw of a number: the first of the stream of that number which ChaCha20 (RFC
+/// 8439 2.3, with a block counter and a nonce of 64 bits each) makes of the key. Each has 32 bits.
 pub fn draw_words(key: [u8; 32], number: u64) -> Words
     ensures { result.0 ≡ drawn key number }
 {
@@ -27,7 +27,8 @@ mod tests {
     use rand_core::Rng;
     use std::process::Abort;
 
-    /// A key of zeros but for one octet, the number of a draw, and four of its words from a place on (RFC 8439 A.1).
+    /// A key of zeros but for one octet, the number of a draw, and four of its words from a place
+    /// on (RFC 8439 A.1).
     struct VectorRow {
         octet_place: usize,
         octet: u8,

@@ -41,14 +41,16 @@ fn keep(octets: &mut Vec<u8>, part: &[u8]) -> Result<(), InputRefusal>
 /// The octets as text.
 fn text_of(octets: Vec<u8>) -> Result<String, InputRefusal>
     ensures text { IfOk result (λ text. string_bytes text ≡ octets.items) }
-    ensures no_text { IfErr result (λ refusal. (refusal ≡ InputRefusal.Input) × (IsUtf8 octets.items → ⊥)) }
+    ensures no_text { IfErr result (λ refusal. (refusal ≡ InputRefusal.Input)
+        × (IsUtf8 octets.items → ⊥)) }
 {
     String::from_utf8(octets).map_err(|_| InputRefusal::Input)
 }
 
 /// The text of all that was left to read. After a refusal what was read stays read.
 pub fn input_text<R: Read>(alloc: Global, input: &mut R) -> Result<String, InputRefusal>
-    ensures whole { IfOk result (λ text. IfSome (R.remaining input.old) (λ octets. string_bytes text ≡ octets)) }
+    ensures whole { IfOk result (λ text. IfSome (R.remaining input.old)
+        (λ octets. string_bytes text ≡ octets)) }
     ensures nothing_left { OnOk result (IsAtEnd (R.remaining input.new)) }
     ensures memory { result ≡ Err InputRefusal.Memory
         → IfSome (R.remaining input.old) (λ octets. octets ≢ []) }

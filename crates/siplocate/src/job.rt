@@ -2,6 +2,7 @@
 ghost use Rattle.std.specs.Prelude.{◌≡◌, ◌≤◌, IfOk, IfErr, OnOk};
 ghost use Rattle.std.specs.Io.KnownBytes.{Appends};
 ghost use Rattle.siplocate.specs.Jobs as spec;
+ghost use Rattle.siplocate.specs.Jobs.{IsReported};
 
 use crate::input::InputRefusal;
 use crate::one::one_text;
@@ -125,7 +126,7 @@ fn status_after(written: &io::Result<()>, status: u8) -> u8
 
 /// Prints what is told, and gives the status.
 pub fn report<W: Write>(output: &mut W, told: &Told) -> u8
-    ensures reported { spec.IsReported (W.contents output.old) (W.contents output.new) told.now result }
+    ensures reported { IsReported (W.contents output.old) (W.contents output.new) told.now result }
     ensures range { spec.status told.now ≤ 5 → result ≤ 5 }
 {
     let written = write_text(output, printed(told));

@@ -1,5 +1,5 @@
-//! The program `siplocate`: where SIP requests are sent (RFC 3263), over DNS replies that it is given, or that it asks
-//! a server on this host for.
+//! The program `siplocate`: where SIP requests are sent (RFC 3263), over DNS replies that it is
+//! given, or that it asks a server on this host for.
 #![tactic(auto)]
 
 ghost use Rattle.std.specs.Prelude.{◌≡◌, ◌≤◌, ◌↔◌, IfOk, IsErr};

@@ -81,7 +81,8 @@ fn talk<R: Wait>(
     request: Request,
     text: &str,
 ) -> Result<Talk, BadReply>
-    ensures found { IfOk result (λ it. (messages : List message.Message) × (given : List known.Given)
+    ensures found { IfOk result (λ it. (messages : List message.Message)
+        × (given : List known.Given)
         × AllZip ReplyLine (other_lines text.now) messages
         × (spec.talk families request messages ≡ Some given)
         × (it ≡ spec.selected families request given)) }
@@ -109,7 +110,8 @@ fn located<R: Wait>(
 ) -> Result<Talk, OneRefusal>
     ensures found { IfOk result (λ it. LocatesTo families text.now (now_of it)) }
     ensures read { (resolution : choice.Resolution) → LocatesTo families text.now resolution
-        → MatchResult result (λ it. now_of it ≡ resolution) (λ refusal. refusal ≡ OneRefusal.Memory) }
+        → MatchResult result (λ it. now_of it ≡ resolution)
+        (λ refusal. refusal ≡ OneRefusal.Memory) }
     ensures bad { IfErr result (λ refusal. RefusedAs refusal families text.now) }
 {
     let request = read_request(alloc, first_line(text))?;
@@ -128,9 +130,10 @@ pub fn one_text<R: Wait>(
     ensures located { (resolution : choice.Resolution) → LocatesTo families text.now resolution
         → IfOk result (λ told. (string_bytes told.0 ≡ words.shown resolution)
         × (told.1 ≡ words.status_of resolution)) }
-    // Nothing else is printed but what is wrong, under status 3: the first line where that is no request, and
-    // else the first fault of the first line that is no reply.
-    ensures only { IfOk result (λ told. ((told.1 ≡ 3) × words.IsBadLine families text.now (string_bytes told.0))
+    // Nothing else is printed but what is wrong, under status 3: the first line where that is no
+    // request, and else the first fault of the first line that is no reply.
+    ensures only { IfOk result
+        (λ told. ((told.1 ≡ 3) × words.IsBadLine families text.now (string_bytes told.0))
         ⊎ ((resolution : choice.Resolution) × LocatesTo families text.now resolution
         × (string_bytes told.0 ≡ words.shown resolution) × (told.1 ≡ words.status_of resolution))) }
 {

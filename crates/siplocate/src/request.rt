@@ -12,7 +12,8 @@ use std::alloc::Global;
 /// What stands before and behind the first colon of a line.
 fn at_colon(line: &str) -> Option<(&str, &str)>
     ensures { MatchOption result (position_or_len (λ b. b == 58) line.now ≡ length line.now)
-        (λ parts. (parts.0.now ≡ before_first (λ b. b == 58) line.now) × (parts.1.now ≡ after_first (λ b. b == 58) line.now)
+        (λ parts. (parts.0.now ≡ before_first (λ b. b == 58) line.now)
+        × (parts.1.now ≡ after_first (λ b. b == 58) line.now)
         × (position_or_len (λ b. b == 58) line.now < length line.now)) }
 {
     line.split_once(':')
@@ -21,7 +22,8 @@ fn at_colon(line: &str) -> Option<(&str, &str)>
 /// What follows `Via:`, where a line begins with it, in letters of any case.
 fn behind_via(line: &str) -> Option<&str>
     ensures begins { IfSome result (λ rest. BeginsVia line.now rest.now) }
-    ensures all { (rest : List ℕ) → BeginsVia line.now rest → option_map (λ found. found.now) result ≡ Some rest }
+    ensures all { (rest : List ℕ) → BeginsVia line.now rest
+        → option_map (λ found. found.now) result ≡ Some rest }
 {
     let (word, rest) = at_colon(line)?;
     if word.eq_ignore_ascii_case("via") {

@@ -17,12 +17,12 @@ use std::thread::Threads;
 /// How many requests a worker takes at a time.
 const BATCH: usize = 8;
 
-/// What is printed of the requests of a text, and the status, where a worker for each seat asks over
-/// a wire of its own.
+/// What is printed of the requests of a text, and the status, where a worker for each seat asks
+/// over a wire of its own.
 ///
 /// `BadCount` exactly where there are no seats, or not as many wires as seats, or over 10,000
-/// requests, but for want of memory; `NoThread` where a thread could not be made, and `Memory` where
-/// memory was refused.
+/// requests, but for want of memory; `NoThread` where a thread could not be made, and `Memory`
+/// where memory was refused.
 pub fn run_text<R: Threads + Wait + Sync, W: Wire + Drop + Send, C: Clock + Sync, G: Gate + Sync>(
     rt: &R,
     alloc: Global,

@@ -20,8 +20,9 @@ fn is_wait(kind: ErrorKind) -> bool
 
 /// A wire to many peers over UDP, as a server has it.
 ///
-/// A receive waits for at most 100 milliseconds. A datagram of more than 4,096 octets is cut to its first 4,096, as the
-/// socket does it: the octets behind them are lost, and nothing tells that they were there.
+/// A receive waits for at most 100 milliseconds. A datagram of more than 4,096 octets is cut to its
+/// first 4,096, as the socket does it: the octets behind them are lost, and nothing tells that they
+/// were there.
 #[derive(Drop)]
 pub struct UdpServerWire {
     socket: UdpSocket,
@@ -76,7 +77,8 @@ impl UdpServerWire {
         }
     }
 
-    /// What a receive did: nothing came where it waited long enough, and any other error is a fault.
+    /// What a receive did: nothing came where it waited long enough, and any other error is a
+    /// fault.
     fn received(
         &mut self,
         datagram: io::Result<(usize, SocketAddr)>,
@@ -128,9 +130,10 @@ impl PeerWire for UdpServerWire {
 
 /// A wire to one server over UDP.
 ///
-/// It sends from a port that the system chooses. Only what the server itself sent is given: the socket is connected to
-/// it, so that the system drops the datagrams of others, and those that came before that are told by their address (RFC
-/// 5452 9.1). That the server's port is closed may show as a fault. Otherwise it is as `UdpServerWire`.
+/// It sends from a port that the system chooses. Only what the server itself sent is given: the
+/// socket is connected to it, so that the system drops the datagrams of others, and those that came
+/// before that are told by their address (RFC 5452 9.1). That the server's port is closed may show
+/// as a fault. Otherwise it is as `UdpServerWire`.
 #[derive(Drop)]
 pub struct UdpWire {
     wire: UdpServerWire,
@@ -139,7 +142,8 @@ pub struct UdpWire {
 
 /// The count of a datagram that the server sent; of another's, none.
 fn from_server(datagram: Option<(usize, SocketAddr)>, server: SocketAddr) -> Option<usize>
-    ensures { result ≡ option_and_then (λ it. if ⟦<SocketAddr as PartialEq>⟧.eq it.1 server then Some it.0 else None) datagram }
+    ensures { result ≡ option_and_then (λ it.
+        if ⟦<SocketAddr as PartialEq>⟧.eq it.1 server then Some it.0 else None) datagram }
 {
     match datagram {
         Some((count, peer)) if peer == server => Some(count),

@@ -23,8 +23,8 @@ const TRIES: u64 = 50;
 /// Names a DNS server that answers from the same zone, by its address and port.
 const SERVER: &str = "SIPLOCATE_TEST_SERVER";
 
-/// Whether octets are an authoritative reply to the query with the address 192.0.2.7, which lives for 300 seconds; if
-/// there is memory.
+/// Whether octets are an authoritative reply to the query with the address 192.0.2.7, which lives
+/// for 300 seconds; if there is memory.
 fn is_right(alloc: Global, octets: &[u8]) -> Option<bool> {
     let name = Name::from_text(alloc, "a.example").ok()?;
     let question = Question {

@@ -27,11 +27,13 @@ returns-in-Some c =
 
 pub returns-in-Some-workers_of : goal.returns-in-Some-workers_of
 returns-in-Some-workers_of c =
-    let word = (bytes_eq-Decides c.as_str-then-words-lt3-2.result.now (codes "run")).0 (sym c.eq-then-words-lt3-2.ensures ∙ c.if-eq-3.true) in
+    let word = (bytes_eq-Decides c.as_str-then-words-lt3-2.result.now (codes "run")).0 (sym c.eq-then-words-lt3-2.ensures ∙ c.if-eq-3.true)
+    in
     let words = two_words string_bytes c.args.words.now c.run-item.result c.workers-item.result
     c.in-len2.len_at_least c.in-len2.len_below c.run-item.is c.workers-item.is in
     record {
       word = string_bytes c.workers-item.result;
-      are = words ∙ ap (λ (word : List ℕ). word ∷ string_bytes c.workers-item.result ∷ []) (sym c.as_str-then-words-lt3-2.ensures.value ∙ word);
+      are = words ∙ ap (λ (word : List ℕ). word ∷ string_bytes c.workers-item.result ∷ []) (sym c.as_str-then-words-lt3-2.ensures.value
+          ∙ word);
       count = rw (sym c.deref-in-len2-2.ensures) c.in-Some-workers_of.ensures.found;
     }

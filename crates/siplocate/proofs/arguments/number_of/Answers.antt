@@ -14,7 +14,8 @@ returns-in_err-digit_of-in-len2-2-clause-all c = λ number few is.
     absurd (no_digit (number % 10) (c.in_err-digit_of-in-len2-2.ensures.all (number % 10) (omega arith) digits.2))
 
 pub returns-in-len1-clause-found : goal.returns-in-len1-clause-found
-returns-in-len1-clause-found c = one_of c.args.octets.now c.digit_of.result c.in-len1.len_at_least c.in-len1.len_below c.digit_of.ensures.found
+returns-in-len1-clause-found c = one_of c.args.octets.now c.digit_of.result c.in-len1.len_at_least c.in-len1.len_below
+    c.digit_of.ensures.found
 
 pub returns-in-len1-clause-all : goal.returns-in-len1-clause-all
 returns-in-len1-clause-all c = λ number few is.

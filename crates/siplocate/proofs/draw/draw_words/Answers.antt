@@ -12,4 +12,5 @@ returns c =
     let long = c.loop-word-test.array_long in
     let word = word_at 10 (key_of c.args.key) c.args.number in
     ext_get_or 0 l.word-items (drawn c.args.key c.args.number) (long ∙ sym (length-map-range_with_len word 0 256))
-    (λ i within. l.invariant.drawn i (omega (arith, within, long, c.loop-word-test.false)) ∙ sym (get_or-map-range_with_len word 0 256 i i 0 (omega (arith, within, long)) (omega arith)))
+    (λ i within. l.invariant.drawn i (omega (arith, within, long, c.loop-word-test.false))
+    ∙ sym (get_or-map-range_with_len word 0 256 i i 0 (omega (arith, within, long)) (omega arith)))

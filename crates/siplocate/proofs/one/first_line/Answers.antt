@@ -8,7 +8,8 @@ use Rattle.std.proofs.lemmas.Iterator.Consumers.{YieldsList-turn, YieldsList-end
 use Rattle.siplocate.specs.Requests.{first_line}
 use Rattle.siplocate.proofs.one.first_line.Goals as goal
 
-first : (s u : _) (text : List ℕ) (r : Option (Bor (List ℕ))) (none : Bor (List ℕ)) → lines_rest s ≡ text → lines_steps s r u → none.now ≡ [] → (unwrap_or r none).now ≡ first_line text
+first : (s u : _) (text : List ℕ) (r : Option (Bor (List ℕ))) (none : Bor (List ℕ)) → lines_rest s ≡ text → lines_steps s r u
+    → none.now ≡ [] → (unwrap_or r none).now ≡ first_line text
 first s u text None none e step empty =
     let whole = YieldsList-from_lines text e in
     let all = YieldsList-end whole [] s refl None u refl step in

@@ -15,7 +15,8 @@ use Rattle.siplocate.proofs.one.talk.Goals.{In-Some, In-None}
 use Rattle.siplocate.proofs.one.talk.Given.{Over}
 
 -- the line of this turn
-turn : (g : Over) (c : In-Some g) → (length c.loop-line.yielded < length (other_lines c.args.text.now)) × (c.in-Some.line.now ≡ get_or (other_lines c.args.text.now) (length c.loop-line.yielded) c.in-Some.line.now)
+turn : (g : Over) (c : In-Some g) → (length c.loop-line.yielded < length (other_lines c.args.text.now))
+    × (c.in-Some.line.now ≡ get_or (other_lines c.args.text.now) (length c.loop-line.yielded) c.in-Some.line.now)
 turn g c =
     let whole = YieldsList-from_skip 1 (YieldsList-from_lines c.args.text.now (cc)) (cc) in
     YieldsList-turn whole c.loop-line.yielded _ c.loop-line.yielded_by _ _ c.in-Some.line c.in-Some.is c.next.ensures.steps
@@ -43,7 +44,8 @@ returns-in_err-take-clause-read g c = λ all known' replies e.
     let l = c.loop-line in
     let given = l.talk.given in
     let this = turn g (goal.at.returns-in_err-take-clause-read g c).In-Some in
-    let k = has_reply c.args.families c.args.request (other_lines c.args.text.now) (length l.yielded) given (goes c.args.families c.args.request given) l.invariant.talking c.in-Some.line.now this.0 this.1 all known' replies e in
+    let k = has_reply c.args.families c.args.request (other_lines c.args.text.now) (length l.yielded) given
+    (goes c.args.families c.args.request given) l.invariant.talking c.in-Some.line.now this.0 this.1 all known' replies e in
     let memory = c.in_err-take.ensures.read k.0 k.1 k.2 (ap (λ (it : SelectionValue). told (now_of it) k.0) l.invariant.selection ∙ k.3) in
     let r = err_from_is_err_and c.from_residual-in_err-take.result c.from_residual-in_err-take.ensures.1 in
     rw (r.1, r.2) memory
@@ -55,7 +57,8 @@ returns-in_err-take-clause-bad g c =
     let this = turn g (goal.at.returns-in_err-take-clause-bad g c).In-Some in
     let r = err_from_is_err_and c.from_residual-in_err-take.result c.from_residual-in_err-take.ensures.1 in
     let here : now_of l.talk ≡ goes c.args.families c.args.request given = ap now_of l.invariant.selection in
-    rw (r.1, r.2) (inr (fails c.args.families c.args.request (other_lines c.args.text.now) (length l.yielded) given (goes c.args.families c.args.request given) l.invariant.talking c.in-Some.line.now this.0 this.1
+    rw (r.1, r.2) (inr (fails c.args.families c.args.request (other_lines c.args.text.now) (length l.yielded) given
+    (goes c.args.families c.args.request given) l.invariant.talking c.in-Some.line.now this.0 this.1
     c.in_err-take.field-0.0 (rw here at c.in_err-take.ensures.bad)))
 
 pub loop-line-preserved : goal.loop-line-preserved
@@ -67,7 +70,8 @@ loop-line-preserved g c =
     let count = length_push l.yielded c.in-Some.line in
     let here : now_of l.talk ≡ goes c.args.families c.args.request given = ap now_of l.invariant.selection in
     let grown : c.take.new.self.given ≡ given ++ taken.more ∷ [] = ap (λ (it : SelectionValue). it.given) taken.is in
-    let after = next c.args.families c.args.request (other_lines c.args.text.now) (length l.yielded) given (goes c.args.families c.args.request given) l.invariant.talking c.in-Some.line.now this.0 this.1
+    let after = next c.args.families c.args.request (other_lines c.args.text.now) (length l.yielded) given
+    (goes c.args.families c.args.request given) l.invariant.talking c.in-Some.line.now this.0 this.1
     taken.message taken.more (goes c.args.families c.args.request (given ++ taken.more ∷ [])) taken.reply
     (ap (λ (resolution : Resolution). told resolution taken.message) (sym here) ∙ taken.told_is)
     (λ found line. ap (λ (resolution : Resolution). told resolution found) (sym here) ∙ taken.each found line) refl in
@@ -84,8 +88,14 @@ returns-clause-found g c =
     let l = c.loop-line in
     let talking = l.invariant.talking in
     let given = l.talk.given in
-    let all = all_turns g (goal.at.returns-clause-found g c).In-None in
-    (talking.messages, given, ends c.args.families c.args.request (other_lines c.args.text.now) (length l.yielded) given (goes c.args.families c.args.request given) talking all, talking.talked, l.invariant.selection)
+    let all = all_turns g (goal.at.returns-clause-found g c).In-None in (
+      talking.messages,
+      given,
+      ends c.args.families c.args.request (other_lines c.args.text.now) (length l.yielded) given
+          (goes c.args.families c.args.request given) talking all,
+      talking.talked,
+      l.invariant.selection,
+    )
 
 pub returns-clause-read : goal.returns-clause-read
 returns-clause-read g c = λ all known' replies e.
@@ -93,5 +103,6 @@ returns-clause-read g c = λ all known' replies e.
     let talking = l.invariant.talking in
     let given = l.talk.given in
     let done = all_turns g (goal.at.returns-clause-read g c).In-None in
-    let same = all_known c.args.families c.args.request (other_lines c.args.text.now) (length l.yielded) given (goes c.args.families c.args.request given) talking done all known' replies e in
+    let same = all_known c.args.families c.args.request (other_lines c.args.text.now) (length l.yielded) given
+    (goes c.args.families c.args.request given) talking done all known' replies e in
     l.invariant.selection ∙ ap (selected c.args.families c.args.request) same

@@ -9,5 +9,6 @@ invariant-loop-line g l = record {
   can_next : (goal.iterator-loop-line g).can_next l.line-iterator;
   is_finite : (goal.iterator-loop-line g).is_finite l.line-iterator;
   selection : l.talk ≡ selected l.fn.families l.fn.request l.talk.given;
-  talking : Talking l.fn.families l.fn.request (other_lines l.text) (length l.yielded) l.talk.given (goes l.fn.families l.fn.request l.talk.given);
+  talking : Talking l.fn.families l.fn.request (other_lines l.text) (length l.yielded) l.talk.given (goes l.fn.families l.fn.request
+      l.talk.given);
 }

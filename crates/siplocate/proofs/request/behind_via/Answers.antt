@@ -12,7 +12,8 @@ returns-in_err-word-clause-all c = λ rest begins.
 pub returns-then-eq_ignore_ascii_case-clause-begins : goal.returns-then-eq_ignore_ascii_case-clause-begins
 returns-then-eq_ignore_ascii_case-clause-begins c =
     let parts = c.in_ok-word.ensures in
-    begins c.args.line.now c.in_ok-word.word.now c.in_ok-word.rest.now parts.0 parts.1 parts.2 (c.if-eq_ignore_ascii_case.ensures.test.0 refl)
+    begins c.args.line.now c.in_ok-word.word.now c.in_ok-word.rest.now parts.0 parts.1 parts.2 (c.if-eq_ignore_ascii_case.ensures.test.0
+    refl)
 
 pub returns-else-eq_ignore_ascii_case-clause-all : goal.returns-else-eq_ignore_ascii_case-clause-all
 returns-else-eq_ignore_ascii_case-clause-all c = λ rest begins.

@@ -8,7 +8,8 @@ use Rattle.siplocate.proofs.Colons.{not_both}
 use Rattle.siplocate.proofs.request.read_request.Goals as goal
 
 pub returns-in_err-read_via-in-Some-clause-read : goal.returns-in_err-read_via-in-Some-clause-read
-returns-in_err-read_via-in-Some-clause-read c (Uri uri) text = absurd (not_both c.args.line.now c.in-Some.rest.now uri text c.in-Some.ensures.begins)
+returns-in_err-read_via-in-Some-clause-read c (Uri uri) text =
+    absurd (not_both c.args.line.now c.in-Some.rest.now uri text c.in-Some.ensures.begins)
 returns-in_err-read_via-in-Some-clause-read c (Via via) text =
     let r = err_from_is_err_and c.from_residual.result c.from_residual.ensures.1 in
     let both : Some c.in-Some.rest.now ≡ Some text.0 = c.in-Some.ensures.all text.0 text.1 in
@@ -25,7 +26,8 @@ returns-in_err-read_uri-in-None-clause-read c (Via via) text =
     absurd cc
 
 pub returns-in_ok-read_via-in-Some-clause-read : goal.returns-in_ok-read_via-in-Some-clause-read
-returns-in_ok-read_via-in-Some-clause-read c (Uri uri) text = absurd (not_both c.args.line.now c.in-Some.rest.now uri text c.in-Some.ensures.begins)
+returns-in_ok-read_via-in-Some-clause-read c (Uri uri) text =
+    absurd (not_both c.args.line.now c.in-Some.rest.now uri text c.in-Some.ensures.begins)
 returns-in_ok-read_via-in-Some-clause-read c (Via via) text =
     let both : Some c.in-Some.rest.now ≡ Some text.0 = c.in-Some.ensures.all text.0 text.1 in
     let same : text.0 ≡ c.in-Some.rest.now = cc in

@@ -16,4 +16,5 @@ returns-clause-read g c =
 pub returns-clause-bad : goal.returns-clause-bad
 returns-clause-bad g c =
     let decoded = rw (← c.deref.ensures.value) at c.in_ok-octets.ensures.found in
-    rw (← c.look_up.ensures) (bad-of c.look_up.new.self c.answer.new.self c.args.line.now c.deref.result.now decoded c.answer.result c.answer.ensures.refused)
+    rw (← c.look_up.ensures) (bad-of c.look_up.new.self c.answer.new.self c.args.line.now c.deref.result.now decoded c.answer.result
+    c.answer.ensures.refused)
