@@ -49,7 +49,7 @@ fn may_run(seats: usize, wires: usize, jobs: &[Job], batch: usize) -> bool
 type Part = VecDeque<Vec<(Outcome, Notice)>>;
 
 /// What all workers of a run share.
-#[derive(Clone, Copy)]
+#[derive(Drop)]
 struct Plan<'a, C, G> {
     alloc: Global,
     cache: &'a SharedCache,
@@ -96,7 +96,31 @@ fn made_of<R: Wait, W: Wire + Drop, C: Clock, G: Gate>(
     Ok(made)
 }
 
-/// What became of the jobs of each batch that is this worker's, in order.
+/// What became of the jobs of each batch that is of the worker of this number, in order.
+fn made_in_turn<R: Wait, W: Wire + Drop, C: Clock, G: Gate>(
+    rt: &R,
+    plan: &Plan<'_, C, G>,
+    number: usize,
+    worker: &mut Worker<W>,
+) -> Result<Part, AllocError>
+    requires made_here { Belongs plan.now.cache.now worker.old }
+    requires some { 0 < plan.now.workers }
+    ensures part { IfOk result (λ made. IsPart W.gives C.shows plan.now.cache.now
+        plan.now.batches.now plan.now.workers number made.items) }
+{
+    let mut made = VecDeque::new(plan.alloc);
+    let mut at = number;
+    'batches: while at < plan.batches.len() {
+        made.push_back(made_of(rt, plan, worker, plan.batches[at])?)?;
+        let Some(next) = at.checked_add(plan.workers) else {
+            break;
+        };
+        at = next;
+    }
+    Ok(made)
+}
+
+/// What a worker at this seat, over this wire, makes of its batches.
 fn work_off<R: Wait, W: Wire + Drop, C: Clock, G: Gate>(
     rt: &R,
     plan: &Plan<'_, C, G>,
@@ -110,16 +134,7 @@ fn work_off<R: Wait, W: Wire + Drop, C: Clock, G: Gate>(
         plan.now.batches.now plan.now.workers number made.items) }
 {
     let mut worker = Worker::new(plan.alloc, seat, wire)?;
-    let mut made = VecDeque::new(plan.alloc);
-    let mut at = number;
-    'batches: while at < plan.batches.len() {
-        made.push_back(made_of(rt, plan, &mut worker, plan.batches[at])?)?;
-        let Some(next) = at.checked_add(plan.workers) else {
-            break;
-        };
-        at = next;
-    }
-    Ok(made)
+    made_in_turn(rt, plan, number, &mut worker)
 }
 
 /// What the thread of a worker is to give.
@@ -142,6 +157,42 @@ impl<'a, W: Wire, C: Clock> Promise<Result<Part, AllocError>> for Promised<'a, W
 
 /// The thread of a worker.
 type Running<'a, W, C> = PromisedHandle<Result<Part, AllocError>, Promised<'a, W, C>>;
+
+/// Starts the thread of the worker of this number.
+fn start<
+    's,
+    E: 's,
+    R: Threads + Wait + Sync + 's,
+    W: Wire + Drop + Send + 's,
+    C: Clock + Sync + 's,
+    G: Gate + Sync + 's,
+>(
+    scope: &Scope<'s, E>,
+    rt: &'s R,
+    plan: &'s Plan<'s, C, G>,
+    number: usize,
+    seat: Seat,
+    wire: W,
+) -> Result<Running<'s, W, C>, RunRefusal>
+    requires made_here { Belongs plan.now.cache.now seat }
+    requires some { 0 < plan.now.workers }
+    ensures promised { IfOk result (λ thread.
+        IsPromise plan.now.cache.now plan.now.batches.now plan.now.workers number
+        thread.promise.cache.now thread.promise.batches.now
+        thread.promise.workers thread.promise.number) }
+    ensures refused { IfErr result (λ refusal. refusal ≢ BadCount) }
+{
+    let promise = Promised {
+        cache: plan.cache,
+        batches: plan.batches,
+        workers: plan.workers,
+        number,
+        over: PhantomData,
+    };
+    scope
+        .spawn_with(promise, move || work_off(rt, plan, number, seat, wire))
+        .map_err(|_| RunRefusal::NoThread)
+}
 
 /// Starts a thread for each seat.
 fn start_all<
@@ -173,18 +224,7 @@ fn start_all<
         let Some(wire) = wires.pop() else {
             unreachable!()
         };
-        let number = seats.len();
-        let promise = Promised {
-            cache: plan.cache,
-            batches: plan.batches,
-            workers: plan.workers,
-            number,
-            over: PhantomData,
-        };
-        let thread = scope
-            .spawn_with(promise, move || work_off(rt, plan, number, seat, wire))
-            .map_err(|_| RunRefusal::NoThread)?;
-        threads.push_front(thread)?;
+        threads.push_front(start(scope, rt, plan, seats.len(), seat, wire)?)?;
     }
     Ok(threads)
 }

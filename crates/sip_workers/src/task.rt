@@ -38,9 +38,10 @@ impl<'a> Task<'a> {
         ensures { IfOk result (λ task. IsBegun task × (job_of task ≡ job.now)) }
     {
         let request = job.request.try_clone()?;
+        let locator = Locator::new(alloc, request, job.caps, job.words)?;
         Ok(Task {
             job,
-            locator: Locator::new(alloc, request, job.caps, job.words)?,
+            locator,
             stage: Stage::Ready,
         })
     }

@@ -150,14 +150,25 @@ fn copy_goes(alloc: Global, it: &JobResult<'_, ZoneWire<'_>, StandingClock>) -> 
     it.try_clone(alloc).is_ok_and(|copy| goes(copy.outcome()))
 }
 
-/// Whether these jobs go to the target in one batch, by a copy of each result.
-fn all_go_at_once<R: Wait + AllocGlobal>(rt: &R, wire: ZoneWire<'_>, jobs: &[Job]) -> Option<bool> {
-    let alloc = rt.alloc();
-    let (cache, mut worker) = one_worker(alloc, wire)?;
+/// Whether these jobs go to the target in one batch of this worker, by a copy of each result.
+fn batch_goes<R: Wait + AllocGlobal>(
+    rt: &R,
+    cache: &SharedCache,
+    worker: &mut Worker<ZoneWire<'_>>,
+    jobs: &[Job],
+) -> Option<bool>
+    requires { Belongs cache.now worker.old }
+{
     let made = worker
-        .batch(rt, &cache, jobs, &clock_at_100(), &gate_for(1))
+        .batch(rt, cache, jobs, &clock_at_100(), &OpenGate)
         .ok()?;
-    Some(made.iter().all(|it| copy_goes(alloc, it)))
+    Some(made.iter().all(|it| copy_goes(rt.alloc(), it)))
+}
+
+/// Whether these jobs go to the target in one batch over this wire.
+fn all_go_at_once<R: Wait + AllocGlobal>(rt: &R, wire: ZoneWire<'_>, jobs: &[Job]) -> Option<bool> {
+    let (cache, mut worker) = one_worker(rt.alloc(), wire)?;
+    batch_goes(rt, &cache, &mut worker, jobs)
 }
 
 /// Whether two jobs in one batch go to the target.

@@ -70,8 +70,8 @@ fn receive<W: Wire>(wire: &mut W, buffer: &mut [u8; DATAGRAM_LIMIT]) -> Option<u
     wire.receive(buffer).unwrap_or(None)
 }
 
-/// An id that no question is out under: this one or one of the eight behind it. Behind 65,535 stands
-/// 0.
+/// An id that no question is out under: this one or one of the eight behind it. Behind 65,535
+/// stands 0.
 fn free_id(asker: &Asker, first: u16) -> u16
     requires { asker.now.limit ≤ 8 }
     ensures { ticket_of result asker.now.tickets ≡ None }
@@ -293,6 +293,37 @@ impl<W: Wire + Drop> Worker<W> {
         }
     }
 
+    /// Takes the end of the wait for the answer to this question under this id, by these octets.
+    fn hear_end<R: Wait, C: Clock, G: Gate>(
+        &mut self,
+        rt: &R,
+        cache: &SharedCache,
+        clock: &C,
+        gate: &G,
+        tasks: &mut [Task<'_>],
+        octets: &[u8],
+        id: u16,
+        question: Question,
+        ending: Ending,
+    )
+        requires made_here { Belongs cache.now self.old }
+        requires stands { All (Stands W.gives C.shows self.old.seat) tasks.old }
+        requires given { W.gives octets.now }
+        requires heard { IsEndedBy W.gives question ending }
+        ensures stays { Belongs cache.now self.new }
+        ensures works { Works W.gives C.shows self.old.seat self.new.seat }
+        ensures stands { All (Stands W.gives C.shows self.new.seat) tasks.new }
+        ensures jobs { map job_of tasks.new ≡ map job_of tasks.old }
+    {
+        let Some(at) = place_of(tasks, id, &question) else {
+            return;
+        };
+        let task = &mut tasks[at];
+        let locator = &mut task.locator;
+        task.stage = self.stage_heard(rt, cache, clock, locator, octets, question, ending);
+        tell(gate, task);
+    }
+
     /// Takes octets that the wire gave.
     fn hear<R: Wait, C: Clock, G: Gate>(
         &mut self,
@@ -315,13 +346,7 @@ impl<W: Wire + Drop> Worker<W> {
             return Ok(());
         };
         self.full = false;
-        let Some(at) = place_of(tasks, id, &question) else {
-            return Ok(());
-        };
-        let task = &mut tasks[at];
-        let locator = &mut task.locator;
-        task.stage = self.stage_heard(rt, cache, clock, locator, octets, question, ending);
-        tell(gate, task);
+        self.hear_end(rt, cache, clock, gate, tasks, octets, id, question, ending);
         Ok(())
     }
 
