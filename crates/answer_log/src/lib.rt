@@ -13,12 +13,13 @@
 //! seat + 64 * place.
 //!
 //! ```text
-//!  events   Opened 2, Named 1 a, Placed 1 a, Named 2 b, Named 65 c, Placed 2 b, Placed 65 c, Named 66 d
+//!  events   Opened 2, Named 1 a, Placed 1 a, Named 2 b, Named 65 c, Placed 2 b, Placed 65 c,
+//!           Named 66 d
 //!
 //!  head      node 65      node 2      node 1                        node 66
 //! +----+     store c      store b     store a                       store d
-//! | 65 | --> link 2  ---> link 1 ---> link 0                        link 65     named, and not placed yet
-//! +----+
+//! | 65 | --> link 2  ---> link 1 ---> link 0                        link 65
+//! +----+                                                            (not placed yet)
 //!  idle
 //! +----+
 //! |  0 |                                          history   a, b, c

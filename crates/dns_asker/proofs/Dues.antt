@@ -13,13 +13,15 @@ use Rattle.dns_asker.specs.declared.due.Due.TheVariants.{Resend, GaveUp}
 use Rattle.dns_asker.specs.declared.tickets.Overdue.{Overdue}
 use Rattle.dns_asker.specs.declared.tickets.Overdue.TheVariants.{Again, Over}
 
-pub none-is : (old : Pending Sent) (new : TicketList) (now : ℕ) → IsOverdue old new now None → Dues (asking_of old) (asking_of new.list) now None
+pub none-is : (old : Pending Sent) (new : TicketList) (now : ℕ) → IsOverdue old new now None
+    → Dues (asking_of old) (asking_of new.list) now None
 none-is old new now it = (ap asking_of it.0, All-map (λ (it : Ticket). now < it.deadline) ticket_in old.entries it.1)
 
 pub due-is : (old : Pending Sent) (new : TicketList) (now : ℕ) (overdue : Overdue) (due : Due) → IsOverdue old new now (Some overdue)
     → ToldBy new overdue due → Dues (asking_of old) (asking_of new.list) now (Some due)
 due-is old new now (Again at) (Resend id octets) it told =
-    let same : told.0 ≡ resent (now + 1) it.0.entry = let both : Some told.0 ≡ Some (resent (now + 1) it.0.entry) = sym told.1 ∙ it.3 in cc in
+    let both : Some told.0 ≡ Some (resent (now + 1) it.0.entry) = sym told.1 ∙ it.3 in
+    let same : told.0 ≡ resent (now + 1) it.0.entry = cc in
     record {
       ticket = ticket_in it.0.entry;
       others = map ticket_in it.0.others;

@@ -16,7 +16,8 @@ module _ (list : Pending Sent) (it : IsAsking (asking_of list)) where
       → length list.entries < list.limit → IsAsking (asking_of (record list { entries = placed entry list.entries; serial = serial }))
   kept-more entry serial sent none room =
       rw (mapped-placed entry list.entries)
-      (more-in-order (asking_of list) it (ticket_in entry) serial sent (free list entry.item.id none) (rw (length-map list.entries ticket_in) room))
+      (more-in-order (asking_of list) it (ticket_in entry) serial sent (free list entry.item.id none)
+      (rw (length-map list.entries ticket_in) room))
 
   -- one is taken out
   pub kept-without : (new : Pending Sent) (entry : Entry Sent) → IsTakenOut list.entries entry new.entries
@@ -26,7 +27,8 @@ module _ (list : Pending Sent) (it : IsAsking (asking_of list)) where
 
   module _ (first : Entry Sent) (others : List (Entry Sent)) (whole : list.entries ≡ first ∷ others) where
     -- the first was sent once more
-    pub kept-resent : (now : ℕ) → first.item.sends < 3 → IsAsking (asking_of (record list { entries = placed (resent (now + 1) first) others }))
+    pub kept-resent : (now : ℕ) → first.item.sends < 3
+        → IsAsking (asking_of (record list { entries = placed (resent (now + 1) first) others }))
     kept-resent now more =
         rw (mapped-placed (resent (now + 1) first) others)
         (resent-in-order (asking_of list) it (ticket_in first) (map ticket_in others) (ap (map ticket_in) whole) now more)

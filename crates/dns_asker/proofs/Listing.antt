@@ -87,7 +87,8 @@ module _ {X : Type 0} (p q : X → Bool) where
       omega (arith, parts, here, both xs)
 
 module _ {X : Type 0} (q : X → Bool) where
-  first-counted-by : (x : X) (xs : List X) (is : Bool) → q x ≡ is → length (filter q (x ∷ [])) + length (filter q xs) ≡ length (filter q (x ∷ xs))
+  first-counted-by : (x : X) (xs : List X) (is : Bool) → q x ≡ is
+      → length (filter q (x ∷ [])) + length (filter q xs) ≡ length (filter q (x ∷ xs))
   first-counted-by x xs true is = rw is omega arith
   first-counted-by x xs false is = rw is omega arith
 
@@ -117,7 +118,8 @@ mapped-placed entry entries =
     ) refl)
 
 -- as many of an id
-counted-in : (id : ℕ) (entries : List (Entry Sent)) → length (filter (has_id id) (map ticket_in entries)) ≡ length (filter (is_of id) entries)
+counted-in : (id : ℕ) (entries : List (Entry Sent))
+    → length (filter (has_id id) (map ticket_in entries)) ≡ length (filter (is_of id) entries)
 counted-in id entries = rw (filter-map ticket_in (has_id id) entries, length-map (filter (is_of id) entries) ticket_in) refl
 
 pub mapped-out : (id : ℕ) (entries : List (Entry Sent)) (entry : Entry Sent) (left : List (Entry Sent)) → IsTakenOut entries entry left
@@ -145,7 +147,13 @@ pub leads : (entries : List (Entry Sent)) (at : Id) (deadline : ℕ) → Some (a
 leads [] at deadline e = absurd cc
 leads (x ∷ others) at deadline e =
     let same : (at, deadline) ≡ told x = cc in
-    record { entry = x; others = others; whole = refl; at_is = ap (λ (it : Id × ℕ). it.0) same; deadline_is = ap (λ (it : Id × ℕ). it.1) same }
+    record {
+      entry = x;
+      others = others;
+      whole = refl;
+      at_is = ap (λ (it : Id × ℕ). it.0) same;
+      deadline_is = ap (λ (it : Id × ℕ). it.1) same;
+    }
 
 -- the first is found by its id
 pub leader-found : (entries : List (Entry Sent)) (at : Id) (deadline : ℕ) → All (λ it. entry_of it.id entries ≡ Some it) entries
@@ -154,7 +162,8 @@ leader-found entries at deadline found it =
     let found' = rw it.whole at found in
     rw (it.at_is, it.whole) (found' 0 it.entry (omega arith))
 
-pub same-first : (entries : List (Entry Sent)) (a b : Entry Sent) (rest others : List (Entry Sent)) → entries ≡ a ∷ rest → entries ≡ b ∷ others
+pub same-first : (entries : List (Entry Sent)) (a b : Entry Sent) (rest others : List (Entry Sent))
+    → entries ≡ a ∷ rest → entries ≡ b ∷ others
     → (a ≡ b) × (rest ≡ others)
 same-first entries a b rest others one other = let both : a ∷ rest ≡ b ∷ others = sym one ∙ other in (cc, cc)
 

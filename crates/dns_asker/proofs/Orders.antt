@@ -22,8 +22,10 @@ joined : (front back : List Ticket) → AllPairs InOrder front → AllPairs InOr
 joined [] back first second cross = second
 joined (x ∷ front) back first second cross =
     AllPairs-cons InOrder x (front ++ back)
-    (All-append (InOrder x) front back (λ k d small. first 0 (suc k) d (omega arith) (omega arith)) (All-head (λ it. All (InOrder it) back) x front cross))
-    (joined front back (λ i j d lt small. first (suc i) (suc j) d (omega arith) (omega arith)) second (All-tail (λ it. All (InOrder it) back) x front cross))
+    (All-append (InOrder x) front back (λ k d small. first 0 (suc k) d (omega arith) (omega arith))
+    (All-head (λ it. All (InOrder it) back) x front cross))
+    (joined front back (λ i j d lt small. first (suc i) (suc j) d (omega arith) (omega arith)) second
+    (All-tail (λ it. All (InOrder it) back) x front cross))
 
 later-than : (n m : ℕ) → not (leb n m) ≡ true → m ≤ n
 later-than n m e = search rules
@@ -80,7 +82,8 @@ module _ (asking : Asking) (it : IsAsking asking) where
       → length asking.tickets < asking.limit → IsAsking (record asking { tickets = waiting_too ticket asking.tickets; serial = serial })
   more-in-order ticket serial sent free room = record {
     in_order = waiting-in-order ticket asking.tickets it.in_order;
-    single = λ id. rw (counted (in-front ticket asking.tickets) (has_id id) ticket asking.tickets) (single-by ticket id (has_id id ticket) refl free);
+    single = λ id. rw (counted (in-front ticket asking.tickets) (has_id id) ticket asking.tickets)
+        (single-by ticket id (has_id id ticket) refl free);
     sent = waiting-sent ticket asking.tickets sent it.sent;
     few = let more = long-too ticket asking.tickets in omega (arith, more, room);
   }
@@ -91,7 +94,10 @@ module _ (asking : Asking) (it : IsAsking asking) where
     in_order = AllPairs-filter InOrder p asking.tickets it.in_order;
     single = λ id. let all = both p (has_id id) asking.tickets in let single = it.single id in omega (arith, all, single);
     sent = All-filter p (λ (ticket : Ticket). IsSent ticket.sent) asking.tickets it.sent;
-    few = let few = it.few in let all = length-filter_both p (λ ticket. not (p ticket)) (λ _. refl) asking.tickets in omega (arith, few, all);
+    few =
+        let few = it.few in
+        let all = length-filter_both p (λ ticket. not (p ticket)) (λ _. refl) asking.tickets in
+        omega (arith, few, all);
   }
 
   module _ (ticket : Ticket) (others : List Ticket) (whole : asking.tickets ≡ ticket ∷ others) where
@@ -103,7 +109,10 @@ module _ (asking : Asking) (it : IsAsking asking) where
         let few = rw whole at it.few in
         record {
           in_order = λ i j d lt small. order (suc i) (suc j) d (omega arith) (omega arith);
-          single = λ id. let all = first-counted (has_id id) ticket others in let single = rw whole at it.single id in omega (arith, all, single);
+          single = λ id.
+              let all = first-counted (has_id id) ticket others in
+              let single = rw whole at it.single id in
+              omega (arith, all, single);
           sent = All-tail (λ (it : Ticket). IsSent it.sent) ticket others sent;
           few = omega (arith, few);
         }
@@ -132,7 +141,8 @@ module _ (asking : Asking) (it : IsAsking asking) where
 
 step-in-order : (old new : Asking) (event : Event) → IsAsking old → Step old new event → IsAsking new
 step-in-order old new (runs.ask id question now) it (runs.asked (Ok octets) asks) =
-    rw asks.1 (more-in-order old it (record { sent = record { id = id; question = question; sends = 1 }; deadline = now + 1 }) (old.serial + 1)
+    rw asks.1 (more-in-order old it
+    (record { sent = record { id = id; question = question; sends = 1 }; deadline = now + 1 }) (old.serial + 1)
     (record { some = omega arith; few = omega arith }) asks.2 asks.3)
 step-in-order old new (runs.ask id question now) it (runs.asked (Err refusal) asks) = rw asks.0 it
 step-in-order old new (runs.hear octets) it (runs.heard (Ended id question ending) means left) =

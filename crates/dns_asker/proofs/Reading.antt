@@ -85,4 +85,5 @@ pub left-is : (list new : Pending Sent) (it : IsAsking (asking_of list)) (entry 
     → new ≡ record list { entries = new.entries } → asking_of new ≡ closed entry.item.id (asking_of list)
 left-is list new it entry out rest =
     ap asking_of rest
-    ∙ (rw (mapped-out entry.item.id list.entries entry new.entries out (eq-eqb entry.item.id entry.item.id refl) (it.single entry.item.id)) refl)
+    ∙ (rw (mapped-out entry.item.id list.entries entry new.entries out (eq-eqb entry.item.id entry.item.id refl)
+    (it.single entry.item.id)) refl)

@@ -16,7 +16,8 @@ module _ {T : Type 0} (id : Id) (item : T) where
   given it = record it { item = item }
 
   others-stay-by : (x : Entry T) (entries : List (Entry T)) (is : Bool) → has_id id x ≡ is
-      → without id (with_item id item entries) ≡ without id entries → without id (with_item id item (x ∷ entries)) ≡ without id (x ∷ entries)
+      → without id (with_item id item entries) ≡ without id entries
+      → without id (with_item id item (x ∷ entries)) ≡ without id (x ∷ entries)
   others-stay-by x entries true is rest = rw (is, is) rest
   others-stay-by x entries false is rest = rw (is, is, rest) refl
 
@@ -44,6 +45,7 @@ pub resent-is : (id : Id) (entries : List (Entry Sent)) (entry : Entry Sent) (de
 resent-is id entries entry deadline sent found is =
     rw (item-is id sent entries entry found, others-stay id sent entries, is) refl
 
-pub resent-found : (id : Id) (entries : List (Entry Sent)) (entry : Entry Sent) (deadline : ℕ) (sent : Sent) → entry_of id entries ≡ Some entry
+pub resent-found : (id : Id) (entries : List (Entry Sent)) (entry : Entry Sent) (deadline : ℕ) (sent : Sent)
+    → entry_of id entries ≡ Some entry
     → sent ≡ sent_again entry.item → option_map (delayed deadline) (entry_of id (with_item id sent entries)) ≡ Some (resent deadline entry)
 resent-found id entries entry deadline sent found is = rw (item-is id sent entries entry found, is) refl

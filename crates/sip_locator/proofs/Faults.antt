@@ -76,9 +76,11 @@ pub no-reply : (question : Question) (octets : List ℕ) (it : Message) → Begi
 no-reply question octets it begins reply.Memory only said =
     (begins.short, inr (it, begins, none-by question it (reply_refusal question it) refl only))
 no-reply question octets it begins reply.NotReply only (inr is) = record { it = it; begins = begins; fault = is; named = λ e. absurd cc }
-no-reply question octets it begins reply.OtherQuestion only (inr is) = record { it = it; begins = begins; fault = is; named = λ e. absurd cc }
+no-reply question octets it begins reply.OtherQuestion only (inr is) =
+    record { it = it; begins = begins; fault = is; named = λ e. absurd cc }
 no-reply question octets it begins reply.Truncated only (inr is) = record { it = it; begins = begins; fault = is; named = λ e. absurd cc }
-no-reply question octets it begins (reply.ServerFault code) only (inr is) = record { it = it; begins = begins; fault = is; named = λ e. absurd cc }
+no-reply question octets it begins (reply.ServerFault code) only (inr is) =
+    record { it = it; begins = begins; fault = is; named = λ e. absurd cc }
 no-reply question octets it begins reply.NotReply only (inl e) = absurd cc
 no-reply question octets it begins reply.OtherQuestion only (inl e) = absurd cc
 no-reply question octets it begins reply.Truncated only (inl e) = absurd cc
@@ -87,7 +89,8 @@ no-reply question octets it begins (reply.ServerFault code) only (inl e) = absur
 -- ---- the message decides
 
 module _ (one : (bytes : List ℕ) (end end' : ℕ) (message message' : Message) → Spells (take end bytes) message
-    → Spells (take end' bytes) message' → message ≡ message') (question : Question) (octets : List ℕ) (it : Message) (begins : Begins octets it) where
+    → Spells (take end' bytes) message' → message ≡ message') (question : Question) (octets : List ℕ) (it : Message)
+    (begins : Begins octets it) where
   same : (other : Message) → Begins octets other → other ≡ it
   same other there = one octets there.end begins.end other it there.spelled begins.spelled
 

@@ -22,13 +22,15 @@ prefix-self : (history : List Store) → IsPrefix history history
 prefix-self history = ([], append-nil history)
 
 prefix-through : (first middle last : List Store) → IsPrefix first middle → IsPrefix middle last → IsPrefix first last
-prefix-through first middle last front back = (front.0 ++ back.0, sym (append_assoc first front.0 back.0) ∙ ap (λ l. l ++ back.0) front.1 ∙ back.1)
+prefix-through first middle last front back =
+    (front.0 ++ back.0, sym (append_assoc first front.0 back.0) ∙ ap (λ l. l ++ back.0) front.1 ∙ back.1)
 
 module _ (middle last : List Store) (now : ℕ) (on : IsPrefix middle last) where
   gains-later : {first : List Store} {old new : SelectionValue} → Gains middle now first old new → Gains last now first old new
   gains-later (nothing is) = nothing is
   gains-later (one history value between answered others) =
-      one history value (record { after = between.after; before = prefix-through history middle last between.before on }) answered (gains-later others)
+      one history value (record { after = between.after; before = prefix-through history middle last between.before on }) answered
+      (gains-later others)
 
 module _ (last : List Store) (now : ℕ) where
   gains-more : {first : List Store} {old new : SelectionValue} (value : SelectionValue) → IsPrefix first last → Gains last now first old new
@@ -74,7 +76,8 @@ module _ (old it new : SelectionValue) (before middle after : SeatView) (now cou
   pub gains-one : IsAnswered it new after.seen now → Progress old new before after now (count + 1)
   gains-one found =
       let more : Given = record { question = found.question; answer = found.answer } in
-      let all : length new.given ≡ length it.given + 1 = ap (λ (value : SelectionValue). length value.given) found.is ∙ length-append it.given (more ∷ []) in
+      let all : length new.given ≡ length it.given + 1 =
+      ap (λ (value : SelectionValue). length value.given) found.is ∙ length-append it.given (more ∷ []) in
       record {
         goes_on = all-on;
         stores_nothing = nothing-through before after middle so-far.stores_nothing none;

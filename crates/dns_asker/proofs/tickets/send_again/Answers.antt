@@ -10,8 +10,10 @@ returns c entry found = elim c.match-get_mut.branch [
       let item = rw found at w.in-Some.ensures.item in
       let same : w.in-Some.ticket.now ≡ entry.item = cc in
       let sent : w.send_again.new.self ≡ sent_again entry.item = w.send_again.ensures ∙ ap sent_again same in (
-        c.move_to.ensures.moved ∙ (rw (w.list-is, resent-is c.args.at c.args.list.now.entries entry c.args.deadline w.send_again.new.self found sent) refl),
-        c.move_to.ensures.found ∙ (rw w.list-is (resent-found c.args.at c.args.list.now.entries entry c.args.deadline w.send_again.new.self found sent)),
+        c.move_to.ensures.moved
+            ∙ (rw (w.list-is, resent-is c.args.at c.args.list.now.entries entry c.args.deadline w.send_again.new.self found sent) refl),
+        c.move_to.ensures.found
+            ∙ (rw w.list-is (resent-found c.args.at c.args.list.now.entries entry c.args.deadline w.send_again.new.self found sent)),
       )
   | in_default w ↦ let item = rw found at w.in_default.ensures.item in absurd cc
 ]

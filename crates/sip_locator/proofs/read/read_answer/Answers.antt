@@ -14,5 +14,6 @@ pub returns-in_err-answer_of-clause-refused : goal.returns-in_err-answer_of-clau
 returns-in_err-answer_of-clause-refused c =
     let e = err_from_is_err_and c.from_residual-in_err-answer_of.result c.from_residual-in_err-answer_of.ensures.1 in
     rw (e.1, e.2) (no-reply c.args.question.now c.args.octets.now c.in_ok-message.message
-    (begins-with c.args.octets.now c.in_ok-message.message c.in_ok-message.ensures.found (λ long. let is = c.in_ok-message.ensures.too_long.1 long in absurd cc))
+    (begins-with c.args.octets.now c.in_ok-message.message c.in_ok-message.ensures.found
+    (λ long. let is = c.in_ok-message.ensures.too_long.1 long in absurd cc))
     c.in_err-answer_of.field-0.0 (λ other is. let said = c.in_err-answer_of.ensures.refused other is in cc) c.in_err-answer_of.ensures.said)

@@ -14,5 +14,6 @@ pub returns-in-Some : goal.returns-in-Some
 returns-in-Some c =
     let dues : Dues c.args.self.now (asking_of c.take_overdue.new.self.list) c.args.now (Some c.due_of.result) =
     subst (λ (old : Asking). Dues old (asking_of c.take_overdue.new.self.list) c.args.now (Some c.due_of.result)) c.self.view_is
-    (due-is c.self.inside.tickets.list c.take_overdue.new.self c.args.now c.in-Some.overdue c.due_of.result c.in-Some.ensures c.due_of.ensures) in
+    (due-is c.self.inside.tickets.list c.take_overdue.new.self c.args.now c.in-Some.overdue c.due_of.result
+    c.in-Some.ensures c.due_of.ensures) in
     ((refl, (λ _. tt), dues), record { dues = tt })

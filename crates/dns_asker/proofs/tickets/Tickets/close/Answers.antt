@@ -10,7 +10,9 @@ use Rattle.dns_asker.proofs.tickets.Tickets.close.Goals.{In-Some}
 
 -- all but the entries stays
 rest : (c : In-Some) → c.remove.new.self ≡ record c.self.inside.list { entries = c.remove.new.self.entries }
-rest c = c.in-Some.ensures.left ∙ ap (λ (it : Pending Sent). record c.self.inside.list { entries = it.entries }) (sym c.in-Some.ensures.left)
+rest c =
+    c.in-Some.ensures.left
+    ∙ ap (λ (it : Pending Sent). record c.self.inside.list { entries = it.entries }) (sym c.in-Some.ensures.left)
 
 pub invariant_of-self : goal.invariant_of-self
 invariant_of-self c =
@@ -28,5 +30,6 @@ returns c =
     let same : c.in-Some.ticket ≡ entry.item = cc in (
       ap (λ (it : ℕ × Question). it.0) c.into_parts.ensures ∙ ap (λ (sent : Sent). sent.id) same,
       ap (λ (it : ℕ × Question). it.1) c.into_parts.ensures ∙ ap (λ (sent : Sent). sent.question) same,
-      left-is c.self.inside.list c.remove.new.self c.self.invariant entry (c.in-Some.ensures.apart entry found) (rest (goal.at.returns c).In-Some),
+      left-is c.self.inside.list c.remove.new.self c.self.invariant entry (c.in-Some.ensures.apart entry found)
+          (rest (goal.at.returns c).In-Some),
     ))

@@ -12,9 +12,11 @@ use Rattle.dns_asker.proofs.tickets.Tickets.open.Goals as goal
 pub invariant_of-self-2 : goal.invariant_of-self-2
 invariant_of-self-2 c =
     let entry : Entry Sent = record { id = c.in-Ok-insert.at; deadline = c.get.result + 1; item = c.in-Ok-new.ticket } in
-    let none : find (is_of c.args.id) c.args.self.now.list.entries ≡ None = none-told {A = Id} c.place_of.result _ _ c.place_of.ensures c.if-is_some.ensures in
+    let none : find (is_of c.args.id) c.args.self.now.list.entries ≡ None =
+    none-told {A = Id} c.place_of.result _ _ c.place_of.ensures c.if-is_some.ensures in
     let free : find (is_of c.args.id) c.self.inside.list.entries ≡ None =
     ap (λ (it : TicketList). find (is_of c.args.id) it.list.entries) c.self.view_is ∙ none in
     let sent : IsSent c.in-Ok-new.ticket = rw c.in-Ok-new.ensures record { some = omega arith; few = omega arith } in
     let free' : find (is_of c.in-Ok-new.ticket.id) c.self.inside.list.entries ≡ None = rw c.in-Ok-new.ensures free in
-    rw c.in-Ok-insert.ensures.inserted (kept-more c.self.inside.list c.self.invariant entry (c.self.inside.list.serial + 1) sent free' c.in-Ok.ensures.can.0)
+    rw c.in-Ok-insert.ensures.inserted
+    (kept-more c.self.inside.list c.self.invariant entry (c.self.inside.list.serial + 1) sent free' c.in-Ok.ensures.can.0)

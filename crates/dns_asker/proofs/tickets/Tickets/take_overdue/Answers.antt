@@ -19,7 +19,8 @@ invariant_of-self c =
     let more = (c.may_be_sent_again.ensures it.entry found).0 c.if-may_be_sent_again.true in
     let sent = (c.send_again.ensures it.entry found).0 in
     let rest : without it.entry.id c.self.inside.list.entries ≡ it.others = c.stands_in_order.ensures.first it.entry it.others it.whole in
-    let others : without c.in_ok-at.at c.self.inside.list.entries ≡ it.others = ap (λ id. without id c.self.inside.list.entries) it.at_is ∙ rest in
+    let others : without c.in_ok-at.at c.self.inside.list.entries ≡ it.others =
+    ap (λ id. without id c.self.inside.list.entries) it.at_is ∙ rest in
     rw (sent, others) (kept-resent c.self.inside.list c.self.invariant it.entry it.others it.whole _ more)
 
 pub returns-then-may_be_sent_again : goal.returns-then-may_be_sent_again
@@ -29,7 +30,8 @@ returns-then-may_be_sent_again c =
     let more = (c.may_be_sent_again.ensures it.entry found).0 c.if-may_be_sent_again.true in
     let sent = c.send_again.ensures it.entry found in
     let rest : without it.entry.id c.self.inside.list.entries ≡ it.others = c.stands_in_order.ensures.first it.entry it.others it.whole in
-    let others : without c.in_ok-at.at c.self.inside.list.entries ≡ it.others = ap (λ id. without id c.self.inside.list.entries) it.at_is ∙ rest in
+    let others : without c.in_ok-at.at c.self.inside.list.entries ≡ it.others =
+    ap (λ id. without id c.self.inside.list.entries) it.at_is ∙ rest in
     let now = c.get.ensures.seconds in
     let over = c.if-deadline-get.false in
     let same = it.deadline_is in
@@ -44,7 +46,8 @@ returns-then-may_be_sent_again c =
 pub invariant_of-self-2 : goal.invariant_of-self-2
 invariant_of-self-2 c =
     rw c.in_ok-ticket.ensures.left
-    (kept-rest c.self.inside.list c.self.invariant (record { id = c.in_ok-ticket.field-0-0; deadline = c.in_ok-ticket.field-0-1; item = c.in_ok-ticket.ticket })
+    (kept-rest c.self.inside.list c.self.invariant
+    (record { id = c.in_ok-ticket.field-0-0; deadline = c.in_ok-ticket.field-0-1; item = c.in_ok-ticket.ticket })
     c.pop_due.new.self.entries c.in_ok-ticket.ensures.taken)
 
 pub returns : goal.returns
@@ -53,7 +56,9 @@ returns c =
     let found = leader-found c.self.inside.list.entries c.in_ok-at.at c.in_ok-at.deadline c.stands_in_order.ensures.found it in
     let enough = not-more it.entry.item.sends _ (c.may_be_sent_again.ensures it.entry found) c.if-may_be_sent_again.false in
     let first : Entry Sent = record { id = c.in_ok-ticket.field-0-0; deadline = c.in_ok-ticket.field-0-1; item = c.in_ok-ticket.ticket } in
-    let same = same-first c.self.inside.list.entries first it.entry c.pop_due.new.self.entries it.others c.in_ok-ticket.ensures.taken it.whole in
+    let same =
+    same-first c.self.inside.list.entries first it.entry c.pop_due.new.self.entries it.others
+    c.in_ok-ticket.ensures.taken it.whole in
     let sends = ap (λ (entry : Entry Sent). entry.item.sends) same.0 in
     let now = c.get-2.ensures.seconds in
     let over = c.in_ok-ticket.ensures.due in
