@@ -1,11 +1,13 @@
 -- Labels of texts: what is refused, and the labels of names that they write.
-use Rattle.std.proofs.Common.{◌≡◌, ℕ, ◌+◌, ◌<◌, ◌≤◌, List, [], ◌∷◌, ◌++◌, length, map, take, drop, get_or, Some, None, refl, sym, ap, ◌∙◌, arith, append_assoc}
-use Rattle.std.specs.List.{AllByRecursion, flat_map}
+use Rattle.std.proofs.Common.{◌≡◌, ℕ, ◌+◌, ◌<◌, ◌≤◌, ◌==◌, List, [], ◌∷◌, ◌++◌, length, map, take, drop, get_or, Option, Some, None, refl, sym, ap, ◌∙◌, arith, append_assoc}
+use Rattle.std.specs.List.{AllByRecursion, flat_map, join_with_byte}
+use Rattle.std.specs.Option.{option_or}
+use Rattle.std.proofs.lemmas.List.Splits.{length-slice_split, join_with_byte-slice_split}
 use Rattle.std.proofs.lemmas.Bool.Decides.{nat_tests}
 use Rattle.std.proofs.lemmas.List.{length-append, length-map, append-nil, map-append, drop_more, take_more, take_all, drop_all}
 use Rattle.std.specs.Char.{to_ascii_lowercase}
 use Rattle.dns_name.specs.Labels.{IsLabel, IsName, small_letters, wire_of}
-use Rattle.dns_name.specs.Texts.{IsTextLabel, label_text, label_fault, labels_fault, dotted_fault}
+use Rattle.dns_name.specs.Texts.{IsTextLabel, label_text, label_fault, labels_fault, length_fault, dotted_fault, parted}
 use Rattle.dns_name.specs.declared.refusal.NameRefusal.{NameRefusal}
 use Rattle.dns_name.specs.declared.refusal.NameRefusal.TheVariants.{LongName}
 use Rattle.dns_name.proofs.Runs.{small_twice}
@@ -113,6 +115,18 @@ one_spelled label = append-nil (length label ∷ label)
 
 -- ---- the labels of a text, one after the other
 
+pub option_or_none : (a b : Option NameRefusal) → option_or a b ≡ None → (a ≡ None) × (b ≡ None)
+option_or_none None b e = (refl, e)
+option_or_none (Some x) b e = absurd cc
+
+no_fault_here : (label : List ℕ) (labels : List (List ℕ)) → labels_fault (label ∷ labels) ≡ None
+    → (label_fault label ≡ None) × (labels_fault labels ≡ None)
+no_fault_here label labels none = option_or_none (label_fault label) (labels_fault labels) none
+
+-- a length is no letter
+small_length : (n : ℕ) → n ≤ 63 → to_ascii_lowercase n ≡ n
+small_length n short = grind (arith, nat_tests)
+
 module _ (labels : List (List ℕ)) (count : ℕ) (label : List ℕ) (within : count < length labels)
     (is : label ≡ get_or labels count label) where
   here : drop count labels ≡ label ∷ drop (count + 1) labels
@@ -128,41 +142,61 @@ module _ (labels : List (List ℕ)) (count : ℕ) (label : List ℕ) (within : c
       let one : labels_fault (drop count labels) ≡ labels_fault (drop (count + 1) labels) = rw (here, good) refl in
       sym one ∙ faultless
 
-  pub spelled-more : spelled (map small_letters (take (count + 1) labels))
-      ≡ spelled (map small_letters (take count labels)) ++ length label ∷ small_letters label
+  pub spelled-more : spelled (take (count + 1) labels) ≡ spelled (take count labels) ++ length label ∷ label
   spelled-more =
       let more : take (count + 1) labels ≡ take count labels ++ label ∷ [] =
       take_more labels count label within ∙ ap (λ (l : List ℕ). take count labels ++ l ∷ []) (sym is) in
-      let mapped = ap (map small_letters) more ∙ map-append small_letters (take count labels) (label ∷ []) in
-      ap spelled mapped ∙ spelled-append (map small_letters (take count labels)) (small_letters label ∷ []) ∙ ap
-      (λ (octets : List ℕ). spelled (map small_letters (take count labels)) ++ octets)
-      (one_spelled (small_letters label) ∙ ap (λ (n : ℕ). n ∷ small_letters label) (length-map label to_ascii_lowercase))
+      ap spelled more ∙ spelled-append (take count labels) (label ∷ []) ∙ ap
+      (λ (octets : List ℕ). spelled (take count labels) ++ octets) (one_spelled label)
 
-  pub length-spelled-more : length (spelled (map small_letters (take (count + 1) labels)))
-      ≡ length (spelled (map small_letters (take count labels))) + 1 + length label
-  length-spelled-more =
-      let before : List ℕ = spelled (map small_letters (take count labels)) in
-      omega (arith, ap length spelled-more, length-append before (length label ∷ small_letters label), length-map label to_ascii_lowercase)
+  pub good_label : labels_fault (drop count labels) ≡ None → label_fault label ≡ None
+  good_label faultless = (no_fault_here label (drop (count + 1) labels) (sym (ap labels_fault here) ∙ faultless)).0
 
-module _ (labels : List (List ℕ)) (count : ℕ) (all : count ≡ length labels)
-    (faultless : labels_fault (drop count labels) ≡ labels_fault labels) where
-  no_labels_fault : labels_fault labels ≡ None
-  no_labels_fault = sym faultless ∙ ap labels_fault (drop_all count labels (omega arith))
+-- the octets of labels, with small letters
+small_octets : (labels : List (List ℕ)) → labels_fault labels ≡ None
+    → map to_ascii_lowercase (wire_of labels) ≡ wire_of (map small_letters labels)
+small_octets [] none = refl
+small_octets (label ∷ labels) none =
+    let k = no_fault_here label labels none in
+    let short = (IsTextLabel-from_none label k.0).short in
+    let len : to_ascii_lowercase (length label) ≡ length (small_letters label) = rw length-map (small_length (length label) short) in
+    rw (len, map-append to_ascii_lowercase label (wire_of labels), small_octets labels k.1) refl
 
-  pub dotted-closed : (octets : List ℕ) → octets ≡ spelled (map small_letters (take count labels))
-      → octets ++ 0 ∷ [] ≡ wire_of (map small_letters labels)
-  dotted-closed octets e = rw (e, take_all count labels (omega arith)) (spelled-closed (map small_letters labels))
+length-joined : (labels : List (List ℕ)) → 0 < length labels → length (wire_of labels) ≡ length (join_with_byte 46 labels) + 2
+length-joined [] some = absurd (omega arith)
+length-joined (label ∷ []) some = omega (arith, length-append label (0 ∷ []))
+length-joined (label ∷ next ∷ labels) some =
+    omega (
+      arith,
+      length-joined (next ∷ labels) (omega arith),
+      length-append label (wire_of (next ∷ labels)),
+      length-append label (46 ∷ join_with_byte 46 (next ∷ labels)),
+    )
 
-  pub dotted_short : (octets : List ℕ) → octets ≡ spelled (map small_letters (take count labels)) → length octets ≤ 254
-      → dotted_fault labels ≡ None
-  dotted_short octets e short =
-      let len : length (wire_of labels) ≡ length octets + 1 =
-      sym (length-small labels) ∙ ap length (sym (dotted-closed octets e)) ∙ length-append octets (0 ∷ []) in
-      rw no_labels_fault (grind (arith, nat_tests, len))
+-- a text and the octets of its labels
+length-wire : (text : List ℕ) → length (wire_of (parted text)) ≡ length text + 2
+length-wire text =
+    let some : 0 < length (parted text) = omega (arith, length-slice_split (λ (octet : ℕ). octet == 46) text) in
+    length-joined (parted text) some ∙ ap (λ (octets : List ℕ). length octets + 2) (join_with_byte-slice_split 46 text)
 
-  pub dotted_long : 254 < length (spelled (map small_letters (take count labels))) → dotted_fault labels ≡ Some LongName
-  dotted_long long =
-      let octets = spelled (map small_letters (take count labels)) in
-      let len : length (wire_of labels) ≡ length octets + 1 =
-      sym (length-small labels) ∙ ap length (sym (dotted-closed octets refl)) ∙ length-append octets (0 ∷ []) in
-      rw no_labels_fault (grind (arith, nat_tests, len))
+pub small_wire : (text octets : List ℕ) (count : ℕ) → count ≡ length (parted text) → dotted_fault (parted text) ≡ None
+    → octets ≡ spelled (take count (parted text)) ++ 0 ∷ []
+    → map to_ascii_lowercase octets ≡ wire_of (map small_letters (parted text))
+small_wire text octets count all none e =
+    let labels : List (List ℕ) = parted text in
+    let whole : octets ≡ wire_of labels = rw (e, take_all count labels (omega arith)) (spelled-closed labels) in
+    rw whole (small_octets labels (option_or_none (labels_fault labels) (length_fault labels) none).0)
+
+pub faultless_labels : (labels : List (List ℕ)) → dotted_fault labels ≡ None → labels_fault labels ≡ None
+faultless_labels labels none = (option_or_none (labels_fault labels) (length_fault labels) none).0
+
+module _ (text : List ℕ) (count : ℕ) (all : count ≡ length (parted text))
+    (faultless : labels_fault (drop count (parted text)) ≡ labels_fault (parted text)) where
+  no_labels_fault : labels_fault (parted text) ≡ None
+  no_labels_fault = sym faultless ∙ ap labels_fault (drop_all count (parted text) (omega arith))
+
+  pub dotted_short : length text + 2 ≤ 255 → dotted_fault (parted text) ≡ None
+  dotted_short short = rw no_labels_fault (grind (arith, nat_tests, length-wire text))
+
+  pub dotted_long : 255 < length text + 2 → dotted_fault (parted text) ≡ Some LongName
+  dotted_long long = rw no_labels_fault (grind (arith, nat_tests, length-wire text))

@@ -12,13 +12,9 @@ use Rattle.dns_name.specs.Labels.{IsLabel, IsName, small_letters, wire_of}
 use Rattle.dns_name.specs.Texts.{is_text_octet, IsPlain, shown, label_text, text_of, IsTextLabel, IsDotted, TextOf, root, dotted, label_fault, labels_fault, length_fault, dotted_fault, parted, without_closing_dot}
 use Rattle.dns_name.specs.declared.refusal.NameRefusal.{NameRefusal}
 use Rattle.dns_name.proofs.ClosingDots.{joined, joined_ends, dotted_parts, parts_of}
-use Rattle.dns_name.proofs.TextLabels.{IsTextLabel-from_none, no_fault, IsLabel-small, length-small}
+use Rattle.dns_name.proofs.TextLabels.{IsTextLabel-from_none, no_fault, IsLabel-small, length-small, option_or_none}
 
 -- ---- no fault
-
-option_or_none : (a b : Option NameRefusal) → option_or a b ≡ None → (a ≡ None) × (b ≡ None)
-option_or_none None b e = (refl, e)
-option_or_none (Some x) b e = absurd cc
 
 labels_from_none : (labels : List (List ℕ)) → labels_fault labels ≡ None → AllByRecursion IsTextLabel labels
 labels_from_none [] e = tt

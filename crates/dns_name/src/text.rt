@@ -44,28 +44,35 @@ fn check_label(label: &[u8]) -> Result<(), NameRefusal>
     Ok(())
 }
 
-/// The labels of a text without its closing dot.
-fn draft_of(text: &[u8]) -> Result<Draft, NameRefusal>
-    ensures refused { result_err result ≡ spec.dotted_fault (spec.parted text.now) }
-    ensures labels { IfOk result
-        (λ draft. draft.octets.items ++ 0 ∷ []
-        ≡ wire_of (map small_letters (spec.parted text.now))) }
+/// Refuses what is no name of labels with dots between them.
+fn check_labels(text: &[u8]) -> Result<(), NameRefusal>
+    ensures { result_err result ≡ spec.dotted_fault (spec.parted text.now) }
 {
-    let mut draft = Draft::new();
-    let mut fits = true;
     for label in text.split(|octet| *octet == b'.') {
         check_label(label)?;
-        if fits && draft.has_room(label.len()) {
-            draft.push(label);
-        } else {
-            fits = false;
-        }
     }
-    if fits {
-        Ok(draft)
-    } else {
-        Err(NameRefusal::LongName)
+    // Each label but one has a dot in front; so their lengths and the closing 0 make two more.
+    if text.len() + 2 > NAME_LIMIT {
+        return Err(NameRefusal::LongName);
     }
+    Ok(())
+}
+
+/// The octets of a name of labels with dots between them.
+fn wire_octets(alloc: Global, text: &[u8]) -> Result<Vec<u8>, AllocError>
+    requires { spec.dotted_fault (spec.parted text.now) ≡ None }
+    ensures { IfOk result
+        (λ octets. octets.items ≡ wire_of (map small_letters (spec.parted text.now))) }
+{
+    let mut octets = Vec::with_capacity(alloc, text.len() + 2)?;
+    for label in text.split(|octet| *octet == b'.') {
+        octets.push(label.len() as u8)?;
+        octets.extend_from_slice(label)?;
+    }
+    octets.push(0)?;
+    // A length is no letter.
+    octets.make_ascii_lowercase();
+    Ok(octets)
 }
 
 /// A text without its closing dot, if it has one.
@@ -123,10 +130,11 @@ impl Name {
     {
         let text = text.as_bytes();
         if text == b".".as_slice() {
-            return Ok(Draft::new().finish(alloc, &[0])?);
+            return Ok(Name::from_wire(Vec::from_slice(alloc, &[0])?));
         }
-        let draft = draft_of(without_closing_dot(text))?;
-        Ok(draft.finish(alloc, &[0])?)
+        let dotted = without_closing_dot(text);
+        check_labels(dotted)?;
+        Ok(Name::from_wire(wire_octets(alloc, dotted)?))
     }
 
     /// The name with two labels in front, as `_sip` and `_udp` in front of a domain (RFC 2782).

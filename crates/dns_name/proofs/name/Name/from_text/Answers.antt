@@ -6,29 +6,28 @@ use Rattle.dns_name.specs.Texts.{root, parted, dotted_fault, without_closing_dot
 use Rattle.dns_name.proofs.Wire.{same_labels}
 use Rattle.dns_name.proofs.TextNames.{IsName-small, TextOf-parted, named}
 use Rattle.dns_name.proofs.name.Name.from_text.Goals as goal
-use Rattle.dns_name.proofs.name.Name.from_text.Goals.{In_ok-finish, In_ok-draft, Else-eq}
+use Rattle.dns_name.proofs.name.Name.from_text.Goals.{In_ok-from_slice, In_ok-check_labels, Else-eq, After-from_wire-2}
 
-pub finish-requires : goal.finish-requires
-finish-requires c = ([], record { each = tt; short = lit≤ tt }, rw c.new.ensures refl)
+pub from_wire-requires : goal.from_wire-requires
+from_wire-requires c = ([], record { each = tt; short = lit≤ tt }, c.in_ok-from_slice.ensures.items)
 
 -- ---- a dot alone
 
-is_dot : (c : In_ok-finish) → bytes_eq c.args.text.now (46 ∷ []) ≡ true
+is_dot : (c : In_ok-from_slice) → bytes_eq c.args.text.now (46 ∷ []) ≡ true
 is_dot c = rw (c.as_bytes-text.ensures.value, c.as_slice.ensures) at (sym c.if-eq.ensures)
 
-is_root : (c : In_ok-finish) → c.in_ok-finish.field-0 ≡ []
-is_root c =
-    let spelled : wire_of c.in_ok-finish.field-0 ≡ 0 ∷ [] = rw c.new.ensures at c.in_ok-finish.ensures in
-    same_labels c.in_ok-finish.field-0 [] spelled
-
 pub returns-then-eq-clause-found : goal.returns-then-eq-clause-found
-returns-then-eq-clause-found c = rw (is_root c) (root ((bytes_eq-Decides c.args.text.now (46 ∷ [])).0 (is_dot c)))
+returns-then-eq-clause-found c =
+    let lone = is_dot (goal.at.returns-then-eq-clause-found c).In_ok-from_slice in
+    let none : c.from_wire.result ≡ [] = same_labels c.from_wire.result [] (c.from_wire.ensures ∙ c.in_ok-from_slice.ensures.items) in
+    rw none (root ((bytes_eq-Decides c.args.text.now (46 ∷ [])).0 lone))
 
 pub returns-then-eq-clause-read : goal.returns-then-eq-clause-read
 returns-then-eq-clause-read c = λ name text_of.
+    let lone = is_dot (goal.at.returns-then-eq-clause-read c).In_ok-from_slice in
     elim (named name c.args.text.now text_of) [
-      | inl lone ↦ is_root c ∙ sym lone.0
-      | inr n ↦ (let dot : true ≡ false = sym (is_dot c) ∙ n.no_dot in absurd cc)
+      | inl none ↦ same_labels c.from_wire.result [] (c.from_wire.ensures ∙ c.in_ok-from_slice.ensures.items) ∙ sym none.0
+      | inr n ↦ (let dot : true ≡ false = sym lone ∙ n.no_dot in absurd cc)
     ]
 
 -- ---- labels and dots
@@ -36,44 +35,50 @@ returns-then-eq-clause-read c = λ name text_of.
 no_dot : (c : Else-eq) → bytes_eq c.args.text.now (46 ∷ []) ≡ false
 no_dot c = rw (c.as_bytes-text.ensures.value, c.as_slice.ensures) at (sym c.if-eq.ensures)
 
-pub returns-in_err-draft-clause-read : goal.returns-in_err-draft-clause-read
-returns-in_err-draft-clause-read c = λ name text_of.
+pub returns-in_err-check_labels-clause-read : goal.returns-in_err-check_labels-clause-read
+returns-in_err-check_labels-clause-read c = λ name text_of.
     let text : List ℕ = c.args.text.now in
-    let front : c.without_closing_dot.result.now ≡ without_closing_dot text =
-    c.without_closing_dot.ensures ∙ ap without_closing_dot c.as_bytes-text.ensures.value in
-    let fault = rw front at c.in_err-draft.ensures.refused in
-    let lone = no_dot (goal.at.returns-in_err-draft-clause-read c).Else-eq in
+    let dotted' : c.without_closing_dot-dotted.result.now ≡ without_closing_dot text =
+    c.without_closing_dot-dotted.ensures ∙ ap without_closing_dot c.as_bytes-text.ensures.value in
+    let fault = rw dotted' at c.in_err-check_labels.ensures in
+    let lone = no_dot (goal.at.returns-in_err-check_labels-clause-read c).Else-eq in
     elim (named name text text_of) [
       | inl dot ↦ (let no : true ≡ false = sym ((bytes_eq-Decides text (46 ∷ [])).1 dot.1) ∙ lone in absurd cc)
-      | inr n ↦ (let no : Some c.in_err-draft.field-0.0 ≡ None = fault ∙ n.faultless in absurd cc)
+      | inr n ↦ (let no : Some c.in_err-check_labels.field-0.0 ≡ None = fault ∙ n.faultless in absurd cc)
     ]
 
-drafted : (c : In_ok-draft) → (dotted_fault (parted (without_closing_dot c.args.text.now)) ≡ None)
-    × (c.in_ok-draft.draft.octets.items ++ 0 ∷ [] ≡ wire_of (map small_letters (parted (without_closing_dot c.args.text.now))))
-drafted c =
-    let front : c.without_closing_dot.result.now ≡ without_closing_dot c.args.text.now =
-    c.without_closing_dot.ensures ∙ ap without_closing_dot c.as_bytes-text.ensures.value in
-    (sym (rw front at c.in_ok-draft.ensures.refused), rw front at c.in_ok-draft.ensures.labels)
+faultless : (c : In_ok-check_labels) → (c.without_closing_dot-dotted.result.now ≡ without_closing_dot c.args.text.now)
+    × (dotted_fault (parted (without_closing_dot c.args.text.now)) ≡ None)
+faultless c =
+    let dotted' : c.without_closing_dot-dotted.result.now ≡ without_closing_dot c.args.text.now =
+    c.without_closing_dot-dotted.ensures ∙ ap without_closing_dot c.as_bytes-text.ensures.value in
+    (dotted', sym (rw dotted' at c.in_ok-check_labels.ensures))
 
-pub finish-requires-2 : goal.finish-requires-2
-finish-requires-2 c =
-    let k = drafted (goal.at.finish-requires-2 c).In_ok-draft in
+pub wire_octets-requires : goal.wire_octets-requires
+wire_octets-requires c =
+    let k = faultless (goal.at.wire_octets-requires c).In_ok-check_labels in
+    rw k.0 k.1
+
+pub from_wire-requires-2 : goal.from_wire-requires-2
+from_wire-requires-2 c =
+    let k = faultless (goal.at.from_wire-requires-2 c).In_ok-check_labels in
     let parts : List (List ℕ) = parted (without_closing_dot c.args.text.now) in
-    (map small_letters parts, IsName-small parts k.0, k.1)
+    (map small_letters parts, IsName-small parts k.1, rw k.0 at c.in_ok-wire_octets.ensures)
 
-found : (c : In_ok-draft) (name : List (List ℕ)) → wire_of name ≡ c.in_ok-draft.draft.octets.items ++ 0 ∷ []
-    → name ≡ map small_letters (parted (without_closing_dot c.args.text.now))
-found c name spelled = same_labels name (map small_letters (parted (without_closing_dot c.args.text.now))) (spelled ∙ (drafted c).1)
+found : (c : After-from_wire-2) → c.from_wire-2.result ≡ map small_letters (parted (without_closing_dot c.args.text.now))
+found c =
+    let k = faultless (goal.at.returns-clause-found c).In_ok-check_labels in
+    let spelled = rw k.0 at c.in_ok-wire_octets.ensures in
+    same_labels c.from_wire-2.result (map small_letters (parted (without_closing_dot c.args.text.now))) (c.from_wire-2.ensures ∙ spelled)
 
 pub returns-clause-found : goal.returns-clause-found
 returns-clause-found c =
-    let d = (goal.at.returns-clause-found c).In_ok-draft in
-    rw (found d c.in_ok-finish-2.field-0 c.in_ok-finish-2.ensures) (TextOf-parted c.args.text.now (drafted d).0)
+    rw (found c) (TextOf-parted c.args.text.now (faultless (goal.at.returns-clause-found c).In_ok-check_labels).1)
 
 pub returns-clause-read : goal.returns-clause-read
 returns-clause-read c = λ name text_of.
-    let at = goal.at.returns-clause-read c in
+    let lone = no_dot (goal.at.returns-clause-read c).Else-eq in
     elim (named name c.args.text.now text_of) [
-      | inl dot ↦ (let no : true ≡ false = sym ((bytes_eq-Decides c.args.text.now (46 ∷ [])).1 dot.1) ∙ no_dot at.Else-eq in absurd cc)
-      | inr n ↦ found at.In_ok-draft c.in_ok-finish-2.field-0 c.in_ok-finish-2.ensures ∙ sym n.is
+      | inl dot ↦ (let no : true ≡ false = sym ((bytes_eq-Decides c.args.text.now (46 ∷ [])).1 dot.1) ∙ lone in absurd cc)
+      | inr n ↦ found c ∙ sym n.is
     ]

@@ -1,11 +1,9 @@
 use Rattle.std.proofs.Common.{◌≡◌, ◌<◌, length, map, take, drop}
-use Rattle.std.specs.Prelude.{MatchBool}
-use Rattle.dns_name.specs.Labels.{small_letters}
 use Rattle.dns_name.specs.Texts.{labels_fault, parted}
 use Rattle.dns_name.proofs.TextLabels.{spelled}
-use Rattle.dns_name.proofs.text.draft_of.Given as goal
+use Rattle.dns_name.proofs.text.wire_octets.Given as goal
 
--- the labels so far have no fault, and stand in the draft unless they are too long for a name
+-- the labels so far stand in the octets, each behind its length
 abbrev pub invariant-loop-label : goal.invariant-loop-label
 invariant-loop-label l =
     let labels = parted l.text in
@@ -14,6 +12,5 @@ invariant-loop-label l =
       can_next : (goal.iterator-loop-label).can_next l.label-iterator;
       is_finite : (goal.iterator-loop-label).is_finite l.label-iterator;
       faultless : labels_fault (drop count labels) ≡ labels_fault labels;
-      drafted : MatchBool l.fits (l.draft.octets.items ≡ spelled (map small_letters (take count labels)))
-          (254 < length (spelled (map small_letters (take count labels))));
+      octets : l.octets.items ≡ spelled (take count labels);
     }
