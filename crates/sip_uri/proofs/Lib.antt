@@ -1,4 +1,5 @@
 mod Cutting
+mod ClassTable
 mod Colons
 mod Digits
 mod Fronts

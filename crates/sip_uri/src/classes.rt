@@ -1,6 +1,5 @@
 //! Classes of octets, and runs of them (RFC 3261 25.1).
 ghost use Rattle.std.specs.Prelude.{◌≡◌};
-ghost use Rattle.sip_uri.specs.Classes.{is_unreserved};
 ghost use Rattle.sip_uri.specs.Readers.Runs as spec;
 
 /// A class of octets that may stand unescaped.
@@ -14,26 +13,41 @@ pub(crate) enum Class {
     Param,
     /// Of the name or value of a header.
     Header,
+    /// Of a label of a hostname.
+    Label,
 }
 
-/// Whether an octet is unreserved.
-fn is_unreserved(octet: u8) -> bool
-    ensures { result ≡ is_unreserved octet }
+/// For each octet the classes that it is of: the sum of their bits.
+const CLASSES: [u8; 256] = [
+    0, 0, 0, 0, 0, 0, 0, 0, 0, 0, 0, 0, 0, 0, 0, 0, 0, 0, 0, 0, 0, 0, 0, 0, 0, 0, 0, 0, 0, 0, 0, 0,
+    0, 15, 0, 0, 15, 0, 7, 15, 15, 15, 15, 15, 3, 31, 15, 13, 31, 31, 31, 31, 31, 31, 31, 31, 31,
+    31, 12, 1, 0, 3, 0, 9, 0, 31, 31, 31, 31, 31, 31, 31, 31, 31, 31, 31, 31, 31, 31, 31, 31, 31,
+    31, 31, 31, 31, 31, 31, 31, 31, 31, 12, 0, 12, 0, 15, 0, 31, 31, 31, 31, 31, 31, 31, 31, 31,
+    31, 31, 31, 31, 31, 31, 31, 31, 31, 31, 31, 31, 31, 31, 31, 31, 31, 0, 0, 0, 15, 0, 0, 0, 0, 0,
+    0, 0, 0, 0, 0, 0, 0, 0, 0, 0, 0, 0, 0, 0, 0, 0, 0, 0, 0, 0, 0, 0, 0, 0, 0, 0, 0, 0, 0, 0, 0, 0,
+    0, 0, 0, 0, 0, 0, 0, 0, 0, 0, 0, 0, 0, 0, 0, 0, 0, 0, 0, 0, 0, 0, 0, 0, 0, 0, 0, 0, 0, 0, 0, 0,
+    0, 0, 0, 0, 0, 0, 0, 0, 0, 0, 0, 0, 0, 0, 0, 0, 0, 0, 0, 0, 0, 0, 0, 0, 0, 0, 0, 0, 0, 0, 0, 0,
+    0, 0, 0, 0, 0, 0, 0, 0, 0, 0, 0, 0, 0, 0, 0, 0, 0, 0, 0, 0, 0, 0, 0, 0, 0, 0, 0, 0,
+];
+
+/// The bit that stands for a class.
+fn bit(class: Class) -> u8
+    ensures { result ≡ spec.bit class }
 {
-    octet.is_ascii_alphanumeric() || b"-_.!~*'()".contains(&octet)
+    match class {
+        Class::User => 1,
+        Class::Password => 2,
+        Class::Param => 4,
+        Class::Header => 8,
+        Class::Label => 16,
+    }
 }
 
 /// Whether an octet is of a class.
-fn has(class: Class, octet: u8) -> bool
+pub(crate) fn has(class: Class, octet: u8) -> bool
     ensures { result ≡ spec.octets_of class octet }
 {
-    let others = match class {
-        Class::User => b"&=+$,;?/".as_slice(),
-        Class::Password => b"&=+$,".as_slice(),
-        Class::Param => b"[]/:&+$".as_slice(),
-        Class::Header => b"[]/?:+$".as_slice(),
-    };
-    is_unreserved(octet) || others.contains(&octet)
+    CLASSES[usize::from(octet)] & bit(class) != 0
 }
 
 /// Whether a text is a run of octets of a class and of escaped ones: `%` and two hexadecimal

@@ -6,20 +6,14 @@ ghost use Rattle.sip_uri.specs.Readers.Parts.{parted};
 ghost use Rattle.sip_uri.specs.Readers.Texts as spec;
 ghost use Rattle.dns_name.specs.Texts.{without_closing_dot};
 
+use crate::classes::{Class, has};
 use crate::parts::next_part;
-
-/// Whether an octet may stand in a label of a hostname.
-fn is_label_octet(octet: u8) -> bool
-    ensures { result ≡ host.is_label_octet octet }
-{
-    octet.is_ascii_alphanumeric() || octet == b'-'
-}
 
 /// Whether each octet may stand in a label of a hostname.
 fn are_label_octets(octets: &[u8]) -> bool
     ensures { result ≡ list_all host.is_label_octet octets.now }
 {
-    octets.iter().all(|octet| is_label_octet(*octet))
+    octets.iter().all(|octet| has(Class::Label, *octet))
 }
 
 /// Whether it is a label: letters, digits and hyphens, with a letter or digit in front and at the

@@ -2,14 +2,24 @@
 use Rattle.std.specs.Prelude.{ℕ, zero, suc, ◌==◌, Bool, not, ◌&&◌, List, [], ◌∷◌, length, if◌then◌else◌}
 use Rattle.std.specs.Char.{is_ascii_hexdigit}
 use Rattle.sip_uri.specs.Classes.{is_user_octet, is_password_octet, is_param_octet, is_header_octet}
+use Rattle.sip_uri.specs.Hosts.{is_label_octet}
 use Rattle.sip_uri.specs.declared.classes.Class.{Class}
-use Rattle.sip_uri.specs.declared.classes.Class.TheVariants.{User, Password, Param, Header}
+use Rattle.sip_uri.specs.declared.classes.Class.TheVariants.{User, Password, Param, Header, Label}
 
 abbrev pub octets_of : Class → ℕ → Bool
 octets_of User octet = is_user_octet octet
 octets_of Password octet = is_password_octet octet
 octets_of Param octet = is_param_octet octet
 octets_of Header octet = is_header_octet octet
+octets_of Label octet = is_label_octet octet
+
+-- the bit of a class
+abbrev pub bit : Class → ℕ
+bit User = 1
+bit Password = 2
+bit Param = 4
+bit Header = 8
+bit Label = 16
 
 -- a run, of which so many digits of an escaped octet are still to come
 abbrev pub run_from : (ℕ → Bool) → ℕ → List ℕ → Bool
