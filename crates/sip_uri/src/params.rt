@@ -1,5 +1,5 @@
 //! Parameters of a URI (RFC 3261 19.1.1, 25.1).
-ghost use Rattle.std.specs.Prelude.{◌≡◌, take};
+ghost use Rattle.std.specs.Prelude.{◌≡◌, take, IfOk};
 ghost use Rattle.std.specs.Option.{option_map};
 ghost use Rattle.std.specs.Result.{result_err};
 ghost use Rattle.sip_uri.specs.Readers.Parts.{parted};
@@ -9,6 +9,15 @@ use crate::classes::{Class, is_some_run};
 use crate::host_part::host_part;
 use crate::parts::next_part;
 use crate::refusal::UriRefusal;
+
+/// The values that say where a request goes, each as it stands in a text.
+#[derive(Clone, Copy)]
+pub(crate) struct Values<'a> {
+    /// The value of `transport`.
+    pub(crate) transport: Option<&'a [u8]>,
+    /// The value of `maddr`.
+    pub(crate) maddr: Option<&'a [u8]>,
+}
 
 /// The name of a parameter.
 fn name_of(param: &[u8]) -> &[u8]
@@ -35,11 +44,10 @@ fn is_value_of(name: &[u8], value: &[u8]) -> bool
     !is_same(name, b"maddr") || host_part(value).is_some()
 }
 
-/// Whether a text is a parameter: a name, or a name, `=` and a value.
-fn is_param(text: &[u8]) -> bool
-    ensures { result ≡ spec.is_param text.now }
+/// Whether a name and a value, or none, are a parameter.
+fn is_param(name: &[u8], value: Option<&[u8]>) -> bool
+    ensures { result ≡ spec.is_param_of name.now (option_map (λ text. text.now) value.entry) }
 {
-    let (name, value) = next_part(text, b'=');
     if !is_some_run(Class::Param, name) {
         return false;
     }
@@ -49,14 +57,14 @@ fn is_param(text: &[u8]) -> bool
     }
 }
 
-/// Whether one of the first parameters has the name of another one.
-fn stands_before(params: &[u8], count: usize, param: &[u8]) -> bool
-    ensures { result ≡ spec.stands_in (take count (parted 59 params.now)) param.now }
+/// Whether one of the first parameters has a name.
+fn stands_before(params: &[u8], count: usize, name: &[u8]) -> bool
+    ensures { result ≡ spec.has_name (take count (parted 59 params.now)) name.now }
 {
     let mut rest = params;
     for _ in 0..count {
         let (earlier, behind) = next_part(rest, b';');
-        if is_same(name_of(earlier), name_of(param)) {
+        if is_same(name_of(earlier), name) {
             return true;
         }
         match behind {
@@ -67,40 +75,64 @@ fn stands_before(params: &[u8], count: usize, param: &[u8]) -> bool
     false
 }
 
-/// Refuses what are no parameters with `;` between them.
-pub(crate) fn check_params(params: &[u8]) -> Result<(), UriRefusal>
-    ensures { result_err result ≡ spec.params_fault (parted 59 params.now) }
+/// Whether one of the first parameters has a name. The lengths are those of their names, modulo 64:
+/// so most names are told apart without a look at the parameters.
+fn is_repeated(lengths: &[bool; 64], params: &[u8], count: usize, name: &[u8]) -> bool
+    requires { spec.AreMarked lengths.now (take count (parted 59 params.now)) }
+    ensures { result ≡ spec.has_name (take count (parted 59 params.now)) name.now }
 {
+    if !lengths[name.len() % 64] {
+        return false;
+    }
+    stands_before(params, count, name)
+}
+
+/// The value that was found before, or else that of this parameter, if it has the name.
+fn value_so_far<'a>(
+    found: Option<&'a [u8]>,
+    wanted: &[u8],
+    name: &[u8],
+    value: Option<&'a [u8]>,
+) -> Option<&'a [u8]>
+    ensures { option_map (λ text. text.now) result
+        ≡ spec.value_so_far (option_map (λ text. text.now) found.entry) wanted.now name.now
+        (option_map (λ text. text.now) value.entry) }
+{
+    match found {
+        Some(found) => Some(found),
+        None => { if is_same(name, wanted) { value } else { None } }
+    }
+}
+
+/// The values of parameters with `;` between them. Refuses what are none.
+pub(crate) fn check_params(params: &[u8]) -> Result<Values<'_>, UriRefusal>
+    ensures fault { result_err result ≡ spec.params_fault (parted 59 params.now) }
+    ensures transport { IfOk result (λ values. option_map (λ text. text.now) values.transport
+        ≡ spec.value_of spec.transport_name (parted 59 params.now)) }
+    ensures maddr { IfOk result (λ values. option_map (λ text. text.now) values.maddr
+        ≡ spec.value_of spec.maddr_name (parted 59 params.now)) }
+{
+    let mut transport = None;
+    let mut maddr = None;
+    let mut lengths = [false; 64];
     let mut rest = params;
     let mut count = 0;
     loop {
         let (param, behind) = next_part(rest, b';');
-        if !is_param(param) {
+        let (name, value) = next_part(param, b'=');
+        if !is_param(name, value) {
             return Err(UriRefusal::BadParam);
         }
-        if stands_before(params, count, param) {
+        if is_repeated(&lengths, params, count, name) {
             return Err(UriRefusal::RepeatedParam);
         }
+        lengths[name.len() % 64] = true;
+        transport = value_so_far(transport, b"transport", name, value);
+        maddr = value_so_far(maddr, b"maddr", name, value);
         match behind {
-            None => return Ok(()),
+            None => return Ok(Values { transport, maddr }),
             Some(behind) => rest = behind,
         }
         count += 1;
-    }
-}
-
-/// The value of the first parameter of a name.
-pub(crate) fn value_of<'a>(params: &'a [u8], name: &[u8]) -> Option<&'a [u8]>
-    ensures { option_map (λ value. value.now) result
-        ≡ spec.value_of name.now (parted 59 params.now) }
-{
-    let mut rest = params;
-    loop {
-        let (param, behind) = next_part(rest, b';');
-        let (named, value) = next_part(param, b'=');
-        if is_same(named, name) {
-            return value;
-        }
-        rest = behind?;
     }
 }

@@ -7,7 +7,7 @@ ghost use Rattle.sip_uri.specs.Readers.Uris as spec;
 use crate::headers::are_headers;
 use crate::host_part::{HostPart, host_in_front, host_part};
 use crate::numbers::decimal;
-use crate::params::{check_params, value_of};
+use crate::params::check_params;
 use crate::parts::next_part;
 use crate::refusal::UriRefusal;
 use crate::transport::{Spoken, spoken_of};
@@ -116,9 +116,9 @@ fn said_by(params: Option<&[u8]>) -> Result<(Option<Spoken>, Option<HostPart<'_>
     let Some(params) = params else {
         return Ok((None, None));
     };
-    check_params(params)?;
-    let transport = value_of(params, b"transport").map(|name| spoken_of(name));
-    let maddr = value_of(params, b"maddr").and_then(|text| host_part(text));
+    let values = check_params(params)?;
+    let transport = values.transport.map(|name| spoken_of(name));
+    let maddr = values.maddr.and_then(|text| host_part(text));
     Ok((transport, maddr))
 }
 

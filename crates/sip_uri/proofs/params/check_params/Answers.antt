@@ -1,48 +1,115 @@
-use Rattle.std.proofs.Common.{◌≡◌, ◌<◌, length, take, true, false, Some, None, sym, ◌∙◌}
+use Rattle.std.proofs.Common.{◌≡◌, ◌<◌, List, ℕ, length, take, true, false, Some, None, sym, ◌∙◌}
+use Rattle.std.proofs.Math.ListN.{length-set}
+use Rattle.std.specs.Option.{option_map}
 use Rattle.sip_uri.specs.Readers.Parts.{before, behind, parted}
-use Rattle.sip_uri.specs.Readers.Params.{is_param, stands_in}
+use Rattle.sip_uri.specs.Readers.Params.{name_of, is_param, stands_in, value_so_far, transport_name, maddr_name}
 use Rattle.sip_uri.proofs.Groups.{length_behind}
-use Rattle.sip_uri.proofs.ParamSteps.{bad_here, repeated_here, none_bad, checked_more}
+use Rattle.sip_uri.proofs.ParamSteps.{bad_here, repeated_here, none_bad, checked_more, taken_more, marked_more, kept_whole, kept_more, transport_valued, maddr_valued}
 use Rattle.sip_uri.proofs.params.check_params.Goals as goal
-use Rattle.sip_uri.proofs.params.check_params.Goals.{In-Some}
+use Rattle.sip_uri.proofs.params.check_params.Goals.{After-is_repeated, In-Some, In-None}
 
-pub returns-then-not-is_param : goal.returns-then-not-is_param
-returns-then-not-is_param c =
-    let bad : is_param (before 59 c.loop-param.rest.now) ≡ false =
-    rw c.next_part.ensures.front at (sym c.is_param.ensures ∙ c.if-not-is_param.true) in
-    sym (bad_here c.args.params.now c.loop-param.rest.now c.loop-param.count c.loop-param.invariant bad)
+pub is_repeated-requires : goal.is_repeated-requires
+is_repeated-requires c = c.loop-transport.invariant.marked
 
-pub returns-then-stands_before : goal.returns-then-stands_before
-returns-then-stands_before c =
-    let good : is_param (before 59 c.loop-param.rest.now) ≡ true =
-    rw c.next_part.ensures.front at (sym c.is_param.ensures ∙ c.if-not-is_param.false) in
-    let again : stands_in (take c.loop-param.count (parted 59 c.args.params.now)) (before 59 c.loop-param.rest.now) ≡ true =
-    rw c.next_part.ensures.front at (sym c.stands_before.ensures ∙ c.if-stands_before.true) in
-    sym (repeated_here c.args.params.now c.loop-param.rest.now c.loop-param.count c.loop-param.invariant good again)
+pub returns-then-not-is_param-clause-fault : goal.returns-then-not-is_param-clause-fault
+returns-then-not-is_param-clause-fault c =
+    let bad : is_param (before 59 c.loop-transport.rest.now) ≡ false =
+    rw (c.next_part-in-loop-transport.ensures.front, c.next_part-in-loop-transport.ensures.back, c.next_part.ensures.front) at
+    (sym c.is_param.ensures ∙ c.if-not-is_param.true) in
+    sym (bad_here c.args.params.now c.loop-transport.rest.now c.loop-transport.count c.loop-transport.invariant.checked bad)
 
-pub returns-in-None : goal.returns-in-None
-returns-in-None c =
-    let none : behind 59 c.loop-param.rest.now ≡ None = rw c.in-None.is at (sym c.next_part.ensures.back) in
-    let good : is_param (before 59 c.loop-param.rest.now) ≡ true =
-    rw c.next_part.ensures.front at (sym c.is_param.ensures ∙ c.if-not-is_param.false) in
-    let new : stands_in (take c.loop-param.count (parted 59 c.args.params.now)) (before 59 c.loop-param.rest.now) ≡ false =
-    rw c.next_part.ensures.front at (sym c.stands_before.ensures ∙ c.if-stands_before.false) in
-    sym (none_bad c.args.params.now c.loop-param.rest.now c.loop-param.count c.loop-param.invariant good new none)
+good : (c : After-is_repeated) → is_param (before 59 c.loop-transport.rest.now) ≡ true
+good c =
+    rw (c.next_part-in-loop-transport.ensures.front, c.next_part-in-loop-transport.ensures.back, c.next_part.ensures.front) at
+    (sym c.is_param.ensures ∙ c.if-not-is_param.false)
 
-shorter : (c : In-Some) → (behind 59 c.loop-param.rest.now ≡ Some c.in-Some.behind.now)
-    × (length c.in-Some.behind.now < length c.loop-param.rest.now)
+repeated : (c : After-is_repeated)
+    → c.is_repeated.result ≡ stands_in (take c.loop-transport.count (parted 59 c.args.params.now)) (before 59 c.loop-transport.rest.now)
+repeated c = rw (c.next_part-in-loop-transport.ensures.front, c.next_part.ensures.front) at c.is_repeated.ensures
+
+pub returns-then-is_repeated-clause-fault : goal.returns-then-is_repeated-clause-fault
+returns-then-is_repeated-clause-fault c =
+    let at = (goal.at.returns-then-is_repeated-clause-fault c).After-is_repeated in
+    sym (repeated_here c.args.params.now c.loop-transport.rest.now c.loop-transport.count c.loop-transport.invariant.checked
+    (good at) (sym (repeated at) ∙ c.if-is_repeated.true))
+
+pub returns-in-None-clause-fault : goal.returns-in-None-clause-fault
+returns-in-None-clause-fault c =
+    let at = (goal.at.returns-in-None-clause-fault c).After-is_repeated in
+    let none : behind 59 c.loop-transport.rest.now ≡ None = rw c.in-None.is at (sym c.next_part.ensures.back) in
+    sym (none_bad c.args.params.now c.loop-transport.rest.now c.loop-transport.count c.loop-transport.invariant.checked
+    (good at) (sym (repeated at) ∙ c.if-is_repeated.false) none)
+
+-- the values so far, with that of this parameter
+transport_is : (c : In-None) → option_map (λ text. text.now) c.value_so_far-transport.result
+    ≡ value_so_far (option_map (λ text. text.now) c.loop-transport.transport) transport_name (name_of (before 59 c.loop-transport.rest.now))
+    (behind 61 (before 59 c.loop-transport.rest.now))
+transport_is c =
+    rw (c.next_part-in-loop-transport.ensures.front, c.next_part-in-loop-transport.ensures.back, c.next_part.ensures.front) at
+    c.value_so_far-transport.ensures
+
+pub returns-in-None-clause-transport : goal.returns-in-None-clause-transport
+returns-in-None-clause-transport c =
+    let none : behind 59 c.loop-transport.rest.now ≡ None = rw c.in-None.is at (sym c.next_part.ensures.back) in
+    transport_is c
+    ∙ kept_whole c.args.params.now transport_name c.loop-transport.rest.now (option_map (λ text. text.now) c.loop-transport.transport)
+    c.loop-transport.invariant.transport none
+
+maddr_is : (c : In-None) → option_map (λ text. text.now) c.value_so_far-maddr.result
+    ≡ value_so_far (option_map (λ text. text.now) c.loop-transport.maddr) maddr_name (name_of (before 59 c.loop-transport.rest.now))
+    (behind 61 (before 59 c.loop-transport.rest.now))
+maddr_is c =
+    rw (c.next_part-in-loop-transport.ensures.front, c.next_part-in-loop-transport.ensures.back, c.next_part.ensures.front) at
+    c.value_so_far-maddr.ensures
+
+pub returns-in-None-clause-maddr : goal.returns-in-None-clause-maddr
+returns-in-None-clause-maddr c =
+    let none : behind 59 c.loop-transport.rest.now ≡ None = rw c.in-None.is at (sym c.next_part.ensures.back) in
+    maddr_is c
+    ∙ kept_whole c.args.params.now maddr_name c.loop-transport.rest.now (option_map (λ text. text.now) c.loop-transport.maddr)
+    c.loop-transport.invariant.maddr none
+
+shorter : (c : In-Some) → (behind 59 c.loop-transport.rest.now ≡ Some c.in-Some.behind.now)
+    × (length c.in-Some.behind.now < length c.loop-transport.rest.now)
 shorter c =
-    let some : behind 59 c.loop-param.rest.now ≡ Some c.in-Some.behind.now = rw c.in-Some.is at (sym c.next_part.ensures.back) in
-    (some, length_behind 59 c.loop-param.rest.now c.in-Some.behind.now some)
+    let some : behind 59 c.loop-transport.rest.now ≡ Some c.in-Some.behind.now = rw c.in-Some.is at (sym c.next_part.ensures.back) in
+    (some, length_behind 59 c.loop-transport.rest.now c.in-Some.behind.now some)
 
-pub loop-param-smaller : goal.loop-param-smaller
-loop-param-smaller c = (shorter (goal.at.loop-param-smaller c).In-Some).1
+pub loop-transport-smaller : goal.loop-transport-smaller
+loop-transport-smaller c = (shorter (goal.at.loop-transport-smaller c).In-Some).1
 
-pub loop-param-preserved : goal.loop-param-preserved
-loop-param-preserved c =
-    let k = shorter (goal.at.loop-param-preserved c).In-Some in
-    let good : is_param (before 59 c.loop-param.rest.now) ≡ true =
-    rw c.next_part.ensures.front at (sym c.is_param.ensures ∙ c.if-not-is_param.false) in
-    let new : stands_in (take c.loop-param.count (parted 59 c.args.params.now)) (before 59 c.loop-param.rest.now) ≡ false =
-    rw c.next_part.ensures.front at (sym c.stands_before.ensures ∙ c.if-stands_before.false) in
-    checked_more c.args.params.now c.loop-param.rest.now c.loop-param.count c.loop-param.invariant good new c.in-Some.behind.now k.0 k.1
+pub loop-transport-preserved : goal.loop-transport-preserved
+loop-transport-preserved c =
+    let at = goal.at.loop-transport-preserved c in
+    let l = c.loop-transport in
+    let params : List ℕ = c.args.params.now in
+    let rest : List ℕ = l.rest.now in
+    let k = shorter at.In-Some in
+    let is = good at.After-is_repeated in
+    let marked = marked_more l.lengths (take l.count (parted 59 params)) (before 59 rest) l.invariant.size l.invariant.marked in
+    let transport = kept_more params transport_name rest (option_map (λ text. text.now) l.transport) l.invariant.transport
+    (transport_valued (before 59 rest) is) c.in-Some.behind.now k.0 in
+    let maddr = kept_more params maddr_name rest (option_map (λ text. text.now) l.maddr) l.invariant.maddr
+    (maddr_valued (before 59 rest) is) c.in-Some.behind.now k.0 in
+    record {
+      checked = checked_more params rest l.count l.invariant.checked is (sym (repeated at.After-is_repeated) ∙ c.if-is_repeated.false)
+          c.in-Some.behind.now k.0 k.1;
+      size = rw length-set l.invariant.size;
+      marked = rw (
+        taken_more params rest l.count l.invariant.checked c.in-Some.behind.now k.0,
+        c.next_part-in-loop-transport.ensures.front,
+        c.next_part.ensures.front,
+      ) marked;
+      transport = rw (
+        c.value_so_far-transport.ensures,
+        c.next_part-in-loop-transport.ensures.front,
+        c.next_part-in-loop-transport.ensures.back,
+        c.next_part.ensures.front,
+      ) transport;
+      maddr = rw (
+        c.value_so_far-maddr.ensures,
+        c.next_part-in-loop-transport.ensures.front,
+        c.next_part-in-loop-transport.ensures.back,
+        c.next_part.ensures.front,
+      ) maddr;
+    }

@@ -1,9 +1,18 @@
-use Rattle.std.proofs.Common.{length}
-use Rattle.sip_uri.proofs.ParamSteps.{CheckedSoFar}
+use Rattle.std.proofs.Common.{◌≡◌, length, take}
+use Rattle.std.specs.Option.{option_map}
+use Rattle.sip_uri.specs.Readers.Parts.{parted}
+use Rattle.sip_uri.specs.Readers.Params.{AreMarked, transport_name, maddr_name}
+use Rattle.sip_uri.proofs.ParamSteps.{CheckedSoFar, ValueKept}
 use Rattle.sip_uri.proofs.params.check_params.Given as goal
 
-abbrev pub invariant-loop-param : goal.invariant-loop-param
-invariant-loop-param l = CheckedSoFar l.params l.rest l.count
+abbrev pub invariant-loop-transport : goal.invariant-loop-transport
+invariant-loop-transport l = record {
+  checked : CheckedSoFar l.params l.rest l.count;
+  size : length l.lengths ≡ 64;
+  marked : AreMarked l.lengths (take l.count (parted 59 l.params));
+  transport : ValueKept l.params transport_name l.rest (option_map (λ text. text.now) l.transport);
+  maddr : ValueKept l.params maddr_name l.rest (option_map (λ text. text.now) l.maddr);
+}
 
-abbrev pub decreases-loop-param : goal.decreases-loop-param
-decreases-loop-param l = length l.rest
+abbrev pub decreases-loop-transport : goal.decreases-loop-transport
+decreases-loop-transport l = length l.rest
