@@ -24,3 +24,11 @@ octet_stands class octet within =
     sym (get_or-map (stands class) CLASSES octet 0 false within)
     ∙ ap (λ (all : List Bool). get_or all octet false) (sym (all_octets class))
     ∙ get_or-map-range_with_len (octets_of class) 0 256 octet octet false within (omega arith)
+
+-- the mark of an escaped octet is of no class
+pub no_percent : (class : Class) → octets_of class 37 ≡ false
+no_percent User = refl
+no_percent Password = refl
+no_percent Param = refl
+no_percent Header = refl
+no_percent Label = refl

@@ -1,68 +1,78 @@
 -- Readers of octets one after another that have come to a place.
-use Rattle.std.proofs.Common.{◌≡◌, ℕ, zero, suc, ◌+◌, ◌-◌, ◌<◌, ◌≤◌, Bool, true, false, ◌&&◌, ◌||◌, cond, List, [], ◌∷◌, ◌++◌, length, take, drop, get_or, nat_lt, refl, sym, ap, ◌∙◌, arith, eqb, append_assoc}
+use Rattle.std.proofs.Common.{◌≡◌, ℕ, ◌+◌, ◌-◌, ◌<◌, ◌≤◌, Bool, true, false, ◌&&◌, ◌||◌, cond, List, [], ◌∷◌, ◌++◌, length, take, drop, get_or, nat_lt, Some, None, inl, inr, refl, sym, ap, ◌∙◌, arith, eqb, append_assoc}
 use Rattle.std.specs.Char.{is_ascii_hexdigit}
 use Rattle.std.proofs.lemmas.Bool.Decides.{nat_tests}
 use Rattle.std.proofs.lemmas.List.{append-nil, length-drop, take_all, take_more, drop_more, drop_all}
 use Rattle.sip_uri.specs.ViaClasses.{row, behind_row}
-use Rattle.sip_uri.specs.Readers.Runs.{run_from, is_run}
+use Rattle.sip_uri.specs.Readers.Runs.{run_from, is_run, behind_escaped}
+use Rattle.std.proofs.lemmas.Bool.{cases_Bool}
+use Rattle.std.proofs.lemmas.Option.{same_Some}
+use Rattle.sip_uri.proofs.ViaRows.{Ends}
 use Rattle.sip_uri.specs.Readers.Vias.{quoted_from, behind_quoted}
 
 -- ---- runs
 
-digit_at : (class : ℕ → Bool) (left octet : ℕ) (rest : List ℕ) → 0 < left
-    → run_from class left (octet ∷ rest) ≡ is_ascii_hexdigit octet && run_from class (left - 1) rest
-digit_at class zero octet rest some = absurd (omega arith)
-digit_at class (suc left) octet rest some = ap (λ (n : ℕ). is_ascii_hexdigit octet && run_from class n rest) (omega arith)
+cond_false : (b : Bool) → cond b false false ≡ false
+cond_false true = refl
+cond_false false = refl
 
-octet_at : (class : ℕ → Bool) (left octet : ℕ) (rest : List ℕ) → left ≤ 0
-    → run_from class left (octet ∷ rest) ≡ cond (eqb octet 37) (run_from class 2 rest) (class octet && run_from class 0 rest)
-octet_at class zero octet rest none = refl
-octet_at class (suc left) octet rest none = absurd (omega arith)
+pub no_octet : (class : ℕ → Bool) (x octet : ℕ) → class x ≡ true → class octet ≡ false → eqb x octet ≡ false
+no_octet class x octet is other =
+    elim (cases_Bool (eqb x octet)) [
+      | inl same ↦ (
+          let e : x ≡ octet = grind (arith, nat_tests) in
+          let no : false ≡ true = sym other ∙ rw e at is in absurd cc)
+      | inr no' ↦ no'
+    ]
 
-module _ (class : ℕ → Bool) (text : List ℕ) (at left : ℕ) (so_far : run_from class left (drop at text) ≡ is_run class text) where
-  pub run_ended : length text ≤ at → eqb left 0 ≡ is_run class text
-  run_ended end = rw (drop_all at text end) at so_far
+-- the octets of a class in front of a run
+pub behind_plain : (class : ℕ → Bool) (text : List ℕ) → class 37 ≡ false → is_run class text ≡ is_run class (behind_row class text)
+behind_plain class [] percent = refl
+behind_plain class (x ∷ text) percent =
+    elim (cases_Bool (class x)) [
+      | inl is ↦ (
+          let no_percent : eqb x 37 ≡ false = no_octet class x 37 is percent in
+          rw (no_percent, is) (behind_plain class text percent))
+      | inr no' ↦ rw (no', no') refl
+    ]
 
-  module _ (within : at < length text) where
-    octet : ℕ
-    octet = get_or text at 0
+one_digit : (percent high : Bool) → cond percent (high && false) false ≡ false
+one_digit true true = refl
+one_digit true false = refl
+one_digit false high = refl
 
-    here : run_from class left (octet ∷ drop (at + 1) text) ≡ is_run class text
-    unfolding octet
-    here = rw (drop_more text at 0 within) at so_far
+no_digits : (percent high low after : Bool) (text : List ℕ) → cond (percent && high && low) (Some text) None ≡ None
+    → cond percent (high && (low && after)) false ≡ false
+no_digits true true true after text none = absurd cc
+no_digits true true false after text none = refl
+no_digits true false low after text none = refl
+no_digits false high low after text none = refl
 
-    module _ (some : 0 < left) where
-      pub bad_digit : is_ascii_hexdigit (get_or text at 0) ≡ false → false ≡ is_run class text
-      unfolding octet
-      bad_digit bad = sym (digit_at class left octet (drop (at + 1) text) some ∙ rw bad refl) ∙ here
+two_digits : (percent high low : Bool) (text more : List ℕ) → cond (percent && high && low) (Some text) None ≡ Some more
+    → (percent ≡ true) × (high ≡ true) × (low ≡ true) × (text ≡ more)
+two_digits true true true text more e = (refl, refl, refl, same_Some text more e)
+two_digits true true false text more e = absurd cc
+two_digits true false low text more e = absurd cc
+two_digits false high low text more e = absurd cc
 
-      pub good_digit : is_ascii_hexdigit (get_or text at 0) ≡ true → (after : ℕ) → after ≡ left - 1
-          → run_from class after (drop (at + 1) text) ≡ is_run class text
-      unfolding octet
-      good_digit good after e = rw e (sym (digit_at class left octet (drop (at + 1) text) some ∙ rw good refl) ∙ here)
+-- no escaped octet in front of what is of no class
+pub no_escape : (class : ℕ → Bool) (text : List ℕ) → Ends class text → 0 < length text → behind_escaped text ≡ None
+    → is_run class text ≡ false
+no_escape class [] ends some none = absurd (omega arith)
+no_escape class (x ∷ []) ends some none = rw ends (cond_false (eqb x 37))
+no_escape class (x ∷ high ∷ []) ends some none = rw ends (one_digit (eqb x 37) (is_ascii_hexdigit high))
+no_escape class (x ∷ high ∷ low ∷ text) ends some none =
+    rw ends (no_digits (eqb x 37) (is_ascii_hexdigit high) (is_ascii_hexdigit low) (run_from class 0 text) text none)
 
-    module _ (none : left ≤ 0) where
-      pub escape : get_or text at 0 ≡ 37 → (after : ℕ) → after ≡ 2 → run_from class after (drop (at + 1) text) ≡ is_run class text
-      unfolding octet
-      escape percent after e =
-          let is : eqb octet 37 ≡ true = grind (arith, nat_tests, percent) in
-          rw e (sym (octet_at class left octet (drop (at + 1) text) none ∙ rw is refl) ∙ here)
-
-      module _ (no_percent : get_or text at 0 ≡ 37 → ⊥) where
-        other : eqb octet 37 ≡ false
-        unfolding octet
-        other = grind (arith, nat_tests, no_percent)
-
-        pub bad_octet : class (get_or text at 0) ≡ false → false ≡ is_run class text
-        unfolding octet
-        bad_octet bad = sym (octet_at class left octet (drop (at + 1) text) none ∙ rw (other, bad) refl) ∙ here
-
-        pub good_octet : class (get_or text at 0) ≡ true → (after : ℕ) → after ≡ left
-            → run_from class after (drop (at + 1) text) ≡ is_run class text
-        unfolding octet
-        good_octet good after e =
-            let zero' : after ≡ 0 = omega arith in
-            rw zero' (sym (octet_at class left octet (drop (at + 1) text) none ∙ rw (other, good) refl) ∙ here)
+-- what follows an escaped octet goes on with the run
+pub escape_more : (class : ℕ → Bool) (text more : List ℕ) → behind_escaped text ≡ Some more
+    → (is_run class text ≡ is_run class more) × (length more < length text)
+escape_more class [] more e = absurd cc
+escape_more class (x ∷ []) more e = absurd cc
+escape_more class (x ∷ high ∷ []) more e = absurd cc
+escape_more class (x ∷ high ∷ low ∷ text) more e =
+    let k = two_digits (eqb x 37) (is_ascii_hexdigit high) (is_ascii_hexdigit low) text more e in
+    (rw (k.0, k.1, k.2, k.3) refl, omega (arith, ap length k.3))
 
 -- ---- rows
 

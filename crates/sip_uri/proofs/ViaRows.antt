@@ -1,10 +1,10 @@
 -- Rows of octets, and what follows them.
-use Rattle.std.proofs.Common.{◌≡◌, ℕ, ◌<◌, Bool, true, false, List, [], ◌∷◌, ◌++◌, length, Some, None, refl, sym, ap, ◌∙◌, inl, inr, arith, eqb}
+use Rattle.std.proofs.Common.{◌≡◌, ℕ, ◌<◌, ◌≤◌, Bool, true, false, List, [], ◌∷◌, ◌++◌, length, Some, None, refl, sym, ap, ◌∙◌, inl, inr, arith, eqb}
 use Rattle.std.specs.List.{list_all}
 use Rattle.std.proofs.lemmas.Bool.{cases_Bool}
 use Rattle.std.proofs.lemmas.Bool.Decides.{nat_tests}
 use Rattle.std.proofs.lemmas.Option.{same_Some}
-use Rattle.std.proofs.lemmas.List.{append-nil}
+use Rattle.std.proofs.lemmas.List.{append-nil, length-append}
 use Rattle.sip_uri.specs.ViaClasses.{is_blank, row, behind_row}
 use Rattle.sip_uri.specs.Readers.Vias.{behind_first, behind_mark}
 use Rattle.sip_uri.specs.Vias.{IsBlanks}
@@ -37,6 +37,9 @@ behind_ends class (x ∷ text) =
       | inl is ↦ rw is (behind_ends class text)
       | inr no' ↦ rw no' no'
     ]
+
+pub length_behind_row : (class : ℕ → Bool) (text : List ℕ) → length (behind_row class text) ≤ length text
+length_behind_row class text = omega (arith, ap length (row_and class text), length-append (row class text) (behind_row class text))
 
 ended : (class : ℕ → Bool) (text : List ℕ) → Ends class text → (row class text ≡ []) × (behind_row class text ≡ text)
 ended class [] ends = (refl, refl)

@@ -1,5 +1,7 @@
 //! Classes of octets, and runs of them (RFC 3261 25.1).
 ghost use Rattle.std.specs.Prelude.{◌≡◌};
+ghost use Rattle.std.specs.Option.{option_map};
+ghost use Rattle.sip_uri.specs.ViaClasses.{row, behind_row};
 ghost use Rattle.sip_uri.specs.Readers.Runs as spec;
 
 /// A class of octets that may stand unescaped.
@@ -50,25 +52,46 @@ pub(crate) fn has(class: Class, octet: u8) -> bool
     CLASSES[usize::from(octet)] & bit(class) != 0
 }
 
-/// Whether a text is a run of octets of a class and of escaped ones: `%` and two hexadecimal
-/// digits.
+/// The octets of a class in front, and what follows them.
+pub(crate) fn cut_class(class: Class, text: &[u8]) -> (&[u8], &[u8])
+    ensures front { result.0.now ≡ row (spec.octets_of class) text.now }
+    ensures back { result.1.now ≡ behind_row (spec.octets_of class) text.now }
+{
+    for (at, octet) in text.iter().enumerate() {
+        if !has(class, *octet) {
+            return (&text[..at], &text[at..]);
+        }
+    }
+    (text, &text[text.len()..])
+}
+
+/// What follows an escaped octet: `%` and two hexadecimal digits.
+fn behind_escaped(text: &[u8]) -> Option<&[u8]>
+    ensures { option_map (λ rest. rest.now) result ≡ spec.behind_escaped text.now }
+{
+    match text {
+        [b'%', high, low, rest @ ..] if high.is_ascii_hexdigit() && low.is_ascii_hexdigit() => {
+            Some(rest)
+        }
+        _ => None,
+    }
+}
+
+/// Whether a text is a run of octets of a class and of escaped ones.
 pub(crate) fn is_run(class: Class, text: &[u8]) -> bool
     ensures { result ≡ spec.is_run (spec.octets_of class) text.now }
 {
-    let mut left = 0u8;
-    for octet in text {
-        if left > 0 {
-            if !octet.is_ascii_hexdigit() {
-                return false;
-            }
-            left -= 1;
-        } else if *octet == b'%' {
-            left = 2;
-        } else if !has(class, *octet) {
-            return false;
+    let mut rest = text;
+    loop {
+        let (_, behind) = cut_class(class, rest);
+        if behind.is_empty() {
+            return true;
+        }
+        match behind_escaped(behind) {
+            None => return false,
+            Some(behind) => rest = behind,
         }
     }
-    left == 0
 }
 
 /// Whether a text is a run as above of at least one octet.

@@ -1,32 +1,23 @@
 //! Hostnames (RFC 3261 25.1).
-ghost use Rattle.std.specs.Prelude.{◌≡◌};
+ghost use Rattle.std.specs.Prelude.{◌≡◌, true};
 ghost use Rattle.std.specs.List.{list_all};
 ghost use Rattle.sip_uri.specs.Hosts as host;
 ghost use Rattle.sip_uri.specs.Readers.Parts.{parted};
 ghost use Rattle.sip_uri.specs.Readers.Texts as spec;
 ghost use Rattle.dns_name.specs.Texts.{without_closing_dot};
 
-use crate::classes::{Class, has};
-use crate::parts::next_part;
+use crate::classes::{Class, cut_class};
+use crate::parts::behind_front;
 
-/// Whether each octet may stand in a label of a hostname.
-fn are_label_octets(octets: &[u8]) -> bool
-    ensures { result ≡ list_all host.is_label_octet octets.now }
+/// Whether letters, digits and hyphens are a label: with a letter or digit in front and at the end.
+fn is_label(octets: &[u8]) -> bool
+    requires { list_all host.is_label_octet octets.now ≡ true }
+    ensures { result ≡ spec.is_label octets.now }
 {
-    octets.iter().all(|octet| has(Class::Label, *octet))
-}
-
-/// Whether it is a label: letters, digits and hyphens, with a letter or digit in front and at the
-/// end.
-fn is_label(label: &[u8]) -> bool
-    ensures { result ≡ spec.is_label label.now }
-{
-    if label.is_empty() || label.len() > 63 {
+    if octets.is_empty() || octets.len() > 63 {
         return false;
     }
-    are_label_octets(label)
-        && label[0].is_ascii_alphanumeric()
-        && label[label.len() - 1].is_ascii_alphanumeric()
+    octets[0].is_ascii_alphanumeric() && octets[octets.len() - 1].is_ascii_alphanumeric()
 }
 
 /// Whether they are labels with dots between them, the last of which begins with a letter.
@@ -35,12 +26,15 @@ fn are_labels(text: &[u8]) -> bool
 {
     let mut rest = text;
     loop {
-        let (label, behind) = next_part(rest, b'.');
+        let (label, behind) = cut_class(Class::Label, rest);
         if !is_label(label) {
             return false;
         }
-        match behind {
-            None => return label[0].is_ascii_alphabetic(),
+        if behind.is_empty() {
+            return label[0].is_ascii_alphabetic();
+        }
+        match behind_front(behind, b'.') {
+            None => return false,
             Some(behind) => rest = behind,
         }
     }

@@ -1,5 +1,5 @@
 -- What the readers of runs give, as functions on lists.
-use Rattle.std.specs.Prelude.{ℕ, zero, suc, ◌==◌, Bool, not, ◌&&◌, List, [], ◌∷◌, length, if◌then◌else◌}
+use Rattle.std.specs.Prelude.{ℕ, zero, suc, ◌==◌, Bool, not, ◌&&◌, List, [], ◌∷◌, length, Option, Some, None, if◌then◌else◌}
 use Rattle.std.specs.Char.{is_ascii_hexdigit}
 use Rattle.sip_uri.specs.Classes.{is_user_octet, is_password_octet, is_param_octet, is_header_octet}
 use Rattle.sip_uri.specs.Hosts.{is_label_octet}
@@ -20,6 +20,14 @@ bit Password = 2
 bit Param = 4
 bit Header = 8
 bit Label = 16
+
+-- what follows an escaped octet
+abbrev pub behind_escaped : List ℕ → Option (List ℕ)
+behind_escaped [] = None
+behind_escaped (x ∷ []) = None
+behind_escaped (x ∷ high ∷ []) = None
+behind_escaped (x ∷ high ∷ low ∷ rest) =
+    if x == 37 && is_ascii_hexdigit high && is_ascii_hexdigit low then Some rest else None
 
 -- a run, of which so many digits of an escaped octet are still to come
 abbrev pub run_from : (ℕ → Bool) → ℕ → List ℕ → Bool
