@@ -6,3 +6,4 @@ mod Places
 mod TextLabels
 pub mod ClosingDots
 mod TextNames
+mod OctetTable

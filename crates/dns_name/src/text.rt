@@ -14,11 +14,34 @@ use std::alloc::{AllocError, Global};
 /// The most octets of a label (RFC 1035 2.3.4).
 const LABEL_LIMIT: usize = 63;
 
+/// For each octet whether it is a letter, a digit, `_` or `-`.
+const TEXT_OCTETS: [bool; 256] = [
+    false, false, false, false, false, false, false, false, false, false, false, false, false,
+    false, false, false, false, false, false, false, false, false, false, false, false, false,
+    false, false, false, false, false, false, false, false, false, false, false, false, false,
+    false, false, false, false, false, false, true, false, false, true, true, true, true, true,
+    true, true, true, true, true, false, false, false, false, false, false, false, true, true,
+    true, true, true, true, true, true, true, true, true, true, true, true, true, true, true, true,
+    true, true, true, true, true, true, true, true, false, false, false, false, true, false, true,
+    true, true, true, true, true, true, true, true, true, true, true, true, true, true, true, true,
+    true, true, true, true, true, true, true, true, true, false, false, false, false, false, false,
+    false, false, false, false, false, false, false, false, false, false, false, false, false,
+    false, false, false, false, false, false, false, false, false, false, false, false, false,
+    false, false, false, false, false, false, false, false, false, false, false, false, false,
+    false, false, false, false, false, false, false, false, false, false, false, false, false,
+    false, false, false, false, false, false, false, false, false, false, false, false, false,
+    false, false, false, false, false, false, false, false, false, false, false, false, false,
+    false, false, false, false, false, false, false, false, false, false, false, false, false,
+    false, false, false, false, false, false, false, false, false, false, false, false, false,
+    false, false, false, false, false, false, false, false, false, false, false, false, false,
+    false, false, false, false, false, false, false, false, false, false,
+];
+
 /// Whether an octet may stand in a label of a text.
 fn is_text_octet(octet: u8) -> bool
     ensures { result ≡ spec.is_text_octet octet }
 {
-    octet.is_ascii_alphanumeric() || octet == b'_' || octet == b'-'
+    TEXT_OCTETS[usize::from(octet)]
 }
 
 /// Whether each octet may stand in a label of a text.

@@ -197,7 +197,8 @@ module _ (params name rest : List ℕ) where
   kept_more found kept some more e = kept_next found (is_same (name_of (before 59 rest)) name) kept refl some more e
 
 -- a parameter of these names has a value
-pub transport_valued : (param : List ℕ) → is_param param ≡ true → is_same (name_of param) transport_name ≡ true → behind 61 param ≡ None → ⊥
+pub transport_valued : (param : List ℕ) → is_param param ≡ true → is_same (name_of param) transport_name ≡ true
+    → behind 61 param ≡ None → ⊥
 transport_valued param good is none = let k = rw (none, is) at good in absurd (grind (arith, nat_tests, k))
 
 pub maddr_valued : (param : List ℕ) → is_param param ≡ true → is_same (name_of param) maddr_name ≡ true → behind 61 param ≡ None → ⊥
@@ -211,7 +212,8 @@ same_length name other same =
     ∙ ap length ((bytes_eq-Decides (map to_ascii_lowercase name) (map to_ascii_lowercase other)).0 same)
     ∙ length-map other to_ascii_lowercase
 
-still_marked : (lengths : List Bool) (i j : ℕ) → i < length lengths → get_or lengths j false ≡ true → get_or (set lengths i true) j false ≡ true
+still_marked : (lengths : List Bool) (i j : ℕ) → i < length lengths → get_or lengths j false ≡ true
+    → get_or (set lengths i true) j false ≡ true
 still_marked lengths i j within marked =
     elim (cases_eq j i) [
       | inl same ↦ get_or-set_at lengths i j true false same within

@@ -1,7 +1,7 @@
 //! Hosts in a text, before memory is taken for their names (RFC 3261 25.1).
 //!
-//! What gives or takes a `HostPart` is inlined: handed over in memory it is written in pieces and read
-//! as a whole, which costs a third of the time of reading a URI.
+//! What gives or takes a `HostPart` is inlined: in memory it is written in pieces and read as a
+//! whole, for which a processor waits. That took a third of the time of reading a URI.
 ghost use Rattle.std.specs.Prelude.{◌≡◌, IfSome, MatchResult};
 ghost use Rattle.std.specs.Option.{option_map};
 ghost use Rattle.sip_uri.specs.Hosts.{IsNamed};

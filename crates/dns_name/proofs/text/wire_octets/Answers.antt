@@ -71,4 +71,5 @@ returns c =
     ∙ small_wire c.args.text.now c.deref_mut.result.now (length c.loop-label.yielded) all c.requires octets in
     let len : c.push-2.new.self.len ≡ length c.make_ascii_lowercase.new.self =
     sym (ap length c.make_ascii_lowercase.ensures.after ∙ length-map c.deref_mut.result.now to_ascii_lowercase ∙ c.deref_mut.ensures.len) in
-    take_at c.make_ascii_lowercase.new.self (drop (length c.make_ascii_lowercase.new.self) c.push-2.new.self.items) c.push-2.new.self.len (sym len) ∙ after
+    take_at c.make_ascii_lowercase.new.self
+    (drop (length c.make_ascii_lowercase.new.self) c.push-2.new.self.items) c.push-2.new.self.len (sym len) ∙ after

@@ -33,7 +33,8 @@ returns-in-None c =
     let long : length c.cut_class.result.1.now ≡ length (behind_row class rest) = ap length c.cut_class.ensures.back in
     let is : 0 < length c.cut_class.result.1.now = grind (arith, nat_tests, c.if-is_empty.false, c.is_empty.ensures) in
     let some : 0 < length (behind_row class rest) = omega arith in
-    let none : behind_escaped (behind_row class rest) ≡ None = rw (c.in-None.is, c.cut_class.ensures.back) at (sym c.behind_escaped.ensures) in
+    let none : behind_escaped (behind_row class rest) ≡ None =
+    rw (c.in-None.is, c.cut_class.ensures.back) at (sym c.behind_escaped.ensures) in
     sym (left (goal.at.returns-in-None c).After-cut_class ∙ no_escape class (behind_row class rest) (behind_ends class rest) some none)
 
 escaped : (c : In-Some) → behind_escaped (behind_row (octets_of c.args.class) c.loop-behind.rest.now) ≡ Some c.in-Some.behind.now
