@@ -19,6 +19,7 @@ mod RunTexts
 mod HostTexts
 mod Places
 mod ParamTexts
+mod MaddrSteps
 mod ParamLists
 mod ParamBlocks
 mod UriPieces

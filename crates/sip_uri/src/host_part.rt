@@ -89,6 +89,7 @@ pub(crate) fn host_in_front(text: &[u8]) -> Option<(HostPart<'_>, Option<&[u8]>)
 }
 
 /// The host of a text.
+#[inline(always)]
 pub(crate) fn host_part(text: &[u8]) -> Option<HostPart<'_>>
     ensures host { option_map spec.host_of result ≡ spec.host text.now }
     ensures hostname { IfSome result spec.IsHostPart }

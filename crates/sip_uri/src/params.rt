@@ -1,22 +1,23 @@
 //! Parameters of a URI (RFC 3261 19.1.1, 25.1).
-ghost use Rattle.std.specs.Prelude.{◌≡◌, take, IfOk};
-ghost use Rattle.std.specs.Option.{option_map};
+ghost use Rattle.std.specs.Prelude.{◌≡◌, take, IfOk, IfSome, Some, is_some};
+ghost use Rattle.std.specs.Option.{option_map, option_and_then};
 ghost use Rattle.std.specs.Result.{result_err};
 ghost use Rattle.sip_uri.specs.Readers.Parts.{parted};
+ghost use Rattle.sip_uri.specs.Readers.Hosts as host;
 ghost use Rattle.sip_uri.specs.Readers.Params as spec;
 
 use crate::classes::{Class, is_some_run};
-use crate::host_part::host_part;
+use crate::host_part::{HostPart, host_part};
 use crate::parts::next_part;
 use crate::refusal::UriRefusal;
 
-/// The values that say where a request goes, each as it stands in a text.
+/// What parameters say of where a request goes, as it stands in a text.
 #[derive(Clone, Copy)]
 pub(crate) struct Values<'a> {
     /// The value of `transport`.
     pub(crate) transport: Option<&'a [u8]>,
-    /// The value of `maddr`.
-    pub(crate) maddr: Option<&'a [u8]>,
+    /// The host of `maddr`.
+    pub(crate) maddr: Option<HostPart<'a>>,
 }
 
 /// The name of a parameter.
@@ -33,19 +34,35 @@ pub(crate) fn is_same(name: &[u8], other: &[u8]) -> bool
     name.eq_ignore_ascii_case(other)
 }
 
-/// Whether a value may stand after a name.
+/// The host that a value spells, where its name is `maddr`.
+#[inline(always)]
+fn maddr_of<'a>(name: &[u8], value: Option<&'a [u8]>) -> Option<HostPart<'a>>
+    ensures host { option_map host.host_of result
+        ≡ spec.maddr_of name.now (option_map (λ text. text.now) value.entry) }
+    ensures hostname { IfSome result host.IsHostPart }
+{
+    if !is_same(name, b"maddr") {
+        return None;
+    }
+    host_part(value?)
+}
+
+/// Whether a value may stand after a name. The value of `maddr` has to be a host.
 #[tactic(auto, unfolding(crate::specs::Readers::Params::is_value_of))]
-fn is_value_of(name: &[u8], value: &[u8]) -> bool
+fn is_value_of(name: &[u8], value: &[u8], is_hosted: bool) -> bool
+    requires { is_hosted ≡ is_some (spec.maddr_of name.now (Some value.now)) }
     ensures { result ≡ spec.is_value_of name.now value.now }
 {
     if !is_some_run(Class::Param, value) {
         return false;
     }
-    !is_same(name, b"maddr") || host_part(value).is_some()
+    !is_same(name, b"maddr") || is_hosted
 }
 
-/// Whether a name and a value, or none, are a parameter.
-fn is_param(name: &[u8], value: Option<&[u8]>) -> bool
+/// Whether a name and a value, or none, are a parameter. The value of `maddr` has to be a host.
+fn is_param(name: &[u8], value: Option<&[u8]>, is_hosted: bool) -> bool
+    requires { is_hosted
+        ≡ is_some (spec.maddr_of name.now (option_map (λ text. text.now) value)) }
     ensures { result ≡ spec.is_param_of name.now (option_map (λ text. text.now) value.entry) }
 {
     if !is_some_run(Class::Param, name) {
@@ -53,7 +70,7 @@ fn is_param(name: &[u8], value: Option<&[u8]>) -> bool
     }
     match value {
         None => !is_same(name, b"transport") && !is_same(name, b"maddr"),
-        Some(value) => is_value_of(name, value),
+        Some(value) => is_value_of(name, value, is_hosted),
     }
 }
 
@@ -109,8 +126,9 @@ pub(crate) fn check_params(params: &[u8]) -> Result<Values<'_>, UriRefusal>
     ensures fault { result_err result ≡ spec.params_fault (parted 59 params.now) }
     ensures transport { IfOk result (λ values. option_map (λ text. text.now) values.transport
         ≡ spec.value_of spec.transport_name (parted 59 params.now)) }
-    ensures maddr { IfOk result (λ values. option_map (λ text. text.now) values.maddr
-        ≡ spec.value_of spec.maddr_name (parted 59 params.now)) }
+    ensures maddr { IfOk result (λ values. option_map host.host_of values.maddr
+        ≡ option_and_then host.host (spec.value_of spec.maddr_name (parted 59 params.now))) }
+    ensures hostname { IfOk result (λ values. IfSome values.maddr host.IsHostPart) }
 {
     let mut transport = None;
     let mut maddr = None;
@@ -120,7 +138,8 @@ pub(crate) fn check_params(params: &[u8]) -> Result<Values<'_>, UriRefusal>
     loop {
         let (param, behind) = next_part(rest, b';');
         let (name, value) = next_part(param, b'=');
-        if !is_param(name, value) {
+        let host = maddr_of(name, value);
+        if !is_param(name, value, host.is_some()) {
             return Err(UriRefusal::BadParam);
         }
         if is_repeated(&lengths, params, count, name) {
@@ -128,7 +147,7 @@ pub(crate) fn check_params(params: &[u8]) -> Result<Values<'_>, UriRefusal>
         }
         lengths[name.len() % 64] = true;
         transport = value_so_far(transport, b"transport", name, value);
-        maddr = value_so_far(maddr, b"maddr", name, value);
+        maddr = maddr.or(host);
         match behind {
             None => return Ok(Values { transport, maddr }),
             Some(behind) => rest = behind,

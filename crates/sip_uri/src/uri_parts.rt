@@ -5,7 +5,7 @@ ghost use Rattle.sip_uri.specs.Readers.Hosts as host;
 ghost use Rattle.sip_uri.specs.Readers.Uris as spec;
 
 use crate::headers::are_headers;
-use crate::host_part::{HostPart, host_in_front, host_part};
+use crate::host_part::{HostPart, host_in_front};
 use crate::numbers::decimal;
 use crate::params::check_params;
 use crate::parts::next_part;
@@ -118,8 +118,7 @@ fn said_by(params: Option<&[u8]>) -> Result<(Option<Spoken>, Option<HostPart<'_>
     };
     let values = check_params(params)?;
     let transport = values.transport.map(|name| spoken_of(name));
-    let maddr = values.maddr.and_then(|text| host_part(text));
-    Ok((transport, maddr))
+    Ok((transport, values.maddr))
 }
 
 /// Refuses what are no headers.

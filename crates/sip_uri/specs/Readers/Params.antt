@@ -5,7 +5,9 @@ use Rattle.std.specs.Str.{str_eq_ignore_ascii_case}
 use Rattle.sip_uri.specs.Readers.Parts.{before, behind}
 use Rattle.sip_uri.specs.Classes.{is_param_octet}
 use Rattle.sip_uri.specs.Readers.Runs.{is_some_run}
+use Rattle.std.specs.Option.{option_and_then}
 use Rattle.sip_uri.specs.Readers.Hosts.{host}
+use Rattle.sip_uri.specs.declared.host.Host.{Host}
 use Rattle.sip_uri.specs.declared.refusal.UriRefusal.{UriRefusal}
 use Rattle.sip_uri.specs.declared.refusal.UriRefusal.TheVariants.{BadParam, RepeatedParam}
 
@@ -21,6 +23,10 @@ name_of param = before 61 param
 
 abbrev pub is_same : List ℕ → List ℕ → Bool
 is_same name other = str_eq_ignore_ascii_case name other
+
+-- the host that a value spells, where its name is `maddr`
+abbrev pub maddr_of : List ℕ → Option (List ℕ) → Option Host
+maddr_of name value = if is_same name maddr_name then option_and_then host value else None
 
 unfoldable pub is_value_of : List ℕ → List ℕ → Bool
 is_value_of name value =

@@ -1,12 +1,17 @@
-use Rattle.std.proofs.Common.{◌≡◌, ◌<◌, List, ℕ, length, take, true, false, Some, None, sym, ◌∙◌}
+use Rattle.std.proofs.Common.{◌≡◌, ◌<◌, List, ℕ, length, take, true, false, Some, None, sym, ap, ◌∙◌}
 use Rattle.std.proofs.Math.ListN.{length-set}
-use Rattle.std.specs.Option.{option_map}
+use Rattle.std.specs.Option.{option_map, option_or}
 use Rattle.sip_uri.specs.Readers.Parts.{before, behind, parted}
-use Rattle.sip_uri.specs.Readers.Params.{name_of, is_param, stands_in, value_so_far, transport_name, maddr_name}
+use Rattle.sip_uri.specs.Readers.Params.{name_of, is_param, stands_in, value_so_far, transport_name, maddr_of}
 use Rattle.sip_uri.proofs.Groups.{length_behind}
-use Rattle.sip_uri.proofs.ParamSteps.{bad_here, repeated_here, none_bad, checked_more, taken_more, marked_more, kept_whole, kept_more, transport_valued, maddr_valued}
+use Rattle.sip_uri.specs.Readers.Hosts.{host_of, IsHostPart}
+use Rattle.sip_uri.proofs.MaddrSteps.{maddr_whole, maddr_more, same_is_some, map_or, either_some}
+use Rattle.sip_uri.proofs.ParamSteps.{bad_here, repeated_here, none_bad, checked_more, taken_more, marked_more, kept_whole, kept_more, transport_valued}
 use Rattle.sip_uri.proofs.params.check_params.Goals as goal
 use Rattle.sip_uri.proofs.params.check_params.Goals.{After-is_repeated, In-Some, In-None}
+
+pub is_param-requires : goal.is_param-requires
+is_param-requires c = rw (c.is_some.ensures, ← c.maddr_of-host.ensures.host) (sym (same_is_some host_of c.maddr_of-host.result))
 
 pub is_repeated-requires : goal.is_repeated-requires
 is_repeated-requires c = c.loop-transport.invariant.marked
@@ -55,18 +60,22 @@ returns-in-None-clause-transport c =
     ∙ kept_whole c.args.params.now transport_name c.loop-transport.rest.now (option_map (λ text. text.now) c.loop-transport.transport)
     c.loop-transport.invariant.transport none
 
-maddr_is : (c : In-None) → option_map (λ text. text.now) c.value_so_far-maddr.result
-    ≡ value_so_far (option_map (λ text. text.now) c.loop-transport.maddr) maddr_name (name_of (before 59 c.loop-transport.rest.now))
-    (behind 61 (before 59 c.loop-transport.rest.now))
-maddr_is c =
+host_is : (c : In-None) → option_map host_of c.or-maddr.result
+    ≡ option_or (option_map host_of c.loop-transport.maddr)
+    (maddr_of (name_of (before 59 c.loop-transport.rest.now)) (behind 61 (before 59 c.loop-transport.rest.now)))
+host_is c =
+    let here : option_map host_of c.maddr_of-host.result
+    ≡ maddr_of (name_of (before 59 c.loop-transport.rest.now)) (behind 61 (before 59 c.loop-transport.rest.now)) =
     rw (c.next_part-in-loop-transport.ensures.front, c.next_part-in-loop-transport.ensures.back, c.next_part.ensures.front) at
-    c.value_so_far-maddr.ensures
+    c.maddr_of-host.ensures.host in
+    ap (option_map host_of) c.or-maddr.ensures ∙ map_or host_of c.loop-transport.maddr c.maddr_of-host.result
+    ∙ ap (option_or (option_map host_of c.loop-transport.maddr)) here
 
 pub returns-in-None-clause-maddr : goal.returns-in-None-clause-maddr
 returns-in-None-clause-maddr c =
     let none : behind 59 c.loop-transport.rest.now ≡ None = rw c.in-None.is at (sym c.next_part.ensures.back) in
-    maddr_is c
-    ∙ kept_whole c.args.params.now maddr_name c.loop-transport.rest.now (option_map (λ text. text.now) c.loop-transport.maddr)
+    host_is c
+    ∙ maddr_whole c.args.params.now c.loop-transport.rest.now (option_map host_of c.loop-transport.maddr)
     c.loop-transport.invariant.maddr none
 
 shorter : (c : In-Some) → (behind 59 c.loop-transport.rest.now ≡ Some c.in-Some.behind.now)
@@ -89,8 +98,10 @@ loop-transport-preserved c =
     let marked = marked_more l.lengths (take l.count (parted 59 params)) (before 59 rest) l.invariant.size l.invariant.marked in
     let transport = kept_more params transport_name rest (option_map (λ text. text.now) l.transport) l.invariant.transport
     (transport_valued (before 59 rest) is) c.in-Some.behind.now k.0 in
-    let maddr = kept_more params maddr_name rest (option_map (λ text. text.now) l.maddr) l.invariant.maddr
-    (maddr_valued (before 59 rest) is) c.in-Some.behind.now k.0 in
+    let maddr = maddr_more params rest (option_map host_of l.maddr) l.invariant.maddr is c.in-Some.behind.now k.0 in
+    let here : option_map host_of c.maddr_of-host.result ≡ maddr_of (name_of (before 59 rest)) (behind 61 (before 59 rest)) =
+    rw (c.next_part-in-loop-transport.ensures.front, c.next_part-in-loop-transport.ensures.back, c.next_part.ensures.front) at
+    c.maddr_of-host.ensures.host in
     record {
       checked = checked_more params rest l.count l.invariant.checked is (sym (repeated at.After-is_repeated) ∙ c.if-is_repeated.false)
           c.in-Some.behind.now k.0 k.1;
@@ -106,10 +117,7 @@ loop-transport-preserved c =
         c.next_part-in-loop-transport.ensures.back,
         c.next_part.ensures.front,
       ) transport;
-      maddr = rw (
-        c.value_so_far-maddr.ensures,
-        c.next_part-in-loop-transport.ensures.front,
-        c.next_part-in-loop-transport.ensures.back,
-        c.next_part.ensures.front,
-      ) maddr;
+      maddr = rw (c.or-maddr.ensures, map_or host_of l.maddr c.maddr_of-host.result, here) maddr;
+      hostname = rw c.or-maddr.ensures
+          (either_some IsHostPart l.maddr c.maddr_of-host.result l.invariant.hostname c.maddr_of-host.ensures.hostname);
     }

@@ -1,7 +1,9 @@
-use Rattle.std.proofs.Common.{◌≡◌, length, take}
+use Rattle.std.proofs.Common.{◌≡◌, length, take, IfSome}
 use Rattle.std.specs.Option.{option_map}
 use Rattle.sip_uri.specs.Readers.Parts.{parted}
-use Rattle.sip_uri.specs.Readers.Params.{AreMarked, transport_name, maddr_name}
+use Rattle.sip_uri.specs.Readers.Params.{AreMarked, transport_name}
+use Rattle.sip_uri.specs.Readers.Hosts.{host_of, IsHostPart}
+use Rattle.sip_uri.proofs.MaddrSteps.{MaddrKept}
 use Rattle.sip_uri.proofs.ParamSteps.{CheckedSoFar, ValueKept}
 use Rattle.sip_uri.proofs.params.check_params.Given as goal
 
@@ -11,7 +13,8 @@ invariant-loop-transport l = record {
   size : length l.lengths ≡ 64;
   marked : AreMarked l.lengths (take l.count (parted 59 l.params));
   transport : ValueKept l.params transport_name l.rest (option_map (λ text. text.now) l.transport);
-  maddr : ValueKept l.params maddr_name l.rest (option_map (λ text. text.now) l.maddr);
+  maddr : MaddrKept l.params l.rest (option_map host_of l.maddr);
+  hostname : IfSome l.maddr IsHostPart;
 }
 
 abbrev pub decreases-loop-transport : goal.decreases-loop-transport
