@@ -1,5 +1,6 @@
 mod Wire
 mod Runs
+mod SmallRuns
 mod Finding
 mod Pieces
 mod Places

@@ -1,10 +1,10 @@
 //! Names in messages (RFC 1035 3.1, 4.1.4).
-ghost use Rattle.std.specs.Prelude.{◌≡◌, ◌++◌, List, ℕ, IfOk, OnOk, OnErr, IsOk, ◌+◌, ◌≤◌, length, vec_len, vec_capacity, Err, MatchResult, MatchOption};
-ghost use Rattle.dns_name.specs.Labels.{wire_of};
+ghost use Rattle.std.specs.Prelude.{◌≡◌, ◌++◌, List, ℕ, IfOk, OnOk, OnErr, IsOk, ◌+◌, ◌≤◌, length, take, vec_len, vec_capacity, Err, MatchResult, MatchOption};
+ghost use Rattle.dns_name.specs.Labels.{small_letters, wire_of, IsName};
 ghost use Rattle.dns_name.specs.Pieces.{PieceAt, NothingAt};
 ghost use Rattle.dns_name.specs.Places.{NameAt};
 
-use crate::draft::Draft;
+use crate::draft::NAME_LIMIT;
 use crate::name::Name;
 use crate::refusal::NameReadRefusal;
 use std::alloc::{AllocError, Global};
@@ -37,6 +37,43 @@ fn piece_at(octets: &[u8], place: usize) -> Option<Piece<'_>>
     }
 }
 
+/// Puts a run of labels behind so many octets.
+fn put_run(front: &mut [u8; NAME_LIMIT], passed: usize, run: &[u8])
+    requires { passed + length run.now ≤ 255 }
+    ensures { take (passed + length run.now) front.new ≡ take passed front.old ++ run.now }
+{
+    if !run.is_empty() {
+        front[passed..passed + run.len()].copy_from_slice(run);
+    }
+}
+
+/// The octets of some runs and of one more.
+fn joined(alloc: Global, front: &[u8], run: &[u8]) -> Result<Vec<u8>, AllocError>
+    requires { length front.now + length run.now ≤ 255 }
+    ensures { IfOk result (λ octets. octets.items ≡ front.now ++ run.now) }
+{
+    let mut octets = Vec::with_capacity(alloc, front.len() + run.len())?;
+    octets.extend_from_slice(front)?;
+    octets.extend_from_slice(run)?;
+    Ok(octets)
+}
+
+/// The name of the runs that were passed and of the last one, with capitals as small letters.
+fn small_name(alloc: Global, passed: &[u8], last: &[u8]) -> Result<Name, AllocError>
+    requires short { length passed.now + length last.now ≤ 255 }
+    requires name { (labels : List (List ℕ)) × IsName labels
+        × (small_letters (passed.now ++ last.now) ≡ wire_of labels) }
+    ensures { IfOk result (λ name. wire_of name ≡ small_letters (passed.now ++ last.now)) }
+{
+    let mut octets = if passed.is_empty() {
+        Vec::from_slice(alloc, last)?
+    } else {
+        joined(alloc, passed, last)?
+    };
+    octets.as_mut_slice().make_ascii_lowercase();
+    Ok(Name::from_wire(octets))
+}
+
 /// Reads the name at place `at` of a message, and gives the place after it: after its closing 0, or
 /// after its first pointer. A pointer leads to a run of labels that lies, its closing 0 or pointer
 /// included, before the run that the pointer closes.
@@ -52,7 +89,9 @@ pub fn read_name(alloc: Global, bytes: &[u8], at: usize) -> Result<(Name, usize)
     ensures memory { result ≡ Err NameReadRefusal.Memory
         → (name : List (List ℕ)) × (end : ℕ) × NameAt bytes.now at at name end }
 {
-    let mut draft = Draft::new();
+    let mut front = [0; NAME_LIMIT];
+    let mut passed = 0;
+    let mut count = 0;
     let mut start = at;
     let mut limit = bytes.len();
     let mut place = at;
@@ -61,20 +100,22 @@ pub fn read_name(alloc: Global, bytes: &[u8], at: usize) -> Result<(Name, usize)
         match piece_at(&bytes[..limit], place) {
             None => return Err(NameReadRefusal::Malformed),
             Some(Piece::Root) => {
-                let name = draft.finish(alloc, &[0])?;
+                let name = small_name(alloc, &front[..passed], &bytes[start..place + 1])?;
                 return Ok((name, after.unwrap_or(place + 1)));
             }
             Some(Piece::Label(label)) => {
-                if !draft.has_room(label.len()) {
+                count += 1 + label.len();
+                if count >= NAME_LIMIT {
                     return Err(NameReadRefusal::Malformed);
                 }
-                draft.push(label);
                 place += 1 + label.len();
             }
             Some(Piece::Pointer(offset)) => {
                 if offset >= start {
                     return Err(NameReadRefusal::Malformed);
                 }
+                put_run(&mut front, passed, &bytes[start..place]);
+                passed = count;
                 after = Some(after.unwrap_or(place + 2));
                 limit = start;
                 start = offset;

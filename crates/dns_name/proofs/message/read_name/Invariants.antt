@@ -1,14 +1,19 @@
-use Rattle.std.proofs.Common.{◌+◌, ◌-◌, ◌≤◌, length}
+use Rattle.std.proofs.Common.{◌≡◌, ◌+◌, ◌-◌, ◌≤◌, ◌++◌, length, take, slice_range}
+use Rattle.dns_name.specs.Labels.{small_letters}
 use Rattle.dns_name.proofs.Finding.{Finding}
 use Rattle.dns_name.proofs.message.read_name.Given as goal
 
-abbrev pub invariant-loop-draft : goal.invariant-loop-draft
-invariant-loop-draft l = record {
+abbrev pub invariant-loop-front : goal.invariant-loop-front
+invariant-loop-front l = record {
   within : l.limit ≤ length l.bytes;
-  begins : l.start ≤ l.place;
-  finding : Finding l.bytes l.at l.place l.start l.limit l.draft.octets.items l.after;
+  -- the run so far
+  size : length (slice_range l.bytes l.start l.place) + l.start ≡ l.place;
+  counted : l.count + l.start ≡ l.passed + l.place;
+  short : l.count ≤ 254;
+  filled : length (take l.passed l.front) ≡ l.passed;
+  finding : Finding l.bytes l.at l.place l.start l.limit (small_letters (take l.passed l.front ++ slice_range l.bytes l.start l.place)) l.after;
 }
 
 -- the octets of this run that are left, and those before it
-abbrev pub decreases-loop-draft : goal.decreases-loop-draft
-decreases-loop-draft l = (l.limit - l.place) + l.start
+abbrev pub decreases-loop-front : goal.decreases-loop-front
+decreases-loop-front l = (l.limit - l.place) + l.start
