@@ -47,11 +47,8 @@ pub(crate) fn life_with(life: u32, ttl: u32) -> u32
 fn alias_of<'a>(name: &Name, entry: &'a Record) -> Option<Alias<'a>>
     ensures { option_map alias_value result ≡ spec.alias_of name.now entry.now }
 {
-    if entry.owner != *name {
-        return None;
-    }
     match &entry.rdata {
-        Rdata::Cname(target) => Some(Alias { entry, target }),
+        Rdata::Cname(target) if entry.owner == *name => Some(Alias { entry, target }),
         _ => None,
     }
 }

@@ -89,8 +89,9 @@ impl Wanted for NaptrRecord {
 fn data_for<'a, T: Wanted>(name: &Name, entry: &'a Record) -> Option<&'a T>
     ensures { option_copied result ≡ spec.data_for T.data_in name.now entry.now }
 {
+    let data = T::in_rdata(&entry.rdata)?;
     if entry.owner == *name {
-        T::in_rdata(&entry.rdata)
+        Some(data)
     } else {
         None
     }
