@@ -1,7 +1,7 @@
 -- Numbers, octets and lists of parts at places.
 use Rattle.std.proofs.Common.{◌≡◌, ℕ, suc, ◌+◌, ◌<◌, ◌≤◌, List, [], ◌∷◌, ◌++◌, length, take, drop, slice_index, slice_range, get_or, refl, sym, ap, ◌∙◌, subst, drop-cons, append_assoc, arith}
-use Rattle.std.specs.Int.{Width, byte_len}
-use Rattle.std.proofs.lemmas.List.{append-nil, length-append, length_push, length-take, take-take, get_or-take, get_or-drop, drop-drop}
+use Rattle.std.specs.Int.{Width, byte_len, from_be_bytes}
+use Rattle.std.proofs.lemmas.List.{append-nil, length-append, length_push, length-take, length-drop, drop-take, take-take, get_or-take, get_or-drop, drop-drop}
 use Rattle.std.proofs.lemmas.Slice.{between_is}
 use Rattle.dns_message.specs.Places.{NumberAt, OctetsAt, AllAt, none, next}
 
@@ -9,6 +9,27 @@ use Rattle.dns_message.specs.Places.{NumberAt, OctetsAt, AllAt, none, next}
 
 pub one_number : (w : Width) (message : List ℕ) (p n n' : ℕ) → NumberAt w message p n → NumberAt w message p n' → n ≡ n'
 one_number w message p n n' a b = sym a.is ∙ b.is
+
+-- a number in a part of a message stands in the message
+pub NumberAt-part : (w : Width) (message part : List ℕ) (place end k there number : ℕ) → part ≡ slice_range message place end
+    → place ≤ end → end ≤ length message → there ≡ place + k → NumberAt w part k number → NumberAt w message there number
+NumberAt-part w message part place end k there number part-is le within there-is at =
+    let whole : part ≡ drop place (take end message) = part-is ∙ between_is message place end in
+    let size : length part + place ≡ end =
+    omega (arith, ap length whole, length-drop place (take end message), length-take end message) in
+    let n : ℕ = k + byte_len w in
+    let last : place + n ≡ there + byte_len w = omega (arith, there-is) in
+    let same : slice_range part k n ≡ slice_range message there (there + byte_len w) =
+    between_is part k n
+    ∙ ap (λ (l : List ℕ). drop k (take n l)) whole
+    ∙ ap (drop k) (sym (drop-take place n (take end message)))
+    ∙ ap (λ (l : List ℕ). drop k (drop place l)) (take-take (place + n) end message (omega (arith, at.within, size)))
+    ∙ drop-drop k place (take (place + n) message)
+    ∙ rw (← last) (ap (λ (p : ℕ). drop p (take (place + n) message)) (sym there-is) ∙ sym (between_is message there (place + n))) in
+    record {
+      within = omega (arith, at.within, size, there-is);
+      is = ap (from_be_bytes w) (sym same) ∙ at.is;
+    }
 
 pub one_text : (message : List ℕ) (p : ℕ) (octets octets' : List ℕ) (end : ℕ) → OctetsAt message p octets end
     → OctetsAt message p octets' end → octets ≡ octets'

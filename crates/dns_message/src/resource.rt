@@ -52,11 +52,12 @@ fn fixed_at(bytes: &[u8], place: usize) -> Option<Fixed>
     ensures { MatchOption result (length bytes.now < place + 10)
         (λ fixed. FixedAt bytes.now place fixed.code fixed.class_code fixed.ttl fixed.size) }
 {
+    let octets = bytes.get(place..place + 10)?;
     Some(Fixed {
-        code: u16_at(bytes, place)?,
-        class_code: u16_at(bytes, place + 2)?,
-        ttl: u32_at(bytes, place + 4)?,
-        size: u16_at(bytes, place + 8)?,
+        code: u16_at(octets, 0)?,
+        class_code: u16_at(octets, 2)?,
+        ttl: u32_at(octets, 4)?,
+        size: u16_at(octets, 8)?,
     })
 }
 
