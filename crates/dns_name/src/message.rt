@@ -47,15 +47,14 @@ fn put_run(front: &mut [u8; NAME_LIMIT], passed: usize, run: &[u8])
     }
 }
 
-/// The octets of some runs and of one more.
-fn joined(alloc: Global, front: &[u8], run: &[u8]) -> Result<Vec<u8>, AllocError>
-    requires { length front.now + length run.now ≤ 255 }
-    ensures { IfOk result (λ octets. octets.items ≡ front.now ++ run.now) }
+/// Writes a run of labels over octets, as many, with capitals as small letters.
+fn write_small(octets: &mut [u8], run: &[u8])
+    requires { length octets.old ≡ length run.now }
+    ensures { octets.new ≡ small_letters run.now }
 {
-    let mut octets = Vec::with_capacity(alloc, front.len() + run.len())?;
-    octets.extend_from_slice(front)?;
-    octets.extend_from_slice(run)?;
-    Ok(octets)
+    for at in 0..run.len() {
+        octets[at] = run[at].to_ascii_lowercase();
+    }
 }
 
 /// The name of the runs that were passed and of the last one, with capitals as small letters.
@@ -65,12 +64,10 @@ fn small_name(alloc: Global, passed: &[u8], last: &[u8]) -> Result<Name, AllocEr
         × (small_letters (passed.now ++ last.now) ≡ wire_of labels) }
     ensures { IfOk result (λ name. wire_of name ≡ small_letters (passed.now ++ last.now)) }
 {
-    let mut octets = if passed.is_empty() {
-        Vec::from_slice(alloc, last)?
-    } else {
-        joined(alloc, passed, last)?
-    };
-    octets.as_mut_slice().make_ascii_lowercase();
+    let mut octets = Vec::from_elem(alloc, 0, passed.len() + last.len())?;
+    let (front, behind) = octets.as_mut_slice().split_at_mut(passed.len());
+    write_small(front, passed);
+    write_small(behind, last);
     Ok(Name::from_wire(octets))
 }
 
