@@ -1,10 +1,9 @@
 //! What a section of a message has, one after the other: questions or records (RFC 1035 4.1).
-ghost use Rattle.std.specs.Prelude.{◌≡◌, ℕ, List, length, IfOk, IfErr, MatchResult};
+ghost use Rattle.std.specs.Prelude.{◌≡◌, ℕ, List, [], length, IfOk, IfErr, MatchResult};
 ghost use Rattle.dns_message.specs.Places.{NamedAt, AllAt};
 ghost use Rattle.dns_message.specs.Refusals.{IsOfPart};
 
 use crate::refusal::{EntryRefusal, MessageRefusal, Part};
-use crate::section::Section;
 use std::alloc::Global;
 
 /// A question or a record.
@@ -26,52 +25,56 @@ pub(crate) trait Entry: Sized + Drop {
         → stands message place entry end → NamedAt message place };
 }
 
-/// Reads so many from a place on, and gives the place after them.
-fn entries_at<E: Entry>(
+/// Reads so many from a place on into an empty list, and gives the place after them.
+fn read_entries<E: Entry>(
     alloc: Global,
     bytes: &[u8],
     place: usize,
     count: u16,
-) -> Result<(Vec<E>, usize), EntryRefusal>
-    ensures found { IfOk result (λ found. AllAt (E.stands bytes.now) place found.0.items found.1
-        × (length found.0.items ≡ count)) }
-    ensures read { (entries : List E) (end : ℕ) → AllAt (E.stands bytes.now) place entries end
-        → length entries ≡ count
-        → MatchResult result (λ found. (found.0.items ≡ entries) × (found.1 ≡ end))
+    entries: &mut Vec<E>,
+) -> Result<usize, EntryRefusal>
+    requires { entries.old.items ≡ [] }
+    ensures found { IfOk result (λ end. AllAt (E.stands bytes.now) place entries.new.items end
+        × (length entries.new.items ≡ count)) }
+    ensures read { (all : List E) (end : ℕ) → AllAt (E.stands bytes.now) place all end
+        → length all ≡ count
+        → MatchResult result (λ found. (entries.new.items ≡ all) × (found ≡ end))
         (λ refusal. refusal ≡ EntryRefusal.Memory) }
     ensures memory { IfErr result (λ refusal. refusal ≡ EntryRefusal.Memory
         → NamedAt bytes.now place) }
 {
-    let mut entries = Vec::new(alloc);
     let mut place = place;
     for _ in 0..count {
         let (entry, after) = E::read_at(alloc, bytes, place)?;
         entries.push(entry)?;
         place = after;
     }
-    Ok((entries, place))
+    Ok(place)
 }
 
-/// Reads the section of so many, as this part of the message, and gives the place after it.
-pub(crate) fn section_at<E: Entry>(
+/// Reads the section of so many, as this part of the message, into an empty list, and gives the
+/// place after it.
+pub(crate) fn read_section<E: Entry>(
     alloc: Global,
     bytes: &[u8],
     place: usize,
     count: u16,
     part: Part,
-) -> Result<(Section<E>, usize), MessageRefusal>
-    ensures found { IfOk result (λ found. AllAt (E.stands bytes.now) place found.0 found.1
-        × (length found.0 ≡ count)) }
-    ensures read { (entries : List E) (end : ℕ) → AllAt (E.stands bytes.now) place entries end
-        → length entries ≡ count
-        → MatchResult result (λ found. (found.0 ≡ entries) × (found.1 ≡ end))
+    entries: &mut Vec<E>,
+) -> Result<usize, MessageRefusal>
+    requires { entries.old.items ≡ [] }
+    ensures found { IfOk result (λ end. AllAt (E.stands bytes.now) place entries.new.items end
+        × (length entries.new.items ≡ count)) }
+    ensures read { (all : List E) (end : ℕ) → AllAt (E.stands bytes.now) place all end
+        → length all ≡ count
+        → MatchResult result (λ found. (entries.new.items ≡ all) × (found ≡ end))
         (λ refusal. refusal ≡ MessageRefusal.Memory) }
     ensures refused { IfErr result (λ refusal. IsOfPart refusal part) }
     ensures memory { IfErr result
         (λ refusal. refusal ≡ MessageRefusal.Memory → NamedAt bytes.now place) }
 {
-    match entries_at(alloc, bytes, place, count) {
-        Ok((entries, after)) => Ok((Section::from_vec(entries), after)),
+    match read_entries(alloc, bytes, place, count, entries) {
+        Ok(after) => Ok(after),
         Err(refusal) => Err(refusal.of_part(part)),
     }
 }

@@ -5,7 +5,7 @@ ghost use Rattle.dns_message.specs.Places.{NamedAt};
 ghost use Rattle.dns_message.specs.declared.refusal.Part as part;
 ghost use Rattle.dns_message.specs.declared.message.Message as message;
 
-use crate::entry::section_at;
+use crate::entry::read_section;
 use crate::header::{Header, header_at};
 use crate::question::Asked;
 use crate::refusal::{MessageRefusal, Part};
@@ -63,22 +63,48 @@ pub fn read_message(alloc: Global, bytes: &[u8]) -> Result<Message, MessageRefus
         return Err(MessageRefusal::TooLong);
     }
     let (header, counts) = header_at(bytes).ok_or(MessageRefusal::Malformed(Part::Header))?;
-    let (questions, place) = section_at(
+    let mut questions = Vec::new(alloc);
+    let place = read_section(
         alloc,
         bytes,
         HEADER_END,
         counts.questions,
         Part::Questions,
+        &mut questions,
     )?;
-    let (answers, place) = section_at(alloc, bytes, place, counts.answers, Part::Answers)?;
-    let (authority, place) = section_at(alloc, bytes, place, counts.authority, Part::Authority)?;
-    let (additional, _) = section_at(alloc, bytes, place, counts.additional, Part::Additional)?;
+    let mut answers = Vec::new(alloc);
+    let place = read_section(
+        alloc,
+        bytes,
+        place,
+        counts.answers,
+        Part::Answers,
+        &mut answers,
+    )?;
+    let mut authority = Vec::new(alloc);
+    let place = read_section(
+        alloc,
+        bytes,
+        place,
+        counts.authority,
+        Part::Authority,
+        &mut authority,
+    )?;
+    let mut additional = Vec::new(alloc);
+    let _ = read_section(
+        alloc,
+        bytes,
+        place,
+        counts.additional,
+        Part::Additional,
+        &mut additional,
+    )?;
     Ok(Message {
         header,
-        questions,
-        answers,
-        authority,
-        additional,
+        questions: Section::from_vec(questions),
+        answers: Section::from_vec(answers),
+        authority: Section::from_vec(authority),
+        additional: Section::from_vec(additional),
     })
 }
 

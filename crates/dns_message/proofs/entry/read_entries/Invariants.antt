@@ -1,7 +1,7 @@
 use Rattle.std.proofs.Common.{◌≡◌, length}
 use Rattle.dns_message.specs.Places.{AllAt}
 use Rattle.dns_message.proofs.Places.{Follows}
-use Rattle.dns_message.proofs.entry.entries_at.Given as goal
+use Rattle.dns_message.proofs.entry.read_entries.Given as goal
 
 abbrev pub invariant-loop : goal.invariant-loop
 invariant-loop g l = record {

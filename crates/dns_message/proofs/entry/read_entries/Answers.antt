@@ -3,11 +3,11 @@ use Rattle.std.proofs.lemmas.List.{length_push}
 use Rattle.std.proofs.lemmas.Result.{err_from_is_err_and}
 use Rattle.dns_message.specs.Places.{NamedAt, none}
 use Rattle.dns_message.proofs.Places.{AllAt-push, AllAt-first, Follows-push, Follows-next, Follows-all}
-use Rattle.dns_message.proofs.entry.entries_at.Goals as goal
+use Rattle.dns_message.proofs.entry.read_entries.Goals as goal
 
 pub loop-init : goal.loop-init
 loop-init g c =
-    rw c.new-entries.ensures.items (record {
+    rw c.requires (record {
       so_far = none refl;
       follows = λ others end there size. (others, refl, there);
       count = refl;
