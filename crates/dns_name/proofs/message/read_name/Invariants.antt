@@ -11,7 +11,8 @@ invariant-loop-front l = record {
   counted : l.count + l.start ≡ l.passed + l.place;
   short : l.count ≤ 254;
   filled : length (take l.passed l.front) ≡ l.passed;
-  finding : Finding l.bytes l.at l.place l.start l.limit (small_letters (take l.passed l.front ++ slice_range l.bytes l.start l.place)) l.after;
+  finding : Finding l.bytes l.at l.place l.start l.limit
+      (small_letters (take l.passed l.front ++ slice_range l.bytes l.start l.place)) l.after;
 }
 
 -- the octets of this run that are left, and those before it
