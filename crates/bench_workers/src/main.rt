@@ -12,7 +12,8 @@ use crate::zone_text::zone_text;
 use answer_cache::{Notice, SharedCache};
 use dns_answers::Moment;
 use dns_asker::{StandingClock, Zone, ZoneWire};
-use sip_workers::{OpenGate, Outcome, run_workers};
+use sip_workers::{Job, OpenGate, Outcome, run_workers};
+use std::alloc::Global;
 use std::env;
 use std::rt::Env;
 use std::sync::Wait;
@@ -48,7 +49,28 @@ struct Measured {
     targets: usize,
 }
 
-/// Measures a run over a new cache.
+/// Runs these jobs over a new cache, and gives how many milliseconds that takes, and how many of
+/// them have targets.
+fn run<R: Threads + Wait + Clock + AllocGlobal + Sync>(
+    rt: &R,
+    wires: Vec<ZoneWire<'_>>,
+    jobs: Vec<Job>,
+) -> Option<(u128, usize)> {
+    let alloc = rt.alloc();
+    let clock = StandingClock {
+        moment: Moment::new(100).unwrap(),
+    };
+    let (cache, seats) = SharedCache::new(alloc, wires.len()).ok()?;
+    let start = Instant::now(rt).ok()?;
+    let made = run_workers(
+        rt, alloc, &cache, seats, wires, jobs, BATCH, &clock, &OpenGate,
+    )
+    .ok()?;
+    let time = start.elapsed(rt).ok()?;
+    Some((time.as_millis(), with_targets(made.as_slice())))
+}
+
+/// Measures a run over new wires.
 fn measure<R: Threads + Wait + Clock + AllocGlobal + Sync>(
     rt: &R,
     zone: &Zone,
@@ -58,36 +80,40 @@ fn measure<R: Threads + Wait + Clock + AllocGlobal + Sync>(
     let alloc = rt.alloc();
     let sent = AtomicU64::new(0);
     let wires = ZoneWire::several(alloc, zone, &sent, workers).ok()?;
-    let jobs = jobs_of(alloc, requests)?;
-    let (cache, seats) = SharedCache::new(alloc, workers).ok()?;
-    let clock = StandingClock {
-        moment: Moment::new(100)?,
-    };
-    let start = Instant::now(rt).ok()?;
-    let made = run_workers(
-        rt, alloc, &cache, seats, wires, jobs, BATCH, &clock, &OpenGate,
-    )
-    .ok()?;
-    let time = start.elapsed(rt).ok()?;
+    let (milliseconds, targets) = run(rt, wires, jobs_of(alloc, requests)?)?;
     Some(Measured {
-        milliseconds: time.as_millis(),
+        milliseconds,
         sent: sent.load(Ordering::SeqCst),
-        targets: with_targets(made.as_slice()),
+        targets,
     })
+}
+
+/// Measures a run, and prints it.
+fn print_run<R: Threads + Wait + Clock + Print + AllocGlobal + Sync>(
+    rt: &R,
+    zone: &Zone,
+    requests: u64,
+    workers: usize,
+) -> Option<()> {
+    let it = measure(rt, zone, requests, workers)?;
+    println!(rt;
+        "{requests} {workers} {} {} {}",
+        it.milliseconds, it.sent, it.targets
+    )
+    .ok()
+}
+
+/// The zone that all requests ask.
+fn zone(alloc: Global) -> Option<Zone> {
+    let text = zone_text(alloc).ok()?;
+    Zone::read(alloc, text.as_str()).ok()
 }
 
 /// Measures all runs, and prints them.
 fn print_runs<R: Threads + Wait + Clock + Print + AllocGlobal + Sync>(rt: &R) -> Option<()> {
-    let alloc = rt.alloc();
-    let text = zone_text(alloc).ok()?;
-    let zone = Zone::read(alloc, text.as_str()).ok()?;
+    let zone = zone(rt.alloc())?;
     for (requests, workers) in RUNS {
-        let it = measure(rt, &zone, requests, workers)?;
-        println!(rt;
-            "{requests} {workers} {} {} {}",
-            it.milliseconds, it.sent, it.targets
-        )
-        .ok()?;
+        print_run(rt, &zone, requests, workers)?;
     }
     Some(())
 }
