@@ -4,7 +4,6 @@ use crate::Failure::{Status503, Timeout};
 use crate::{Event, Failover, Failure, Progress, Target};
 use sip_uri::{Address, Transport};
 use std::alloc::Global;
-use std::test::Fail;
 
 /// A target for these tests.
 const ONE: Target = Target {
@@ -94,13 +93,19 @@ fn after(alloc: Global, targets: &[Target], events: &[Event]) -> Option<Failover
     Some(failover)
 }
 
+/// Whether the tries of a row are as it says, where there is memory for them.
+fn is_right(alloc: Global, row: &Row) -> Option<bool> {
+    let failover = after(alloc, row.targets, row.events)?;
+    Some(
+        failover.tried() == row.tried
+            && failover.current().copied() == row.current
+            && failover.progress() == row.progress,
+    )
+}
+
 #[test]
-fn tries(rt: HostRuntime) -> Result<(), Fail> {
+fn tries(rt: HostRuntime) {
     for row in ROWS {
-        let failover = after(rt.alloc(), row.targets, row.events).ok_or("memory")?;
-        assert_eq!(rt; failover.tried(), row.tried);
-        assert_eq!(rt; failover.current().copied(), row.current);
-        assert_eq!(rt; failover.progress(), row.progress);
+        assert_eq!(rt; is_right(rt.alloc(), row), Some(true), "{:?}", row.events);
     }
-    Ok(())
 }
