@@ -123,10 +123,6 @@ no_fault_here : (label : List ℕ) (labels : List (List ℕ)) → labels_fault (
     → (label_fault label ≡ None) × (labels_fault labels ≡ None)
 no_fault_here label labels none = option_or_none (label_fault label) (labels_fault labels) none
 
--- a length is no letter
-small_length : (n : ℕ) → n ≤ 63 → to_ascii_lowercase n ≡ n
-small_length n short = grind (arith, nat_tests)
-
 module _ (labels : List (List ℕ)) (count : ℕ) (label : List ℕ) (within : count < length labels)
     (is : label ≡ get_or labels count label) where
   here : drop count labels ≡ label ∷ drop (count + 1) labels
@@ -142,25 +138,18 @@ module _ (labels : List (List ℕ)) (count : ℕ) (label : List ℕ) (within : c
       let one : labels_fault (drop count labels) ≡ labels_fault (drop (count + 1) labels) = rw (here, good) refl in
       sym one ∙ faultless
 
-  pub spelled-more : spelled (take (count + 1) labels) ≡ spelled (take count labels) ++ length label ∷ label
+  pub spelled-more : spelled (map small_letters (take (count + 1) labels))
+      ≡ spelled (map small_letters (take count labels)) ++ length label ∷ small_letters label
   spelled-more =
       let more : take (count + 1) labels ≡ take count labels ++ label ∷ [] =
       take_more labels count label within ∙ ap (λ (l : List ℕ). take count labels ++ l ∷ []) (sym is) in
-      ap spelled more ∙ spelled-append (take count labels) (label ∷ []) ∙ ap
-      (λ (octets : List ℕ). spelled (take count labels) ++ octets) (one_spelled label)
+      let mapped = ap (map small_letters) more ∙ map-append small_letters (take count labels) (label ∷ []) in
+      ap spelled mapped ∙ spelled-append (map small_letters (take count labels)) (small_letters label ∷ []) ∙ ap
+      (λ (octets : List ℕ). spelled (map small_letters (take count labels)) ++ octets)
+      (one_spelled (small_letters label) ∙ ap (λ (n : ℕ). n ∷ small_letters label) (length-map label to_ascii_lowercase))
 
   pub good_label : labels_fault (drop count labels) ≡ None → label_fault label ≡ None
   good_label faultless = (no_fault_here label (drop (count + 1) labels) (sym (ap labels_fault here) ∙ faultless)).0
-
--- the octets of labels, with small letters
-small_octets : (labels : List (List ℕ)) → labels_fault labels ≡ None
-    → map to_ascii_lowercase (wire_of labels) ≡ wire_of (map small_letters labels)
-small_octets [] none = refl
-small_octets (label ∷ labels) none =
-    let k = no_fault_here label labels none in
-    let short = (IsTextLabel-from_none label k.0).short in
-    let len : to_ascii_lowercase (length label) ≡ length (small_letters label) = rw length-map (small_length (length label) short) in
-    rw (len, map-append to_ascii_lowercase label (wire_of labels), small_octets labels k.1) refl
 
 length-joined : (labels : List (List ℕ)) → 0 < length labels → length (wire_of labels) ≡ length (join_with_byte 46 labels) + 2
 length-joined [] some = absurd (omega arith)
@@ -179,13 +168,10 @@ length-wire text =
     let some : 0 < length (parted text) = omega (arith, length-slice_split (λ (octet : ℕ). octet == 46) text) in
     length-joined (parted text) some ∙ ap (λ (octets : List ℕ). length octets + 2) (join_with_byte-slice_split 46 text)
 
-pub small_wire : (text octets : List ℕ) (count : ℕ) → count ≡ length (parted text) → dotted_fault (parted text) ≡ None
-    → octets ≡ spelled (take count (parted text)) ++ 0 ∷ []
-    → map to_ascii_lowercase octets ≡ wire_of (map small_letters (parted text))
-small_wire text octets count all none e =
-    let labels : List (List ℕ) = parted text in
-    let whole : octets ≡ wire_of labels = rw (e, take_all count labels (omega arith)) (spelled-closed labels) in
-    rw whole (small_octets labels (option_or_none (labels_fault labels) (length_fault labels) none).0)
+-- the octets of all labels, with the closing 0
+pub spelled-whole : (labels : List (List ℕ)) (count : ℕ) (octets : List ℕ) → count ≡ length labels
+    → octets ≡ spelled (map small_letters (take count labels)) → octets ++ 0 ∷ [] ≡ wire_of (map small_letters labels)
+spelled-whole labels count octets all e = rw (e, take_all count labels (omega arith)) (spelled-closed (map small_letters labels))
 
 pub faultless_labels : (labels : List (List ℕ)) → dotted_fault labels ≡ None → labels_fault labels ≡ None
 faultless_labels labels none = (option_or_none (labels_fault labels) (length_fault labels) none).0

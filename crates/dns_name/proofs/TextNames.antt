@@ -1,7 +1,6 @@
 -- A text has no fault exactly where it is the text of a name, and of one name alone.
-use Rattle.std.proofs.Common.{◌≡◌, ℕ, ◌<◌, ◌≤◌, ◌==◌, true, false, List, [], ◌∷◌, ◌++◌, length, map, Option, Some, None, refl, sym, ap, ◌∙◌, inl, inr, ◌⊎◌, arith, eqb, append_assoc}
+use Rattle.std.proofs.Common.{◌≡◌, ℕ, ◌<◌, ◌≤◌, ◌==◌, true, false, List, [], ◌∷◌, ◌++◌, length, map, None, refl, sym, ap, ◌∙◌, inl, inr, ◌⊎◌, arith, eqb, append_assoc}
 use Rattle.std.specs.List.{AllByRecursion, flat_map, list_all}
-use Rattle.std.specs.Option.{option_or}
 use Rattle.std.specs.Str.{bytes_eq}
 use Rattle.std.proofs.lemmas.Bool.Decides.{nat_tests}
 use Rattle.std.proofs.lemmas.Bool.{cases_Bool}
@@ -10,7 +9,6 @@ use Rattle.std.proofs.lemmas.List.Splits.{length-slice_split}
 use Rattle.std.proofs.lemmas.List.{append-nil, length-append}
 use Rattle.dns_name.specs.Labels.{IsLabel, IsName, small_letters, wire_of}
 use Rattle.dns_name.specs.Texts.{is_text_octet, IsPlain, shown, label_text, text_of, IsTextLabel, IsDotted, TextOf, root, dotted, label_fault, labels_fault, length_fault, dotted_fault, parted, without_closing_dot}
-use Rattle.dns_name.specs.declared.refusal.NameRefusal.{NameRefusal}
 use Rattle.dns_name.proofs.ClosingDots.{joined, joined_ends, dotted_parts, parts_of}
 use Rattle.dns_name.proofs.TextLabels.{IsTextLabel-from_none, no_fault, IsLabel-small, length-small, option_or_none}
 

@@ -81,6 +81,16 @@ fn check_labels(text: &[u8]) -> Result<(), NameRefusal>
     Ok(())
 }
 
+/// Adds octets, with capitals as small letters.
+fn push_small(octets: &mut Vec<u8>, label: &[u8]) -> Result<(), AllocError>
+    ensures { OnOk result (octets.new.items ≡ octets.old.items ++ small_letters label.now) }
+{
+    for octet in label {
+        octets.push(octet.to_ascii_lowercase())?;
+    }
+    Ok(())
+}
+
 /// The octets of a name of labels with dots between them.
 fn wire_octets(alloc: Global, text: &[u8]) -> Result<Vec<u8>, AllocError>
     requires { spec.dotted_fault (spec.parted text.now) ≡ None }
@@ -90,11 +100,9 @@ fn wire_octets(alloc: Global, text: &[u8]) -> Result<Vec<u8>, AllocError>
     let mut octets = Vec::with_capacity(alloc, text.len() + 2)?;
     for label in text.split(|octet| *octet == b'.') {
         octets.push(label.len() as u8)?;
-        octets.extend_from_slice(label)?;
+        push_small(&mut octets, label)?;
     }
     octets.push(0)?;
-    // A length is no letter.
-    octets.make_ascii_lowercase();
     Ok(octets)
 }
 

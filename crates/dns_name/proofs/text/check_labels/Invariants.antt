@@ -1,4 +1,4 @@
-use Rattle.std.proofs.Common.{◌≡◌, ◌<◌, length, map, take, drop}
+use Rattle.std.proofs.Common.{◌≡◌, length, drop}
 use Rattle.dns_name.specs.Texts.{labels_fault, parted}
 use Rattle.dns_name.proofs.text.check_labels.Given as goal
 

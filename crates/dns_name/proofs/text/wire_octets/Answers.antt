@@ -1,13 +1,12 @@
-use Rattle.std.proofs.Common.{◌≡◌, ◌==◌, ◌+◌, ◌<◌, List, ◌∷◌, ◌++◌, ℕ, None, length, map, take, drop, get_or, append_assoc, [], rules, tests, arith, ap, sym, ◌∙◌}
+use Rattle.std.proofs.Common.{◌≡◌, ◌==◌, ◌<◌, List, ◌∷◌, ◌++◌, ℕ, None, length, map, take, get_or, append_assoc, [], rules, tests, arith, ap, sym, ◌∙◌}
 use Rattle.std.proofs.lemmas.Iterator.Splits.{YieldsList-from_slice_split}
 use Rattle.std.proofs.lemmas.Iterator.Consumers.{YieldsList-turn, YieldsList-end}
-use Rattle.std.proofs.lemmas.List.{length_push, length-map, take_at}
-use Rattle.std.specs.Char.{to_ascii_lowercase}
-use Rattle.dns_name.specs.Labels.{small_letters, wire_of}
+use Rattle.std.proofs.lemmas.List.{length_push}
+use Rattle.dns_name.specs.Labels.{small_letters}
 use Rattle.dns_name.specs.Texts.{label_fault, parted}
-use Rattle.dns_name.proofs.TextLabels.{spelled, IsTextLabel-from_none, faultless_labels, good_label, goes_on, spelled-more, small_wire}
+use Rattle.dns_name.proofs.TextLabels.{spelled, IsTextLabel-from_none, faultless_labels, good_label, goes_on, spelled-more, spelled-whole}
 use Rattle.dns_name.proofs.text.wire_octets.Goals as goal
-use Rattle.dns_name.proofs.text.wire_octets.Goals.{In-Some, In-None, In_ok-extend_from_slice}
+use Rattle.dns_name.proofs.text.wire_octets.Goals.{In-Some, In-None, In_ok-push_small}
 
 -- the label of this turn
 turn : (c : In-Some) → (length c.loop-label.yielded < length (parted c.args.text.now))
@@ -37,13 +36,15 @@ overflow_cast-label c =
     let short = (IsTextLabel-from_none c.in-Some.label.now (good (goal.at.overflow_cast-label c).In-Some)).short in
     omega arith
 
-added : (c : In_ok-extend_from_slice) → c.extend_from_slice.new.self.items
-    ≡ spelled (take (length c.loop-label.yielded) (parted c.args.text.now)) ++ length c.in-Some.label.now ∷ c.in-Some.label.now
+added : (c : In_ok-push_small) → c.push_small.new.octets.items
+    ≡ spelled (map small_letters (take (length c.loop-label.yielded) (parted c.args.text.now)))
+    ++ length c.in-Some.label.now ∷ small_letters c.in-Some.label.now
 added c =
     let octets : List ℕ = c.loop-label.octets.items in
     let label : List ℕ = c.in-Some.label.now in
-    c.in_ok-extend_from_slice.ensures.items ∙ ap (λ (front : List ℕ). front ++ label) c.in_ok-push.ensures.items
-    ∙ append_assoc octets (length label ∷ []) label ∙ ap (λ (front : List ℕ). front ++ length label ∷ label) c.loop-label.invariant.octets
+    c.in_ok-push_small.ensures ∙ ap (λ (front : List ℕ). front ++ small_letters label) c.in_ok-push.ensures.items
+    ∙ append_assoc octets (length label ∷ []) (small_letters label)
+    ∙ ap (λ (front : List ℕ). front ++ length label ∷ small_letters label) c.loop-label.invariant.octets
 
 pub loop-label-preserved : goal.loop-label-preserved
 loop-label-preserved c =
@@ -64,12 +65,5 @@ loop-label-preserved c =
 pub returns : goal.returns
 returns c =
     let all = all_turns (goal.at.returns c).In-None in
-    let octets : c.deref_mut.result.now ≡ spelled (take (length c.loop-label.yielded) (parted c.args.text.now)) ++ 0 ∷ [] =
-    c.deref_mut.ensures.value ∙ c.in_ok-push-2.ensures.items ∙ ap (λ (front : List ℕ). front ++ 0 ∷ []) c.loop-label.invariant.octets in
-    let after : c.make_ascii_lowercase.new.self ≡ wire_of (map small_letters (parted c.args.text.now)) =
-    c.make_ascii_lowercase.ensures.after
-    ∙ small_wire c.args.text.now c.deref_mut.result.now (length c.loop-label.yielded) all c.requires octets in
-    let len : c.push-2.new.self.len ≡ length c.make_ascii_lowercase.new.self =
-    sym (ap length c.make_ascii_lowercase.ensures.after ∙ length-map c.deref_mut.result.now to_ascii_lowercase ∙ c.deref_mut.ensures.len) in
-    take_at c.make_ascii_lowercase.new.self
-    (drop (length c.make_ascii_lowercase.new.self) c.push-2.new.self.items) c.push-2.new.self.len (sym len) ∙ after
+    c.in_ok-push-2.ensures.items
+    ∙ spelled-whole (parted c.args.text.now) (length c.loop-label.yielded) c.loop-label.octets.items all c.loop-label.invariant.octets

@@ -1,7 +1,7 @@
-use Rattle.std.proofs.Common.{◌≡◌, true, false, List, [], ◌∷◌, ◌++◌, ℕ, map, Some, None, refl, sym, ap, ◌∙◌, inl, inr, lit≤}
+use Rattle.std.proofs.Common.{◌≡◌, true, false, List, [], ◌∷◌, ℕ, map, Some, None, sym, ap, ◌∙◌, inl, inr, lit≤}
 use Rattle.std.specs.Str.{bytes_eq}
 use Rattle.std.proofs.lemmas.Slice.Eq.{bytes_eq-Decides}
-use Rattle.dns_name.specs.Labels.{small_letters, wire_of}
+use Rattle.dns_name.specs.Labels.{small_letters}
 use Rattle.dns_name.specs.Texts.{root, parted, dotted_fault, without_closing_dot}
 use Rattle.dns_name.proofs.Wire.{same_labels}
 use Rattle.dns_name.proofs.TextNames.{IsName-small, TextOf-parted, named}
