@@ -46,7 +46,7 @@ fn bit(class: Class) -> u8
 }
 
 /// Whether an octet is of a class.
-pub(crate) fn has(class: Class, octet: u8) -> bool
+fn has(class: Class, octet: u8) -> bool
     ensures { result ≡ spec.octets_of class octet }
 {
     CLASSES[usize::from(octet)] & bit(class) != 0
