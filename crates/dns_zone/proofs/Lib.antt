@@ -1,7 +1,6 @@
 pub mod Lookups
 pub mod Paths
 pub mod Headers
-pub mod Digits
 pub mod Fields
 pub mod Texts
 pub mod DataKinds

@@ -7,6 +7,7 @@ ghost use Rattle.dns_zone.specs.Views.{texts};
 use crate::refusal::LineRefusal;
 use arrayvec::ArrayVec;
 use dns_message::CharString;
+use sip_uri::decimal;
 use std::alloc::Global;
 
 /// The most fields of a line: those of NAPTR.
@@ -32,32 +33,12 @@ pub(crate) fn fields_of(line: &str) -> Option<ArrayVec<&str, 9>>
     Some(fields)
 }
 
-/// The number of decimal digits, one at least, up to a limit.
-fn number(digits: &[u8], limit: u32) -> Option<u32>
-    ensures { result ≡ spec.number_of limit digits.now }
-{
-    if digits.is_empty() {
-        return None;
-    }
-    let mut number = 0u64;
-    for octet in digits {
-        if !octet.is_ascii_digit() {
-            return None;
-        }
-        number = 10 * number + u64::from(*octet - b'0');
-        if number > u64::from(limit) {
-            return None;
-        }
-    }
-    Some(number as u32)
-}
-
 /// The number of decimal digits, up to 4294967295.
 pub(crate) fn number_of_32_bits(text: &str) -> Result<u32, LineRefusal>
     ensures { MatchResult result (λ number. spec.number_of 4294967295 text.now ≡ Some number)
         (λ refusal. (refusal ≡ LineRefusal.Bad) × (spec.number_of 4294967295 text.now ≡ None)) }
 {
-    match number(text.as_bytes(), u32::MAX) {
+    match decimal(text.as_bytes(), u32::MAX) {
         Some(number) => Ok(number),
         None => Err(LineRefusal::Bad),
     }
@@ -68,7 +49,7 @@ pub(crate) fn number_of_16_bits(text: &str) -> Result<u16, LineRefusal>
     ensures { MatchResult result (λ number. spec.number_of 65535 text.now ≡ Some number)
         (λ refusal. (refusal ≡ LineRefusal.Bad) × (spec.number_of 65535 text.now ≡ None)) }
 {
-    match number(text.as_bytes(), 65_535) {
+    match decimal(text.as_bytes(), 65_535) {
         Some(number) => Ok(number as u16),
         None => Err(LineRefusal::Bad),
     }

@@ -1,8 +1,9 @@
 //! Classes of octets, and runs of them (RFC 3261 25.1).
 ghost use Rattle.std.specs.Prelude.{◌≡◌};
 ghost use Rattle.std.specs.Option.{option_map};
-ghost use Rattle.sip_uri.specs.ViaClasses.{row, behind_row};
 ghost use Rattle.sip_uri.specs.Readers.Runs as spec;
+
+use crate::runs::{OctetClass, cut};
 
 /// A class of octets that may stand unescaped.
 #[derive(Clone, Copy)]
@@ -45,24 +46,14 @@ fn bit(class: Class) -> u8
     }
 }
 
-/// Whether an octet is of a class.
-fn has(class: Class, octet: u8) -> bool
-    ensures { result ≡ spec.octets_of class octet }
-{
-    CLASSES[usize::from(octet)] & bit(class) != 0
-}
+impl OctetClass for Class {
+    ghost use Rattle.sip_uri.specs.Readers.Runs as spec;
 
-/// The octets of a class in front, and what follows them.
-pub(crate) fn cut_class(class: Class, text: &[u8]) -> (&[u8], &[u8])
-    ensures front { result.0.now ≡ row (spec.octets_of class) text.now }
-    ensures back { result.1.now ≡ behind_row (spec.octets_of class) text.now }
-{
-    for (at, octet) in text.iter().enumerate() {
-        if !has(class, *octet) {
-            return (&text[..at], &text[at..]);
-        }
+    ghost octets = { λ class octet. spec.octets_of class octet };
+
+    fn has(self, octet: u8) -> bool {
+        CLASSES[usize::from(octet)] & bit(self) != 0
     }
-    (text, &text[text.len()..])
 }
 
 /// What follows an escaped octet: `%` and two hexadecimal digits.
@@ -83,7 +74,7 @@ pub(crate) fn is_run(class: Class, text: &[u8]) -> bool
 {
     let mut rest = text;
     loop {
-        let (_, behind) = cut_class(class, rest);
+        let (_, behind) = cut(class, rest);
         if behind.is_empty() {
             return true;
         }

@@ -6,8 +6,9 @@ ghost use Rattle.sip_uri.specs.Readers.Parts.{parted};
 ghost use Rattle.sip_uri.specs.Readers.Texts as spec;
 ghost use Rattle.dns_name.specs.Texts.{without_closing_dot};
 
-use crate::classes::{Class, cut_class};
+use crate::classes::Class;
 use crate::parts::behind_front;
+use crate::runs::cut;
 
 /// Whether letters, digits and hyphens are a label: with a letter or digit in front and at the end.
 fn is_label(octets: &[u8]) -> bool
@@ -26,7 +27,7 @@ fn are_labels(text: &[u8]) -> bool
 {
     let mut rest = text;
     loop {
-        let (label, behind) = cut_class(Class::Label, rest);
+        let (label, behind) = cut(Class::Label, rest);
         if !is_label(label) {
             return false;
         }

@@ -57,6 +57,7 @@ mod numbers;
 mod params;
 mod parts;
 mod refusal;
+mod runs;
 mod transport;
 mod uri;
 mod uri_parts;
@@ -73,6 +74,7 @@ pub use host::Host;
 pub use laws::{
     one_uri_of_a_text, one_via_of_a_text, same_exactly_where_equal, written_address_is_read,
 };
+pub use numbers::decimal;
 pub use refusal::UriRefusal;
 pub use transport::{Spoken, Transport};
 pub use uri::SipUri;

@@ -2,25 +2,24 @@
 ghost use Rattle.std.specs.Prelude.{◌≡◌, ◌≤◌};
 ghost use Rattle.sip_uri.specs.Readers.Texts as spec;
 
-/// The number that decimal digits spell, where it is at most `limit`.
-pub(crate) fn decimal(text: &[u8], limit: u32) -> Option<u32>
-    requires { limit ≤ 65535 }
+/// The number that decimal digits spell, one at least, where it is at most `limit`.
+pub fn decimal(text: &[u8], limit: u32) -> Option<u32>
     ensures { result ≡ spec.decimal_within limit text.now }
 {
     if text.is_empty() {
         return None;
     }
-    let mut number = 0;
+    let mut number = 0u64;
     for octet in text {
         if !octet.is_ascii_digit() {
             return None;
         }
-        number = 10 * number + u32::from(*octet - b'0');
-        if number > limit {
+        number = 10 * number + u64::from(*octet - b'0');
+        if number > u64::from(limit) {
             return None;
         }
     }
-    Some(number)
+    Some(number as u32)
 }
 
 /// The value of a hexadecimal digit.

@@ -4,6 +4,8 @@ ghost use Rattle.std.specs.Option.{option_map};
 ghost use Rattle.sip_uri.specs.ViaClasses as octets;
 ghost use Rattle.sip_uri.specs.Readers.Vias as spec;
 
+use crate::runs::{OctetClass, cut};
+
 /// A class of octets of a Via.
 #[derive(Clone, Copy)]
 pub(crate) enum Row {
@@ -26,39 +28,29 @@ fn is_blank(octet: u8) -> bool
     octet == b' ' || octet == b'\t'
 }
 
-/// Whether an octet is of a class.
-fn is_of(class: Row, octet: u8) -> bool
-    ensures { result ≡ spec.octets_of class octet }
-{
-    match class {
-        Row::Blank => is_blank(octet),
-        Row::Token => octet.is_ascii_alphanumeric() || b"-.!%*_+`'~".contains(&octet),
-        Row::Host => !(is_blank(octet) || octet == b':' || octet == b';'),
-        Row::Port => !(is_blank(octet) || octet == b';'),
-        Row::Value => octet >= 33
-            && octet <= 126
-            && !(octet == b';' || octet == b',' || octet == b'"'),
-    }
-}
+impl OctetClass for Row {
+    ghost use Rattle.sip_uri.specs.Readers.Vias as spec;
 
-/// The octets of a class in front, and what follows them.
-pub(crate) fn cut_row(class: Row, text: &[u8]) -> (&[u8], &[u8])
-    ensures front { result.0.now ≡ octets.row (spec.octets_of class) text.now }
-    ensures back { result.1.now ≡ octets.behind_row (spec.octets_of class) text.now }
-{
-    for (at, octet) in text.iter().enumerate() {
-        if !is_of(class, *octet) {
-            return (&text[..at], &text[at..]);
+    ghost octets = { λ class octet. spec.octets_of class octet };
+
+    fn has(self, octet: u8) -> bool {
+        match self {
+            Row::Blank => is_blank(octet),
+            Row::Token => octet.is_ascii_alphanumeric() || b"-.!%*_+`'~".contains(&octet),
+            Row::Host => !(is_blank(octet) || octet == b':' || octet == b';'),
+            Row::Port => !(is_blank(octet) || octet == b';'),
+            Row::Value => {
+                octet >= 33 && octet <= 126 && !(octet == b';' || octet == b',' || octet == b'"')
+            }
         }
     }
-    (text, &text[text.len()..])
 }
 
 /// What follows blanks and tabs.
 pub(crate) fn behind_blanks(text: &[u8]) -> &[u8]
     ensures { result.now ≡ octets.behind_row octets.is_blank text.now }
 {
-    cut_row(Row::Blank, text).1
+    cut(Row::Blank, text).1
 }
 
 /// What follows an octet with blanks and tabs around it.

@@ -7,7 +7,8 @@ ghost use Rattle.sip_uri.specs.Vias.{ViaParams};
 use crate::params::is_same;
 use crate::parts::behind_front;
 use crate::refusal::UriRefusal;
-use crate::via_classes::{Row, behind_blanks, behind_mark, cut_row};
+use crate::runs::cut;
+use crate::via_classes::{Row, behind_blanks, behind_mark};
 
 /// What follows a quoted string, of which the first `"` is passed.
 fn behind_quoted(text: &[u8]) -> Option<&[u8]>
@@ -40,7 +41,7 @@ fn behind_value(text: &[u8]) -> Option<&[u8]>
     match behind_front(text, b'"') {
         Some(quoted) => behind_quoted(quoted),
         None => {
-            let (value, rest) = cut_row(Row::Value, text);
+            let (value, rest) = cut(Row::Value, text);
             if value.is_empty() { None } else { Some(rest) }
         }
     }
@@ -62,7 +63,7 @@ fn behind_valued(text: &[u8]) -> Option<&[u8]>
 pub(crate) fn next_param(text: &[u8]) -> Option<(&[u8], &[u8])>
     ensures { option_map (λ found. (found.0.now, found.1.now)) result ≡ spec.next_param text.now }
 {
-    let (name, rest) = cut_row(Row::Token, behind_mark(text, b';')?);
+    let (name, rest) = cut(Row::Token, behind_mark(text, b';')?);
     if name.is_empty() {
         return None;
     }

@@ -9,9 +9,10 @@ use crate::host_part::{HostPart, plain_host};
 use crate::ipv6::ipv6;
 use crate::parts::{behind_front, next_part};
 use crate::refusal::UriRefusal;
+use crate::runs::cut;
 use crate::transport::{Spoken, spoken_of};
 use crate::uri_parts::port_number;
-use crate::via_classes::{Row, behind_blanks, behind_mark, cut_row};
+use crate::via_classes::{Row, behind_blanks, behind_mark};
 
 /// A Via as it stands in a text, without its parameters.
 #[derive(Clone, Copy)]
@@ -30,7 +31,7 @@ pub(crate) struct ViaParts<'a> {
 fn behind_token<'a>(text: &'a [u8], token: &[u8]) -> Option<&'a [u8]>
     ensures { option_map (λ rest. rest.now) result ≡ spec.behind_token text.now token.now }
 {
-    let (found, rest) = cut_row(Row::Token, text);
+    let (found, rest) = cut(Row::Token, text);
     if !found.eq_ignore_ascii_case(token) {
         return None;
     }
@@ -45,8 +46,8 @@ fn behind_protocol(text: &[u8]) -> Option<(&[u8], &[u8])>
 {
     let rest = behind_token(behind_blanks(text), b"SIP")?;
     let rest = behind_token(rest, b"2.0")?;
-    let (transport, rest) = cut_row(Row::Token, rest);
-    let (blanks, rest) = cut_row(Row::Blank, rest);
+    let (transport, rest) = cut(Row::Token, rest);
+    let (blanks, rest) = cut(Row::Blank, rest);
     if transport.is_empty() || blanks.is_empty() {
         return None;
     }
@@ -62,7 +63,7 @@ fn via_host_in_brackets(text: &[u8]) -> Option<(HostPart<'_>, &[u8])>
 {
     let (inner, behind) = next_part(text, b']');
     let behind = behind?;
-    if !cut_row(Row::Host, behind).0.is_empty() {
+    if !cut(Row::Host, behind).0.is_empty() {
         return None;
     }
     Some((HostPart::V6(ipv6(inner)?), behind))
@@ -78,7 +79,7 @@ fn via_host(text: &[u8]) -> Option<(HostPart<'_>, &[u8])>
     match behind_front(text, b'[') {
         Some(rest) => via_host_in_brackets(rest),
         None => {
-            let (host, rest) = cut_row(Row::Host, text);
+            let (host, rest) = cut(Row::Host, text);
             Some((plain_host(host)?, rest))
         }
     }
@@ -92,7 +93,7 @@ fn via_port(text: &[u8]) -> Result<(Option<u16>, &[u8]), UriRefusal>
     match behind_mark(text, b':') {
         None => Ok((None, text)),
         Some(behind) => {
-            let (digits, rest) = cut_row(Row::Port, behind);
+            let (digits, rest) = cut(Row::Port, behind);
             match port_number(digits) {
                 None => Err(UriRefusal::BadPort),
                 port => Ok((port, rest)),

@@ -1,5 +1,6 @@
 //! Tests of URIs, with values of RFC 3261, RFC 4475 and RFC 5118 and by hand.
 use super::address::host_text;
+use super::is_fault;
 use crate::{Host, SipUri, UriRefusal, one_uri_of_a_text, read_uri, same_exactly_where_equal};
 use std::alloc::Global;
 use std::test::Fail;
@@ -310,22 +311,9 @@ const FAULTS: [(&str, UriRefusal); 68] = [
     ("sip:c.example?a=1&", UriRefusal::BadHeader),
 ];
 
-/// The refusal of a text of no URI.
-fn fault_of(alloc: Global, text: &str) -> Option<UriRefusal> {
-    match read_uri(alloc, text) {
-        Ok(_) => None,
-        Err(refusal) => Some(refusal),
-    }
-}
-
 /// Fails where a text is not refused so.
 fn refused(alloc: Global, text: &str, fault: Option<UriRefusal>) -> Result<(), Fail> {
-    let found = fault_of(alloc, text);
-    if found == fault {
-        Ok(())
-    } else {
-        Err(Fail::new(format_args!("{text:?} {found:?}")))
-    }
+    is_fault(text, read_uri(alloc, text).err(), fault)
 }
 
 #[test]

@@ -1,5 +1,6 @@
 //! Tests of Vias, with values of RFC 3261, RFC 4475 and RFC 5118 and by hand.
 use super::address::host_text;
+use super::is_fault;
 use crate::{UriRefusal, Via, one_via_of_a_text, read_via};
 use std::alloc::Global;
 use std::test::Fail;
@@ -242,22 +243,9 @@ const FAULTS: [(&str, UriRefusal); 57] = [
     ("SIP/2.0/UDP d.example;a=\"b\\", UriRefusal::BadParam),
 ];
 
-/// The refusal of a text of no Via.
-fn fault_of(alloc: Global, text: &str) -> Option<UriRefusal> {
-    match read_via(alloc, text) {
-        Ok(_) => None,
-        Err(refusal) => Some(refusal),
-    }
-}
-
 /// Fails where a text is not refused so.
 fn refused(alloc: Global, text: &str, fault: Option<UriRefusal>) -> Result<(), Fail> {
-    let found = fault_of(alloc, text);
-    if found == fault {
-        Ok(())
-    } else {
-        Err(Fail::new(format_args!("{text:?} {found:?}")))
-    }
+    is_fault(text, read_via(alloc, text).err(), fault)
 }
 
 #[test]

@@ -17,12 +17,12 @@ none c = rw c.in-None.is at (sym c.behind_front.ensures)
 pub returns-in_err-plain_host-in-None-clause-host : goal.returns-in_err-plain_host-in-None-clause-host
 returns-in_err-plain_host-in-None-clause-host c =
     let no : plain_host (row is_in_host c.args.text.now) ≡ None =
-    rw c.cut_row.ensures.front at (sym c.in_err-plain_host-in-None.ensures.host) in
+    rw c.cut.ensures.front at (sym c.in_err-plain_host-in-None.ensures.host) in
     rw c.from_residual.ensures (no_via_host c.args.text.now (none (goal.at.returns-in_err-plain_host-in-None-clause-host c).In-None) no)
 
 pub returns-in_ok-plain_host-in-None-clause-host : goal.returns-in_ok-plain_host-in-None-clause-host
 returns-in_ok-plain_host-in-None-clause-host c =
     let is : plain_host (row is_in_host c.args.text.now) ≡ Some (host_of c.in_ok-plain_host-in-None.field-0) =
-    rw c.cut_row.ensures.front at (sym c.in_ok-plain_host-in-None.ensures.host) in
+    rw c.cut.ensures.front at (sym c.in_ok-plain_host-in-None.ensures.host) in
     via_host_there c.args.text.now (none (goal.at.returns-in_ok-plain_host-in-None-clause-host c).In-None) _ _ is
-    (sym c.cut_row.ensures.back)
+    (sym c.cut.ensures.back)
