@@ -58,12 +58,9 @@ module _ (missing : Missing) where
     fits-after = record { is = there; unknown = λ question none. rw same-seen (fits.unknown question none) }
 
     -- a step gains nothing
-    pub step-stays : (result : Result Next AllocError) → Steps old new before.seen after.seen now result → new ≡ old
+    step-stays : (result : Result Next AllocError) → Steps old new before.seen after.seen now result → new ≡ old
     step-stays (Ok next) steps = none-gained after now fits-after steps.gains
     step-stays (Err refusal) steps = none-gained after now fits-after steps
-
-    pub step-fits : (result : Result Next AllocError) → Steps old new before.seen after.seen now result → BookFits new.given after
-    step-fits result steps = rw (step-stays result steps) fits-after
 
     pub next-is : (next : Next) → Steps old new before.seen after.seen now (Ok next) → next_of next ≡ now_of old
     next-is next steps = steps.is ∙ ap now_of (step-stays (Ok next) steps)

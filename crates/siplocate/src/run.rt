@@ -48,6 +48,3 @@ pub fn run_text<R: Threads + Wait + Sync, W: Wire + Drop + Send, C: Clock + Sync
     let lines = printed(alloc, fates.as_slice())?;
     Ok((lines, status(fates.as_slice())))
 }
-
-#[cfg(test)]
-pub(crate) mod tests;

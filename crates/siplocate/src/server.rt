@@ -117,7 +117,7 @@ fn wires_to<R: Net>(
 }
 
 /// What is printed of the requests of a text, and the status, where so many workers ask a server.
-fn run_to_server<R: Net + Threads + Wait + Clock + Sync>(
+pub(crate) fn run_to_server<R: Net + Threads + Wait + Clock + Sync>(
     rt: &R,
     alloc: Global,
     server: SocketAddr,
@@ -232,6 +232,3 @@ pub fn tell_run<R: Net + Threads + Wait + Clock + Sync>(
         Err(fault) => tell_fault(fault),
     }
 }
-
-#[cfg(test)]
-mod tests;

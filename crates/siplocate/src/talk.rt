@@ -59,15 +59,6 @@ impl Talk {
         })
     }
 
-    /// Looks up what is needed, of which the book has nothing.
-    fn look_up(&mut self) -> Result<(), AllocError>
-        ensures { self.new ≡ self.old }
-    {
-        questions_are_missing();
-        self.locator.step(&self.book, &mut self.seat, moment())?;
-        Ok(())
-    }
-
     /// The lines of what is next, and their status.
     pub fn told(self, alloc: Global) -> Result<(String, u8), AllocError>
         ensures told { IfOk result (λ told. (string_bytes told.0 ≡ words.shown (now_of self))
@@ -105,7 +96,6 @@ impl Talk {
         ensures bad { IfErr result (λ reply. IsFault reply (now_of self.old) line.now) }
     {
         messages_decide();
-        self.look_up()?;
         let octets = octets_of(alloc, line)?;
         self.answer(rt, &octets)
     }

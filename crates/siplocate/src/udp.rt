@@ -136,7 +136,7 @@ impl PeerWire for UdpServerWire {
 /// as a fault. Otherwise it is as `UdpServerWire`.
 #[derive(Drop)]
 pub struct UdpWire {
-    wire: UdpServerWire,
+    pub(crate) wire: UdpServerWire,
     server: SocketAddr,
 }
 
@@ -192,6 +192,3 @@ impl Wire for UdpWire {
         self.wire.failures
     }
 }
-
-#[cfg(test)]
-pub(crate) mod tests;

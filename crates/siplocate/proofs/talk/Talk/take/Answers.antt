@@ -4,17 +4,17 @@ use Rattle.siplocate.proofs.talk.Talk.take.Goals as goal
 pub returns-clause-taken : goal.returns-clause-taken
 returns-clause-taken g c =
     let decoded = rw (← c.deref.ensures.value) at c.in_ok-octets.ensures.found in
-    rw (← c.look_up.ensures) (taken-of c.look_up.new.self c.answer.new.self c.args.line.now c.deref.result.now decoded
-    c.messages_decide.ensures.taken c.answer.result c.answer.ensures.given)
+    taken-of c.args.self.now c.answer.new.self c.args.line.now c.deref.result.now decoded
+    c.messages_decide.ensures.taken c.answer.result c.answer.ensures.given
 
 pub returns-clause-read : goal.returns-clause-read
 returns-clause-read g c =
     let decoded = rw (← c.deref.ensures.value) at c.in_ok-octets.ensures.found in
-    rw (← c.look_up.ensures) (read-of c.look_up.new.self c.answer.new.self c.args.line.now c.deref.result.now decoded
-    c.messages_decide.ensures.taken c.messages_decide.ensures.refused c.answer.result c.answer.ensures.given c.answer.ensures.refused)
+    read-of c.args.self.now c.answer.new.self c.args.line.now c.deref.result.now decoded
+    c.messages_decide.ensures.taken c.messages_decide.ensures.refused c.answer.result c.answer.ensures.given c.answer.ensures.refused
 
 pub returns-clause-bad : goal.returns-clause-bad
 returns-clause-bad g c =
     let decoded = rw (← c.deref.ensures.value) at c.in_ok-octets.ensures.found in
-    rw (← c.look_up.ensures) (bad-of c.look_up.new.self c.answer.new.self c.args.line.now c.deref.result.now decoded c.answer.result
-    c.answer.ensures.refused)
+    bad-of c.args.self.now c.answer.new.self c.args.line.now c.deref.result.now decoded c.answer.result
+    c.answer.ensures.refused

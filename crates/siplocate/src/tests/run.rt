@@ -1,6 +1,6 @@
 //! Many requests over wires in memory, by one worker and by more.
-use super::run_text;
 use crate::requests::parts;
+use crate::run::run_text;
 use answer_cache::SharedCache;
 use dns_answers::Moment;
 use dns_asker::{StandingClock, Zone, ZoneWire};

@@ -1,8 +1,8 @@
 //! A run to the server that the environment names.
-use super::run_to_server;
+use super::run::{LINES, TEXT};
+use super::udp::named_server;
 use crate::requests::parts;
-use crate::run::tests::{LINES, TEXT};
-use crate::udp::tests::named_server;
+use crate::server::run_to_server;
 use std::test::Fail;
 
 #[test]

@@ -1,5 +1,5 @@
 //! A question over UDP, to a server on another thread, and to the one that the environment names.
-use super::{UdpServerWire, UdpWire};
+use crate::udp::{UdpServerWire, UdpWire};
 use dns_answers::{Records, answer_of};
 use dns_asker::{DATAGRAM_LIMIT, PeerWire, Wire, Zone, serve};
 use dns_message::{Kind, Question, read_message};
