@@ -50,14 +50,10 @@
 //! what it has seen. Nobody else adds an event of that seat, so a seat knows that its next node has
 //! no name yet.
 //!
-//! ```text
-//! let (log, mut hands) = Log::open(2);                                 // for two seats
-//! let mut hand = hands.deal();
-//! let walk = log.walk(&mut hand);                                      // along the placed nodes
-//! let Claimed { node, link, mut pen } = log.claim(&mut hand, 0, &question, &answer, moment);
-//! link.store(&mut pen, walk.next);
-//! let placed = log.place(&mut hand, &mut pen, walk.next, &draft, &link);   // or it lost
-//! ```
+//! So a store is a row of calls: `Log::walk` tells the node placed last, `Log::claim` names a node
+//! and gives its link and its pen, `Word::store` writes the node placed last into that link, and
+//! `Log::place` tries to place the node. The crate `answer_cache` is the one user, and its
+//! `SharedCache` makes these calls.
 //!
 //! A `Walk` goes from the node placed last to the first one. It says which node is next, and
 //! whoever finds that node passes its link.

@@ -11,24 +11,23 @@
 //! does not is no reply, and the question waits on. `due` says which question is to be sent once
 //! more, and which one is given up after three times; it is called again until it gives nothing.
 //!
-//! ```text
-//! let mut asker = Asker::new(alloc, 8, 0)?;
-//! wire.send(asker.ask(question, id, now)?)?;
-//! // Due::Resend(id, octets), Due::GaveUp(id, question)
-//! while let Some(due) = asker.due(now) { .. }
-//! // Incoming::Ended(id, question, ending), Incoming::Ignored(why)
-//! match asker.incoming(octets)? { .. }
+//! ```
+//! let mut asker = Asker::new(alloc, 8, 0).ok()?;
+//! // the octets to send, which begin with the id
+//! let query = asker.ask(question, 0x1234, now).ok()?;
+//! let sent = query.starts_with(b"\x12\x34");
+//! // a second later nothing came in
+//! let again = matches!(asker.due(later), Some(Due::Resend(0x1234, _)));
+//! // the octets of a reply
+//! let heard = asker.incoming(octets).ok()?;
+//! let answered = matches!(heard, Incoming::Ended(0x1234, _, Ending::Answered(_)));
 //! ```
 //!
 //! `Wire` and `PeerWire` say what may be known of who carries datagrams, to one server or to many
 //! peers, and `Clock` of who tells the time. `serve` replies from a zone (`dns_zone`) over a
-//! `PeerWire`, until it is told to stop. For tests and measurements there are a wire in memory to a
-//! zone's server (`ZoneWire`) and a clock that stands (`StandingClock`).
-//!
-//! ```text
-//! let zone = Zone::read(alloc, "a.example. 60 CNAME b.example.\nb.example. 300 A 192.0.2.7")?;
-//! let replies = serve(&rt, alloc, &mut wire, &zone, &stop);
-//! ```
+//! `PeerWire`, until it is told to stop, and gives the count of replies. For tests and measurements
+//! there are a wire in memory to a zone's server (`ZoneWire`) and a clock that stands
+//! (`StandingClock`).
 //!
 //! Read `specs/Tickets.antt` and `specs/Events.antt` first: what waits, and what each event does to
 //! it. Then `specs/Servers.antt`: what a server does.

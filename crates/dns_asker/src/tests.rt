@@ -1,4 +1,5 @@
 //! The asker, and the server on a wire in memory.
 mod allocations;
 mod asker;
+mod page;
 mod server;

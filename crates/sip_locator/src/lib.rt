@@ -5,34 +5,23 @@
 //! for what the book has no answer to. The answers that its caller brings go into the book, where
 //! the locators of other requests find them.
 //!
-//! ```text
-//! let mut locator = Locator::new(alloc, request, caps, words)?;
-//! loop {
-//!     match locator.step(&book, &mut seat, now)? {
-//!         Next::Ask(question) => { /* send the question to a name server */ }
-//!         Next::Targets(targets) => { /* try them, by a Failover */ break; }
-//!         Next::Refused(reason) => { /* it goes nowhere */ break; }
-//!     }
-//!     // the octets that came back
-//!     match locator.reply(rt, &book, &mut seat, now, octets) {
-//!         Ok(_) => { /* the answer counts */ }
-//!         // The next step asks the same question, if the book has no answer by then.
-//!         Err(refusal) => { .. }
-//!     }
-//! }
+//! ```
+//! let (book, mut seat) = ListCache::new(alloc);
+//! let mut locator = Locator::new(alloc, request, caps, words).ok()?;
+//! // it asks for A of a.example.
+//! let asks = asks(locator.step(&book, &mut seat, now).ok()?);
+//! // the octets that a name server sent: 192.0.2.7 for 300 seconds
+//! locator.reply(rt, &book, &mut seat, now, octets).ok()?;
+//! let goes = goes(locator.step(&book, &mut seat, now).ok()?);
 //! ```
 //!
-//! For `sip:a.example:5070`, a caller with UDP, and IPv4 alone, it can go so, where a moment is a
-//! number of seconds:
+//! Here the request is of `sip:a.example:5070`, and the step after the reply gives one target. In
+//! general the two are called in a loop, until `step` gives targets or the reason
+//! (`Next::Refused`) why there are none. After a reply that was refused, the next step asks the
+//! same question, if the book has no answer by then.
 //!
-//! ```text
-//! step at 100:   ask A a.example.
-//! reply at 100:  192.0.2.7 for 300 seconds, which the book stores
-//! step at 100:   UDP to 192.0.2.7, port 5070
-//! ```
-//!
-//! The first step of another request to that URI, over the same book, gives the target up to the
-//! moment 399, and asks at 400.
+//! Where `now` is the moment 100, a moment being a number of seconds, the first step of another
+//! request to that URI, over the same book, gives the target up to the moment 399, and asks at 400.
 //!
 //! `step` looks up one question after the other, until the book has no answer to one, or no more is
 //! asked. Each answer that it uses is the one that the book has for the question at that moment.

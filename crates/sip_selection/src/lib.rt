@@ -5,20 +5,22 @@
 //! none. A `Failover` then goes through the targets as the caller tells how each try went
 //! (RFC 3263 4.3).
 //!
-//! ```text
-//! let mut selection = Selection::new(alloc, request, caps, words)?;
-//! loop {
-//!     match selection.next() {
-//!         Next::Ask(question) => {
-//!             let question = question.try_clone()?;
-//!             let answer = /* ask a name server */;
-//!             selection.give(alloc, &question, answer)?;
-//!         }
-//!         Next::Targets(targets) => { /* try them, by a Failover */ }
-//!         Next::Refused(reason) => { /* it goes nowhere */ }
-//!     }
+//! ```
+//! let caps = Caps::new(&[Udp], Families::V4)?;
+//! let mut selection = Selection::new(alloc, request, caps, words).ok()?;
+//! // it asks for A of a.example., and a name server answers 192.0.2.7
+//! if let Next::Ask(question) = selection.next() {
+//!     let question = question.try_clone().ok()?;
+//!     selection.give(alloc, &question, answer).ok()?;
+//! }
+//! match selection.next() {
+//!     Next::Targets([target]) => Some(target.port),
+//!     _ => None,
 //! }
 //! ```
+//!
+//! In general `next` is called and its questions are answered in a loop, until it gives targets or
+//! the reason (`Next::Refused`) why there are none.
 //!
 //! For `sip:b.example`, a caller with UDP and TCP, and IPv4 alone, it can go so:
 //!

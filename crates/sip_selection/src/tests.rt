@@ -13,6 +13,7 @@ mod caps;
 mod conversations;
 mod failover;
 mod gives;
+mod page;
 mod random;
 mod rules;
 
