@@ -2,6 +2,7 @@ pub mod Flags
 pub mod Layouts
 pub mod Messages
 pub mod Names
+pub mod Owners
 pub mod Places
 pub mod Questions
 pub mod Records

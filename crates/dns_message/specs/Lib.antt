@@ -4,6 +4,7 @@ pub mod Data
 pub mod Layouts
 pub mod Headers
 pub mod Questions
+pub mod Owners
 pub mod Records
 pub mod Messages
 pub mod Written

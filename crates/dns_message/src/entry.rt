@@ -1,8 +1,10 @@
 //! What a section of a message has, one after the other: questions or records (RFC 1035 4.1).
-ghost use Rattle.std.specs.Prelude.{◌≡◌, ℕ, List, [], length, IfOk, IfErr, MatchResult};
+ghost use Rattle.std.specs.Prelude.{◌≡◌, ℕ, List, [], length, IfOk, IfErr, IfSome, MatchResult};
+ghost use Rattle.dns_message.specs.Owners.{IsAskedName};
 ghost use Rattle.dns_message.specs.Places.{NamedAt, AllAt};
 ghost use Rattle.dns_message.specs.Refusals.{IsOfPart};
 
+use crate::owner::AskedName;
 use crate::refusal::{EntryRefusal, MessageRefusal, Part};
 use std::alloc::Global;
 
@@ -11,8 +13,15 @@ pub(crate) trait Entry: Sized + Drop {
     // It stands in a message from a place to another.
     ghost stands: { List ℕ → ℕ → Self → ℕ → Type 0 };
 
-    /// Reads the one at a place, and gives the place after it.
-    fn read_at(alloc: Global, bytes: &[u8], place: usize) -> Result<(Self, usize), EntryRefusal>
+    /// Reads the one at a place, and gives the place after it. The name of the question may be
+    /// known by then.
+    fn read_at(
+        alloc: Global,
+        bytes: &[u8],
+        place: usize,
+        asked: Option<AskedName<'_>>,
+    ) -> Result<(Self, usize), EntryRefusal>
+        requires { IfSome asked (IsAskedName bytes.now) }
         ensures found { IfOk result (λ found. stands bytes.now place found.0 found.1) }
         ensures read { (entry : Self) (end : ℕ) → stands bytes.now place entry end
             → MatchResult result (λ found. (found.0 ≡ entry) × (found.1 ≡ end))
@@ -31,9 +40,11 @@ fn read_entries<E: Entry>(
     bytes: &[u8],
     place: usize,
     count: u16,
+    asked: Option<AskedName<'_>>,
     entries: &mut Vec<E>,
 ) -> Result<usize, EntryRefusal>
-    requires { entries.old.items ≡ [] }
+    requires empty { entries.old.items ≡ [] }
+    requires asked { IfSome asked (IsAskedName bytes.now) }
     ensures found { IfOk result (λ end. AllAt (E.stands bytes.now) place entries.new.items end
         × (length entries.new.items ≡ count)) }
     ensures read { (all : List E) (end : ℕ) → AllAt (E.stands bytes.now) place all end
@@ -45,7 +56,7 @@ fn read_entries<E: Entry>(
 {
     let mut place = place;
     for _ in 0..count {
-        let (entry, after) = E::read_at(alloc, bytes, place)?;
+        let (entry, after) = E::read_at(alloc, bytes, place, asked)?;
         entries.push(entry)?;
         place = after;
     }
@@ -60,9 +71,11 @@ pub(crate) fn read_section<E: Entry>(
     place: usize,
     count: u16,
     part: Part,
+    asked: Option<AskedName<'_>>,
     entries: &mut Vec<E>,
 ) -> Result<usize, MessageRefusal>
-    requires { entries.old.items ≡ [] }
+    requires empty { entries.old.items ≡ [] }
+    requires asked { IfSome asked (IsAskedName bytes.now) }
     ensures found { IfOk result (λ end. AllAt (E.stands bytes.now) place entries.new.items end
         × (length entries.new.items ≡ count)) }
     ensures read { (all : List E) (end : ℕ) → AllAt (E.stands bytes.now) place all end
@@ -73,7 +86,7 @@ pub(crate) fn read_section<E: Entry>(
     ensures memory { IfErr result
         (λ refusal. refusal ≡ MessageRefusal.Memory → NamedAt bytes.now place) }
 {
-    match read_entries(alloc, bytes, place, count, entries) {
+    match read_entries(alloc, bytes, place, count, asked, entries) {
         Ok(after) => Ok(after),
         Err(refusal) => Err(refusal.of_part(part)),
     }

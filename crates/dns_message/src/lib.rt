@@ -38,6 +38,7 @@ mod name;
 mod naptr;
 mod number;
 mod other_data;
+mod owner;
 mod question;
 mod rdata;
 mod refusal;

@@ -7,6 +7,7 @@ ghost use Rattle.dns_message.specs.declared.message.Message as message;
 
 use crate::entry::read_section;
 use crate::header::{Header, header_at};
+use crate::owner::AskedName;
 use crate::question::Asked;
 use crate::refusal::{MessageRefusal, Part};
 use crate::resource::Record;
@@ -70,8 +71,10 @@ pub fn read_message(alloc: Global, bytes: &[u8]) -> Result<Message, MessageRefus
         HEADER_END,
         counts.questions,
         Part::Questions,
+        None,
         &mut questions,
     )?;
+    let asked = AskedName::of(&questions, place);
     let mut answers = Vec::new(alloc);
     let place = read_section(
         alloc,
@@ -79,6 +82,7 @@ pub fn read_message(alloc: Global, bytes: &[u8]) -> Result<Message, MessageRefus
         place,
         counts.answers,
         Part::Answers,
+        asked,
         &mut answers,
     )?;
     let mut authority = Vec::new(alloc);
@@ -88,6 +92,7 @@ pub fn read_message(alloc: Global, bytes: &[u8]) -> Result<Message, MessageRefus
         place,
         counts.authority,
         Part::Authority,
+        asked,
         &mut authority,
     )?;
     let mut additional = Vec::new(alloc);
@@ -97,6 +102,7 @@ pub fn read_message(alloc: Global, bytes: &[u8]) -> Result<Message, MessageRefus
         place,
         counts.additional,
         Part::Additional,
+        asked,
         &mut additional,
     )?;
     Ok(Message {

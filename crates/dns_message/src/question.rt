@@ -9,6 +9,7 @@ use crate::entry::Entry;
 use crate::kind::Kind;
 use crate::name::{name_length, push_name};
 use crate::number::{push_u16, u16_at};
+use crate::owner::AskedName;
 use crate::refusal::EntryRefusal;
 use dns_name::{Name, name_rests_before_its_end, one_name_at_a_place, read_name};
 use std::alloc::{AllocError, Global};
@@ -119,7 +120,12 @@ impl Entry for Asked {
 
     ghost named = { λ message place end asked there. (asked.name, there.after, there.name) };
 
-    fn read_at(alloc: Global, bytes: &[u8], place: usize) -> Result<(Asked, usize), EntryRefusal> {
+    fn read_at(
+        alloc: Global,
+        bytes: &[u8],
+        place: usize,
+        _asked: Option<AskedName<'_>>,
+    ) -> Result<(Asked, usize), EntryRefusal> {
         name_rests_before_its_end();
         one_name_at_a_place();
         let (name, place) = read_name(alloc, bytes, place)?;

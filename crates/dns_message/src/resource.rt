@@ -8,9 +8,10 @@ ghost use Rattle.std.specs.List.{flat_map, AllByRecursion};
 use crate::entry::Entry;
 use crate::name::{name_length, push_name};
 use crate::number::{push_u16, push_u32, u16_at, u32_at};
+use crate::owner::{AskedName, owner_at};
 use crate::rdata::{Rdata, data_length, push_data, rdata_at};
 use crate::refusal::EntryRefusal;
-use dns_name::{Name, name_rests_before_its_end, one_name_at_a_place, read_name};
+use dns_name::{Name, name_rests_before_its_end, one_name_at_a_place};
 use std::alloc::{AllocError, Global};
 
 /// A resource record.
@@ -66,10 +67,15 @@ impl Entry for Record {
 
     ghost named = { λ message place end entry there. (entry.owner, there.after, there.owner) };
 
-    fn read_at(alloc: Global, bytes: &[u8], place: usize) -> Result<(Record, usize), EntryRefusal> {
+    fn read_at(
+        alloc: Global,
+        bytes: &[u8],
+        place: usize,
+        asked: Option<AskedName<'_>>,
+    ) -> Result<(Record, usize), EntryRefusal> {
         name_rests_before_its_end();
         one_name_at_a_place();
-        let (owner, place) = read_name(alloc, bytes, place)?;
+        let (owner, place) = owner_at(alloc, bytes, place, asked)?;
         let fixed = fixed_at(bytes, place).ok_or(EntryRefusal::Malformed)?;
         let start = place + 10;
         let end = start + usize::from(fixed.size);

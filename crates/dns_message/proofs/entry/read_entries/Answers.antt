@@ -7,7 +7,7 @@ use Rattle.dns_message.proofs.entry.read_entries.Goals as goal
 
 pub loop-init : goal.loop-init
 loop-init g c =
-    rw c.requires (record {
+    rw c.requires.empty (record {
       so_far = none refl;
       follows = λ others end there size. (others, refl, there);
       count = refl;
