@@ -1,6 +1,6 @@
 -- A message as it is written, and what stands there.
-use Rattle.std.proofs.Common.{◌≡◌, ℕ, ◌+◌, ◌<◌, ◌≤◌, List, [], ◌∷◌, ◌++◌, inl, inr, length, take, refl, sym, append_assoc, arith, length-append}
-use Rattle.std.specs.List.{AllByRecursion, flat_map}
+use Rattle.std.proofs.Common.{◌≡◌, ℕ, ◌+◌, ◌<◌, ◌≤◌, List, [], ◌∷◌, ◌++◌, inl, inr, length, take, refl, sym, append_assoc, arith}
+use Rattle.std.specs.List.{flat_map}
 use Rattle.std.specs.Result.{IfOk}
 use Rattle.std.specs.declared.result.Result.{Result}
 use Rattle.std.specs.declared.result.Result.TheVariants.{Ok, Err}
@@ -13,10 +13,9 @@ use Rattle.dns_message.specs.Questions.{QuestionAt}
 use Rattle.dns_message.specs.Records.{RecordAt}
 use Rattle.dns_message.specs.Written.{question_octets, record_octets, header_octets, count_octets, plain, cut, fitted, query_of, asked_of}
 use Rattle.dns_message.specs.declared.message.Message.{Message}
-use Rattle.dns_message.specs.declared.question.Asked.{Asked}
 use Rattle.dns_message.specs.declared.question.Question.{Question}
 use Rattle.dns_message.proofs.Names.{IsReadAgain}
-use Rattle.dns_message.proofs.WrittenOctets.{length-header_octets, length-count_octets, length-question_octets, length-plain, counts_fit}
+use Rattle.dns_message.proofs.WrittenOctets.{length-header_octets, length-count_octets, length-plain, questions_short, questions-le, answers-le, authority-le, additional-le}
 use Rattle.dns_message.proofs.WrittenPlaces.{Stands, Stands-at, all_at}
 use Rattle.dns_message.proofs.WrittenLayouts.{parts, header_at, counts_at, question_at, record_at}
 
@@ -39,11 +38,10 @@ message_at again octets message fits short s =
     let p3 = parts octets 12 questions (answers ++ (authority ++ additional)) (Stands-at 12 (omega (arith, eight)) p2.others) in
     let p4 = parts octets (12 + length questions) answers (authority ++ additional) p3.others in
     let p5 = parts octets (12 + length questions + length answers) authority additional p4.others in
-    let fit = counts_fit message 65535 short in
     let numbers =
     counts_at octets (length message.questions) (length message.answers) (length message.authority) (length message.additional)
-    (omega (arith, fit.questions)) (omega (arith, fit.answers)) (omega (arith, fit.authority))
-    (omega (arith, fit.additional)) p2.first in
+    (omega (arith, questions-le message)) (omega (arith, answers-le message)) (omega (arith, authority-le message))
+    (omega (arith, additional-le message)) p2.first in
     let records = all_at octets record_octets RecordFits (RecordAt octets) (record_at again octets) in
     let last = records message.additional (12 + length questions + length answers + length authority) fits.additional p5.others in
     record {
@@ -82,15 +80,8 @@ both_ok (Err e) P Q R from p q = tt
 
 -- ---- a message without records
 
-few_questions : (questions : List Asked) → AllByRecursion QuestionFits questions → length questions ≤ 1
-    → length (flat_map question_octets questions) ≤ 259
-few_questions [] each few = omega arith
-few_questions (asked ∷ []) each few =
-    omega (arith, length-append (question_octets asked) [], length-question_octets asked, each.0.name.short)
-few_questions (asked ∷ second ∷ others) each few = absurd (omega (arith, few))
-
 pub cut_short : (message : Message) → MessageFits (cut message) → length message.questions ≤ 1 → length (plain (cut message)) ≤ 512
-cut_short message fits few = omega (arith, length-plain (cut message), few_questions message.questions fits.questions few)
+cut_short message fits few = omega (arith, length-plain (cut message), questions_short message.questions fits.questions)
 
 pub fitted-cut : (message : Message) → 512 < length (plain message) → fitted message ≡ cut message
 fitted-cut message long = elim (leb_tells (length (plain message)) 512) [
@@ -109,4 +100,4 @@ query_octets id question = simp append-nil
 
 pub query_short : (id : ℕ) (question : Question) → MessageFits (query_of id question) → length (plain (query_of id question)) ≤ 65535
 query_short id question fits =
-    omega (arith, length-plain (query_of id question), few_questions (asked_of question ∷ []) fits.questions (omega arith))
+    omega (arith, length-plain (query_of id question), questions_short (asked_of question ∷ []) fits.questions)

@@ -1,9 +1,11 @@
 -- The octets of parts as they are written: how many there are.
-use Rattle.std.proofs.Common.{◌≡◌, ℕ, zero, suc, ◌+◌, ◌<◌, ◌≤◌, List, [], ◌∷◌, ◌++◌, length, take, get_or, refl, sym, ap, ◌∙◌, arith, length-append}
+use Rattle.std.proofs.Common.{◌≡◌, ℕ, ◌+◌, ◌<◌, ◌≤◌, List, [], ◌∷◌, ◌++◌, length, take, get_or, ◌*◌, refl, sym, ap, ◌∙◌, arith, length-append}
 use Rattle.std.specs.List.{AllByRecursion, flat_map}
-use Rattle.std.proofs.lemmas.Grind.{take_at_read}
-use Rattle.std.proofs.lemmas.List.{flat_map_more}
+use Rattle.std.proofs.lemmas.Grind.{common_steps, take_at_read}
+use Rattle.std.proofs.lemmas.List.{flat_map_more, length-take}
+use Rattle.std.proofs.lemmas.List.Folds.{length-flat_map-take}
 use Rattle.dns_name.specs.Labels.{wire_of}
+use Rattle.dns_message.specs.Fits.{QuestionFits}
 use Rattle.dns_message.specs.Written.{two_octets, four_octets, string_octets, srv_octets, naptr_octets, soa_octets, rdata_octets, question_octets, record_octets, header_octets, count_octets, plain}
 use Rattle.dns_message.specs.declared.header.Header.{Header}
 use Rattle.dns_message.specs.declared.message.Message.{Message}
@@ -63,20 +65,6 @@ length-flat_map-least octets_of some [] = omega arith
 length-flat_map-least octets_of some (x ∷ xs) =
     omega (arith, some x, length-append (octets_of x) (flat_map octets_of xs), length-flat_map-least octets_of some xs)
 
--- those of the parts before one and of that one are among those of all parts
-pub length-flat_map-item : {X : Type 0} (octets_of : X → List ℕ) (xs : List X) (i : ℕ) (x : X) → i < length xs → x ≡ get_or xs i x
-    → length (flat_map octets_of (take i xs)) + length (octets_of x) ≤ length (flat_map octets_of xs)
-length-flat_map-item octets_of [] i x lt is = absurd (omega (arith, lt))
-length-flat_map-item octets_of (y ∷ ys) zero x lt is =
-    omega (arith, ap (λ z. length (octets_of z)) is, length-append (octets_of y) (flat_map octets_of ys))
-length-flat_map-item octets_of (y ∷ ys) (suc i) x lt is =
-    omega (
-      arith,
-      length-append (octets_of y) (flat_map octets_of ys),
-      length-append (octets_of y) (flat_map octets_of (take i ys)),
-      length-flat_map-item octets_of ys i x (omega (arith, lt)) is,
-    )
-
 pub length-plain : (message : Message)
     → length (plain message) ≡ 12 + length (flat_map question_octets message.questions) + length (flat_map record_octets message.answers)
     + length (flat_map record_octets message.authority) + length (flat_map record_octets message.additional)
@@ -105,25 +93,70 @@ pub all-next : {X : Type 0} (P : X → Type 0) (xs : List X) (i : ℕ) (x : X) �
     → AllByRecursion P (take i xs) → P x → AllByRecursion P (take (i + 1) xs)
 all-next P xs i x lt is all here = rw (take-next xs i x lt is) (all-push P (take i xs) x all here)
 
--- ---- the counts of a message fit where its octets do
+-- where there is no room for one part behind those before it, there is none for all
+pub too_long-item : {X : Type 0} (octets_of : X → List ℕ) (front before : List ℕ) (xs : List X) (i : ℕ) (x : X) → i < length xs
+    → x ≡ get_or xs i x → before ≡ front ++ flat_map octets_of (take i xs) → 512 < length before + length (octets_of x)
+    → 512 < length front + length (flat_map octets_of xs)
+too_long-item octets_of front before xs i x lt is so_far long =
+    omega (
+      arith,
+      length-flat_map-take octets_of xs i x lt,
+      ap (λ y. length (octets_of y)) is,
+      ap length so_far,
+      length-append front (flat_map octets_of (take i xs)),
+    )
 
-pub record CountsFit (message : Message) (limit : ℕ) : Type 0 where
-  pub questions : length message.questions ≤ limit
-  pub answers : length message.answers ≤ limit
-  pub authority : length message.authority ≤ limit
-  pub additional : length message.additional ≤ limit
+-- each question has at most 259 octets
+pub questions_short : (questions : List Asked) → AllByRecursion QuestionFits questions
+    → length (flat_map question_octets questions) ≤ 259 * length questions
+questions_short [] each = omega arith
+questions_short (asked ∷ others) each =
+    omega (
+      arith,
+      length-append (question_octets asked) (flat_map question_octets others),
+      length-question_octets asked,
+      each.0.name.short,
+      questions_short others each.1,
+    )
 
-pub counts_fit : (message : Message) (limit : ℕ) → length (plain message) ≤ limit → CountsFit message limit
-counts_fit message limit short =
-    let size = length-plain message in
-    let some : (asked : Asked) → 0 < length (question_octets asked) = λ asked. omega (arith, length-question_octets asked) in
-    let some' : (entry : Record) → 0 < length (record_octets entry) = λ entry. omega (arith, length-record_octets entry) in
-    record {
-      questions = omega (arith, size, length-flat_map-least question_octets some message.questions);
-      answers = omega (arith, size, length-flat_map-least record_octets some' message.answers);
-      authority = omega (arith, size, length-flat_map-least record_octets some' message.authority);
-      additional = omega (arith, size, length-flat_map-least record_octets some' message.additional);
-    }
+-- so where there is no room for one of them, there are that many
+pub few-item : (front before : List ℕ) (questions : List Asked) (i : ℕ) (asked : Asked) → i < length questions
+    → before ≡ front ++ flat_map question_octets (take i questions) → AllByRecursion QuestionFits (take i questions)
+    → QuestionFits asked → 512 < length before + length (question_octets asked)
+    → 512 < length front + 259 * length questions
+few-item front before questions i asked lt so_far fit fits long =
+    omega (
+      arith,
+      questions_short (take i questions) fit,
+      length-take i questions,
+      ap length so_far,
+      length-append front (flat_map question_octets (take i questions)),
+      length-question_octets asked,
+      fits.name.short,
+    )
 
-pub ruleset lengths =
-    (length-srv_octets, length-naptr_octets, length-soa_octets, length-question_octets, length-record_octets, length-plain)
+-- ---- a message has no fewer octets than questions or records
+
+one_or_more-question : (asked : Asked) → 0 < length (question_octets asked)
+one_or_more-question asked = omega (arith, length-question_octets asked)
+
+one_or_more-record : (entry : Record) → 0 < length (record_octets entry)
+one_or_more-record entry = omega (arith, length-record_octets entry)
+
+pub questions-le : (message : Message) → length message.questions ≤ length (plain message)
+questions-le message = omega (arith, length-plain message, length-flat_map-least question_octets one_or_more-question message.questions)
+
+pub answers-le : (message : Message) → length message.answers ≤ length (plain message)
+answers-le message = omega (arith, length-plain message, length-flat_map-least record_octets one_or_more-record message.answers)
+
+pub authority-le : (message : Message) → length message.authority ≤ length (plain message)
+authority-le message = omega (arith, length-plain message, length-flat_map-least record_octets one_or_more-record message.authority)
+
+pub additional-le : (message : Message) → length message.additional ≤ length (plain message)
+additional-le message = omega (arith, length-plain message, length-flat_map-least record_octets one_or_more-record message.additional)
+
+-- what shows that a message has more octets than a count can say
+pub ruleset counts = (questions-le, answers-le, authority-le, additional-le)
+
+-- what shows that a part has no room
+pub ruleset room = (common_steps, length-two_octets, length-header_octets, length-count_octets, length-plain)

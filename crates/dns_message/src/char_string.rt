@@ -1,8 +1,9 @@
 //! Character strings (RFC 1035 3.3).
-ghost use Rattle.std.specs.Prelude.{◌≡◌, ◌↔◌, ◌≤◌, ◌<◌, ℕ, List, length, IsSome, IfSome, IfOk, IfErr, MatchResult, ◌+◌, ◌++◌, OnOk};
+ghost use Rattle.std.specs.Prelude.{◌≡◌, ◌↔◌, ◌≤◌, ◌<◌, ℕ, List, length, IsSome, IfSome, IfOk, IfErr, MatchResult, ◌+◌, ◌++◌, OnOk, OnErr};
 ghost use Rattle.dns_message.specs.Layouts.{CharStringAt};
 ghost use Rattle.dns_message.specs.Written.{string_octets};
 
+use crate::datagram::{Datagram, TooLong, push_octets};
 use crate::refusal::EntryRefusal;
 use std::alloc::{AllocError, Global};
 use std::marker::Model;
@@ -100,21 +101,15 @@ pub(crate) fn char_string_at(
     Ok((CharString { octets }, end))
 }
 
-/// How many octets a character string has, with the one of its length.
-pub(crate) fn string_length(string: &CharString) -> u16
-    ensures is { result ≡ 1 + length string.now }
-    ensures short { length string.now ≤ 255 }
-{
-    1 + string.octets().len() as u16
-}
-
 /// Appends a character string.
 #[tactic(auto, unfolding(crate::specs::Written::string_octets))]
-pub(crate) fn push_string(string: &CharString, out: &mut Vec<u8>) -> Result<(), AllocError>
+pub(crate) fn push_string(string: &CharString, out: &mut Datagram) -> Result<(), TooLong>
     ensures ok { OnOk result (out.new.items ≡ out.old.items ++ string_octets string.now) }
     ensures fits { length string.now ≤ 255 }
+    ensures too_long { OnErr result
+        (512 < length out.old.items + length (string_octets string.now)) }
 {
     let octets = string.octets();
-    out.push(octets.len() as u8)?;
-    out.extend_from_slice(octets)
+    push_octets(&[octets.len() as u8], out)?;
+    push_octets(octets, out)
 }

@@ -1,13 +1,13 @@
 //! The header of a message (RFC 1035 4.1.1).
-ghost use Rattle.std.specs.Prelude.{◌<◌, length, MatchOption, ◌≡◌, ◌+◌, ◌++◌, OnOk};
+ghost use Rattle.std.specs.Prelude.{◌<◌, length, MatchOption, ◌≡◌, ◌+◌, ◌++◌, OnOk, OnErr};
 ghost use Rattle.dns_message.specs.Headers.{HeaderAt, CountsAt};
 ghost use Rattle.dns_message.specs.Fits.{HeaderFits};
 ghost use Rattle.dns_message.specs.Written.{header_octets, count_octets};
 ghost use Rattle.dns_message.specs.Headers as headers;
 ghost use Rattle.dns_message.specs.Written as spec;
 
+use crate::datagram::{Datagram, TooLong, push_octets};
 use crate::number::{push_u16, u16_at};
-use std::alloc::AllocError;
 
 /// What a header says, other than how many questions and records there are.
 #[derive(Clone, Copy, Debug, PartialEq, Eq)]
@@ -107,21 +107,25 @@ fn low_flags(header: Header) -> u8
 
 /// Appends the number and the flags.
 #[tactic(auto, unfolding(crate::specs::Written::header_octets))]
-fn push_flags(header: Header, out: &mut Vec<u8>) -> Result<(), AllocError>
+fn push_flags(header: Header, out: &mut Datagram) -> Result<(), TooLong>
     requires opcode { header.opcode < 16 }
     requires rcode { header.rcode < 16 }
     ensures ok { OnOk result (out.new.items ≡ out.old.items ++ header_octets header) }
-    ensures fits { OnOk result (HeaderFits header) }
+    ensures fits { HeaderFits header }
+    ensures too_long { OnErr result
+        (512 < length out.old.items + length (header_octets header)) }
 {
     push_u16(header.id, out)?;
-    out.extend_from_slice(&[high_flags(header), low_flags(header)])
+    push_octets(&[high_flags(header), low_flags(header)], out)
 }
 
 /// Appends the counts.
 #[tactic(auto, unfolding(crate::specs::Written::count_octets))]
-fn push_counts(counts: Counts, out: &mut Vec<u8>) -> Result<(), AllocError>
-    ensures { OnOk result (out.new.items ≡ out.old.items
+fn push_counts(counts: Counts, out: &mut Datagram) -> Result<(), TooLong>
+    ensures ok { OnOk result (out.new.items ≡ out.old.items
         ++ count_octets counts.questions counts.answers counts.authority counts.additional) }
+    ensures too_long { OnErr result (512 < length out.old.items + length
+        (count_octets counts.questions counts.answers counts.authority counts.additional)) }
 {
     push_u16(counts.questions, out)?;
     push_u16(counts.answers, out)?;
@@ -130,16 +134,15 @@ fn push_counts(counts: Counts, out: &mut Vec<u8>) -> Result<(), AllocError>
 }
 
 /// Appends the header.
-pub(crate) fn push_header(
-    header: Header,
-    counts: Counts,
-    out: &mut Vec<u8>,
-) -> Result<(), AllocError>
+pub(crate) fn push_header(header: Header, counts: Counts, out: &mut Datagram) -> Result<(), TooLong>
     requires opcode { header.opcode < 16 }
     requires rcode { header.rcode < 16 }
     ensures ok { OnOk result (out.new.items ≡ out.old.items ++ header_octets header
         ++ count_octets counts.questions counts.answers counts.authority counts.additional) }
-    ensures fits { OnOk result (HeaderFits header) }
+    ensures fits { HeaderFits header }
+    ensures too_long { OnErr result (512 < length out.old.items + length (header_octets header)
+        + length (count_octets counts.questions counts.answers counts.authority
+        counts.additional)) }
 {
     push_flags(header, out)?;
     push_counts(counts, out)

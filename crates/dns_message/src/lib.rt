@@ -29,6 +29,7 @@
 
 mod char_string;
 mod codes;
+mod datagram;
 mod entry;
 mod header;
 mod kind;

@@ -19,7 +19,7 @@ use std::alloc::{AllocError, Global};
 const MESSAGE_LIMIT: usize = 65_535;
 
 /// The place after the header.
-pub(crate) const HEADER_END: usize = 12;
+const HEADER_END: usize = 12;
 
 /// A message.
 #[derive(Debug, Drop)]

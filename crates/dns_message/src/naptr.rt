@@ -1,12 +1,13 @@
 //! NAPTR records (RFC 3403 4.1).
-ghost use Rattle.std.specs.Prelude.{◌≡◌, ◌≤◌, ℕ, length, ◌+◌, List, IfOk, IfErr, MatchResult, ◌++◌, OnOk};
+ghost use Rattle.std.specs.Prelude.{◌≡◌, ◌<◌, ◌≤◌, ℕ, length, ◌+◌, List, IfOk, IfErr, MatchResult, ◌++◌, OnOk, OnErr};
 ghost use Rattle.dns_message.specs.Layouts.{CharStringAt, NaptrAt};
 ghost use Rattle.dns_message.specs.Written.{naptr_octets};
 ghost use Rattle.dns_message.specs.Fits.{NaptrFits};
 ghost use Rattle.dns_message.specs.declared.naptr.NaptrRecord as naptr;
 
-use crate::char_string::{CharString, char_string_at, push_string, string_length};
-use crate::name::{name_length, push_name};
+use crate::char_string::{CharString, char_string_at, push_string};
+use crate::datagram::{Datagram, TooLong};
+use crate::name::push_name;
 use crate::number::{push_u16, u16_at};
 use crate::refusal::EntryRefusal;
 use dns_name::{Name, one_name_at_a_place, read_name};
@@ -79,22 +80,13 @@ pub(crate) fn naptr_at(
     ))
 }
 
-/// How many octets the data of a rule has.
-#[tactic(auto, using(crate::proofs::WrittenOctets::lengths))]
-pub(crate) fn naptr_length(rule: &NaptrRecord) -> u16
-    ensures { result ≡ length (naptr_octets rule.now) }
-{
-    let strings = string_length(&rule.flags)
-        + string_length(&rule.services)
-        + string_length(&rule.regexp);
-    4 + strings + name_length(&rule.replacement)
-}
-
 /// Appends the data of a rule.
 #[tactic(auto, unfolding(crate::specs::Written::naptr_octets))]
-pub(crate) fn push_naptr(rule: &NaptrRecord, out: &mut Vec<u8>) -> Result<(), AllocError>
+pub(crate) fn push_naptr(rule: &NaptrRecord, out: &mut Datagram) -> Result<(), TooLong>
     ensures ok { OnOk result (out.new.items ≡ out.old.items ++ naptr_octets rule.now) }
     ensures fits { OnOk result (NaptrFits rule.now) }
+    ensures too_long { OnErr result
+        (512 < length out.old.items + length (naptr_octets rule.now)) }
 {
     push_u16(rule.order, out)?;
     push_u16(rule.preference, out)?;

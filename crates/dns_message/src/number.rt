@@ -1,10 +1,10 @@
 //! Numbers in messages, the highest octet first (RFC 1035 2.3.2).
-ghost use Rattle.std.specs.Prelude.{◌+◌, ◌<◌, length, MatchOption, ◌≡◌, ◌^◌, ◌++◌, OnOk};
+ghost use Rattle.std.specs.Prelude.{◌+◌, ◌<◌, length, MatchOption, ◌≡◌, ◌^◌, ◌++◌, OnOk, OnErr};
 ghost use Rattle.std.specs.Int.{w16, w32};
 ghost use Rattle.dns_message.specs.Places.{NumberAt};
 ghost use Rattle.dns_message.specs.Written.{two_octets, four_octets};
 
-use std::alloc::AllocError;
+use crate::datagram::{Datagram, TooLong, push_octets};
 
 /// The number of two octets at a place.
 pub(crate) fn u16_at(bytes: &[u8], place: usize) -> Option<u16>
@@ -32,18 +32,20 @@ pub(crate) fn u32_at(bytes: &[u8], place: usize) -> Option<u32>
 
 /// Appends a number of two octets.
 #[tactic(auto, unfolding(crate::specs::Written::two_octets))]
-pub(crate) fn push_u16(number: u16, out: &mut Vec<u8>) -> Result<(), AllocError>
+pub(crate) fn push_u16(number: u16, out: &mut Datagram) -> Result<(), TooLong>
     ensures ok { OnOk result (out.new.items ≡ out.old.items ++ two_octets number) }
     ensures fits { number < 2 ^ 16 }
+    ensures too_long { OnErr result (512 < length out.old.items + length (two_octets number)) }
 {
-    out.extend_from_slice(&number.to_be_bytes())
+    push_octets(&number.to_be_bytes(), out)
 }
 
 /// Appends a number of four octets.
 #[tactic(auto, unfolding(crate::specs::Written::four_octets))]
-pub(crate) fn push_u32(number: u32, out: &mut Vec<u8>) -> Result<(), AllocError>
+pub(crate) fn push_u32(number: u32, out: &mut Datagram) -> Result<(), TooLong>
     ensures ok { OnOk result (out.new.items ≡ out.old.items ++ four_octets number) }
     ensures fits { number < 2 ^ 32 }
+    ensures too_long { OnErr result (512 < length out.old.items + length (four_octets number)) }
 {
-    out.extend_from_slice(&number.to_be_bytes())
+    push_octets(&number.to_be_bytes(), out)
 }

@@ -1,13 +1,14 @@
 //! Questions (RFC 1035 4.1.2).
-ghost use Rattle.std.specs.Prelude.{◌≡◌, ◌↔◌, ℕ, length, IsTrue, IfOk, ◌+◌, ◌≤◌, ◌++◌, OnOk, ◌<◌, MatchOption};
+ghost use Rattle.std.specs.Prelude.{◌≡◌, ◌↔◌, ℕ, length, IsTrue, IfOk, ◌+◌, ◌≤◌, ◌*◌, ◌++◌, OnOk, OnErr, ◌<◌};
 ghost use Rattle.dns_message.specs.Questions.{QuestionAt, same_question};
 ghost use Rattle.dns_message.specs.Written.{question_octets};
 ghost use Rattle.dns_message.specs.Fits.{QuestionFits};
 ghost use Rattle.std.specs.List.{flat_map, AllByRecursion};
 
+use crate::datagram::{Datagram, TooLong};
 use crate::entry::Entry;
 use crate::kind::Kind;
-use crate::name::{name_length, push_name};
+use crate::name::push_name;
 use crate::number::{push_u16, u16_at};
 use crate::owner::AskedName;
 use crate::refusal::EntryRefusal;
@@ -142,52 +143,35 @@ impl Entry for Asked {
     }
 }
 
-/// How many octets a question has.
-#[tactic(auto, using(crate::proofs::WrittenOctets::lengths))]
-pub(crate) fn question_length(name: &Name) -> usize
-    ensures is { (code class_code : ℕ) → result
-        ≡ length (question_octets
-        (record { name = name.now; code = code; class_code = class_code })) }
-    ensures short { result ≤ 259 }
-{
-    usize::from(name_length(name)) + 4
-}
-
 /// Appends the question of a name, type and class.
 #[tactic(auto, unfolding(crate::specs::Written::question_octets))]
 pub(crate) fn push_question(
     name: &Name,
     code: u16,
     class_code: u16,
-    out: &mut Vec<u8>,
-) -> Result<(), AllocError>
+    out: &mut Datagram,
+) -> Result<(), TooLong>
     ensures ok { OnOk result (out.new.items ≡ out.old.items
         ++ question_octets (record { name = name.now; code = code; class_code = class_code })) }
-    ensures fits { OnOk result
-        (QuestionFits (record { name = name.now; code = code; class_code = class_code })) }
+    ensures fits { QuestionFits
+        (record { name = name.now; code = code; class_code = class_code }) }
+    ensures too_long { OnErr result (512 < length out.old.items + length
+        (question_octets (record { name = name.now; code = code; class_code = class_code }))) }
 {
     push_name(name, out)?;
     push_u16(code, out)?;
     push_u16(class_code, out)
 }
 
-/// How many octets are left of this room after these questions, if they fit.
-pub(crate) fn room_behind_questions(room: usize, questions: &[Asked]) -> Option<usize>
-    ensures { MatchOption result (room < length (flat_map question_octets questions.now))
-        (λ left. left + length (flat_map question_octets questions.now) ≡ room) }
-{
-    let mut room = room;
-    for asked in questions {
-        room = room.checked_sub(question_length(&asked.name))?;
-    }
-    Some(room)
-}
-
 /// Appends questions.
-pub(crate) fn push_questions(questions: &[Asked], out: &mut Vec<u8>) -> Result<(), AllocError>
+pub(crate) fn push_questions(questions: &[Asked], out: &mut Datagram) -> Result<(), TooLong>
     ensures ok { OnOk result
         (out.new.items ≡ out.old.items ++ flat_map question_octets questions.now) }
     ensures fits { OnOk result (AllByRecursion QuestionFits questions.now) }
+    ensures too_long { OnErr result
+        (512 < length out.old.items + length (flat_map question_octets questions.now)) }
+    // Each has at most 259 octets.
+    ensures few { OnErr result (512 < length out.old.items + 259 * length questions.now) }
 {
     for asked in questions {
         push_question(&asked.name, asked.code, asked.class_code, out)?;

@@ -1,5 +1,5 @@
 //! The data of records (RFC 1035 3.2.1, 3.3, 3.4).
-ghost use Rattle.std.specs.Prelude.{◌≡◌, ◌≢◌, length, IfOk, MatchResult, ◌++◌, OnOk};
+ghost use Rattle.std.specs.Prelude.{◌≡◌, ◌≢◌, ◌+◌, ◌<◌, length, IfOk, MatchResult, ◌++◌, OnOk, OnErr};
 ghost use Rattle.dns_message.specs.Layouts.{RdataAt};
 ghost use Rattle.dns_message.specs.Written.{rdata_code, rdata_class, rdata_octets};
 ghost use Rattle.dns_message.specs.Fits.{RdataFits};
@@ -7,12 +7,13 @@ ghost use Rattle.dns_message.specs.Data as spec;
 ghost use Rattle.dns_message.specs.declared.rdata.Rdata as rdata;
 
 use crate::codes::{CLASS_IN, TYPE_A, TYPE_AAAA, TYPE_CNAME, TYPE_NAPTR, TYPE_SOA, TYPE_SRV};
-use crate::name::{name_length, push_name};
-use crate::naptr::{NaptrRecord, naptr_at, naptr_length, push_naptr};
+use crate::datagram::{Datagram, TooLong, push_octets};
+use crate::name::push_name;
+use crate::naptr::{NaptrRecord, naptr_at, push_naptr};
 use crate::other_data::OtherData;
 use crate::refusal::EntryRefusal;
-use crate::soa::{SoaRecord, push_soa, soa_at, soa_length};
-use crate::srv::{SrvRecord, push_srv, srv_at, srv_length};
+use crate::soa::{SoaRecord, push_soa, soa_at};
+use crate::srv::{SrvRecord, push_srv, srv_at};
 use dns_name::{Name, name_rests_before_its_end, one_name_at_a_place, read_name};
 use std::alloc::{AllocError, Global};
 
@@ -170,33 +171,19 @@ pub(crate) fn rdata_at(
     }
 }
 
-/// How many octets data has.
-pub(crate) fn data_length(rdata: &Rdata) -> u16
-    ensures { result ≡ length (rdata_octets rdata.now) }
-{
-    match rdata {
-        Rdata::Addr4(octets) => octets[..].len() as u16,
-        Rdata::Addr6(octets) => octets[..].len() as u16,
-        Rdata::Srv(server) => srv_length(server),
-        Rdata::Naptr(rule) => naptr_length(rule),
-        Rdata::Cname(name) => name_length(name),
-        Rdata::Soa(authority) => soa_length(authority),
-        Rdata::Other(other) => other.octets().len() as u16,
-    }
-}
-
 /// Appends data.
-pub(crate) fn push_data(rdata: &Rdata, out: &mut Vec<u8>) -> Result<(), AllocError>
+pub(crate) fn push_rdata(rdata: &Rdata, out: &mut Datagram) -> Result<(), TooLong>
     ensures ok { OnOk result (out.new.items ≡ out.old.items ++ rdata_octets rdata.now) }
     ensures fits { OnOk result (RdataFits rdata.now) }
+    ensures too_long { OnErr result (512 < length out.old.items + length (rdata_octets rdata.now)) }
 {
     match rdata {
-        Rdata::Addr4(octets) => out.extend_from_slice(octets),
-        Rdata::Addr6(octets) => out.extend_from_slice(octets),
+        Rdata::Addr4(octets) => push_octets(octets, out),
+        Rdata::Addr6(octets) => push_octets(octets, out),
         Rdata::Srv(server) => push_srv(server, out),
         Rdata::Naptr(rule) => push_naptr(rule, out),
         Rdata::Cname(name) => push_name(name, out),
         Rdata::Soa(authority) => push_soa(authority, out),
-        Rdata::Other(other) => out.extend_from_slice(other.octets()),
+        Rdata::Other(other) => push_octets(other.octets(), out),
     }
 }

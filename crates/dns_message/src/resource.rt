@@ -1,15 +1,16 @@
 //! Resource records (RFC 1035 4.1.3).
-ghost use Rattle.std.specs.Prelude.{◌≡◌, ◌+◌, ◌<◌, ◌≤◌, ℕ, List, length, IfOk, MatchOption, ◌++◌, OnOk};
+ghost use Rattle.std.specs.Prelude.{◌≡◌, ◌+◌, ◌<◌, ◌≤◌, ℕ, List, length, IfOk, MatchOption, ◌++◌, OnOk, OnErr};
 ghost use Rattle.dns_message.specs.Records.{FixedAt, RecordAt};
-ghost use Rattle.dns_message.specs.Written.{record_octets};
-ghost use Rattle.dns_message.specs.Fits.{RecordFits};
+ghost use Rattle.dns_message.specs.Written.{two_octets, rdata_octets, record_octets};
+ghost use Rattle.dns_message.specs.Fits.{RdataFits, RecordFits};
 ghost use Rattle.std.specs.List.{flat_map, AllByRecursion};
 
+use crate::datagram::{Datagram, TooLong, set_u16};
 use crate::entry::Entry;
-use crate::name::{name_length, push_name};
+use crate::name::push_name;
 use crate::number::{push_u16, push_u32, u16_at, u32_at};
 use crate::owner::{AskedName, owner_at};
-use crate::rdata::{Rdata, data_length, push_data, rdata_at};
+use crate::rdata::{Rdata, push_rdata, rdata_at};
 use crate::refusal::EntryRefusal;
 use dns_name::{Name, name_rests_before_its_end, one_name_at_a_place};
 use std::alloc::{AllocError, Global};
@@ -91,44 +92,44 @@ impl Entry for Record {
     }
 }
 
-/// How many octets a record has.
-#[tactic(auto, using(crate::proofs::WrittenOctets::lengths))]
-fn record_length(entry: &Record) -> usize
-    ensures { result ≡ length (record_octets entry.now) }
+/// Appends RDLENGTH and RDATA: the length is set when the data stands.
+#[tactic(auto, using(crate::proofs::WrittenOctets::room))]
+fn push_data(rdata: &Rdata, out: &mut Datagram) -> Result<(), TooLong>
+    ensures ok { OnOk result (out.new.items
+        ≡ out.old.items ++ two_octets (length (rdata_octets rdata.now)) ++ rdata_octets rdata.now) }
+    ensures fits { OnOk result (RdataFits rdata.now) }
+    ensures too_long { OnErr result (512 < length out.old.items
+        + length (two_octets (length (rdata_octets rdata.now))) + length (rdata_octets rdata.now)) }
 {
-    usize::from(name_length(&entry.owner)) + 10 + usize::from(data_length(&entry.rdata))
+    let place = out.len();
+    push_u16(0, out)?;
+    push_rdata(rdata, out)?;
+    let size = out.len() - place - 2;
+    set_u16(size as u16, place, out);
+    Ok(())
 }
 
 /// Appends a record.
 #[tactic(auto, unfolding(crate::specs::Written::record_octets))]
-fn push_record(entry: &Record, out: &mut Vec<u8>) -> Result<(), AllocError>
+fn push_record(entry: &Record, out: &mut Datagram) -> Result<(), TooLong>
     ensures ok { OnOk result (out.new.items ≡ out.old.items ++ record_octets entry.now) }
     ensures fits { OnOk result (RecordFits entry.now) }
+    ensures too_long { OnErr result
+        (512 < length out.old.items + length (record_octets entry.now)) }
 {
     push_name(&entry.owner, out)?;
     push_u16(entry.rdata.code(), out)?;
     push_u16(entry.rdata.class_code(), out)?;
     push_u32(entry.ttl, out)?;
-    push_u16(data_length(&entry.rdata), out)?;
     push_data(&entry.rdata, out)
 }
 
-/// How many octets are left of this room after these records, if they fit.
-pub(crate) fn room_behind_records(room: usize, records: &[Record]) -> Option<usize>
-    ensures { MatchOption result (room < length (flat_map record_octets records.now))
-        (λ left. left + length (flat_map record_octets records.now) ≡ room) }
-{
-    let mut room = room;
-    for entry in records {
-        room = room.checked_sub(record_length(entry))?;
-    }
-    Some(room)
-}
-
 /// Appends records.
-pub(crate) fn push_records(records: &[Record], out: &mut Vec<u8>) -> Result<(), AllocError>
+pub(crate) fn push_records(records: &[Record], out: &mut Datagram) -> Result<(), TooLong>
     ensures ok { OnOk result (out.new.items ≡ out.old.items ++ flat_map record_octets records.now) }
     ensures fits { OnOk result (AllByRecursion RecordFits records.now) }
+    ensures too_long { OnErr result
+        (512 < length out.old.items + length (flat_map record_octets records.now)) }
 {
     for entry in records {
         push_record(entry, out)?;

@@ -1,5 +1,5 @@
 //! SOA records (RFC 1035 3.3.13).
-ghost use Rattle.std.specs.Prelude.{◌≡◌, ◌+◌, ◌<◌, ◌≤◌, ℕ, length, IfOk, IfErr, MatchOption, MatchResult, ◌++◌, OnOk};
+ghost use Rattle.std.specs.Prelude.{◌≡◌, ◌+◌, ◌<◌, ◌≤◌, ℕ, length, IfOk, IfErr, MatchOption, MatchResult, ◌++◌, OnOk, OnErr};
 ghost use Rattle.std.specs.Int.{w32};
 ghost use Rattle.dns_message.specs.Layouts.{SoaAt};
 ghost use Rattle.dns_message.specs.Places.{NumberAt, NamedAt};
@@ -7,7 +7,8 @@ ghost use Rattle.dns_message.specs.Written.{soa_octets};
 ghost use Rattle.dns_message.specs.Fits.{SoaFits};
 ghost use Rattle.dns_message.specs.declared.soa.SoaRecord as soa;
 
-use crate::name::{name_length, push_name};
+use crate::datagram::{Datagram, TooLong};
+use crate::name::push_name;
 use crate::number::{push_u32, u32_at};
 use crate::refusal::EntryRefusal;
 use dns_name::{Name, name_rests_before_its_end, one_name_at_a_place, read_name};
@@ -110,19 +111,13 @@ pub(crate) fn soa_at(
     ))
 }
 
-/// How many octets the data of a start of authority has.
-#[tactic(auto, using(crate::proofs::WrittenOctets::lengths))]
-pub(crate) fn soa_length(authority: &SoaRecord) -> u16
-    ensures { result ≡ length (soa_octets authority.now) }
-{
-    name_length(&authority.mname) + name_length(&authority.rname) + 20
-}
-
 /// Appends the data of a start of authority.
 #[tactic(auto, unfolding(crate::specs::Written::soa_octets))]
-pub(crate) fn push_soa(authority: &SoaRecord, out: &mut Vec<u8>) -> Result<(), AllocError>
+pub(crate) fn push_soa(authority: &SoaRecord, out: &mut Datagram) -> Result<(), TooLong>
     ensures ok { OnOk result (out.new.items ≡ out.old.items ++ soa_octets authority.now) }
     ensures fits { OnOk result (SoaFits authority.now) }
+    ensures too_long { OnErr result
+        (512 < length out.old.items + length (soa_octets authority.now)) }
 {
     push_name(&authority.mname, out)?;
     push_name(&authority.rname, out)?;

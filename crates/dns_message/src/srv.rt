@@ -1,12 +1,13 @@
 //! SRV records (RFC 2782).
-ghost use Rattle.std.specs.Prelude.{◌≡◌, ◌≤◌, ℕ, length, ◌+◌, IfOk, IfErr, MatchResult, ◌++◌, OnOk};
+ghost use Rattle.std.specs.Prelude.{◌≡◌, ◌<◌, ◌≤◌, ℕ, length, ◌+◌, IfOk, IfErr, MatchResult, ◌++◌, OnOk, OnErr};
 ghost use Rattle.dns_message.specs.Layouts.{SrvAt};
 ghost use Rattle.dns_message.specs.Places.{NamedAt};
 ghost use Rattle.dns_message.specs.Written.{srv_octets};
 ghost use Rattle.dns_message.specs.Fits.{SrvFits};
 ghost use Rattle.dns_message.specs.declared.srv.SrvRecord as srv;
 
-use crate::name::{name_length, push_name};
+use crate::datagram::{Datagram, TooLong};
+use crate::name::push_name;
 use crate::number::{push_u16, u16_at};
 use crate::refusal::EntryRefusal;
 use dns_name::{Name, one_name_at_a_place, read_name};
@@ -69,19 +70,13 @@ pub(crate) fn srv_at(
     ))
 }
 
-/// How many octets the data of a server has.
-#[tactic(auto, using(crate::proofs::WrittenOctets::lengths))]
-pub(crate) fn srv_length(server: &SrvRecord) -> u16
-    ensures { result ≡ length (srv_octets server.now) }
-{
-    6 + name_length(&server.target)
-}
-
 /// Appends the data of a server.
 #[tactic(auto, unfolding(crate::specs::Written::srv_octets))]
-pub(crate) fn push_srv(server: &SrvRecord, out: &mut Vec<u8>) -> Result<(), AllocError>
+pub(crate) fn push_srv(server: &SrvRecord, out: &mut Datagram) -> Result<(), TooLong>
     ensures ok { OnOk result (out.new.items ≡ out.old.items ++ srv_octets server.now) }
     ensures fits { OnOk result (SrvFits server.now) }
+    ensures too_long { OnErr result
+        (512 < length out.old.items + length (srv_octets server.now)) }
 {
     push_u16(server.priority, out)?;
     push_u16(server.weight, out)?;

@@ -1,61 +1,62 @@
 //! Messages as they are written, without pointers (RFC 1035 4.1).
-ghost use Rattle.std.specs.Prelude.{◌≡◌, ◌+◌, ◌≤◌, ◌<◌, length, IfOk, MatchOption};
+ghost use Rattle.std.specs.Prelude.{◌≡◌, ◌+◌, ◌≤◌, ◌<◌, ◌++◌, [], length, IfOk, OnOk, OnErr};
 ghost use Rattle.dns_message.specs.Fits.{MessageFits};
 ghost use Rattle.dns_message.specs.Messages.{Spells};
 ghost use Rattle.dns_message.specs.Written.{plain, cut, fitted, query_of};
 
 use crate::codes::CLASS_IN;
+use crate::datagram::{Datagram, TooLong, empty_datagram};
 use crate::header::{Counts, Header, push_header};
-use crate::message::{HEADER_END, Message};
-use crate::question::{
-    Question, push_question, push_questions, question_length, room_behind_questions,
-};
-use crate::resource::{push_records, room_behind_records};
+use crate::message::Message;
+use crate::question::{Question, push_question, push_questions};
+use crate::resource::push_records;
+use crate::section::Section;
 use dns_name::written_name_is_read;
 use std::alloc::{AllocError, Global};
 
-/// The most octets of a message in one datagram of UDP (RFC 1035 4.2.1).
-const DATAGRAM_LIMIT: usize = 512;
-
-/// How many octets of a datagram are left after the message, if it fits.
-#[tactic(auto, using(crate::proofs::WrittenOctets::lengths))]
-fn room_behind(message: &Message) -> Option<usize>
-    ensures { MatchOption result (512 < length (plain message.now))
-        (λ left. left + length (plain message.now) ≡ 512) }
+/// How many questions or records a section has, as a header says it.
+fn count_of<T>(section: &Section<T>) -> Result<u16, TooLong>
+    ensures ok { IfOk result (λ count. count ≡ length section.now) }
+    ensures too_long { OnErr result (65535 < length section.now) }
 {
-    let room = DATAGRAM_LIMIT - HEADER_END;
-    let room = room_behind_questions(room, message.questions.as_slice())?;
-    let room = room_behind_records(room, message.answers.as_slice())?;
-    let room = room_behind_records(room, message.authority.as_slice())?;
-    room_behind_records(room, message.additional.as_slice())
+    u16::try_from(section.len()).map_err(|_| TooLong)
 }
 
-/// The octets of a message that fits into a datagram.
-#[tactic(auto, unfolding(crate::specs::Written::plain))]
-fn write_plain(alloc: Global, message: &Message) -> Result<Vec<u8>, AllocError>
+/// How many questions and records a message has in each section.
+#[tactic(auto, using(crate::proofs::WrittenOctets::counts))]
+fn counts_of(message: &Message) -> Result<Counts, TooLong>
+    ensures ok { IfOk result (λ counts. (counts.questions ≡ length message.now.questions)
+        × (counts.answers ≡ length message.now.answers)
+        × (counts.authority ≡ length message.now.authority)
+        × (counts.additional ≡ length message.now.additional)) }
+    ensures too_long { OnErr result (512 < length (plain message.now)) }
+{
+    Ok(Counts {
+        questions: count_of(&message.questions)?,
+        answers: count_of(&message.answers)?,
+        authority: count_of(&message.authority)?,
+        additional: count_of(&message.additional)?,
+    })
+}
+
+/// Appends a message.
+#[tactic(auto, using(crate::proofs::WrittenOctets::room), unfolding(crate::specs::Written::plain))]
+fn push_message(message: &Message, out: &mut Datagram) -> Result<(), TooLong>
     requires opcode { message.now.header.opcode < 16 }
     requires rcode { message.now.header.rcode < 16 }
-    requires short { length (plain message.now) ≤ 512 }
-    ensures written { IfOk result (λ octets. octets.items ≡ plain message.now) }
-    ensures fits { IfOk result (λ _. MessageFits message.now) }
+    ensures ok { OnOk result (out.new.items ≡ out.old.items ++ plain message.now) }
+    ensures fits { OnOk result (MessageFits message.now) }
+    ensures too_long { OnErr result (512 < length out.old.items + length (plain message.now)) }
 {
-    let counts = Counts {
-        questions: message.questions.len() as u16,
-        answers: message.answers.len() as u16,
-        authority: message.authority.len() as u16,
-        additional: message.additional.len() as u16,
-    };
-    let mut octets = Vec::with_capacity(alloc, DATAGRAM_LIMIT)?;
-    push_header(message.header, counts, &mut octets)?;
-    push_questions(message.questions.as_slice(), &mut octets)?;
-    push_records(message.answers.as_slice(), &mut octets)?;
-    push_records(message.authority.as_slice(), &mut octets)?;
-    push_records(message.additional.as_slice(), &mut octets)?;
-    Ok(octets)
+    push_header(message.header, counts_of(message)?, out)?;
+    push_questions(message.questions.as_slice(), out)?;
+    push_records(message.answers.as_slice(), out)?;
+    push_records(message.authority.as_slice(), out)?;
+    push_records(message.additional.as_slice(), out)
 }
 
-/// The octets of a message with TC set and without its records.
-#[tactic(auto, unfolding(crate::specs::Written::plain))]
+/// The octets of a message with TC set and without its records, for which a datagram has room.
+#[tactic(auto, using(crate::proofs::WrittenOctets::room), unfolding(crate::specs::Written::plain))]
 fn write_cut(alloc: Global, message: &Message) -> Result<Vec<u8>, AllocError>
     requires opcode { message.now.header.opcode < 16 }
     requires rcode { message.now.header.rcode < 16 }
@@ -73,10 +74,14 @@ fn write_cut(alloc: Global, message: &Message) -> Result<Vec<u8>, AllocError>
         authority: 0,
         additional: 0,
     };
-    let mut octets = Vec::with_capacity(alloc, DATAGRAM_LIMIT)?;
-    push_header(header, counts, &mut octets)?;
-    push_questions(message.questions.as_slice(), &mut octets)?;
-    Ok(octets)
+    let mut out = empty_datagram();
+    let Ok(()) = push_header(header, counts, &mut out) else {
+        unreachable!()
+    };
+    let Ok(()) = push_questions(message.questions.as_slice(), &mut out) else {
+        unreachable!()
+    };
+    Vec::from_slice(alloc, out.as_slice())
 }
 
 /// The octets of a reply for a datagram of UDP, without pointers: the message itself, where it has
@@ -91,14 +96,16 @@ pub fn write_reply(alloc: Global, message: &Message) -> Result<Vec<u8>, AllocErr
     ensures spells { IfOk result (λ octets. Spells octets.items (fitted message.now)) }
 {
     written_name_is_read();
-    match room_behind(message) {
-        Some(_) => write_plain(alloc, message),
-        None => write_cut(alloc, message),
+    let mut out = empty_datagram();
+    match push_message(message, &mut out) {
+        Ok(()) => Vec::from_slice(alloc, out.as_slice()),
+        Err(TooLong) => write_cut(alloc, message),
     }
 }
 
 /// The octets of a query: the question in class IN, with RD set and no records (RFC 1035 4.1.1,
 /// 4.1.2).
+#[tactic(auto, using(crate::proofs::WrittenOctets::room))]
 pub fn write_query(alloc: Global, id: u16, question: &Question) -> Result<Vec<u8>, AllocError>
     ensures written { IfOk result (λ octets. octets.items ≡ plain (query_of id question.now)) }
     ensures spells { IfOk result (λ octets. Spells octets.items (query_of id question.now)) }
@@ -120,8 +127,12 @@ pub fn write_query(alloc: Global, id: u16, question: &Question) -> Result<Vec<u8
         authority: 0,
         additional: 0,
     };
-    let mut octets = Vec::with_capacity(alloc, HEADER_END + question_length(&question.name))?;
-    push_header(header, counts, &mut octets)?;
-    push_question(&question.name, question.kind.code(), CLASS_IN, &mut octets)?;
-    Ok(octets)
+    let mut out = empty_datagram();
+    let Ok(()) = push_header(header, counts, &mut out) else {
+        unreachable!()
+    };
+    let Ok(()) = push_question(&question.name, question.kind.code(), CLASS_IN, &mut out) else {
+        unreachable!()
+    };
+    Vec::from_slice(alloc, out.as_slice())
 }
