@@ -1,5 +1,5 @@
 //! A message as it is written: the octets of one datagram.
-ghost use Rattle.std.specs.Prelude.{◌≡◌, ◌≤◌, ◌<◌, ◌+◌, ◌++◌, ℕ, List, [], length, OnOk, OnErr, MatchResult};
+ghost use Rattle.std.specs.Prelude.{◌≡◌, ◌≤◌, ◌<◌, ◌+◌, ◌++◌, ℕ, List, length, OnOk, OnErr};
 ghost use Rattle.dns_message.specs.Written.{two_octets};
 
 use arrayvec::ArrayVec;
@@ -13,15 +13,6 @@ pub(crate) type Datagram = ArrayVec<u8, DATAGRAM_LIMIT>;
 /// A message has more octets than a datagram can have.
 #[derive(Clone, Copy, Debug)]
 pub(crate) struct TooLong;
-
-/// A datagram without octets.
-pub(crate) fn empty_datagram() -> Datagram
-    ensures { result.items ≡ [] }
-{
-    let mut out = ArrayVec::from_array_in((), [0; DATAGRAM_LIMIT]);
-    out.clear();
-    out
-}
 
 /// Appends octets, if there is room for them.
 pub(crate) fn push_octets(octets: &[u8], out: &mut Datagram) -> Result<(), TooLong>

@@ -1,11 +1,11 @@
 //! Messages as they are written, without pointers (RFC 1035 4.1).
-ghost use Rattle.std.specs.Prelude.{◌≡◌, ◌+◌, ◌≤◌, ◌<◌, ◌++◌, [], length, IfOk, OnOk, OnErr};
+ghost use Rattle.std.specs.Prelude.{◌≡◌, ◌+◌, ◌≤◌, ◌<◌, ◌++◌, length, IfOk, OnOk, OnErr};
 ghost use Rattle.dns_message.specs.Fits.{MessageFits};
 ghost use Rattle.dns_message.specs.Messages.{Spells};
 ghost use Rattle.dns_message.specs.Written.{plain, cut, fitted, query_of};
 
 use crate::codes::CLASS_IN;
-use crate::datagram::{Datagram, TooLong, empty_datagram};
+use crate::datagram::{Datagram, TooLong};
 use crate::header::{Counts, Header, push_header};
 use crate::message::Message;
 use crate::question::{Question, push_question, push_questions};
@@ -74,7 +74,7 @@ fn write_cut(alloc: Global, message: &Message) -> Result<Vec<u8>, AllocError>
         authority: 0,
         additional: 0,
     };
-    let mut out = empty_datagram();
+    let mut out = Datagram::new();
     let Ok(()) = push_header(header, counts, &mut out) else {
         unreachable!()
     };
@@ -96,7 +96,7 @@ pub fn write_reply(alloc: Global, message: &Message) -> Result<Vec<u8>, AllocErr
     ensures spells { IfOk result (λ octets. Spells octets.items (fitted message.now)) }
 {
     written_name_is_read();
-    let mut out = empty_datagram();
+    let mut out = Datagram::new();
     match push_message(message, &mut out) {
         Ok(()) => Vec::from_slice(alloc, out.as_slice()),
         Err(TooLong) => write_cut(alloc, message),
@@ -127,7 +127,7 @@ pub fn write_query(alloc: Global, id: u16, question: &Question) -> Result<Vec<u8
         authority: 0,
         additional: 0,
     };
-    let mut out = empty_datagram();
+    let mut out = Datagram::new();
     let Ok(()) = push_header(header, counts, &mut out) else {
         unreachable!()
     };

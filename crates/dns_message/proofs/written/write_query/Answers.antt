@@ -10,12 +10,12 @@ pub unreachable-requires-in_default-push_question : goal.unreachable-requires-in
 unreachable-requires-in_default-push_question c =
     let question = rw c.code.ensures at c.in_default-push_question.ensures in
     let twelve : length c.push_header.new.out.items ≡ 12 =
-    rw (c.in-Ok.ensures.ok, c.empty_datagram-out.ensures) (simp (length-append, length-header_octets, length-count_octets)) in
+    rw (c.in-Ok.ensures.ok, c.new-out.ensures) (simp (length-append, length-header_octets, length-count_octets)) in
     omega (arith, question.too_long, length-question_octets (asked_of c.args.question.now), question.fits.name.short)
 
 written : (c : goal.After-from_slice) → c.as_slice.result.now ≡ plain (query_of c.args.id c.args.question.now)
 written c =
-    rw (c.as_slice.ensures.value, c.in-Ok-push_question.ensures.ok, c.in-Ok.ensures.ok, c.empty_datagram-out.ensures, c.code.ensures)
+    rw (c.as_slice.ensures.value, c.in-Ok-push_question.ensures.ok, c.in-Ok.ensures.ok, c.new-out.ensures, c.code.ensures)
     (query_octets c.args.id c.args.question.now)
 
 pub returns-clause-written : goal.returns-clause-written

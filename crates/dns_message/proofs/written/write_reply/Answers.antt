@@ -8,7 +8,7 @@ pub returns-in-Ok-clause-spells : goal.returns-in-Ok-clause-spells
 returns-in-Ok-clause-spells c =
     let message = c.args.message.now in
     let written : c.as_slice.result.now ≡ plain message =
-    rw (c.as_slice.ensures.value, c.in-Ok.ensures.ok, c.empty_datagram-out.ensures) in
+    rw (c.as_slice.ensures.value, c.in-Ok.ensures.ok, c.new-out.ensures) in
     let short : length (plain message) ≤ 512 = omega (arith, ap length written) in
     rw (fitted-whole message short)
     (IfOk-weaker c.from_slice.result _ _
@@ -26,7 +26,7 @@ pub returns-in-Err-clause-spells : goal.returns-in-Err-clause-spells
 returns-in-Err-clause-spells c =
     let message = c.args.message.now in
     let long : 512 < length (plain message) =
-    omega (arith, ap length c.empty_datagram-out.ensures, c.in-Err.ensures.too_long) in
+    omega (arith, ap length c.new-out.ensures, c.in-Err.ensures.too_long) in
     rw (fitted-cut message long)
     (both_ok c.write_cut.result _ _ _
     (λ octets e fits. spelled c.written_name_is_read.ensures octets.items (cut message) e fits
