@@ -1,4 +1,4 @@
-//! What no file of `tests/cases` can reach: readers and writers that fail, draws, wires and sockets.
+//! What no file of `tests/cases` reaches: readers and writers that fail, draws, wires and sockets.
 mod draw;
 mod edges;
 mod run;

@@ -8,7 +8,7 @@ use std::alloc::Global;
 
 /// Whether a question that was asked is sent again a second later, and then answered by octets,
 /// where there is memory for it.
-fn is_sent_again_and_answered(alloc: Global, question: Question, octets: &[u8]) -> Option<[bool; 3]> {
+fn is_resent_and_answered(alloc: Global, question: Question, octets: &[u8]) -> Option<[bool; 3]> {
     let now = Moment::new(10)?;
     let later = Moment::new(11)?;
     let mut asker = Asker::new(alloc, 8, 0).ok()?;
@@ -30,7 +30,7 @@ fn example(alloc: Global) -> Option<[bool; 3]> {
         name,
         kind: Kind::A,
     };
-    is_sent_again_and_answered(alloc, question, REPLY)
+    is_resent_and_answered(alloc, question, REPLY)
 }
 
 #[test]
