@@ -7,13 +7,21 @@
 //! asked, up to three times (`dns_asker`). What a reply has is used for its job and then stored. In
 //! the end each job has its `Outcome`.
 //!
-//! ```text
-//! let (cache, mut seats) = SharedCache::new(alloc, 1)?;
-//! let mut worker = Worker::new(alloc, seats.pop()?, wire)?;
-//! for done in worker.batch(&rt, &cache, &jobs, &clock, &gate)? {
-//!     .. done.job(), done.outcome(), done.notice() ..
-//! }
 //! ```
+//! let (cache, mut seats) = SharedCache::new(alloc, 1).ok()?;
+//! let worker = Worker::new(alloc, seats.pop()?, wire).ok()?;
+//! ```
+//!
+//! It then takes one batch after the other:
+//!
+//! ```
+//! let made = worker.batch(rt, cache, jobs, &clock, &OpenGate).ok()?;
+//! // each job has what became of it: its targets, a refusal by name, or why there is no answer
+//! Some(made.iter().all(|it| copy_goes(rt.alloc(), it)))
+//! ```
+//!
+//! A result tells its job, the outcome and a notice of what the seat had seen by then. Here
+//! `copy_goes` says of a copy whether its outcome is the target that was wanted.
 //!
 //! `run_workers` runs a worker for each seat, in a thread of its own, and gives what became of each
 //! job, in order.

@@ -1,0 +1,60 @@
+//! The example of the crate's page, line by line: two jobs in one batch, over a wire in memory.
+ghost use Rattle.std.specs.Prelude.{IfSome};
+ghost use Rattle.answer_cache.specs.Shared.{Belongs};
+
+use super::{TO_ADDRESS, TO_NAME, ZONE, clock_at_100, goes, two_jobs};
+use crate::*;
+use answer_cache::SharedCache;
+use dns_asker::{StandingClock, Zone, ZoneWire};
+use std::alloc::Global;
+use std::sync::Wait;
+use std::sync::atomic::AtomicU64;
+
+/// A worker over this wire, with its cache.
+fn one_worker<'a>(alloc: Global, wire: ZoneWire<'a>) -> Option<(SharedCache, Worker<ZoneWire<'a>>)>
+    ensures { IfSome result (λ made. Belongs made.0 made.1) }
+{
+    let (cache, mut seats) = SharedCache::new(alloc, 1).ok()?;
+    let worker = Worker::new(alloc, seats.pop()?, wire).ok()?;
+    Some((cache, worker))
+}
+
+/// Whether the copy of a result goes to the target.
+fn copy_goes(alloc: Global, it: &JobResult<'_, ZoneWire<'_>, StandingClock>) -> bool {
+    it.try_clone(alloc).is_ok_and(|copy| goes(copy.outcome()))
+}
+
+/// Whether these jobs go to the target in one batch of this worker, by a copy of each result.
+fn batch_goes<R: Wait + AllocGlobal>(
+    rt: &R,
+    cache: &SharedCache,
+    worker: &mut Worker<ZoneWire<'_>>,
+    jobs: &[Job],
+) -> Option<bool>
+    requires { Belongs cache.now worker.old }
+{
+    let clock = clock_at_100();
+    let made = worker.batch(rt, cache, jobs, &clock, &OpenGate).ok()?;
+    // each job has what became of it: its targets, a refusal by name, or why there is no answer
+    Some(made.iter().all(|it| copy_goes(rt.alloc(), it)))
+}
+
+/// Whether these jobs go to the target in one batch over this wire.
+fn all_go_at_once<R: Wait + AllocGlobal>(rt: &R, wire: ZoneWire<'_>, jobs: &[Job]) -> Option<bool> {
+    let (cache, mut worker) = one_worker(rt.alloc(), wire)?;
+    batch_goes(rt, &cache, &mut worker, jobs)
+}
+
+/// Whether two jobs in one batch go to the target.
+fn batch_of_two<R: Wait + AllocGlobal>(rt: &R) -> Option<bool> {
+    let alloc = rt.alloc();
+    let zone = Zone::read(alloc, ZONE).ok()?;
+    let sent = AtomicU64::new(0);
+    let wire = ZoneWire::new(alloc, &zone, &sent);
+    all_go_at_once(rt, wire, &two_jobs(alloc, TO_NAME, TO_ADDRESS)?)
+}
+
+#[test]
+fn page_example(rt: HostRuntime) {
+    assert_eq!(rt; batch_of_two(&rt), Some(true));
+}
