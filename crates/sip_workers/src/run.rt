@@ -189,9 +189,10 @@ fn start<
         number,
         over: PhantomData,
     };
-    scope
-        .spawn_with(promise, move || work_off(rt, plan, number, seat, wire))
-        .map_err(|_| RunRefusal::NoThread)
+    match scope.spawn_with(promise, move || work_off(rt, plan, number, seat, wire)) {
+        Ok(thread) => Ok(thread),
+        Err(_) => Err(RunRefusal::NoThread),
+    }
 }
 
 /// Starts a thread for each seat.
@@ -233,7 +234,7 @@ fn start_all<
 fn join_all<R: Threads, W: Wire, C: Clock, G>(
     rt: &R,
     plan: &Plan<'_, C, G>,
-    threads: VecDeque<Running<'_, W, C>>,
+    mut threads: VecDeque<Running<'_, W, C>>,
 ) -> Result<VecDeque<Part>, AllocError>
     requires promised { InTurn (λ number thread.
         IsPromise plan.now.cache.now plan.now.batches.now plan.now.workers number
@@ -244,8 +245,8 @@ fn join_all<R: Threads, W: Wire, C: Clock, G>(
         plan.now.workers number part.items) 0 parts.items) }
     ensures all { IfOk result (λ parts. length parts.items ≡ length threads.entry.items) }
 {
-    let mut parts = VecDeque::with_capacity(plan.alloc, threads.len())?;
-    'threads: for thread in threads {
+    let mut parts = VecDeque::new(plan.alloc);
+    'threads: while let Some(thread) = threads.pop_front() {
         parts.push_back(thread.join(rt)?)?;
     }
     Ok(parts)

@@ -53,6 +53,13 @@ impl<'a> Task<'a> {
         matches!(self.stage, Stage::Done(_))
     }
 
+    /// Lets it be so far.
+    pub(crate) fn reach(&mut self, stage: Stage)
+        ensures { self.new ≡ record { job = self.old.job; locator = self.old.locator; stage = stage } }
+    {
+        self.stage = stage;
+    }
+
     /// What became of it.
     pub(crate) fn into_outcome(self) -> Outcome
         requires done { (outcome : Became) × (self.stage ≡ Stage.Done outcome) }

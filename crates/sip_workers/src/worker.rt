@@ -236,7 +236,8 @@ impl<W: Wire + Drop> Worker<W> {
         if !self.goes_on(&task.stage) {
             return;
         }
-        task.stage = self.stage_now(cache, clock, &mut task.locator);
+        let stage = self.stage_now(cache, clock, &mut task.locator);
+        task.reach(stage);
         tell(gate, task);
     }
 
@@ -260,8 +261,8 @@ impl<W: Wire + Drop> Worker<W> {
         }
     }
 
-    /// How far a request is whose question ended so by these octets. Where they are an answer,
-    /// nothing but memory can be wanting for it.
+    /// How far a request is to whose question these octets are an answer: nothing but memory can be
+    /// wanting for it.
     fn stage_heard<R: Wait, C: Clock>(
         &mut self,
         rt: &R,
@@ -269,13 +270,9 @@ impl<W: Wire + Drop> Worker<W> {
         clock: &C,
         locator: &mut Locator<SharedCache>,
         octets: &[u8],
-        question: Question,
-        ending: Ending,
     ) -> Stage
         requires made_here { Belongs cache.now self.old }
         requires given { W.gives octets.now }
-        requires needs { now_of locator.old ≡ need question }
-        requires heard { IsEndedBy W.gives question ending }
         ensures stays { Belongs cache.now self.new }
         ensures works { Works W.gives C.shows self.old.seat self.new.seat }
         ensures goes_on { (job : Wanted)
@@ -283,9 +280,6 @@ impl<W: Wire + Drop> Worker<W> {
             → IsOf (CountsAt W.gives C.shows self.new.seat) job locator.new
             × IsAt W.gives C.shows self.new.seat job locator.new result }
     {
-        if let Ending::Faulty(refusal) = ending {
-            return Stage::Done(Outcome::BadReply(question, refusal));
-        }
         let now = clock.now();
         match locator.reply(rt, cache, &mut self.seat, now, octets) {
             Ok(_kept) => Stage::Ready,
@@ -293,35 +287,33 @@ impl<W: Wire + Drop> Worker<W> {
         }
     }
 
-    /// Takes the end of the wait for the answer to this question under this id, by these octets.
-    fn hear_end<R: Wait, C: Clock, G: Gate>(
+    /// Takes the end of a request's wait for the answer to this question, by these octets.
+    fn hear_end<R: Wait, C: Clock>(
         &mut self,
         rt: &R,
         cache: &SharedCache,
         clock: &C,
-        gate: &G,
-        tasks: &mut [Task<'_>],
+        task: &mut Task<'_>,
         octets: &[u8],
-        id: u16,
         question: Question,
         ending: Ending,
     )
         requires made_here { Belongs cache.now self.old }
-        requires stands { All (Stands W.gives C.shows self.old.seat) tasks.old }
+        requires stands { Stands W.gives C.shows self.old.seat task.old }
         requires given { W.gives octets.now }
+        requires needs { now_of task.old.locator ≡ need question }
         requires heard { IsEndedBy W.gives question ending }
         ensures stays { Belongs cache.now self.new }
         ensures works { Works W.gives C.shows self.old.seat self.new.seat }
-        ensures stands { All (Stands W.gives C.shows self.new.seat) tasks.new }
-        ensures jobs { map job_of tasks.new ≡ map job_of tasks.old }
+        ensures stands { Stands W.gives C.shows self.new.seat task.new }
+        ensures job { task.new.job.now ≡ task.old.job.now }
     {
-        let Some(at) = place_of(tasks, id, &question) else {
+        if let Ending::Faulty(refusal) = ending {
+            task.reach(Stage::Done(Outcome::BadReply(question, refusal)));
             return;
-        };
-        let task = &mut tasks[at];
-        let locator = &mut task.locator;
-        task.stage = self.stage_heard(rt, cache, clock, locator, octets, question, ending);
-        tell(gate, task);
+        }
+        let stage = self.stage_heard(rt, cache, clock, &mut task.locator, octets);
+        task.reach(stage);
     }
 
     /// Takes octets that the wire gave.
@@ -346,7 +338,11 @@ impl<W: Wire + Drop> Worker<W> {
             return Ok(());
         };
         self.full = false;
-        self.hear_end(rt, cache, clock, gate, tasks, octets, id, question, ending);
+        let Some(at) = place_of(tasks, id, &question) else {
+            return Ok(());
+        };
+        self.hear_end(rt, cache, clock, &mut tasks[at], octets, question, ending);
+        tell(gate, &tasks[at]);
         Ok(())
     }
 
@@ -389,7 +385,7 @@ impl<W: Wire + Drop> Worker<W> {
                 Some(Due::GaveUp(id, question)) => {
                     self.full = false;
                     if let Some(at) = place_of(tasks, id, question) {
-                        tasks[at].stage = Stage::Done(unanswered(question));
+                        tasks[at].reach(Stage::Done(unanswered(question)));
                         tell(gate, &tasks[at]);
                     }
                 }

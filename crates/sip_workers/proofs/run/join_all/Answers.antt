@@ -10,7 +10,7 @@ threads-preserved g c =
     let l = c.threads in
     let part = c.in_ok-join.field-0 in
     let its = c.in-Some.thread.promise in
-    let front = rw c.in-Some.ensures.steps.0 at l.invariant.promised in
+    let front = rw c.in-Some.ensures.items at l.invariant.promised in
     let longer : length c.push_back.new.self.items ≡ suc (length l.parts.items) =
     ap length c.in_ok-push_back.ensures.items ∙ length_push l.parts.items part ∙ (omega arith) in
     let this = kept g.W.Wire.gives g.C.Clock.shows plan.cache.now plan.batches.now plan.workers (length l.parts.items)
@@ -20,5 +20,5 @@ threads-preserved g c =
       parts = rw c.in_ok-push_back.ensures.items
           (InTurn-push (λ number part. IsPart g.W.Wire.gives g.C.Clock.shows plan.cache.now plan.batches.now plan.workers number part.items)
           0 l.parts.items part (length l.parts.items) (omega arith) l.invariant.parts this);
-      all = omega (arith, longer, l.invariant.all, ap length c.in-Some.ensures.steps.0);
+      all = omega (arith, longer, l.invariant.all, ap length c.in-Some.ensures.items);
     }

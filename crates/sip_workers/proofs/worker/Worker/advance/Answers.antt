@@ -5,4 +5,4 @@ pub returns-then-not-goes_on-clause-works : goal.returns-then-not-goes_on-clause
 returns-then-not-goes_on-clause-works g c = works-not _ _ c.args.self.now.seat
 
 pub returns-clause-stands : goal.returns-clause-stands
-returns-clause-stands g c = c.stage_now.ensures.goes_on c.args.task.now.job.now c.requires.stands.0
+returns-clause-stands g c = rw c.reach.ensures (c.stage_now-stage.ensures.goes_on c.args.task.now.job.now c.requires.stands.0)

@@ -32,7 +32,7 @@ dues-preserved g c =
     elim c.match-this.branch [
       | in-Some-Resend w ↦ record { stays = rw (w.self-inside-is, w.tasks-is) stays; few = rw w.self-inside-is few }
       | in-Some-GaveUp+in-Some w ↦ record {
-        stays = rw (w.self-inside-is, w.tasks-is)
+        stays = rw (w.self-inside-is, w.tasks-is, w.reach.ensures)
             (given-up _ _ c.args.self.now _ c.args.tasks.now c.dues.tasks _ _ w.unanswered.result w.in-Some.at w.index-tasks-at.result
             w.in-Some.ensures.0 w.in-Some.ensures.1 w.unanswered.ensures stays);
         few = rw w.self-inside-is few;
