@@ -96,31 +96,7 @@ fn made_of<R: Wait, W: Wire + Drop, C: Clock, G: Gate>(
     Ok(made)
 }
 
-/// What became of the jobs of each batch that is of the worker of this number, in order.
-fn made_in_turn<R: Wait, W: Wire + Drop, C: Clock, G: Gate>(
-    rt: &R,
-    plan: &Plan<'_, C, G>,
-    number: usize,
-    worker: &mut Worker<W>,
-) -> Result<Part, AllocError>
-    requires made_here { Belongs plan.now.cache.now worker.old }
-    requires some { 0 < plan.now.workers }
-    ensures part { IfOk result (λ made. IsPart W.gives C.shows plan.now.cache.now
-        plan.now.batches.now plan.now.workers number made.items) }
-{
-    let mut made = VecDeque::new(plan.alloc);
-    let mut at = number;
-    'batches: while at < plan.batches.len() {
-        made.push_back(made_of(rt, plan, worker, plan.batches[at])?)?;
-        let Some(next) = at.checked_add(plan.workers) else {
-            break;
-        };
-        at = next;
-    }
-    Ok(made)
-}
-
-/// What a worker at this seat, over this wire, makes of its batches.
+/// What a worker of this number, at this seat and over this wire, makes of its batches, in order.
 fn work_off<R: Wait, W: Wire + Drop, C: Clock, G: Gate>(
     rt: &R,
     plan: &Plan<'_, C, G>,
@@ -134,7 +110,16 @@ fn work_off<R: Wait, W: Wire + Drop, C: Clock, G: Gate>(
         plan.now.batches.now plan.now.workers number made.items) }
 {
     let mut worker = Worker::new(plan.alloc, seat, wire)?;
-    made_in_turn(rt, plan, number, &mut worker)
+    let mut made = VecDeque::new(plan.alloc);
+    let mut at = number;
+    'batches: while at < plan.batches.len() {
+        made.push_back(made_of(rt, plan, &mut worker, plan.batches[at])?)?;
+        let Some(next) = at.checked_add(plan.workers) else {
+            break;
+        };
+        at = next;
+    }
+    Ok(made)
 }
 
 /// What the thread of a worker is to give.

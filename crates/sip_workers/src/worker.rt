@@ -316,36 +316,6 @@ impl<W: Wire + Drop> Worker<W> {
         task.reach(stage);
     }
 
-    /// Takes octets that the wire gave.
-    fn hear<R: Wait, C: Clock, G: Gate>(
-        &mut self,
-        rt: &R,
-        cache: &SharedCache,
-        clock: &C,
-        gate: &G,
-        tasks: &mut [Task<'_>],
-        octets: &[u8],
-    ) -> Result<(), AllocError>
-        requires made_here { Belongs cache.now self.old }
-        requires stands { All (Stands W.gives C.shows self.old.seat) tasks.old }
-        requires given { W.gives octets.now }
-        ensures stays { Belongs cache.now self.new }
-        ensures works { Works W.gives C.shows self.old.seat self.new.seat }
-        ensures stands { All (Stands W.gives C.shows self.new.seat) tasks.new }
-        ensures jobs { map job_of tasks.new ≡ map job_of tasks.old }
-    {
-        let Incoming::Ended(id, question, ending) = self.asker.incoming(octets)? else {
-            return Ok(());
-        };
-        self.full = false;
-        let Some(at) = place_of(tasks, id, &question) else {
-            return Ok(());
-        };
-        self.hear_end(rt, cache, clock, &mut tasks[at], octets, question, ending);
-        tell(gate, &tasks[at]);
-        Ok(())
-    }
-
     /// Takes what the wire gives, where it gives something.
     fn listen<R: Wait, C: Clock, G: Gate>(
         &mut self,
@@ -363,10 +333,20 @@ impl<W: Wire + Drop> Worker<W> {
         ensures stands { All (Stands W.gives C.shows self.new.seat) tasks.new }
         ensures jobs { map job_of tasks.new ≡ map job_of tasks.old }
     {
-        match receive(&mut self.wire, buffer) {
-            Some(count) => self.hear(rt, cache, clock, gate, tasks, &buffer[..count]),
-            None => Ok(()),
-        }
+        let Some(count) = receive(&mut self.wire, buffer) else {
+            return Ok(());
+        };
+        let octets = &buffer[..count];
+        let Incoming::Ended(id, question, ending) = self.asker.incoming(octets)? else {
+            return Ok(());
+        };
+        self.full = false;
+        let Some(at) = place_of(tasks, id, &question) else {
+            return Ok(());
+        };
+        self.hear_end(rt, cache, clock, &mut tasks[at], octets, question, ending);
+        tell(gate, &tasks[at]);
+        Ok(())
     }
 
     /// Sends the questions once more whose replies did not come in time, and gives up those that

@@ -3,7 +3,7 @@ use Rattle.std.specs.Global.{Vec}
 use Rattle.answer_cache.specs.Shared.{Belongs, Told}
 use Rattle.sip_workers.specs.Deals.{IsPart}
 use Rattle.sip_workers.specs.declared.outcome.Outcome.{Outcome}
-use Rattle.sip_workers.proofs.run.made_in_turn.Given as goal
+use Rattle.sip_workers.proofs.run.work_off.Given as goal
 
 -- with what comes of the batches from here on, it is all
 abbrev pub invariant-batches : goal.invariant-batches

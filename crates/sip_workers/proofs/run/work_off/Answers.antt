@@ -3,8 +3,8 @@ use Rattle.std.proofs.lemmas.List.{append-nil}
 use Rattle.std.proofs.lemmas.Grind.{common_steps}
 use Rattle.std.proofs.lemmas.List.Elements.{at_read}
 use Rattle.sip_workers.specs.Runs.{AreMade}
-use Rattle.sip_workers.proofs.run.made_in_turn.Goals as goal
-use Rattle.sip_workers.proofs.run.made_in_turn.Goals.{else-batches-test, then-batches-test+in_ok-made_of+in_ok-push_back+in_default}
+use Rattle.sip_workers.proofs.run.work_off.Goals as goal
+use Rattle.sip_workers.proofs.run.work_off.Goals.{else-batches-test, then-batches-test+in_ok-made_of+in_ok-push_back+in_default}
 
 pub batches-preserved : goal.batches-preserved
 batches-preserved g c =
