@@ -5,7 +5,7 @@ use Rattle.std.proofs.lemmas.List.{get_or_append_left, get_or_push, length_push,
 use Rattle.std.proofs.lemmas.List.Elements.{All-push}
 use Rattle.dns_answers.specs.Records.{count_of}
 use Rattle.dns_message.specs.declared.question.Question.{Question}
-use Rattle.sip_selection.specs.Choice.{need, refused, settled, resolved, chosen, locate}
+use Rattle.sip_selection.specs.Choice.{Settled, need, refused, settled, resolved, chosen, locate}
 use Rattle.sip_selection.specs.Known.{Given, answer_to}
 use Rattle.sip_selection.specs.Requests.{is_secure, target_of}
 use Rattle.sip_selection.specs.Selections.{AreAskedOneByOne}
@@ -20,6 +20,11 @@ use Rattle.sip_selection.specs.declared.target.Target.{Target}
 use Rattle.sip_selection.proofs.ChoiceLaws.{missing_is}
 use Rattle.sip_selection.proofs.Growth.{answer-grows}
 use Rattle.sip_selection.proofs.Reaching.{extends-itself}
+
+nothing-needed : (settles : Settled) (question : Question) → settled settles ≡ need question → ⊥
+nothing-needed (Ok []) question is = absurd cc
+nothing-needed (Ok (first ∷ others)) question is = absurd cc
+nothing-needed (Err reason) question is = absurd cc
 
 module _ (request : Request) (caps : Caps) (words : List ℕ) (given : List Given) (found : List Target) where
   abbrev pub Stands : Turn → Type 0
@@ -36,6 +41,16 @@ module _ (request : Request) (caps : Caps) (words : List ℕ) (given : List Give
 
   pub unknown-is : (question : Question) (stage : Stage) → Stands (Ask question stage) → answer_to given question ≡ Err question
   unknown-is question stage comes = rw (missing_is request caps words given question (asked-is question stage comes)).0 refl
+
+  -- a question is needed where it is asked
+  pub turn-asks : (turn : Turn) (question : Question) → Stands turn → locate request caps words given ≡ need question
+      → (stage : Stage) × (turn ≡ Ask question stage)
+  turn-asks (Ask asked stage) question comes is =
+      let needed = sym (asked-is asked stage comes) ∙ is in
+      let same : asked ≡ question = cc in
+      (stage, ap (λ (it : Question). Ask it stage) same)
+  turn-asks Found question comes is = absurd (nothing-needed (Ok found) question (sym (found-is comes) ∙ is))
+  turn-asks (Refused reason) question comes is = absurd (nothing-needed (Err reason) question (sym (refused-is reason comes) ∙ is))
 
   -- the answer to the question that is needed stands behind the others
   pub asked-too : AreAskedOneByOne request caps words given → (more : Given) → locate request caps words given ≡ need more.question

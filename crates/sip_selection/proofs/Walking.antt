@@ -1,5 +1,5 @@
 -- What is left of a walk along ways, from one way to the next.
-use Rattle.std.proofs.Common.{◌≡◌, ℕ, ◌+◌, ◌<◌, Bool, true, false, List, ◌∷◌, ◌++◌, drop, get_or, length, Some, Result, Ok, Err, IfOk, refl, sym, ap, ◌∙◌, append_assoc}
+use Rattle.std.proofs.Common.{◌≡◌, ℕ, ◌+◌, ◌<◌, Bool, true, false, List, ◌∷◌, ◌++◌, drop, get_or, length, Some, Result, Ok, Err, IfOk, refl, sym, ap, ◌∙◌, append_assoc, ◌⊎◌, inl, inr, ◌≤◌, ◌*◌, arith}
 use Rattle.std.specs.List.{flat_map}
 use Rattle.std.proofs.lemmas.List.{drop_more}
 use Rattle.dns_answers.specs.Values.{AnswerValue}
@@ -7,11 +7,12 @@ use Rattle.dns_message.specs.declared.kind.Kind.TheVariants as kind
 use Rattle.dns_message.specs.declared.srv.SrvRecord.{SrvRecord}
 use Rattle.sip_uri.specs.declared.transport.Transport.{Transport}
 use Rattle.srv_choice.specs.Outcomes.{order_from}
-use Rattle.srv_choice.specs.declared.outcome.SrvOutcome.TheVariants.{Listed}
+use Rattle.srv_choice.specs.declared.outcome.SrvOutcome.{SrvOutcome}
+use Rattle.srv_choice.specs.declared.outcome.SrvOutcome.TheVariants.{Absent, Denied, Listed}
 use Rattle.sip_selection.specs.Callers.{families_of, kinds_of}
 use Rattle.sip_selection.specs.Choice.{Settled}
 use Rattle.sip_selection.specs.Known.{Given, Needing, after, made, joined, answer_to, servers_in}
-use Rattle.sip_selection.specs.Services.{Offer, listed, offered_targets, next_word, place_targets, offer_by, offer_along, offers_along}
+use Rattle.sip_selection.specs.Services.{Offer, absent, denied, listed, offered_targets, next_word, place_targets, offer_by, offer_along, offers_along}
 use Rattle.sip_selection.specs.Stages.{Extends, behind, ended, walk_left, offer_left, servers_left, Walks}
 use Rattle.sip_selection.specs.declared.caps.Caps.{Caps}
 use Rattle.sip_selection.specs.declared.reason.Reason.{Reason}
@@ -70,6 +71,41 @@ module _ (caps : Caps) (words : List ℕ) (name : List (List ℕ)) (all : List G
           (λ more. walk_left caps words name all ways fallback (behind walk (Listed places next)) (found ++ more))
           (listed-left places next) (targets-of places))
 
+    denied-by : (others : List Offer) (any : Bool) → walk.is_denied ≡ any
+        → ended caps name all fallback walk found (denied ∷ others)
+        ≡ ended caps name all fallback (behind walk Denied) found others
+    denied-by others true e = rw e refl
+    denied-by others false e = rw e refl
+
+    -- ---- what SRV records offer that list nothing
+
+    module _ (transport : Transport) (answer : AnswerValue) where
+      abbrev offered : Needing Offer
+      offered = offer_by all (kinds_of (families_of caps)) words transport walk.word answer
+
+      absent-left : order_from (servers_in answer.records) words walk.word ≡ Absent
+          → offer_left caps words name all ways fallback walk found offered
+          ≡ walk_left caps words name all ways fallback (behind walk Absent) found
+      absent-left is = rw is (after-made (ended caps name all fallback walk found) (λ others. absent ∷ others) (rest walk.word)
+          ∙ after-each (λ others. ended caps name all fallback walk found (absent ∷ others))
+          (ended caps name all fallback (behind walk Absent) found) (λ others. refl) (rest walk.word))
+
+      denied-left : order_from (servers_in answer.records) words walk.word ≡ Denied
+          → offer_left caps words name all ways fallback walk found offered
+          ≡ walk_left caps words name all ways fallback (behind walk Denied) found
+      denied-left is = rw is (after-made (ended caps name all fallback walk found) (λ others. denied ∷ others) (rest walk.word)
+          ∙ after-each (λ others. ended caps name all fallback walk found (denied ∷ others))
+          (ended caps name all fallback (behind walk Denied) found) (λ others. denied-by others walk.is_denied refl) (rest walk.word))
+
+      pub answer-unlisted : (outcome : SrvOutcome) → (outcome ≡ Absent) ⊎ (outcome ≡ Denied)
+          → outcome ≡ order_from (servers_in answer.records) words walk.word
+          → offer_left caps words name all ways fallback walk found offered
+          ≡ walk_left caps words name all ways fallback (behind walk outcome) found
+      answer-unlisted outcome which is = elim which [
+        | inl e ↦ rw e (absent-left (sym is ∙ e))
+        | inr e ↦ rw e (denied-left (sym is ∙ e))
+      ]
+
     -- ---- the next way
 
     pub way-left : (way : Way) → drop walk.way ways ≡ way ∷ drop (walk.way + 1) ways
@@ -85,6 +121,22 @@ module _ (caps : Caps) (words : List ℕ) (name : List (List ℕ)) (all : List G
         ≡ offer_left caps words name all ways fallback walk found
         (offer_by all (kinds_of (families_of caps)) words way.transport walk.word answer)
     named-left way owner named there answer known = way-left way there ∙ rw (named, known) refl
+
+-- ---- a way that lists nothing
+
+pub goes-on-unlisted : (walk : Walk) (outcome : SrvOutcome) → (outcome ≡ Absent) ⊎ (outcome ≡ Denied)
+    → (behind walk outcome).way ≡ walk.way + 1
+goes-on-unlisted walk outcome which = elim which [
+  | inl e ↦ rw e refl
+  | inr e ↦ rw e refl
+]
+
+pub fits-unlisted : (walk : Walk) (outcome : SrvOutcome) → (outcome ≡ Absent) ⊎ (outcome ≡ Denied) → walk.word ≤ 32 * walk.way
+    → (behind walk outcome).word ≤ 32 * (behind walk outcome).way
+fits-unlisted walk outcome which few = elim which [
+  | inl e ↦ rw e (omega arith)
+  | inr e ↦ rw e (omega arith)
+]
 
 -- ---- what is reached
 

@@ -1,7 +1,7 @@
 //! The choice of one request, question by question (RFC 3263 4, 5).
-ghost use Rattle.std.specs.Prelude.{◌≡◌, ◌≢◌, ◌↔◌, ◌≤◌, List, length, IfErr, IfOk, OnErr, OnOk};
+ghost use Rattle.std.specs.Prelude.{◌≡◌, ◌≢◌, ◌↔◌, ◌≤◌, List, length, IfErr, IfOk, IsTrue, OnErr, OnOk};
 ghost use Rattle.std.specs.Arc.{arc_value};
-ghost use Rattle.dns_answers.specs.Records.{kind_of};
+ghost use Rattle.dns_answers.specs.Records.{count_of, kind_of};
 ghost use Rattle.sip_selection.specs.Choice.{need, targets};
 ghost use Rattle.sip_selection.specs.Nexts.{next_of};
 ghost use Rattle.sip_selection.specs.Selections.{begun, given_too, now_of};
@@ -180,21 +180,43 @@ impl Selection {
             ↔ ((now_of self.old ≡ need question.now)
             × (kind_of (arc_value answer).records ≢ question.now.kind)) }
     {
-        same_questions_are_equal();
-        numeric_targets_ask_nothing();
-        let (Host::Domain(name), Turn::Ask(asked, _)) = (self.request.target(), &self.turn) else {
-            return Err(GiveRefusal::NotAsked);
-        };
-        if asked != question {
+        if !self.asks(question) {
             return Err(GiveRefusal::NotAsked);
         }
         if answer.records().kind() != question.kind {
             return Err(GiveRefusal::WrongKind);
         }
+        self.take(alloc, answer).map_err(|_| GiveRefusal::Memory)
+    }
+
+    /// Whether this is the question that is asked.
+    fn asks(&self, question: &Question) -> bool
+        ensures { IsTrue result ↔ (now_of self.now ≡ need question.now) }
+    {
+        same_questions_are_equal();
+        match self.next() {
+            Next::Ask(asked) => asked == question,
+            Next::Targets(_) | Next::Refused(_) => false,
+        }
+    }
+
+    /// Takes the answer to the question that is asked. Where memory was refused the choice is as
+    /// before.
+    fn take(&mut self, alloc: Global, answer: Arc<Answer>) -> Result<(), AllocError>
+        requires asked { (question : Question) × (now_of self.old ≡ need question) }
+        requires few { count_of (arc_value answer).records ≤ 32 }
+        ensures taken { OnOk result ((question : Question) → now_of self.old ≡ need question
+            → self.new ≡ given_too self.old question (arc_value answer)) }
+        ensures unchanged { OnErr result (self.new ≡ self.old) }
+    {
+        numeric_targets_ask_nothing();
+        let Host::Domain(name) = self.request.target() else {
+            unreachable!()
+        };
         let (asked, stage) = self.turn.take_ask();
         if let Err(asked) = self.known.push(asked, answer) {
             self.turn = Turn::Ask(asked, stage);
-            return Err(GiveRefusal::Memory);
+            return Err(AllocError);
         }
         let basis = Basis {
             alloc,
@@ -211,7 +233,7 @@ impl Selection {
             }
             Err(stage) => {
                 self.turn = Turn::Ask(self.known.pop(), stage);
-                Err(GiveRefusal::Memory)
+                Err(AllocError)
             }
         }
     }

@@ -1,7 +1,15 @@
 use Rattle.std.proofs.Common.{◌∙◌, ap, sym}
 use Rattle.sip_selection.specs.Stages.{name_of}
-use Rattle.sip_selection.proofs.Turns.{asked-is, asked-too, unknown-is, goes-on}
-use Rattle.sip_selection.proofs.selection.Selection.give.Goals as goal
+use Rattle.sip_selection.proofs.Turns.{asked-is, asked-too, unknown-is, goes-on, turn-asks}
+use Rattle.sip_selection.proofs.selection.Selection.take.Goals as goal
+
+pub take_ask-asked-requires : goal.take_ask-asked-requires
+take_ask-asked-requires c =
+    let s = c.self.inside in
+    let question = c.requires.asked.0 in
+    let asks = turn-asks s.request s.caps s.words.0 s.known s.targets.items s.turn question c.self.invariant.0
+    (rw (← c.self.view_is) at c.requires.asked.1) in
+    (question, asks.0, asks.1)
 
 pub push-requires : goal.push-requires
 push-requires c =
@@ -19,7 +27,7 @@ pub invariant_of-self-in-Ok : goal.invariant_of-self-in-Ok
 invariant_of-self-in-Ok c =
     let s = c.self.inside in
     let taken = c.take_ask-asked in
-    let there = sym c.target.ensures ∙ c.in-Domain-Ask.is-0 in
+    let there = sym c.target.ensures ∙ c.in-Domain.is in
     let pushed = c.in_default-push.ensures.pushed in
     let before = rw taken.ensures.taken at c.self.invariant.0 in
     rw pushed (
@@ -27,7 +35,7 @@ invariant_of-self-in-Ok c =
           (rw (pushed, c.is_secure.ensures, ← (ap name_of there)) at c.in-Ok.ensures.goes),
       asked-too s.request s.caps s.words.0 s.known s.targets.items c.self.invariant.1 _
           (asked-is s.request s.caps s.words.0 s.known s.targets.items taken.result.0 taken.result.1 before)
-          (rw c.deref.ensures at c.records.ensures.few),
+          c.requires.few,
     )
 
 pub invariant_of-self-in-Err-advance : goal.invariant_of-self-in-Err-advance
