@@ -60,6 +60,11 @@ module _ (caps : Caps) (transport : Transport) (port : ℕ) (name : List (List �
         ≡ made (λ others. said answer ++ others) (kinds_left caps all transport port name (at + 1))
     kind-more given answer known all extends = rw (kinds-are, extends (record { name = name; kind = asked }) answer known) refl
 
+    pub kind-stops : (given : List Given) (question : Question)
+        → answer_to given (record { name = name; kind = asked }) ≡ Err question
+        → kinds_left caps given transport port name at ≡ Err question
+    kind-stops given question unknown = rw (kinds-are, unknown) refl
+
 -- ---- a server
 
 abbrev Left : Type 0

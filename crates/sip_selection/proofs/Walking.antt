@@ -4,6 +4,7 @@ use Rattle.std.specs.List.{flat_map}
 use Rattle.std.proofs.lemmas.List.{drop_more}
 use Rattle.dns_answers.specs.Values.{AnswerValue}
 use Rattle.dns_message.specs.declared.kind.Kind.TheVariants as kind
+use Rattle.dns_message.specs.declared.question.Question.{Question}
 use Rattle.dns_message.specs.declared.srv.SrvRecord.{SrvRecord}
 use Rattle.sip_uri.specs.declared.transport.Transport.{Transport}
 use Rattle.srv_choice.specs.Outcomes.{order_from}
@@ -13,10 +14,12 @@ use Rattle.sip_selection.specs.Callers.{families_of, kinds_of}
 use Rattle.sip_selection.specs.Choice.{Settled}
 use Rattle.sip_selection.specs.Known.{Given, Needing, after, made, joined, answer_to, servers_in}
 use Rattle.sip_selection.specs.Services.{Offer, absent, denied, listed, offered_targets, next_word, place_targets, offer_by, offer_along, offers_along}
-use Rattle.sip_selection.specs.Stages.{Extends, behind, ended, walk_left, offer_left, servers_left, Walks}
+use Rattle.sip_selection.specs.Stages.{Extends, behind, ended, walk_left, offer_left, servers_left, listing_left, servers_first, Walks}
 use Rattle.sip_selection.specs.declared.caps.Caps.{Caps}
 use Rattle.sip_selection.specs.declared.reason.Reason.{Reason}
 use Rattle.sip_selection.specs.declared.stage.Basis.{Basis}
+use Rattle.sip_selection.specs.declared.stage.Cursor.{Cursor}
+use Rattle.sip_selection.specs.declared.stage.Listing.{Listing}
 use Rattle.sip_selection.specs.declared.stage.Reached.{Reached}
 use Rattle.sip_selection.specs.declared.stage.Walk.{Walk}
 use Rattle.sip_selection.specs.declared.target.Target.{Target}
@@ -121,6 +124,37 @@ module _ (caps : Caps) (words : List ℕ) (name : List (List ℕ)) (all : List G
         ≡ offer_left caps words name all ways fallback walk found
         (offer_by all (kinds_of (families_of caps)) words way.transport walk.word answer)
     named-left way owner named there answer known = way-left way there ∙ rw (named, known) refl
+
+-- ---- the servers of a service, and then the walk
+
+module _ (caps : Caps) (words : List ℕ) (name : List (List ℕ)) (ways : List Way) (listing : Listing) (walk : Walk)
+    (before found : List Target) where
+  pub listing-done : (from : Cursor) (all : List Given) → listing_left caps all listing from ≡ Ok found
+      → (fallback : Result Transport Reason) (front : List Target)
+      → servers_first caps words name all ways fallback listing from walk (front ++ before)
+      ≡ walk_left caps words name all ways fallback walk (front ++ (before ++ found))
+  listing-done from all is fallback front =
+      rw is (ap (walk_left caps words name all ways fallback walk) (append_assoc front before found))
+
+  pub listing-more : (from cursor : Cursor) (all : List Given)
+      → listing_left caps all listing from ≡ made (λ more. found ++ more) (listing_left caps all listing cursor)
+      → (fallback : Result Transport Reason) (front : List Target)
+      → servers_first caps words name all ways fallback listing from walk (front ++ before)
+      ≡ servers_first caps words name all ways fallback listing cursor walk (front ++ (before ++ found))
+  listing-more from cursor all is fallback front = ap (after (on (front ++ before))) is
+      ∙ after-made (on (front ++ before)) (λ more. found ++ more) (listing_left caps all listing cursor)
+      ∙ after-each (λ more. on (front ++ before) (found ++ more)) (on (front ++ (before ++ found)))
+      (λ more. ap (walk_left caps words name all ways fallback walk) (sym (append_assoc (front ++ before) found more)
+      ∙ ap (λ (l : List Target). l ++ more) (append_assoc front before found))) (listing_left caps all listing cursor)
+    where
+      on : List Target → List Target → Needing Settled
+      on targets more = walk_left caps words name all ways fallback walk (targets ++ more)
+
+pub listing-asks : (caps : Caps) (words : List ℕ) (name : List (List ℕ)) (given : List Given) (ways : List Way)
+    (fallback : Result Transport Reason) (listing : Listing) (cursor : Cursor) (walk : Walk) (found : List Target)
+    (question : Question) → listing_left caps given listing cursor ≡ Err question
+    → servers_first caps words name given ways fallback listing cursor walk found ≡ Err question
+listing-asks caps words name given ways fallback listing cursor walk found question is = rw is refl
 
 -- ---- a way that lists nothing
 

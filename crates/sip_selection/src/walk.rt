@@ -50,16 +50,13 @@ fn push_listing(
 {
     let servers = servers_in(&listing.answer);
     let places = listing.places.as_slice();
-    let stop = push_places(targets, basis, listing.transport, servers, places, from)?;
-    Ok(match stop {
-        None => Reached::Walk(walk),
-        Some((cursor, question)) => {
-            Reached::Stop(
-                Spot::Server(Arc::try_clone(listing)?, cursor, walk),
-                question,
-            )
-        }
-    })
+    match push_places(targets, basis, listing.transport, servers, places, from)? {
+        None => Ok(Reached::Walk(walk)),
+        Some((cursor, question)) => Ok(Reached::Stop(
+            Spot::Server(Arc::try_clone(listing)?, cursor, walk),
+            question,
+        )),
+    }
 }
 
 /// What the SRV records of an answer offer.
