@@ -26,12 +26,7 @@
 //! that other threads share. `ListCache` is the book of one thread, and has one seat. It never
 //! waits, and a lookup looks through the stores of one group.
 //!
-//! ```text
-//! let (book, mut seat) = ListCache::new(alloc);
-//! book.store(&rt, &mut seat, &question, &answer, at_100)?;    // at 100, an answer of life 10
-//! book.lookup(&mut seat, &question, at_109)?;                 // Some(answer)
-//! book.lookup(&mut seat, &question, at_110)?;                 // None
-//! ```
+//! So an answer of life 10 that is stored at the moment 100 is found at 109, and not at 110.
 //!
 //! `SharedCache` is the book that up to 64 seats share without a lock, each seat in a thread of its
 //! own. All seats see one history: of what two seats have seen, one is the beginning of the other.
@@ -40,12 +35,14 @@
 //! looks through all stores, the newest first: 4096 at most. A store is tried 16 times at most, and
 //! it may lose each try to stores of other seats.
 //!
-//! ```text
-//! let (cache, seats) = SharedCache::new(alloc, 2)?;           // two seats, one for each thread
-//! cache.store(&rt, &mut seat_0, &question, &answer, now)?;    // in the thread of seat 0
-//! let notice = seat_0.notice();                               // this may go to the other thread
-//! cache.learn(&mut seat_1, &notice);                          // there: seat 1 has seen it now
-//! cache.lookup(&mut seat_1, &question, now)?;                 // Some(answer), while it lives
+//! ```
+//! // in the thread of the second seat
+//! cache.store(rt, second, &question, &answer, now).ok()?;
+//! let notice = second.notice();
+//! // in the thread of the first seat, which may not have seen the store before
+//! let before = life_of(cache.lookup(first, &question, now).ok()?);
+//! cache.learn(first, &notice.again());
+//! let after = life_of(cache.lookup(first, &question, now).ok()?);
 //! ```
 //!
 //! Read `specs/Histories.antt` of `answer_log` first: it says what a history is, and `cached` is
@@ -76,9 +73,5 @@ pub use seat::{
 };
 pub use shared_cache::SharedCache;
 
-#[cfg(test)]
-mod allocations;
-#[cfg(test)]
-mod shared_tests;
 #[cfg(test)]
 mod tests;

@@ -1,5 +1,5 @@
 //! Where memory is refused: the call then says so, or has its answer all the same.
-use crate::tests::{found, stored};
+use super::{found, stored};
 use crate::*;
 use dns_message::Kind;
 

@@ -3,7 +3,7 @@ use Rattle.std.proofs.lemmas.List.{append-nil}
 use Rattle.std.specs.List.{All}
 use Rattle.answer_cache.proofs.Placing.{prefix-trans}
 use Rattle.answer_cache.proofs.Together.{of-four, stores-in}
-use Rattle.answer_cache.proofs.shared_tests.join_all.Goals as goal
+use Rattle.answer_cache.proofs.tests.shared.join_all.Goals as goal
 
 pub returns-clause-all : goal.returns-clause-all
 returns-clause-all c =

@@ -1,7 +1,7 @@
 use Rattle.std.proofs.Common.{◌≡◌}
 use Rattle.std.specs.List.{All}
 use Rattle.answer_cache.specs.Shared.{Belongs}
-use Rattle.answer_cache.proofs.shared_tests.store_one_each.Given as goal
+use Rattle.answer_cache.proofs.tests.shared.store_one_each.Given as goal
 
 abbrev pub invariant-seats : goal.invariant-seats
 invariant-seats g l = record {

@@ -3,7 +3,7 @@ ghost use Rattle.std.specs.Prelude.{◌≡◌, ◌+◌, ◌<◌, IfSome, OnErr, 
 ghost use Rattle.std.specs.List.{All, range_with_len};
 ghost use Rattle.answer_cache.specs.Shared.{Belongs, HasStored, new_seat};
 
-use crate::tests::{answer_of, question_of, two_seats};
+use super::{answer_of, life_of, question_of, two_seats};
 use crate::*;
 use dns_answers::{Answer, Moment};
 use dns_message::{Kind, Question};
@@ -56,30 +56,58 @@ impl<'a, R: Wait> Rival for Other<'a, R> {
     }
 }
 
-/// What a store against another seat says that stores the same question in the tries up to a last
-/// one, how many tries there were, and the life of what is found then: 20 for the store, 10 for the
-/// other's.
+/// The other seat, which stores in the tries up to a last one.
+fn other_of<'a, R: Wait + AllocGlobal>(
+    rt: &'a R,
+    cache: &'a SharedCache,
+    seat: Seat,
+    last: u8,
+) -> Option<Other<'a, R>>
+    requires { Belongs cache.now seat }
+{
+    let now = Moment::new(100)?;
+    let question = question_of(rt.alloc(), Kind::A)?;
+    let answer = answer_of(rt.alloc(), Kind::A, 10)?;
+    Some(Other {
+        rt,
+        cache,
+        seat,
+        question,
+        answer,
+        now,
+        last,
+        tries: 0,
+    })
+}
+
+/// What a store against a rival says, and the life of what is found then: 20 for the store, 10 for
+/// the other seat's.
+fn said_against(
+    rt: &(impl Wait + AllocGlobal),
+    cache: &SharedCache,
+    seat: &mut Seat,
+    rival: &mut impl Rival,
+) -> Option<(Result<(), StoreRefusal>, Option<u32>)>
+    requires { Belongs cache.now seat.old }
+{
+    let question = question_of(rt.alloc(), Kind::A)?;
+    let answer = answer_of(rt.alloc(), Kind::A, 20)?;
+    let now = Moment::new(100)?;
+    let said = cache.store_against(rt, seat, &question, &answer, now, rival);
+    let life = life_of(cache.lookup(seat, &question, now).ok()?);
+    Some((said, life))
+}
+
+/// The same against another seat that stores the same question in the tries up to a last one, and
+/// how many tries there were.
 fn against<R: Wait + AllocGlobal>(
     rt: &R,
     last: u8,
 ) -> Option<(Result<(), StoreRefusal>, u8, Option<u32>)> {
     let (cache, mut seat, other) = two_seats(rt.alloc())?;
-    let question = question_of(rt.alloc(), Kind::A)?;
-    let answer = answer_of(rt.alloc(), Kind::A, 20)?;
-    let now = Moment::new(100)?;
-    let mut rival = Other {
-        rt,
-        cache: &cache,
-        seat: other,
-        question: question_of(rt.alloc(), Kind::A)?,
-        answer: answer_of(rt.alloc(), Kind::A, 10)?,
-        now,
-        last,
-        tries: 0,
-    };
-    let said = cache.store_against(rt, &mut seat, &question, &answer, now, &mut rival);
-    let found = cache.lookup(&mut seat, &question, now).ok()?;
-    Some((said, rival.tries, found.map(|answer| answer.life())))
+    let mut rival = other_of(rt, &cache, other, last)?;
+    let (said, life) = said_against(rt, &cache, &mut seat, &mut rival)?;
+    Some((said, rival.tries, life))
 }
 
 #[test]
@@ -99,33 +127,18 @@ const QUESTIONS: usize = 40;
 
 const ROUNDS: u32 = 500;
 
-/// One of 64 questions: of 16 names, and of four kinds each.
+/// The names of the questions.
+const NAMES: [&str; 16] = [
+    "a", "b", "c", "d", "e", "f", "g", "h", "i", "j", "k", "l", "m", "n", "o", "p",
+];
+
+/// The kinds of the questions of a name.
+const KINDS: [Kind; 4] = [Kind::A, Kind::Aaaa, Kind::Srv, Kind::Naptr];
+
+/// One of 64 questions, of four kinds for each name.
 fn question_at(alloc: Global, number: usize) -> Option<Question> {
-    let label = match number / 4 {
-        0 => "a",
-        1 => "b",
-        2 => "c",
-        3 => "d",
-        4 => "e",
-        5 => "f",
-        6 => "g",
-        7 => "h",
-        8 => "i",
-        9 => "j",
-        10 => "k",
-        11 => "l",
-        12 => "m",
-        13 => "n",
-        14 => "o",
-        _ => "p",
-    };
-    let kind = match number % 4 {
-        0 => Kind::A,
-        1 => Kind::Aaaa,
-        2 => Kind::Srv,
-        _ => Kind::Naptr,
-    };
-    let name = Name::from_text(alloc, label).ok()?;
+    let name = Name::from_text(alloc, NAMES[number / 4 % 16]).ok()?;
+    let kind = KINDS[number % 4];
     Some(Question { name, kind })
 }
 

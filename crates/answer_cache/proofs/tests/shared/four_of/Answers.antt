@@ -1,6 +1,6 @@
 use Rattle.answer_cache.proofs.Together.{four-popped, new-stored}
 use Rattle.answer_cache.specs.Shared.{new_seat}
-use Rattle.answer_cache.proofs.shared_tests.four_of.Goals as goal
+use Rattle.answer_cache.proofs.tests.shared.four_of.Goals as goal
 
 pub returns-clause-left : goal.returns-clause-left
 returns-clause-left c =

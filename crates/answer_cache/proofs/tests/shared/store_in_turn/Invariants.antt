@@ -1,6 +1,6 @@
 use Rattle.std.proofs.Common.{◌≡◌, ◌≤◌, length}
 use Rattle.answer_cache.specs.Shared.{Belongs}
-use Rattle.answer_cache.proofs.shared_tests.store_in_turn.Given as goal
+use Rattle.answer_cache.proofs.tests.shared.store_in_turn.Given as goal
 
 abbrev pub invariant-rounds : goal.invariant-rounds
 invariant-rounds g l = record {

@@ -2,7 +2,7 @@ use Rattle.std.proofs.Common.{◌≡◌, Bool, true, false, List, [], ◌∷◌,
 use Rattle.std.proofs.lemmas.List.Elements.{All-pop, All-push}
 use Rattle.std.specs.List.{All}
 use Rattle.answer_cache.specs.Shared.{Belongs, SharedView}
-use Rattle.answer_cache.proofs.shared_tests.store_one_each.Goals as goal
+use Rattle.answer_cache.proofs.tests.shared.store_one_each.Goals as goal
 
 -- whether or not it was pushed
 all-pushed : (X : Type 0) (P : X → Type 0) (xs ys : List X) (x : X) (pushed : Bool) → ys ≡ (if pushed then xs ++ x ∷ [] else xs) → All P xs
