@@ -55,7 +55,8 @@ impl<'a> Task<'a> {
 
     /// Lets it be so far.
     pub(crate) fn reach(&mut self, stage: Stage)
-        ensures { self.new ≡ record { job = self.old.job; locator = self.old.locator; stage = stage } }
+        ensures { self.new
+            ≡ record { job = self.old.job; locator = self.old.locator; stage = stage } }
     {
         self.stage = stage;
     }

@@ -17,8 +17,8 @@ returns-in-None-clause-left c = λ ways fallback front.
       c.in-None.is,
     ) at c.in_ok-push_places.ensures in
     rw stop.1 (
-      λ all extends. listing-done b.caps.now b.words.now.0 b.name.now ways (arc_value a.listing.now) a.walk a.targets.now.items stop.0 a.from
-          all (stop.2 all extends) fallback front,
+      λ all extends. listing-done b.caps.now b.words.now.0 b.name.now ways (arc_value a.listing.now) a.walk a.targets.now.items stop.0
+          a.from all (stop.2 all extends) fallback front,
       tt,
     )
 
@@ -37,8 +37,8 @@ returns-in_ok-try_clone-in-Some-clause-left c = λ ways fallback front.
       it.is,
     ) at c.in_ok-push_places.ensures in
     rw (stop.1, c.in_ok-try_clone-in-Some.ensures) (
-      λ all extends. listing-more b.caps.now b.words.now.0 b.name.now ways (arc_value a.listing.now) a.walk a.targets.now.items stop.0 a.from
-          it.cursor all (stop.2.0 all extends) fallback front,
+      λ all extends. listing-more b.caps.now b.words.now.0 b.name.now ways (arc_value a.listing.now) a.walk a.targets.now.items stop.0
+          a.from it.cursor all (stop.2.0 all extends) fallback front,
       listing-asks b.caps.now b.words.now.0 b.name.now b.known.now ways fallback (arc_value a.listing.now) it.cursor a.walk
           (front ++ (a.targets.now.items ++ stop.0)) it.question stop.2.1,
     )

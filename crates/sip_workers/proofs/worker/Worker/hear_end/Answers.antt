@@ -9,8 +9,13 @@ pub returns-in-Faulty-clause-stands : goal.returns-in-Faulty-clause-stands
 returns-in-Faulty-clause-stands g c =
     let task = c.args.task.now in
     let it = c.requires.stands.0 in
-    rw c.reach.ensures
-    (it, (chosen g.W.Wire.gives g.C.Clock.shows c.args.self.now.seat task.job.now task.locator _ c.requires.needs it, rw c.in-Faulty.is at c.requires.heard))
+    rw c.reach.ensures (
+      it,
+      (
+        chosen g.W.Wire.gives g.C.Clock.shows c.args.self.now.seat task.job.now task.locator _ c.requires.needs it,
+        rw c.in-Faulty.is at c.requires.heard,
+      ),
+    )
 
 pub returns-clause-stands : goal.returns-clause-stands
 returns-clause-stands g c = rw c.reach-2.ensures (c.stage_heard-stage.ensures.goes_on c.args.task.now.job.now c.requires.stands.0)

@@ -30,4 +30,5 @@ returns-clause-stands g c =
 
 pub returns-clause-jobs : goal.returns-clause-jobs
 returns-clause-jobs g c =
-    same-jobs c.args.tasks.now c.in-Some-place_of.at c.hear_end.new.task c.index-tasks-at.result c.in-Some-place_of.ensures.0 c.hear_end.ensures.job
+    same-jobs c.args.tasks.now c.in-Some-place_of.at c.hear_end.new.task c.index-tasks-at.result c.in-Some-place_of.ensures.0
+    c.hear_end.ensures.job
