@@ -4,7 +4,8 @@
 //! one by the profile of RFC 3261 25.1 below, and of one text at most one. Else the first fault
 //! from the left is named. Escapes are checked and never undone; parameters and headers that say
 //! nothing of where a request goes are checked and dropped. Memory is taken for the names of hosts
-//! alone. `address_from_text` and `address_text` read and write addresses of IPv4 and IPv6.
+//! alone. `address_from_text` and `address_text` read and write addresses of IPv4 and IPv6, and
+//! `decimal` reads a decimal number up to a limit.
 //!
 //! ```
 //! let uri = read_uri(alloc, "sips:alice@c.example:5061;transport=tcp")?;
