@@ -60,7 +60,9 @@ fn run<R: Threads + Wait + Clock + AllocGlobal + Sync>(
     let clock = StandingClock {
         moment: Moment::new(100).unwrap(),
     };
-    let (cache, seats) = SharedCache::new(alloc, wires.len()).ok()?;
+    let Ok((cache, seats)) = SharedCache::new(alloc, wires.len()) else {
+        return None;
+    };
     let start = Instant::now(rt).ok()?;
     let made = run_workers(
         rt, alloc, &cache, seats, wires, jobs, BATCH, &clock, &OpenGate,

@@ -47,12 +47,18 @@ pub(crate) enum Gives {
     Other,
 }
 
-/// The choice of a request to port 5070 of a.example, over UDP and IPv4 alone, where there is
-/// memory for it.
+/// Random words, of which a request to a host with a port uses none.
+pub(crate) const WORDS: Words = Words([0; WORD_COUNT]);
+
+/// A request to port 5070 of a.example, where there is memory for its name.
+pub(crate) fn request_of(alloc: Global) -> Option<Request> {
+    Some(Request::Uri(read_uri(alloc, "sip:a.example:5070").ok()?))
+}
+
+/// The choice of that request, over UDP and IPv4 alone, where there is memory for it.
 fn begun<B: AnswerBook>(alloc: Global) -> Option<Locator<B>> {
-    let request = Request::Uri(read_uri(alloc, "sip:a.example:5070").ok()?);
     let caps = Caps::new(&[Udp], Families::V4)?;
-    Locator::new(alloc, request, caps, Words([0; WORD_COUNT])).ok()
+    Locator::new(alloc, request_of(alloc)?, caps, WORDS).ok()
 }
 
 /// The question A of a.example., where there is memory for its name.
@@ -94,19 +100,40 @@ pub(crate) fn open_desk<B: AnswerBook>(alloc: Global) -> Option<Desk<B>> {
 pub(crate) fn one_seat(alloc: Global) -> Option<(SharedCache, Seat)>
     ensures { IfSome result (λ made. Belongs made.0 made.1) }
 {
-    let (cache, mut seats) = SharedCache::new(alloc, 1).ok()?;
+    let Ok((cache, mut seats)) = SharedCache::new(alloc, 1) else {
+        return None;
+    };
     let seat = seats.pop()?;
     Some((cache, seat))
 }
 
-/// What becomes of a reply at the moment 100, what the first locator gives then, what becomes of
-/// the same reply again, and what the second locator gives at a later moment.
-type Outcome = (
-    Result<Kept, LocatorRefusal>,
-    Gives,
-    Result<Kept, LocatorRefusal>,
-    Gives,
-);
+/// What comes of a reply at the moment 100, and of the same reply again.
+#[derive(Clone, Copy, Debug, PartialEq, Eq)]
+struct Outcome {
+    taken: Result<Kept, LocatorRefusal>,
+    /// What the first locator gives between them.
+    after: Gives,
+    again: Result<Kept, LocatorRefusal>,
+    /// What the second locator gives at a later moment.
+    other: Gives,
+}
+
+/// What the next step of a locator gives, unless memory is refused.
+fn given<B: AnswerBook>(
+    locator: &mut Locator<B>,
+    book: &B,
+    seat: &mut B::Seat,
+    now: Moment,
+    question: &Question,
+) -> Option<Gives>
+    requires { B.belongs book.now seat.old }
+    ensures { B.belongs book.now seat.new }
+{
+    match locator.step(book, seat, now) {
+        Ok(next) => Some(told(next, question)),
+        Err(_) => None,
+    }
+}
 
 /// This of a desk, unless memory is refused.
 fn talk<B: AnswerBook>(
@@ -127,34 +154,41 @@ fn talk<B: AnswerBook>(
     let now = Moment::new(100)?;
     let later = Moment::new(later)?;
     let taken = first.reply(rt, book, seat, now, octets);
-    let given = told(first.step(book, seat, now).ok()?, question);
+    let after = given(first, book, seat, now, question)?;
     let again = first.reply(rt, book, seat, now, octets);
-    let other = told(second.step(book, seat, later).ok()?, question);
-    Some((taken, given, again, other))
+    let other = given(second, book, seat, later, question)?;
+    Some(Outcome {
+        taken,
+        after,
+        again,
+        other,
+    })
 }
 
 /// The same of a new desk over a book of one thread.
 fn over_list(rt: &impl Wait, alloc: Global, octets: &[u8], later: u64) -> Option<Outcome> {
     let (book, mut seat) = ListCache::new(alloc);
-    talk(rt, &mut open_desk(alloc)?, &book, &mut seat, octets, later)
+    let mut desk = open_desk(alloc)?;
+    talk(rt, &mut desk, &book, &mut seat, octets, later)
 }
 
 /// The same of a new desk over a book that threads can share.
 fn over_shared(rt: &impl Wait, alloc: Global, octets: &[u8], later: u64) -> Option<Outcome> {
     let (book, mut seat) = one_seat(alloc)?;
-    talk(rt, &mut open_desk(alloc)?, &book, &mut seat, octets, later)
+    let mut desk = open_desk(alloc)?;
+    talk(rt, &mut desk, &book, &mut seat, octets, later)
 }
 
 /// Whether octets were not read, and the question is asked again.
 fn is_asked_again(outcome: Option<Outcome>) -> bool {
     matches!(
         outcome,
-        Some((
-            Err(LocatorRefusal::Message(MessageRefusal::Malformed(_))),
-            Gives::Asks,
-            Err(LocatorRefusal::Message(MessageRefusal::Malformed(_))),
-            Gives::Asks,
-        ))
+        Some(Outcome {
+            taken: Err(LocatorRefusal::Message(MessageRefusal::Malformed(_))),
+            after: Gives::Asks,
+            again: Err(LocatorRefusal::Message(MessageRefusal::Malformed(_))),
+            other: Gives::Asks,
+        })
     )
 }
 
@@ -189,12 +223,12 @@ const ROWS: [(&[u8], Kept, u64, Gives); 4] = [
 #[test]
 fn answers_shared(rt: HostRuntime) {
     for (octets, kept, later, other) in ROWS {
-        let wanted = Some((
-            Ok(kept),
-            Gives::Goes,
-            Err(LocatorRefusal::NothingAsked),
+        let wanted = Some(Outcome {
+            taken: Ok(kept),
+            after: Gives::Goes,
+            again: Err(LocatorRefusal::NothingAsked),
             other,
-        ));
+        });
         assert_eq!(rt; over_list(&rt, rt.alloc(), octets, later), wanted);
         assert_eq!(rt; over_shared(&rt, rt.alloc(), octets, later), wanted);
     }

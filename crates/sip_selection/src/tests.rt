@@ -58,9 +58,11 @@ pub(crate) fn begun(
     Selection::new(alloc, request, caps, words).ok()
 }
 
+const ZEROS: [u64; WORD_COUNT] = [0; WORD_COUNT];
+
 /// These words, and 0 after them.
 fn words_of(words: &[u64]) -> Words {
-    let mut all = [0; WORD_COUNT];
+    let mut all = ZEROS;
     for (slot, word) in all.iter_mut().zip(words) {
         *slot = *word;
     }

@@ -8,7 +8,9 @@
 //! the end each job has its `Outcome`.
 //!
 //! ```
-//! let (cache, mut seats) = SharedCache::new(alloc, 1).ok()?;
+//! let Ok((cache, mut seats)) = SharedCache::new(alloc, 1) else {
+//!     return None;
+//! };
 //! let worker = Worker::new(alloc, seats.pop()?, wire).ok()?;
 //! ```
 //!

@@ -63,13 +63,16 @@ fn gate_for(wanted: u64) -> Meeting {
     }
 }
 
+/// Random words, of which a request to a host with a port uses none.
+const WORDS: Words = Words([0; WORD_COUNT]);
+
 /// A job over UDP and IPv4 alone, where there is memory for it.
 fn job_of(alloc: Global, number: u64, text: &str) -> Option<Job> {
     Some(Job {
         number,
         request: Request::Uri(read_uri(alloc, text).ok()?),
         caps: Caps::new(&[Udp], Families::V4)?,
-        words: Words([0; WORD_COUNT]),
+        words: WORDS,
     })
 }
 
@@ -101,7 +104,9 @@ fn all_go<R: Threads + Wait + AllocGlobal + Sync>(
     gate: &Meeting,
 ) -> Option<bool> {
     let alloc = rt.alloc();
-    let (cache, seats) = SharedCache::new(alloc, wires.len()).ok()?;
+    let Ok((cache, seats)) = SharedCache::new(alloc, wires.len()) else {
+        return None;
+    };
     let clock = clock_at_100();
     let made = run_workers(rt, alloc, &cache, seats, wires, jobs, 1, &clock, gate).ok()?;
     Some(made.iter().all(|it| goes(&it.0)))

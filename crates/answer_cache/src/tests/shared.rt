@@ -128,17 +128,19 @@ const QUESTIONS: usize = 40;
 const ROUNDS: u32 = 500;
 
 /// The names of the questions.
-const NAMES: [&str; 16] = [
+const NAMES: &[&str] = &[
     "a", "b", "c", "d", "e", "f", "g", "h", "i", "j", "k", "l", "m", "n", "o", "p",
 ];
 
-/// The kinds of the questions of a name.
-const KINDS: [Kind; 4] = [Kind::A, Kind::Aaaa, Kind::Srv, Kind::Naptr];
-
 /// One of 64 questions, of four kinds for each name.
 fn question_at(alloc: Global, number: usize) -> Option<Question> {
-    let name = Name::from_text(alloc, NAMES[number / 4 % 16]).ok()?;
-    let kind = KINDS[number % 4];
+    let kind = match number % 4 {
+        0 => Kind::A,
+        1 => Kind::Aaaa,
+        2 => Kind::Srv,
+        _ => Kind::Naptr,
+    };
+    let name = Name::from_text(alloc, NAMES.get(number / 4)?).ok()?;
     Some(Question { name, kind })
 }
 

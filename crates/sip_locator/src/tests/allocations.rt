@@ -5,6 +5,7 @@ use crate::tests::{Desk, Gives, REPLY, one_seat, open_desk, told};
 use crate::*;
 use answer_cache::{AnswerBook, ListCache, StoreRefusal};
 use dns_answers::Moment;
+use std::alloc::Global;
 use std::sync::Wait;
 
 /// What becomes of the reply, and what both locators then give, where memory is refused at most
@@ -45,19 +46,28 @@ fn is_right(outcome: Option<(Kept, Gives, Gives)>) -> bool {
     )
 }
 
+/// Whether this is so of a new desk over a book of one thread, where there is memory for them.
+fn is_right_over_list(rt: &impl Wait, alloc: Global) -> Option<bool> {
+    let (book, mut seat) = ListCache::new(alloc);
+    let mut desk = open_desk(alloc)?;
+    let outcome = outcome(rt, &mut desk, &book, &mut seat);
+    Some(is_right(outcome))
+}
+
 #[test]
 fn locator_refused(rt: HostRuntime) {
-    let (book, mut seat) = ListCache::new(rt.alloc());
-    if let Some(mut desk) = open_desk(rt.alloc()) {
-        assert!(rt; is_right(outcome(&rt, &mut desk, &book, &mut seat)));
-    }
+    assert!(rt; is_right_over_list(&rt, rt.alloc()) != Some(false));
+}
+
+/// The same over a book that threads can share.
+fn is_right_over_shared(rt: &impl Wait, alloc: Global) -> Option<bool> {
+    let (book, mut seat) = one_seat(alloc)?;
+    let mut desk = open_desk(alloc)?;
+    let outcome = outcome(rt, &mut desk, &book, &mut seat);
+    Some(is_right(outcome))
 }
 
 #[test]
 fn shared_locator_refused(rt: HostRuntime) {
-    if let Some((book, mut seat)) = one_seat(rt.alloc())
-        && let Some(mut desk) = open_desk(rt.alloc())
-    {
-        assert!(rt; is_right(outcome(&rt, &mut desk, &book, &mut seat)));
-    }
+    assert!(rt; is_right_over_shared(&rt, rt.alloc()) != Some(false));
 }

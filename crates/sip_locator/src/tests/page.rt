@@ -1,12 +1,11 @@
 //! The example of the crate's page, line by line.
-use super::REPLY;
+use super::{REPLY, WORDS, request_of};
 use crate::*;
 use answer_cache::ListCache;
 use dns_answers::Moment;
 use sip_selection::{Caps, Families, Next, Request};
 use sip_uri::Transport::Udp;
-use sip_uri::read_uri;
-use srv_choice::{WORD_COUNT, Words};
+use srv_choice::Words;
 use std::alloc::Global;
 use std::sync::Wait;
 
@@ -26,10 +25,10 @@ fn asks_and_goes(
     rt: &impl Wait,
     alloc: Global,
     request: Request,
+    words: Words,
     octets: &[u8],
 ) -> Option<[bool; 2]> {
     let now = Moment::new(100)?;
-    let words = Words([0; WORD_COUNT]);
     let caps = Caps::new(&[Udp], Families::V4)?;
     let (book, mut seat) = ListCache::new(alloc);
     let mut locator = Locator::new(alloc, request, caps, words).ok()?;
@@ -41,10 +40,9 @@ fn asks_and_goes(
     Some([asks, goes])
 }
 
-/// The same of `sip:a.example:5070`.
+/// The same of the request to port 5070 of a.example.
 fn example(rt: &impl Wait, alloc: Global) -> Option<[bool; 2]> {
-    let request = Request::Uri(read_uri(alloc, "sip:a.example:5070").ok()?);
-    asks_and_goes(rt, alloc, request, &REPLY)
+    asks_and_goes(rt, alloc, request_of(alloc)?, WORDS, &REPLY)
 }
 
 #[test]

@@ -10,9 +10,8 @@ const WORDS: Words = Words([0; WORD_COUNT]);
 
 /// Whether a new choice asks, where there is memory for it.
 fn new_asks(alloc: Global) -> Option<bool> {
-    let request = request_of(alloc, "sip:b.example;transport=tcp")?;
-    let caps = Caps::new(&[Udp, Tcp], Families::V4)?;
-    let selection = Selection::new(alloc, request, caps, WORDS).ok()?;
+    let request = "sip:b.example;transport=tcp";
+    let selection = begun(alloc, request, &[Udp, Tcp], Families::V4, WORDS)?;
     Some(matches!(selection.next(), Next::Ask(_)))
 }
 

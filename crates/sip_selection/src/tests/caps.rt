@@ -15,16 +15,22 @@ const LISTS: &[(&[Transport], bool)] = &[
     (&[Udp, Tcp, Tls, Udp], false),
 ];
 
+/// Whether the caller has these transports and families.
+fn has_both(caps: &Caps, transports: &[Transport], families: Families) -> bool {
+    caps.families() == families && caps.offers(Sctp) == transports.contains(&Sctp)
+}
+
+/// Whether a row is right: a caller of its transports has them, or there is none.
+fn is_right(transports: &[Transport], is_made: bool) -> bool {
+    match Caps::new(transports, Families::V6ThenV4) {
+        Some(caps) => is_made && has_both(&caps, transports, Families::V6ThenV4),
+        None => !is_made,
+    }
+}
+
 #[test]
 fn transports(rt: HostRuntime) {
     for (transports, is_made) in LISTS {
-        match Caps::new(transports, Families::V6ThenV4) {
-            Some(caps) => {
-                assert!(rt; *is_made, "{transports:?}");
-                assert_eq!(rt; caps.families(), Families::V6ThenV4);
-                assert_eq!(rt; caps.offers(Sctp), transports.contains(&Sctp));
-            }
-            None => assert!(rt; !*is_made, "{transports:?}"),
-        }
+        assert!(rt; is_right(transports, *is_made), "{transports:?}");
     }
 }

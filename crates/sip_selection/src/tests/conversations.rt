@@ -516,11 +516,10 @@ fn are_at(targets: &[Target], places: &[Place]) -> bool {
 
 /// Whether this is next.
 fn is_so(alloc: Global, next: Next<'_>, outcome: Outcome) -> bool {
-    match (next, outcome) {
-        (_, Asks(kind, name)) => asks(alloc, next, kind, name),
-        (Next::Targets(targets), Goes(places)) => are_at(targets, places),
-        (Next::Refused(reason), Fails(expected)) => reason == expected,
-        _ => false,
+    match outcome {
+        Asks(kind, name) => asks(alloc, next, kind, name),
+        Goes(places) => matches!(next, Next::Targets(targets) if are_at(targets, places)),
+        Fails(expected) => matches!(next, Next::Refused(reason) if reason == expected),
     }
 }
 
@@ -532,16 +531,17 @@ fn is_right(alloc: Global, row: &Row) -> bool {
     }
 }
 
+/// The number of the first of these rows that is not right.
+fn first_wrong(alloc: Global, rows: &[Row]) -> Option<usize> {
+    rows.iter().position(|row| !is_right(alloc, row))
+}
+
 #[test]
 fn discovered(rt: HostRuntime) {
-    for row in DISCOVERED {
-        assert!(rt; is_right(rt.alloc(), row), "{}", row.request);
-    }
+    assert_eq!(rt; first_wrong(rt.alloc(), DISCOVERED), None);
 }
 
 #[test]
 fn named(rt: HostRuntime) {
-    for row in NAMED {
-        assert!(rt; is_right(rt.alloc(), row), "{}", row.request);
-    }
+    assert_eq!(rt; first_wrong(rt.alloc(), NAMED), None);
 }

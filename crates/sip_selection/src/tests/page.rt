@@ -8,9 +8,11 @@ use srv_choice::{WORD_COUNT, Words};
 use std::alloc::Global;
 use std::sync::Arc;
 
+/// Random words, of which a request to a host with a port uses none.
+const WORDS: Words = Words([0; WORD_COUNT]);
+
 /// The port of the one target of a request that asks one question, where there is memory for it.
-fn port_of(alloc: Global, request: Request, answer: Arc<Answer>) -> Option<u16> {
-    let words = Words([0; WORD_COUNT]);
+fn port_of(alloc: Global, request: Request, answer: Arc<Answer>, words: Words) -> Option<u16> {
     let caps = Caps::new(&[Udp], Families::V4)?;
     let mut selection = Selection::new(alloc, request, caps, words).ok()?;
     // it asks for A of a.example., and a name server answers 192.0.2.7
@@ -27,11 +29,8 @@ fn port_of(alloc: Global, request: Request, answer: Arc<Answer>) -> Option<u16> 
 /// That of `sip:a.example:5070`.
 fn port(alloc: Global) -> Option<u16> {
     let request = request_of(alloc, "sip:a.example:5070")?;
-    port_of(
-        alloc,
-        request,
-        answer_of(alloc, Kind::A, Says::A(&[[192, 0, 2, 7]]))?,
-    )
+    let answer = answer_of(alloc, Kind::A, Says::A(&[[192, 0, 2, 7]]))?;
+    port_of(alloc, request, answer, WORDS)
 }
 
 #[test]

@@ -1,7 +1,7 @@
 //! Random answers: a choice that takes them one after the other, against the choice made at once by
 //! all of them.
 use super::rules::NINE;
-use super::{Says, Server, answer_of, begun, request_of};
+use super::{Says, Server, ZEROS, answer_of, begun, request_of};
 use crate::choice::begin;
 use crate::known::Known;
 use crate::stage::Turn;
@@ -9,7 +9,7 @@ use crate::tests::Says::{A, Aaaa, Absent, Naptr, Srv};
 use crate::{Caps, Families, Next, Reason, Request, Selection, Target};
 use dns_message::{Kind, Question};
 use sip_uri::Transport;
-use srv_choice::{WORD_COUNT, Words};
+use srv_choice::Words;
 use std::alloc::{AllocError, Global};
 
 /// The most questions of a request.
@@ -86,7 +86,7 @@ impl Dice {
 
 /// Random words.
 fn words_of(dice: &mut Dice) -> Words {
-    let mut words = [0; WORD_COUNT];
+    let mut words = ZEROS;
     for word in &mut words {
         *word = dice.roll() << 32;
     }

@@ -14,7 +14,9 @@ use std::sync::atomic::AtomicU64;
 fn one_worker<'a>(alloc: Global, wire: ZoneWire<'a>) -> Option<(SharedCache, Worker<ZoneWire<'a>>)>
     ensures { IfSome result (λ made. Belongs made.0 made.1) }
 {
-    let (cache, mut seats) = SharedCache::new(alloc, 1).ok()?;
+    let Ok((cache, mut seats)) = SharedCache::new(alloc, 1) else {
+        return None;
+    };
     let worker = Worker::new(alloc, seats.pop()?, wire).ok()?;
     Some((cache, worker))
 }

@@ -24,7 +24,9 @@ fn ran<R: Threads + Wait + Sync>(rt: &R, alloc: Global, workers: usize) -> Optio
     let zone = Zone::read(alloc, zone).ok()?;
     let sent = AtomicU64::new(0);
     let wires = ZoneWire::several(alloc, &zone, &sent, workers).ok()?;
-    let (cache, seats) = SharedCache::new(alloc, workers).ok()?;
+    let Ok((cache, seats)) = SharedCache::new(alloc, workers) else {
+        return None;
+    };
     let clock = StandingClock {
         moment: Moment::new(0)?,
     };
