@@ -1,6 +1,6 @@
 -- The records of an answer, and its life.
-use Rattle.std.proofs.Common.{◌≡◌, ℕ, zero, suc, ◌<◌, ◌≤◌, ◌^◌, List, [], ◌∷◌, ◌++◌, length, take, Bool, true, false, cond, Option, Some, None, refl, sym, ap, ◌∙◌, arith}
-use Rattle.std.specs.List.{filter}
+use Rattle.std.proofs.Common.{◌≡◌, ℕ, zero, suc, ◌<◌, ◌≤◌, ◌^◌, List, [], ◌∷◌, ◌++◌, length, take, map, Bool, true, false, cond, Option, Some, None, refl, sym, ap, ◌∙◌, arith}
+use Rattle.std.specs.List.{All, filter}
 use Rattle.std.proofs.lemmas.List.{length-take}
 use Rattle.dns_message.specs.declared.kind.Kind.{Kind}
 use Rattle.dns_message.specs.declared.kind.Kind.TheVariants.{A, Aaaa, Srv, Naptr}
@@ -11,9 +11,11 @@ use Rattle.dns_message.specs.declared.resource.Record.{Record}
 use Rattle.dns_answers.specs.Answers.{kept_along, answer}
 use Rattle.dns_answers.specs.Chains.{Chain, chain}
 use Rattle.dns_answers.specs.Kept.{has_data, kept_with, data_of, kept, records_of}
-use Rattle.dns_answers.specs.Lives.{least_from, ttls, links_of, life_of, absent_life}
+use Rattle.dns_message.specs.declared.soa.SoaRecord.{SoaRecord}
+use Rattle.dns_answers.specs.Lives.{lasting, least_from, ttls, links_of, life_of, absent_life, IsFirstSoa, IsNoSoa, IsLeast}
 use Rattle.dns_name.specs.Labels.{same_name}
 use Rattle.dns_answers.specs.Records.{count_of, kind_of, CanBeKept}
+use Rattle.dns_answers.proofs.NegativeLives.{absent-le, absent_is_least, absent_without, absent-ttl, absent-minimum, absent-links}
 use Rattle.dns_answers.proofs.LeastLives.{least-le}
 
 module _ {X : Type 0} (data_in : Rdata → Option X) (name : List (List ℕ)) where
@@ -79,7 +81,7 @@ module _ (question : Question) (message : Message) (links : List Record) (last :
   entries = kept question.kind last message.answers
 
   pub absent : (life : ℕ) → count_of (records_of question.kind entries) ≡ 0
-      → life ≡ absent_life message (chain message.answers question.name)
+      → life ≡ absent_life message (Some (record { links = links; last = last }))
       → answer question message ≡ record { records = records_of question.kind entries; life = life }
   absent life none e =
       let short = life_absent message (Some (record { links = links; last = last })) entries
@@ -112,10 +114,56 @@ pub answer-few : (question : Question) (message : Message) → count_of (answer 
 answer-few question message = few_along question message (chain message.answers question.name)
 
 life_short : (message : Message) (found : Option Chain) (entries : List Record) → life_of message found entries < 2 ^ 31
-life_short message found [] = omega arith
+life_short message found [] = omega (arith, absent-le message found)
 life_short message found (first ∷ others) = omega (arith, least-le 2147483647 (ttls (links_of found ++ first ∷ others)))
 
 pub answer-short : (question : Question) (message : Message) → (answer question message).life < 2 ^ 31
 answer-short question message =
     let found : Option Chain = chain message.answers question.name in
     life_short message found (kept_along question message found)
+
+-- ---- an answer without records
+
+absent_along : (question : Question) (message : Message) (found : Option Chain)
+    → count_of (records_of question.kind (kept_along question message found)) ≡ 0
+    → life_of message found (kept_along question message found) ≡ absent_life message found
+absent_along question message None none = refl
+absent_along question message (Some found) none =
+    life_absent message (Some found) (kept question.kind found.last message.answers)
+    (sym (count_is question.kind found.last message.answers) ∙ none)
+
+module _ (question : Question) (message : Message) (none : count_of (answer question message).records ≡ 0) where
+  abbrev this_chain : Option Chain
+  this_chain = chain message.answers question.name
+
+  life_is : (answer question message).life ≡ absent_life message this_chain
+  life_is = absent_along question message this_chain none
+
+  pub answer-ttl : (entry : Record) (authority : SoaRecord) → IsFirstSoa message.authority entry authority
+      → (answer question message).life ≤ lasting entry.ttl
+  answer-ttl entry authority is = rw life_is (absent-ttl message this_chain entry authority is)
+
+  pub answer-minimum : (entry : Record) (authority : SoaRecord) → IsFirstSoa message.authority entry authority
+      → (answer question message).life ≤ authority.minimum
+  answer-minimum entry authority is = rw life_is (absent-minimum message this_chain entry authority is)
+
+  pub answer-aliases : (found : Chain) → this_chain ≡ Some found
+      → All (λ (ttl : ℕ). (answer question message).life ≤ lasting ttl) (ttls found.links)
+  answer-aliases found is = rw (life_is, is) (absent-links message found)
+
+  pub answer-least : (found : Chain) (entry : Record) (authority : SoaRecord) → this_chain ≡ Some found
+      → IsFirstSoa message.authority entry authority
+      → IsLeast (answer question message).life (authority.minimum ∷ map lasting (entry.ttl ∷ ttls found.links))
+  answer-least found entry authority is first = rw (life_is, is) (absent_is_least message found entry authority first)
+
+  pub answer-without : All IsNoSoa message.authority → (answer question message).life ≡ 0
+  answer-without no_soa = rw life_is (absent_without message this_chain no_soa)
+
+endless : (question : Question) (message : Message) (found : Option Chain) → found ≡ None
+    → life_of message found (kept_along question message found) ≡ 0
+endless question message None is = refl
+endless question message (Some found) is = absurd cc
+
+pub answer-endless : (question : Question) (message : Message) → chain message.answers question.name ≡ None
+    → (answer question message).life ≡ 0
+answer-endless question message is = endless question message (chain message.answers question.name) is

@@ -33,7 +33,7 @@ least-le limit numbers = fold-le limit (map lasting numbers)
 
 -- ---- it is the least
 
-lasting-le : (ttl : ℕ) → lasting ttl ≤ 2147483647
+pub lasting-le : (ttl : ℕ) → lasting ttl ≤ 2147483647
 lasting-le ttl = grind (arith, nat_tests)
 
 -- what is among the rest and the less of two numbers is among both and the rest
@@ -46,7 +46,7 @@ among_both number limit first others (zero, within, is) =
     ]
 among_both number limit first others (suc k, within, is) = (suc (suc k), omega arith, is)
 
-least_more : (number limit first : ℕ) (others : List ℕ) → IsLeast number (min limit first ∷ others)
+pub least_more : (number limit first : ℕ) (others : List ℕ) → IsLeast number (min limit first ∷ others)
     → IsLeast number (limit ∷ first ∷ others)
 least_more number limit first others is =
     let head : number ≤ min limit first = All-head (λ (other : ℕ). number ≤ other) (min limit first) others is.least in
@@ -57,7 +57,7 @@ least_more number limit first others is =
           (All-tail (λ (other : ℕ). number ≤ other) (min limit first) others is.least));
     }
 
-least_of : (limit : ℕ) (numbers : List ℕ) → IsLeast (fold min limit numbers) (limit ∷ numbers)
+pub least_of : (limit : ℕ) (numbers : List ℕ) → IsLeast (fold min limit numbers) (limit ∷ numbers)
 least_of limit [] =
     record {
       among = (0, omega arith, refl);

@@ -1,3 +1,4 @@
+mod NegativeLives
 mod AnswerParts
 mod ChainLaws
 mod Chains

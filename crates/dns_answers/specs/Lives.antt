@@ -1,8 +1,12 @@
 -- For how many seconds an answer may be kept.
-use Rattle.std.specs.Prelude.{ℕ, ◌≤◌, min, nat_le, List, [], ◌∷◌, ◌++◌, map, Option, Some, None, if◌then◌else◌}
-use Rattle.std.specs.List.{All, Contains, fold}
+use Rattle.std.specs.Prelude.{◌≡◌, ℕ, ◌≤◌, min, nat_le, List, [], ◌∷◌, ◌++◌, map, Option, Some, None, slice_get, if◌then◌else◌}
+use Rattle.std.specs.List.{All, Contains, filter_map, fold}
+use Rattle.std.specs.Option.{option_map, unwrap_or}
 use Rattle.dns_message.specs.declared.message.Message.{Message}
+use Rattle.dns_message.specs.declared.rdata.Rdata.{Rdata}
+use Rattle.dns_message.specs.declared.rdata.Rdata.TheVariants.{Soa}
 use Rattle.dns_message.specs.declared.resource.Record.{Record}
+use Rattle.dns_message.specs.declared.soa.SoaRecord.{SoaRecord}
 use Rattle.dns_answers.specs.Chains.{Chain}
 
 -- a record, by its TTL: a TTL of 2^31 or more counts as 0 (RFC 2181 8)
@@ -17,9 +21,30 @@ least_from limit ttls = fold min limit (map lasting ttls)
 abbrev pub ttls : List Record → List ℕ
 ttls entries = map (λ (entry : Record). entry.ttl) entries
 
--- that there is no record, by the message and the chain in it, which may have no end
+-- ---- that there is no record (RFC 2308 3, 5)
+
+abbrev pub authority_in : Rdata → Option SoaRecord
+authority_in (Soa authority) = Some authority
+authority_in _ = None
+
+-- the TTL that an SOA record gives to negative answers: its MINIMUM, and no longer than the record
+-- lasts itself
+abbrev pub negative_ttl : Record → Option ℕ
+negative_ttl entry =
+    option_map (λ (authority : SoaRecord). min authority.minimum (lasting entry.ttl))
+    (authority_in entry.rdata)
+
+-- the first one of a section, whatever its owner; where there is none, 0
+abbrev pub negative_ttl_of : List Record → ℕ
+negative_ttl_of section = unwrap_or (slice_get (filter_map negative_ttl section) 0) 0
+
+-- at the end of a chain: as long as the authority section lets it, and as each record of the chain
+-- lasts; where the chain has no end, not at all
 abbrev pub absent_life : Message → Option Chain → ℕ
-absent_life message chain = 30
+absent_life message None = 0
+absent_life message (Some chain) = least_from (negative_ttl_of message.authority) (ttls chain.links)
+
+-- ---- the records of an answer, or that there are none
 
 -- the CNAME records of a chain; of one without an end, none
 abbrev pub links_of : Option Chain → List Record
@@ -31,6 +56,21 @@ abbrev pub life_of : Message → Option Chain → List Record → ℕ
 life_of message chain [] = absent_life message chain
 life_of message chain (first ∷ others) =
     least_from 2147483647 (ttls (links_of chain ++ first ∷ others))
+
+-- ---- the same as relations
+
+-- a record is no SOA record of class IN
+abbrev pub IsNoSoa : Record → Type 0
+IsNoSoa entry = (authority : SoaRecord) → entry.rdata ≡ Soa authority → ⊥
+
+-- the first SOA record of a section
+pub record IsFirstSoa (section : List Record) (entry : Record)
+    (authority : SoaRecord) : Type 0 where
+  pub front : List Record
+  pub back : List Record
+  pub stands : section ≡ front ++ entry ∷ back
+  pub is : entry.rdata ≡ Soa authority
+  pub first : All IsNoSoa front
 
 -- a number is one of these, and none of them is less
 pub record IsLeast (number : ℕ) (numbers : List ℕ) : Type 0 where

@@ -1,13 +1,15 @@
 //! Laws of answers. A call of one does nothing; its contract states the law.
 ghost use Rattle.std.specs.Prelude.{◌≡◌, ◌≢◌, ◌↔◌, ◌<◌, ◌≤◌, ◌^◌, ◌++◌, ◌∷◌, ℕ, List, [], true, Option, Some, None, map};
+ghost use Rattle.std.specs.List.{All};
 ghost use Rattle.dns_message.specs.Written.{asked_of};
 ghost use Rattle.dns_message.specs.declared.message.Message as message;
 ghost use Rattle.dns_message.specs.declared.question.Asked as asked;
 ghost use Rattle.dns_message.specs.declared.question.Question as question;
 ghost use Rattle.dns_message.specs.declared.resource.Record as resource;
+ghost use Rattle.dns_message.specs.declared.soa.SoaRecord as soa;
 ghost use Rattle.dns_answers.specs.Chains as chains;
 ghost use Rattle.dns_answers.specs.Answers.{answer};
-ghost use Rattle.dns_answers.specs.Lives.{IsLeast, lasting, life_of, links_of, ttls};
+ghost use Rattle.dns_answers.specs.Lives.{IsFirstSoa, IsLeast, IsNoSoa, lasting, life_of, links_of, ttls};
 ghost use Rattle.dns_answers.specs.Records.{count_of, kind_of};
 ghost use Rattle.dns_answers.specs.Replies.{asks_this_alone};
 
@@ -39,6 +41,40 @@ pub fn life_is_the_least()
     ensures { (message : message.Message) (chain : Option chains.Chain)
         (kept : List resource.Record) → kept ≢ []
         → IsLeast (life_of message chain kept) (map lasting (ttls (links_of chain ++ kept))) }
+{}
+
+/// An answer without records outlives neither the first SOA record of the authority section, nor
+/// its MINIMUM, nor any CNAME record that was followed, and lives as long as the least of these.
+/// Without an SOA record there, and where the CNAME records have no end, its life is 0 (RFC 2308 3,
+/// 5).
+pub fn absence_is_limited()
+    ensures ttl { (question : question.Question) (message : message.Message)
+        (entry : resource.Record) (authority : soa.SoaRecord)
+        → count_of (answer question message).records ≡ 0
+        → IsFirstSoa message.authority entry authority
+        → (answer question message).life ≤ lasting entry.ttl }
+    ensures minimum { (question : question.Question) (message : message.Message)
+        (entry : resource.Record) (authority : soa.SoaRecord)
+        → count_of (answer question message).records ≡ 0
+        → IsFirstSoa message.authority entry authority
+        → (answer question message).life ≤ authority.minimum }
+    ensures aliases { (question : question.Question) (message : message.Message)
+        (found : chains.Chain) → count_of (answer question message).records ≡ 0
+        → chains.chain message.answers question.name ≡ Some found
+        → All (λ ttl. (answer question message).life ≤ lasting ttl) (ttls found.links) }
+    ensures least { (question : question.Question) (message : message.Message)
+        (found : chains.Chain) (entry : resource.Record) (authority : soa.SoaRecord)
+        → count_of (answer question message).records ≡ 0
+        → chains.chain message.answers question.name ≡ Some found
+        → IsFirstSoa message.authority entry authority
+        → IsLeast (answer question message).life
+        (authority.minimum ∷ map lasting (entry.ttl ∷ ttls found.links)) }
+    ensures without { (question : question.Question) (message : message.Message)
+        → count_of (answer question message).records ≡ 0 → All IsNoSoa message.authority
+        → (answer question message).life ≡ 0 }
+    ensures endless { (question : question.Question) (message : message.Message)
+        → chains.chain message.answers question.name ≡ None
+        → (answer question message).life ≡ 0 }
 {}
 
 /// The answer that a message has for a question is of the question's kind, and has at most 32

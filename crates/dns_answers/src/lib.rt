@@ -1,8 +1,9 @@
-//! The answer that a DNS reply has for a question (RFC 1034 3.6.2, 5.2.2, RFC 2181 5.2).
+//! The answer that a DNS reply has for a question (RFC 1034 3.6.2, 5.2.2, 2181 5.2, 2308).
 //!
 //! A reply to the question is turned into its records and for how long they may be kept; of any
 //! other message it is said why it is no reply. Aliases are followed inside the reply, at most
-//! eight. No records means that there are none: an answer too, and kept for a while.
+//! eight. No records means that there are none: an answer too, kept for as long as an SOA record in
+//! the reply says (RFC 2308 5).
 //!
 //! ```
 //! let name = Name::from_text(alloc, "a.example")?;
@@ -19,6 +20,7 @@
 //! ```
 #![tactic(auto)]
 
+mod absence;
 mod answer;
 mod chain;
 mod kept;
@@ -31,7 +33,8 @@ mod reply;
 pub use answer::Answer;
 pub use dns_message::Section;
 pub use laws::{
-    answers_are_bounded, chain_follows_aliases, life_is_the_least, question_is_repeated,
+    absence_is_limited, answers_are_bounded, chain_follows_aliases, life_is_the_least,
+    question_is_repeated,
 };
 pub use moment::Moment;
 pub use records::Records;

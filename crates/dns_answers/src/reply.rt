@@ -5,6 +5,7 @@ ghost use Rattle.dns_answers.specs.Records.{kind_of};
 ghost use Rattle.dns_answers.specs.Replies.{reply_refusal as refusal_of};
 ghost use Rattle.dns_answers.specs.declared.refusal.ReplyRefusal as refusals;
 
+use crate::absence::negative_ttl_of;
 use crate::answer::Answer;
 use crate::chain::chain_end;
 use crate::kept::{no_records, records_for};
@@ -12,20 +13,18 @@ use crate::refusal::{ReplyRefusal, reply_refusal};
 use dns_message::{Message, Question};
 use std::alloc::{AllocError, Global};
 
-/// For how many seconds it may be kept that there are no records.
-const ABSENT_LIFE: u32 = 30;
-
 /// The answer of the answer section of a message.
 fn answer_in(alloc: Global, question: &Question, message: &Message) -> Result<Answer, AllocError>
     ensures { IfOk result (λ answer. answer ≡ spec.answer question.now message.now) }
 {
     let section = message.answers.as_slice();
     let Some(end) = chain_end(section, &question.name) else {
-        return Ok(Answer::of(no_records(alloc, question.kind), ABSENT_LIFE));
+        return Ok(Answer::of(no_records(alloc, question.kind), 0));
     };
     let (records, life) = records_for(alloc, question.kind, section, end.name, end.life)?;
     if records.is_empty() {
-        return Ok(Answer::of(records, ABSENT_LIFE));
+        let limit = negative_ttl_of(message.authority.as_slice());
+        return Ok(Answer::of(records, end.life.min(limit)));
     }
     Ok(Answer::of(records, life))
 }
@@ -35,8 +34,12 @@ fn answer_in(alloc: Global, question: &Question, message: &Message) -> Result<An
 /// From the name that is asked the first CNAME record of each name is followed in the answer
 /// section, up to eight of them (RFC 1034 3.6.2, 5.2.2); the answer has the records of the asked
 /// kind there, in the order of the message, the first 32. It lives as long as the one of these
-/// records and of those followed that lasts least (of one set of records: RFC 2181 5.2), and 30
-/// seconds where there are no records. The number of the message is not looked at.
+/// records and of those followed that lasts least (of one set of records: RFC 2181 5.2).
+///
+/// An answer without records lives as long as the CNAME records followed, the first SOA record of
+/// the authority section and its MINIMUM let it (RFC 2308 5). The owner of the SOA record is not
+/// looked at. Without an SOA record, and where more than eight CNAME records could be followed, the
+/// life is 0. The number of the message is not looked at.
 pub fn answer_of(
     alloc: Global,
     question: &Question,

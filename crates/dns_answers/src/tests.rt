@@ -1,8 +1,8 @@
-//! Replies by hand, as tables (RFC 1034 3.6.2, RFC 2181 5.2 and 8).
+//! Replies by hand, as tables (RFC 1034 3.6.2, RFC 2181 5.2 and 8, RFC 2308 3 and 5).
 use super::*;
 use dns_message::{
     Asked, CharString, Header, Kind, Message, NaptrRecord, OtherData, Question, Rdata, Record,
-    SrvRecord,
+    SoaRecord, SrvRecord,
 };
 use dns_name::Name;
 use std::alloc::Global;
@@ -10,6 +10,7 @@ use std::alloc::Global;
 mod addresses;
 mod allocations;
 pub(crate) mod kinds;
+mod octets;
 mod page;
 mod replies;
 mod values;
@@ -24,6 +25,8 @@ pub(crate) enum Says {
     /// REGEXP and REPLACEMENT.
     Naptr(&'static [u8], &'static str),
     Cname(&'static str),
+    /// A MINIMUM.
+    Soa(u32),
     /// Four octets of a type and class.
     Other(u16, u16),
 }
@@ -63,6 +66,19 @@ fn rule_of(alloc: Global, regexp: &[u8], replacement: &str) -> Option<NaptrRecor
     })
 }
 
+/// The start of a zone with this MINIMUM.
+fn authority_of(alloc: Global, minimum: u32) -> Option<SoaRecord> {
+    Some(SoaRecord {
+        mname: name_of(alloc, "ns.example")?,
+        rname: name_of(alloc, "h.example")?,
+        serial: 1,
+        refresh: 2,
+        retry: 3,
+        expire: 4,
+        minimum,
+    })
+}
+
 /// Four octets of a type and class.
 fn other_of(alloc: Global, code: u16, class_code: u16) -> Option<OtherData> {
     let octets = Vec::from_slice(alloc, &[192, 0, 2, 99]).ok()?;
@@ -79,6 +95,7 @@ pub(crate) fn rdata_of(alloc: Global, says: Says) -> Option<Rdata> {
             Some(Rdata::Naptr(rule_of(alloc, regexp, replacement)?))
         }
         Says::Cname(target) => Some(Rdata::Cname(name_of(alloc, target)?)),
+        Says::Soa(minimum) => Some(Rdata::Soa(authority_of(alloc, minimum)?)),
         Says::Other(code, class_code) => Some(Rdata::Other(other_of(alloc, code, class_code)?)),
     }
 }

@@ -25,13 +25,46 @@ const REPLY: Row = Row {
     found: Ok((&[[192, 0, 2, 7]], 300)),
 };
 
+/// As many aliases as are followed.
+const EIGHT: &[Entry] = &[
+    ("w.example", 100, Says::Cname("c1.example")),
+    ("c1.example", 101, Says::Cname("c2.example")),
+    ("c2.example", 102, Says::Cname("c3.example")),
+    ("c3.example", 103, Says::Cname("c4.example")),
+    ("c4.example", 104, Says::Cname("c5.example")),
+    ("c5.example", 105, Says::Cname("c6.example")),
+    ("c6.example", 106, Says::Cname("c7.example")),
+    ("c7.example", 107, Says::Cname("c8.example")),
+];
+
+/// One more.
+const NINE: &[Entry] = &[
+    ("w.example", 100, Says::Cname("c1.example")),
+    ("c1.example", 101, Says::Cname("c2.example")),
+    ("c2.example", 102, Says::Cname("c3.example")),
+    ("c3.example", 103, Says::Cname("c4.example")),
+    ("c4.example", 104, Says::Cname("c5.example")),
+    ("c5.example", 105, Says::Cname("c6.example")),
+    ("c6.example", 106, Says::Cname("c7.example")),
+    ("c7.example", 107, Says::Cname("c8.example")),
+    ("c8.example", 108, Says::Cname("c9.example")),
+];
+
+/// A reply without records, and how long the SOA record of its zone lets that be kept.
+const ABSENT: Row = Row {
+    answers: &[],
+    authority: &[("example", 900, Says::Soa(60))],
+    found: Ok((&[], 60)),
+    ..REPLY
+};
+
 const ROWS: &[Row] = &[
-    // the other sections do not count
+    // the other sections have no records of an answer
     Row {
         answers: &[],
         authority: &[ADDRESS],
         additional: &[ADDRESS],
-        found: Ok((&[], 30)),
+        found: Ok((&[], 0)),
         ..REPLY
     },
     Row {
@@ -40,6 +73,135 @@ const ROWS: &[Row] = &[
         ..REPLY
     },
     REPLY,
+    // no records, and the TTL and the MINIMUM of an SOA record
+    ABSENT,
+    Row {
+        header: Header { rcode: 3, ..HEADER },
+        ..ABSENT
+    },
+    Row {
+        authority: &[("example", 30, Says::Soa(3600))],
+        found: Ok((&[], 30)),
+        ..ABSENT
+    },
+    Row {
+        authority: &[("example", 3600, Says::Soa(30))],
+        found: Ok((&[], 30)),
+        ..ABSENT
+    },
+    Row {
+        authority: &[("example", 0, Says::Soa(60))],
+        found: Ok((&[], 0)),
+        ..ABSENT
+    },
+    Row {
+        authority: &[("example", 900, Says::Soa(0))],
+        found: Ok((&[], 0)),
+        ..ABSENT
+    },
+    // with their highest bits
+    Row {
+        authority: &[("example", 0x8000_0000, Says::Soa(60))],
+        found: Ok((&[], 0)),
+        ..ABSENT
+    },
+    Row {
+        authority: &[("example", 900, Says::Soa(0x8000_0000))],
+        found: Ok((&[], 900)),
+        ..ABSENT
+    },
+    Row {
+        authority: &[("example", 0x7fff_ffff, Says::Soa(0xffff_ffff))],
+        found: Ok((&[], 0x7fff_ffff)),
+        ..ABSENT
+    },
+    // the owner of the SOA record is another name
+    Row {
+        authority: &[("other.test", 900, Says::Soa(60))],
+        ..ABSENT
+    },
+    // the first of two counts, whichever lasts longer
+    Row {
+        authority: &[
+            ("example", 900, Says::Soa(60)),
+            ("example", 50, Says::Soa(50)),
+        ],
+        ..ABSENT
+    },
+    Row {
+        authority: &[
+            ("example", 50, Says::Soa(300)),
+            ("example", 900, Says::Soa(60)),
+        ],
+        found: Ok((&[], 50)),
+        ..ABSENT
+    },
+    // after an NS record, and an SOA record of class CH
+    Row {
+        authority: &[
+            ("example", 5, Says::Other(2, 1)),
+            ("example", 6, Says::Other(6, 3)),
+            ("example", 900, Says::Soa(60)),
+        ],
+        ..ABSENT
+    },
+    // without one in the authority section
+    Row {
+        answers: &[("example", 900, Says::Soa(60))],
+        authority: &[],
+        found: Ok((&[], 0)),
+        ..ABSENT
+    },
+    Row {
+        authority: &[],
+        additional: &[("example", 900, Says::Soa(60))],
+        found: Ok((&[], 0)),
+        ..ABSENT
+    },
+    Row {
+        answers: &[("example", 900, Says::Soa(50))],
+        additional: &[("example", 900, Says::Soa(50))],
+        ..ABSENT
+    },
+    // after an alias
+    Row {
+        answers: &[("w.example", 20, Says::Cname("b.example"))],
+        found: Ok((&[], 20)),
+        ..ABSENT
+    },
+    Row {
+        answers: &[("w.example", 61, Says::Cname("b.example"))],
+        ..ABSENT
+    },
+    Row {
+        answers: &[("w.example", 0x8000_0000, Says::Cname("b.example"))],
+        found: Ok((&[], 0)),
+        ..ABSENT
+    },
+    Row {
+        answers: &[
+            ("w.example", 40, Says::Cname("b.example")),
+            ("b.example", 20, Says::Cname("c.example")),
+            ("d.example", 10, Says::Cname("e.example")),
+        ],
+        found: Ok((&[], 20)),
+        ..ABSENT
+    },
+    // eight aliases, and nine
+    Row {
+        answers: EIGHT,
+        ..ABSENT
+    },
+    Row {
+        answers: NINE,
+        found: Ok((&[], 0)),
+        ..ABSENT
+    },
+    // beside records the SOA record does not count
+    Row {
+        authority: &[("example", 10, Says::Soa(10))],
+        ..REPLY
+    },
     // another number
     Row {
         header: Header { id: 9, ..HEADER },
