@@ -7,7 +7,7 @@ use answer_cache::{AnswerBook, ListCache, Seat, SharedCache, StoreRefusal};
 use dns_answers::Moment;
 use dns_message::{Kind, MessageRefusal, Question};
 use dns_name::Name;
-use sip_selection::{Caps, Families, Next, Request, Target};
+use sip_selection::{Caps, Families, Next, Reason, Request, Target};
 use sip_uri::Transport::Udp;
 use sip_uri::{Address, read_uri};
 use srv_choice::{WORD_COUNT, Words};
@@ -29,6 +29,16 @@ const LIFELESS: [u8; 43] = [
     b'e', 0, 0, 1, 0, 1, 0xc0, 12, 0, 1, 0, 1, 0x80, 0, 0, 0, 0, 4, 192, 0, 2, 7,
 ];
 
+/// A reply to A of a.example. without records: the name does not exist.
+const NO_NAME: &[u8] =
+    b"\x124\x81\x83\x00\x01\x00\x00\x00\x00\x00\x00\x01a\x07example\x00\x00\x01\x00\x01";
+
+/// The same reply with an SOA record: its TTL is 900, its MINIMUM 60 (RFC 2308 5).
+const NO_NAME_FOR_60: &[u8] =
+    b"\x124\x81\x83\x00\x01\x00\x00\x00\x01\x00\x00\x01a\x07example\x00\x00\x01\x00\x01\x07exam\
+    ple\x00\x00\x06\x00\x01\x00\x00\x03\x84\x00+\x02ns\x07example\x00\x01h\x07example\x00\x00\
+    \x00\x00\x01\x00\x00\x00\x02\x00\x00\x00\x03\x00\x00\x00\x04\x00\x00\x00<";
+
 /// The one target of the request, once its question is answered.
 const TARGET: Target = Target {
     transport: Udp,
@@ -43,6 +53,8 @@ pub(crate) enum Gives {
     Asks,
     /// The one target.
     Goes,
+    /// That there is none, for want of an address.
+    NoAddress,
     /// Anything else.
     Other,
 }
@@ -75,6 +87,7 @@ pub(crate) fn told(next: Next<'_>, question: &Question) -> Gives {
     match next {
         Next::Ask(asked) if asked == question => Gives::Asks,
         Next::Targets([target]) if *target == TARGET => Gives::Goes,
+        Next::Refused(Reason::NoAddress) => Gives::NoAddress,
         _ => Gives::Other,
     }
 }
@@ -207,25 +220,46 @@ fn replies_cut_short(rt: HostRuntime) {
     }
 }
 
-/// A reply, whether its answer is stored, and what the second locator gives at a later moment.
-const ROWS: [(&[u8], Kept, u64, Gives); 4] = [
+/// That an answer is used, and not stored.
+const LIFELESS_ANSWER: Kept = Kept::No(StoreRefusal::Lifeless);
+
+/// A reply, whether its answer is stored, what the first locator then gives, and what the second one
+/// gives at a later moment.
+const ROWS: [(&[u8], Kept, Gives, u64, Gives); 8] = [
+    (&LIFELESS, LIFELESS_ANSWER, Gives::Goes, 100, Gives::Asks),
+    (&REPLY, Kept::Yes, Gives::Goes, 100, Gives::Goes),
+    (&REPLY, Kept::Yes, Gives::Goes, 399, Gives::Goes),
+    (&REPLY, Kept::Yes, Gives::Goes, 400, Gives::Asks),
+    (NO_NAME, LIFELESS_ANSWER, Gives::NoAddress, 100, Gives::Asks),
     (
-        &LIFELESS,
-        Kept::No(StoreRefusal::Lifeless),
+        NO_NAME_FOR_60,
+        Kept::Yes,
+        Gives::NoAddress,
         100,
+        Gives::NoAddress,
+    ),
+    (
+        NO_NAME_FOR_60,
+        Kept::Yes,
+        Gives::NoAddress,
+        159,
+        Gives::NoAddress,
+    ),
+    (
+        NO_NAME_FOR_60,
+        Kept::Yes,
+        Gives::NoAddress,
+        160,
         Gives::Asks,
     ),
-    (&REPLY, Kept::Yes, 100, Gives::Goes),
-    (&REPLY, Kept::Yes, 399, Gives::Goes),
-    (&REPLY, Kept::Yes, 400, Gives::Asks),
 ];
 
 #[test]
 fn answers_shared(rt: HostRuntime) {
-    for (octets, kept, later, other) in ROWS {
+    for (octets, kept, after, later, other) in ROWS {
         let wanted = Some(Outcome {
             taken: Ok(kept),
-            after: Gives::Goes,
+            after,
             again: Err(LocatorRefusal::NothingAsked),
             other,
         });

@@ -27,12 +27,14 @@ fn groups(rt: HostRuntime) {
 /// life that it finds.
 type Row = (Option<(u32, u64)>, u64, Option<u32>);
 
-const ROWS: [Row; 4] = [
+const ROWS: [Row; 6] = [
     (Some((10, 100)), 109, Some(10)),
     (None, 110, None),
     (Some((1, 105)), 105, Some(1)),
     // the older one would live
     (None, 107, None),
+    (Some((60, 100)), 159, Some(60)),
+    (None, 160, None),
 ];
 
 /// Whether a book does as the rows say: the last store is found while it lives.
