@@ -1,8 +1,9 @@
--- A walk that looks for the last store of a question, or counts those of a group.
-use Rattle.std.proofs.Common.{◌≡◌, ◌≢◌, ◌+◌, ◌≤◌, ◌<◌, ◌==◌, ℕ, true, false, List, [], ◌∷◌, ◌++◌, length, Option, Some, None, refl, ap, ◌∙◌}
-use Rattle.std.proofs.Common.{arith}
+-- A walk along the stores of a group, which looks for the last one of a question or counts them.
+use Rattle.std.proofs.Common.{◌≡◌, ◌↔◌, ◌+◌, ◌≤◌, ◌<◌, ◌==◌, ℕ, Bool, true, false, IsTrue, List, [], ◌∷◌, ◌++◌, length, Option, Some, None, refl, ap}
+use Rattle.std.proofs.Common.{sym, ◌∙◌, arith}
 use Rattle.std.specs.List.{last_or}
-use Rattle.std.proofs.lemmas.List.{length-append, append-nil}
+use Rattle.std.proofs.lemmas.Bool.{eq-eqb}
+use Rattle.std.proofs.lemmas.List.{length-append, append-nil, nil_from_length}
 use Rattle.std.proofs.lemmas.List.Elements.{filter-append}
 use Rattle.dns_message.specs.Questions.{same_question}
 use Rattle.dns_message.specs.declared.question.Question.{Question}
@@ -12,20 +13,16 @@ use Rattle.answer_log.specs.Walks.{Ahead}
 use Rattle.answer_log.specs.declared.store.Store.{Store}
 use Rattle.answer_log.specs.declared.walk.Walk.{Walk}
 
--- what is left of a walk after so many links: the last store of the question is the last one among these
-pub record Searches (question : Question) (whole : List Store) (walk : Walk) (links : ℕ) : Type 0 where
+-- what is left of a walk along these stores after so many links
+pub record Passes (whole : List Store) (walk : Walk) (links : ℕ) : Type 0 where
   pub left : List Store
   pub ahead : Ahead walk left
-  pub last : last_or None (stores_of question whole) ≡ last_or None (stores_of question left)
   pub size : length left + links ≡ length whole
 
--- what is left of a walk after so many links, where so many stores of the group were found
-pub record Counts (group : ℕ) (whole : List Store) (walk : Walk) (found links : ℕ) : Type 0 where
-  pub left : List Store
-  pub ahead : Ahead walk left
-  pub size : length left + links ≡ length whole
-  pub count : length (in_group group left) + found ≡ length (in_group group whole)
-  pub room : found < 64
+-- none of those that were passed is of the question
+pub record Searches (question : Question) (whole : List Store) (walk : Walk) (links : ℕ) : Type 0 where
+  pub passes : Passes whole walk links
+  pub last : last_or None (stores_of question whole) ≡ last_or None (stores_of question passes.left)
 
 last-append : {X : Type 0} (o : Option X) (xs : List X) (x : X) → last_or o (xs ++ x ∷ []) ≡ Some x
 last-append o [] x = refl
@@ -41,83 +38,72 @@ last-before : (question : Question) (rest : List Store) (store : Store) → same
 last-before question rest store not =
     rw (filter-append (λ it. same_question it.question question) rest (store ∷ []), not, append-nil (stores_of question rest)) refl
 
-one-less : (rest : List Store) (store : Store) (links size : ℕ) → length (rest ++ store ∷ []) + links ≡ size
+-- the stores of a question are all in its group
+module _ (same : (question other : Question) → IsTrue (same_question question other) ↔ (question ≡ other)) (question : Question) where
+  grouped-by : (store : Store) (stores : List Store)
+      → (grouped : Bool) → (group_of store.question == group_of question) ≡ grouped
+      → (asked : Bool) → same_question store.question question ≡ asked
+      → stores_of question (in_group (group_of question) stores) ≡ stores_of question stores
+      → stores_of question (in_group (group_of question) (store ∷ stores)) ≡ stores_of question (store ∷ stores)
+  grouped-by store stores true g true a more = rw (g, a) (ap (λ l. store ∷ l) more)
+  grouped-by store stores true g false a more = rw (g, a) more
+  grouped-by store stores false g true a more =
+      let is : store.question ≡ question = (same store.question question).0 a in
+      let g' : true ≡ false = sym (eq-eqb (group_of question) (group_of question) refl) ∙ rw is at g in absurd cc
+  grouped-by store stores false g false a more = rw (g, a) more
+
+  pub grouped : (stores : List Store) → stores_of question (in_group (group_of question) stores) ≡ stores_of question stores
+  grouped [] = refl
+  grouped (store ∷ stores) = grouped-by store stores _ refl _ refl (grouped stores)
+
+  pub last-grouped : (stores : List Store) (found : Option Store)
+      → last_or None (stores_of question (in_group (group_of question) stores)) ≡ found → last_or None (stores_of question stores) ≡ found
+  last-grouped stores found is = ap (last_or None) (sym (grouped stores)) ∙ is
+
+pub one-less : (rest : List Store) (store : Store) (links size : ℕ) → length (rest ++ store ∷ []) + links ≡ size
     → length rest + (links + 1) ≡ size
 one-less rest store links size sum = let n = length-append rest (store ∷ []) in omega arith
 
 -- a walk begins with all stores
+abbrev pub passes : (whole : List Store) (walk : Walk) → Ahead walk whole → Passes whole walk 0
+passes whole walk ahead = record { left = whole; ahead = ahead; size = omega arith }
+
 pub begins : (question : Question) (whole : List Store) (walk : Walk) → Ahead walk whole → Searches question whole walk 0
-begins question whole walk ahead = record { left = whole; ahead = ahead; last = refl; size = omega arith }
+begins question whole walk ahead = record { passes = passes whole walk ahead; last = refl }
 
-module _ (question : Question) (whole : List Store) (walk : Walk) (links : ℕ) (it : Searches question whole walk links) where
-  pub ends : it.left ≡ [] → last_or None (stores_of question whole) ≡ None
-  ends none = it.last ∙ rw none refl
+module _ (whole : List Store) (walk : Walk) (links : ℕ) (it : Passes whole walk links) where
+  pub passed-all : it.left ≡ [] → length whole ≡ links
+  passed-all none = let sum : 0 + links ≡ length whole = rw none at it.size in omega arith
 
-  pub finds : (rest : List Store) (store : Store) → it.left ≡ rest ++ store ∷ [] → same_question store.question question ≡ true
-      → last_or None (stores_of question whole) ≡ Some store
-  finds rest store split is = it.last ∙ (ap (λ stores. last_or None (stores_of question stores)) split ∙ last-here question rest store is)
+  pub passed-some : links ≤ length whole
+  passed-some = let sum = it.size in omega arith
 
-  pub goes-on : (rest : List Store) (store : Store) (new : Walk) → it.left ≡ rest ++ store ∷ []
-      → same_question store.question question ≡ false
-      → Ahead new rest → Searches question whole new (links + 1)
-  goes-on rest store new split not ahead = record {
+  abbrev pub passes-on : (rest : List Store) (store : Store) (new : Walk) → it.left ≡ rest ++ store ∷ [] → Ahead new rest
+      → Passes whole new (links + 1)
+  passes-on rest store new split ahead = record {
     left = rest;
     ahead = ahead;
-    last = it.last ∙ (ap (λ stores. last_or None (stores_of question stores)) split ∙ last-before question rest store not);
     size = one-less rest store links (length whole) (rw split at it.size);
   }
 
-  pub within : (rest : List Store) (store : Store) → it.left ≡ rest ++ store ∷ [] → length whole ≤ 4096 → links + 1 ≤ 4096
-  within rest store split few = let sum = one-less rest store links (length whole) (rw split at it.size) in omega arith
+module _ (question : Question) (whole : List Store) (walk : Walk) (links : ℕ) (it : Searches question whole walk links) where
+  pub ends : it.passes.left ≡ [] → last_or None (stores_of question whole) ≡ None
+  ends none = it.last ∙ rw none refl
 
-  pub short : length whole ≤ 4096 → links ≤ 4096
-  short few = let sum = it.size in omega arith
+  -- nothing is left after as many links as there are stores
+  pub runs-out : length whole ≤ links → last_or None (stores_of question whole) ≡ None
+  runs-out few =
+      let none : length it.passes.left ≡ 0 = let sum = it.passes.size in omega arith in
+      ends (nil_from_length it.passes.left none)
 
--- a store more or none of the group
-one-more : (group : ℕ) (rest : List Store) (store : Store) → (group_of store.question == group) ≡ true
-    → length (in_group group (rest ++ store ∷ [])) ≡ length (in_group group rest) + 1
-one-more group rest store is =
-    let more = length-append (in_group group rest) (store ∷ []) in
-    rw (filter-append (λ it. group_of it.question == group) rest (store ∷ []), is) more
+  pub finds : (rest : List Store) (store : Store) → it.passes.left ≡ rest ++ store ∷ [] → same_question store.question question ≡ true
+      → last_or None (stores_of question whole) ≡ Some store
+  finds rest store split is = it.last ∙ (ap (λ stores. last_or None (stores_of question stores)) split ∙ last-here question rest store is)
 
-none-more : (group : ℕ) (rest : List Store) (store : Store) → (group_of store.question == group) ≡ false
-    → length (in_group group (rest ++ store ∷ [])) ≡ length (in_group group rest)
-none-more group rest store not =
-    rw (filter-append (λ it. group_of it.question == group) rest (store ∷ []), not, append-nil (in_group group rest)) refl
-
-pub count-begins : (group : ℕ) (whole : List Store) (walk : Walk) → Ahead walk whole → Counts group whole walk 0 0
-count-begins group whole walk ahead = record { left = whole; ahead = ahead; size = omega arith; count = omega arith; room = omega arith }
-
-module _ (group : ℕ) (whole : List Store) (walk : Walk) (found links : ℕ) (it : Counts group whole walk found links) where
-  pub count-ends : it.left ≡ [] → length (in_group group whole) < 64
-  count-ends none = let sum : 0 + found ≡ length (in_group group whole) = rw none at it.count in let room = it.room in omega arith
-
-  pub count-short : length whole ≤ 4096 → links ≤ 4096
-  count-short few = let sum = it.size in omega arith
-
-  module _ (rest : List Store) (store : Store) (split : it.left ≡ rest ++ store ∷ []) where
-    pub count-within : length whole ≤ 4096 → links + 1 ≤ 4096
-    count-within few = let sum = one-less rest store links (length whole) (rw split at it.size) in omega arith
-
-    pub count-full : (group_of store.question == group) ≡ true → found + 1 ≡ 64 → 64 ≤ length (in_group group whole)
-    count-full is full =
-        let sum = rw (split, one-more group rest store is) at it.count in omega arith
-
-    pub count-one : (new : Walk) → (group_of store.question == group) ≡ true → (found + 1 ≢ 64) → Ahead new rest
-        → Counts group whole new (found + 1) (links + 1)
-    count-one new is room ahead = record {
-      left = rest;
-      ahead = ahead;
-      size = one-less rest store links (length whole) (rw split at it.size);
-      count = let sum = rw (split, one-more group rest store is) at it.count in omega arith;
-      room = let below = it.room in omega (arith, room);
-    }
-
-    pub count-none : (new : Walk) → (group_of store.question == group) ≡ false → Ahead new rest → Counts group whole new found (links + 1)
-    count-none new not ahead = record {
-      left = rest;
-      ahead = ahead;
-      size = one-less rest store links (length whole) (rw split at it.size);
-      count = rw (split, none-more group rest store not) at it.count;
-      room = it.room;
-    }
+  pub goes-on : (rest : List Store) (store : Store) (new : Walk) → it.passes.left ≡ rest ++ store ∷ []
+      → same_question store.question question ≡ false
+      → Ahead new rest → Searches question whole new (links + 1)
+  goes-on rest store new split not ahead = record {
+    passes = passes-on whole walk links it.passes rest store new split ahead;
+    last = it.last ∙ (ap (λ stores. last_or None (stores_of question stores)) split ∙ last-before question rest store not);
+  }

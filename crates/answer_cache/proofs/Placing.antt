@@ -1,17 +1,20 @@
 -- A node is placed, or it is ready for another try.
-use Rattle.std.proofs.Common.{◌≡◌, ◌+◌, ◌≤◌, ℕ, Bool, true, false, List, ◌++◌, length, MatchBool, MatchResult, Ok, Err, ap, sym, ◌∙◌}
+use Rattle.std.proofs.Common.{◌≡◌, ◌+◌, ◌≤◌, ℕ, Bool, true, false, List, ◌++◌, length, MatchBool, MatchResult, IfErr, Ok, Err, ap, sym, ◌∙◌}
 use Rattle.std.proofs.Common.{subst, arith, append_assoc, length-append}
 use mathlib.Core.List.{IsPrefix}
 use Rattle.std.specs.declared.result.Result.{Result}
 use Rattle.logbook.specs.Pages.{Book, Nib, may_write}
 use Rattle.answer_log.specs.Hands.{EndsWith, SeesMore}
-use Rattle.answer_log.specs.Logs.{history}
+use Rattle.answer_log.specs.Groups.{group_of}
+use Rattle.answer_log.specs.Logs.{history, top}
 use Rattle.answer_log.specs.Steps.{store_by}
 use Rattle.dns_answers.specs.Values.{AnswerValue}
 use Rattle.answer_log.specs.declared.event.Event.{Event}
 use Rattle.answer_log.specs.declared.store.Store.{Store}
 use Rattle.dns_message.specs.declared.question.Question.{Question}
-use Rattle.answer_cache.specs.Nodes.{IsReady, Says, store_in}
+use Rattle.answer_cache.specs.Nodes.{IsReady, Says, WhyLost, store_in}
+use Rattle.answer_cache.specs.declared.refusal.StoreRefusal.{StoreRefusal}
+use Rattle.answer_cache.specs.declared.refusal.StoreRefusal.TheVariants.{Lifeless, GenerationFull, Contended, Memory}
 use Rattle.answer_cache.specs.declared.node.Node.{Node}
 
 pub prefix-trans : {X : Type 0} (xs ys zs : List X) → IsPrefix xs ys → IsPrefix ys zs → IsPrefix xs zs
@@ -81,3 +84,21 @@ put-on (Ok a) seat its placed store old mid new number is mine' sees it =
     ends-on store old mid new (subst S (sym mine') sees) (subst E is it)
 put-on (Err e) seat its placed store old mid new number is mine' sees it =
     let S : ℕ → Type 0 = λ n. SeesMore n mid new in sees-trans seat old mid new sees (subst S number it)
+
+why-on : (question : Question) (old mid new : List Store) (refusal : StoreRefusal) → IsPrefix old mid → WhyLost question mid new refusal
+    → WhyLost question old new refusal
+why-on question old mid new Lifeless p why = why
+why-on question old mid new GenerationFull p why = why
+why-on question old mid new Contended p why = longer old mid 16 new p why
+why-on question old mid new Memory p why = tt
+
+-- why the tries were lost, after more was seen
+pub lost-on : {A : Type 0} (result : Result A StoreRefusal) (its question : Question) (old mid now new : List Event) (was : ℕ)
+    → its ≡ question → IsPrefix (history old) (history mid) → IsPrefix mid now → was ≡ top (group_of question) mid
+    → IfErr result (λ refusal. (seen : List Event) → IsPrefix seen now → top (group_of its) seen ≡ was
+    → WhyLost its (history seen) (history new) refusal)
+    → IfErr result (WhyLost question (history old) (history new))
+lost-on (Ok a) its question old mid now new was same before later last why = tt
+lost-on (Err refusal) its question old mid now new was same before later last why =
+    let W : Question → Type 0 = λ q. top (group_of q) mid ≡ was → WhyLost q (history mid) (history new) refusal in
+    why-on question (history old) (history mid) (history new) refusal before (subst W same (why mid later) (sym last))

@@ -70,7 +70,7 @@ pub record IsReady (book : Book) (log : List Event) (seat : ℕ) (node : Node)
   pub named : IsNamed book log node.node (store_in seat node) node.link
   pub right : nib.right ≡ may_write
   pub its : nib.key ≡ node.link.key
-  pub above : 1 < node.link.key
+  pub above : 64 < node.link.key
 
 -- the node has this question with its hash, and this answer, from this moment on
 abbrev pub Says : Node → Question → AnswerValue → ℕ → Type 0

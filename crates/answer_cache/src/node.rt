@@ -1,10 +1,10 @@
 //! The nodes of a shared cache.
-ghost use Rattle.std.specs.Prelude.{◌≡◌, ◌↔◌, ◌+◌, ◌<◌, ◌==◌, IsTrue};
+ghost use Rattle.std.specs.Prelude.{◌≡◌, ◌↔◌, ◌+◌, ◌<◌, IsTrue};
 ghost use Rattle.std.specs.Arc.{arc_value};
 ghost use Rattle.dns_message.specs.Questions.{same_question};
-ghost use Rattle.answer_log.specs.Groups.{group_of, hash_of, hashed_of};
+ghost use Rattle.answer_log.specs.Groups.{hash_of, hashed_of};
 
-use answer_log::{Book, Word, group_of_hash};
+use answer_log::{Book, Word};
 use boxcar::Keeps;
 use boxcar::tag::Names;
 use dns_answers::{Answer, Moment};
@@ -19,9 +19,9 @@ pub(crate) struct Hashed<'a> {
     pub hash: u32,
 }
 
-/// A store with its number, the hash of its question, its link to the node placed before it, and
-/// what its seat had seen when it was named. It stays on its shelf as it is, but for the link until
-/// it is placed.
+/// A store with its number, the hash of its question, its link to the node of its group placed
+/// before it, and what its seat had seen when it was named. It stays on its shelf as it is, but for
+/// the link until it is placed.
 #[derive(Drop)]
 pub struct Node {
     pub node: u64,
@@ -42,14 +42,6 @@ impl Node {
     {
         same_questions_are_equal();
         self.tag == tag && self.question == *question
-    }
-
-    /// Whether its question is in a group.
-    pub(crate) fn is_in(&self, group: u8) -> bool
-        requires { self.now.tag ≡ hash_of (hashed_of self.now.question) }
-        ensures { result ≡ (group_of self.now.question == group) }
-    {
-        group_of_hash(self.tag) == group
     }
 
     /// Whether its answer lives at a moment.

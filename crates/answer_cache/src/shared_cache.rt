@@ -8,7 +8,7 @@ ghost use Rattle.logbook.specs.Pages.{may_write};
 ghost use Rattle.std.specs.Arc.{arc_value};
 ghost use Rattle.std.specs.List.{All, range_with_len};
 ghost use Rattle.std.specs.Option.{option_map};
-ghost use Rattle.answer_log.specs.Groups.{hash_of, hashed_of};
+ghost use Rattle.answer_log.specs.Groups.{group_of, hash_of, hashed_of};
 ghost use Rattle.answer_log.specs.Hands.{AreHands, EndsWith, IsHand, SeesMore};
 ghost use Rattle.answer_log.specs.Histories.{IsFull, IsSound, cached, in_group};
 ghost use Rattle.answer_log.specs.Logs.{history, top};
@@ -36,13 +36,10 @@ use answer_log::{
 use boxcar::Pushed;
 use boxcar::tag::Tag;
 use dns_answers::{Answer, Moment};
-use dns_message::Question;
+use dns_message::{Question, same_questions_are_equal};
 use std::alloc::{AllocError, Global};
 use std::marker::Model;
 use std::sync::{Arc, Wait};
-
-/// How many stores there can be: 64 in each of 64 groups.
-const MOST_STORES: u16 = 4096;
 
 /// How many times a store is tried.
 const TRIES: u8 = 16;
@@ -126,7 +123,9 @@ impl SharedCache {
         if seats == 0 || seats as u64 > MOST_SEATS {
             return Err(CacheRefusal::BadCount);
         }
-        let (log, mut hands) = Log::open(seats as u64);
+        let Ok((log, mut hands)) = Log::open(alloc, seats as u64) else {
+            return Err(CacheRefusal::Memory);
+        };
         let Ok(shelves) = empty_shelves(alloc, seats, &hands.seen) else {
             return Err(CacheRefusal::Memory);
         };
@@ -181,52 +180,46 @@ impl SharedCache {
         &self,
         walk: &mut Walk,
         notes: &mut Notes,
-        question: &Question,
+        asked: &Hashed<'_>,
     ) -> Result<Option<&Node>, AllocError>
+        requires hash { asked.now.hash ≡ hash_of (hashed_of asked.now.question.now) }
         requires book { walk.old.seen.book ≡ self.now.book }
-        requires ahead { Ahead walk.old (history walk.old.seen.log) }
+        requires ahead { Ahead walk.old
+            (in_group (group_of asked.now.question.now) (history walk.old.seen.log)) }
         ensures last { IfOk result
-            (λ found. IsLastOf question.now (history walk.old.seen.log)
+            (λ found. IsLastOf asked.now.question.now (history walk.old.seen.log)
             (option_map (λ node. node.now) found)) }
-        ensures costs { Costs notes.old notes.new 4096 0 }
+        ensures costs { Costs notes.old notes.new 64 0 }
     {
         log_keeps_its_rule(&walk.seen);
-        let tag = hash(question);
-        'links: for _link in 0..MOST_STORES + 1 {
+        same_questions_are_equal();
+        'links: for _link in 0..GROUP_LIMIT {
             match self.step(walk, notes)? {
                 None => return Ok(None),
-                Some(node) if node.is_of(tag, question) => return Ok(Some(node)),
+                Some(node) if node.is_of(asked.hash, asked.question) => return Ok(Some(node)),
                 Some(_) => {}
             }
         }
-        unreachable!()
+        Ok(None)
     }
 
-    /// Whether there are 64 stores of a group.
-    fn is_full(&self, walk: &mut Walk, notes: &mut Notes, group: u8) -> Result<bool, AllocError>
+    /// Whether 64 stores are ahead of a walk.
+    fn is_full(&self, walk: &mut Walk, notes: &mut Notes) -> Result<bool, AllocError>
         requires book { walk.old.seen.book ≡ self.now.book }
-        requires ahead { Ahead walk.old (history walk.old.seen.log) }
-        ensures full { IfOk result
-            (λ full. IsTrue full ↔ (64 ≤ length (in_group group (history walk.old.seen.log)))) }
-        ensures costs { Costs notes.old notes.new 4096 0 }
+        requires ahead { (left : List Store) × Ahead walk.old left }
+        ensures full { IfOk result (λ full. (left : List Store) → Ahead walk.old left
+            → IsTrue full ↔ (64 ≤ length left)) }
+        ensures costs { Costs notes.old notes.new 64 0 }
     {
-        log_keeps_its_rule(&walk.seen);
-        let mut count = 0usize;
-        'links: for _link in 0..MOST_STORES + 1 {
-            let Some(node) = self.step(walk, notes)? else {
+        'stores: for _store in 0..GROUP_LIMIT {
+            let Some(_node) = self.step(walk, notes)? else {
                 return Ok(false);
             };
-            if node.is_in(group) {
-                count += 1;
-                if count == GROUP_LIMIT {
-                    return Ok(true);
-                }
-            }
         }
-        unreachable!()
+        Ok(true)
     }
 
-    /// The start of a try: the node placed last, where the group of the question is not full.
+    /// The start of a try: the node of the question's group placed last, where the group is not full.
     fn room(
         &self,
         hand: &mut Hand,
@@ -239,15 +232,15 @@ impl SharedCache {
         ensures holds { Holds self.now.book hand.old hand.new }
         ensures seen { SeesMore hand.old.number hand.old.book.log hand.new.book.log }
         ensures places { hand.new.places ≡ hand.old.places }
-        ensures costs { Costs notes.old notes.new 4096 0 }
-        ensures room { IfOk result (λ old. (old ≡ top hand.new.book.log)
+        ensures costs { Costs notes.old notes.new 64 0 }
+        ensures room { IfOk result
+            (λ old. (old ≡ top (group_of asked.now.question.now) hand.new.book.log)
             × (IsFull (history hand.new.book.log) asked.now.question.now → ⊥)) }
         ensures full { IfErr result (WhyNoRoom asked.now.question.now (history hand.new.book.log)) }
     {
-        let mut walk = self.log.walk(hand);
+        let mut walk = self.log.walk(hand, group_of_hash(asked.hash));
         let old = walk.next;
-        let group = group_of_hash(asked.hash);
-        if self.is_full(&mut walk, notes, group)? {
+        if self.is_full(&mut walk, notes)? {
             return Err(StoreRefusal::GenerationFull);
         }
         Ok(old)
@@ -353,6 +346,7 @@ impl SharedCache {
         requires ready { IsReady self.now.book hand.old.book.log hand.old.number
             node.now pen.old.nib }
         requires sound { IsSound (store_in hand.old.number node.now) }
+        requires tagged { node.now.tag ≡ hash_of (hashed_of node.now.question) }
         requires room { HadRoom hand.old.book.log old node.now.question }
         ensures holds { Holds self.now.book hand.old hand.new }
         ensures costs { Costs notes.old notes.new 0 1 }
@@ -362,7 +356,8 @@ impl SharedCache {
             (history hand.new.book.log))
             (SeesMore hand.old.number hand.old.book.log hand.new.book.log) }
         ensures lost { MatchBool result (Unit {0})
-            ((seen : List Noticed) → IsPrefix seen hand.old.book.log → top seen ≡ old
+            ((seen : List Noticed) → IsPrefix seen hand.old.book.log
+            → top (group_of node.now.question) seen ≡ old
             → length (history seen) < length (history hand.new.book.log)) }
         ensures again { MatchBool result (Unit {0})
             ((pen.new.book ≡ self.now.book)
@@ -378,10 +373,11 @@ impl SharedCache {
             answer: &node.answer,
             moment: node.moment,
         };
-        self.log.place(hand, pen, old, &draft, &node.link)
+        let group = group_of_hash(node.tag);
+        self.log.place(hand, pen, old, &draft, group, &node.link)
     }
 
-    /// Up to sixteen tries to place a node. The first one knows the node placed last.
+    /// Up to sixteen tries to place a node. The first one knows the node of its group placed last.
     fn compete<V: Rival>(
         &self,
         hand: &mut Hand,
@@ -398,13 +394,13 @@ impl SharedCache {
         requires tagged { node.now.tag ≡ hash_of (hashed_of node.now.question) }
         requires room { HadRoom hand.old.book.log old node.now.question }
         ensures holds { Holds self.now.book hand.old hand.new }
-        ensures costs { Costs notes.old notes.new (15 * 4096) 16 }
+        ensures costs { Costs notes.old notes.new (15 * 64) 16 }
         ensures competed { MatchResult result
             (λ _. EndsWith (store_in hand.old.number node.now) (history hand.old.book.log)
             (history hand.new.book.log))
             (λ _. SeesMore hand.old.number hand.old.book.log hand.new.book.log) }
         ensures lost { IfErr result (λ refusal. (seen : List Noticed)
-            → IsPrefix seen hand.old.book.log → top seen ≡ old
+            → IsPrefix seen hand.old.book.log → top (group_of node.now.question) seen ≡ old
             → WhyLost node.now.question (history seen) (history hand.new.book.log) refusal) }
     {
         if self.attempt(hand, notes, node, &mut pen, old, 1, rival) {
@@ -439,7 +435,7 @@ impl SharedCache {
             (arc_value wanted.now.answer.now) wanted.now.moment) }
         requires hash { wanted.now.hash ≡ hash_of (hashed_of wanted.now.question.now) }
         ensures holds { Holds self.now.book hand.old hand.new }
-        ensures costs { Costs notes.old notes.new (16 * 4096) 16 }
+        ensures costs { Costs notes.old notes.new (16 * 64) 16 }
         ensures put { MatchResult result
             (λ _. EndsWith (store_by hand.old.number wanted.now.question.now
             (arc_value wanted.now.answer.now) wanted.now.moment) (history hand.old.book.log)
@@ -476,7 +472,7 @@ impl SharedCache {
         requires kind { kind_of (arc_value answer.now).records ≡ question.now.kind }
         ensures stays { Belongs self.now seat.new }
         ensures goes_on { GoesOn seat.old.seat seat.new.seat }
-        ensures takes { Takes seat.old seat.new (16 * 4096) 16 }
+        ensures takes { Takes seat.old seat.new (16 * 64) 16 }
         ensures offered { seat.new.seat.offered
             ≡ seat.old.seat.offered ++ offer_of question.now (arc_value answer.now) now ∷ [] }
         ensures stored { OnOk result
@@ -501,8 +497,8 @@ impl SharedCache {
         stored
     }
 
-    /// Afterwards the seat has seen what the notice tells, and what came since: one load of the
-    /// head. Takes no memory.
+    /// Afterwards the seat has seen what the notice tells, and what came since: one load of a head.
+    /// Takes no memory.
     pub fn learn(&self, seat: &mut Seat, notice: &Notice)
         requires made_here { Belongs self.now seat.old }
         requires told_here { notice.now.cache ≡ self.now }
@@ -538,13 +534,17 @@ impl AnswerBook for SharedCache {
         ensures stays { Belongs self.now seat.new }
         ensures goes_on { GoesOn seat.old.seat seat.new.seat }
         ensures stores_nothing { StoresNothing seat.old.seat seat.new.seat }
-        ensures takes { Takes seat.old seat.new 4096 0 }
+        ensures takes { Takes seat.old seat.new 64 0 }
         ensures found { IfOk result
             (λ found. option_map arc_value found ≡ cached seat.new.seat.seen question.now now) }
     {
-        let mut walk = self.log.walk(&mut seat.hand);
+        let asked = Hashed {
+            question,
+            hash: hash(question),
+        };
+        let mut walk = self.log.walk(&mut seat.hand, group_of_hash(asked.hash));
         log_keeps_its_rule(&seat.hand.book);
-        match self.last_of(&mut walk, &mut seat.notes, question)? {
+        match self.last_of(&mut walk, &mut seat.notes, &asked)? {
             Some(node) if node.lives_at(now) => Ok(Some(Arc::try_clone(&node.answer)?)),
             _ => Ok(None),
         }
@@ -562,7 +562,7 @@ impl AnswerBook for SharedCache {
         requires kind { kind_of (arc_value answer.now).records ≡ question.now.kind }
         ensures stays { Belongs self.now seat.new }
         ensures goes_on { GoesOn seat.old.seat seat.new.seat }
-        ensures takes { Takes seat.old seat.new (16 * 4096) 16 }
+        ensures takes { Takes seat.old seat.new (16 * 64) 16 }
         ensures offered { seat.new.seat.offered
             ≡ seat.old.seat.offered ++ offer_of question.now (arc_value answer.now) now ∷ [] }
         ensures stored { OnOk result

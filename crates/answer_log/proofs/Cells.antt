@@ -34,7 +34,7 @@ idle n = idle-when (n == 0) n refl
 pub keep-else : (cs : List Cell) (k v l : ℕ) (c : Cell) → l ≢ k → cell cs l ≡ c → cell (set cs k (v, true)) l ≡ c
 keep-else cs k v l c ne e = get_or-set_other cs k l (v, true) (0, false) ne ∙ e
 
-pub keeps-low : (cs : List Cell) (k v : ℕ) → k < 2 → Keeps cs (set cs k (v, true))
+pub keeps-low : (cs : List Cell) (k v : ℕ) → k < 65 → Keeps cs (set cs k (v, true))
 keeps-low cs k v low l w some e = keep-else cs k v l (w, true) (λ p. absurd (omega arith)) e
 
 -- a cell that is out is none that is at home

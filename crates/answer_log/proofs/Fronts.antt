@@ -16,7 +16,6 @@ use Rattle.answer_log.specs.declared.event.Event.TheVariants.{Asks, Named, Opene
 use Rattle.answer_log.specs.declared.store.Store.{Store}
 use Rattle.answer_log.proofs.Logs.{history-append, in-here, in-left}
 use Rattle.answer_log.proofs.Moving.{some-name}
-use Rattle.answer_log.proofs.Sizes.{few-stores}
 
 front-history : (stores more : List Store) → IsHistory (stores ++ more) → IsHistory stores
 front-history stores more it = record {
@@ -55,7 +54,6 @@ front-log cells log whole pre kept =
           let low = (kept.named node store link (kept.twins node store link there)).0 in
           let same = ap seats_in (sym pre.1) ∙ seats-front (Placed node store link) log pre.0 i in
           omega arith);
-      size = few-stores (history log) stores.few;
       nodes = λ before after node store link split.
           let E : List Event → Type 0 = λ events. In (Placed node store link) events in
           let there : In (Placed node store link) log = subst E (sym split) (in-here (Placed node store link) before after) in

@@ -8,8 +8,9 @@ use mathlib.Core.List.{IsPrefix}
 use Rattle.logbook.specs.Pages.{Nib, Book, Named as Word}
 use Rattle.answer_log.specs.Counts.{count}
 use Rattle.answer_log.specs.Hands.{EndsWith, IsHand, IsNamed, SeesMore}
+use Rattle.answer_log.specs.Groups.{group_of}
 use Rattle.answer_log.specs.Histories.{mine}
-use Rattle.answer_log.specs.Logs.{seat_of, seats_in, history, top, top_from, In}
+use Rattle.answer_log.specs.Logs.{seat_of, seats_in, history, placed_of, top, top_from, In}
 use Rattle.answer_log.specs.Rules.{node_at}
 use Rattle.answer_log.specs.Steps.{Adds, Fits, NamesBelow, Same, Stays}
 use Rattle.answer_log.specs.declared.event.Event.{Event}
@@ -18,7 +19,8 @@ use Rattle.answer_log.specs.declared.hand.Hand.{Hand}
 use Rattle.answer_log.specs.declared.store.Store.{Store}
 use Rattle.answer_log.specs.declared.tally.Tally.{Tally}
 use Rattle.answer_log.proofs.Counting.{count-same, count-here}
-use Rattle.answer_log.proofs.Logs.{Quiet, history-append, seats-append, top-append, quiet-in, in-cases, in-left, last_placed, prefix_trans}
+use Rattle.answer_log.proofs.Chains.{last_placed, top-on}
+use Rattle.answer_log.proofs.Logs.{Quiet, history-append, seats-append, quiet-in, in-cases, in-left, prefix_trans}
 
 -- a log that is quiet of a seat has no stores of it
 own-quiet : (seat : ℕ) (events : List Event) → Quiet seat events → mine (history events) seat ≡ []
@@ -167,14 +169,15 @@ placed_sees h new n x l hand same a =
       own = subst O (sym same) (own-more h.number old a.0 (old ++ a.0) refl quiet);
     }
 
--- where the node placed last has changed, the history has grown
-grows : (old new : List Event) → IsPrefix old new → top old ≢ top new → length (history old) < length (history new)
-grows old new p ne =
+-- where the node of a group placed last has changed, the history has grown
+grows : (group : ℕ) (old new : List Event) → IsPrefix old new → top group old ≢ top group new
+    → length (history old) < length (history new)
+grows group old new p ne =
     let L : List Event → Type 0 = λ l. length (history old) < length (history l) in
-    subst L p.1 (elim (last_placed (top old) p.0) [
-      | inl h ↦ absurd (ne (sym h.0 ∙ (sym (top-append 0 old p.0) ∙ ap top p.1)))
+    subst L p.1 (elim (last_placed group (top group old) p.0) [
+      | inl h ↦ absurd (ne (sym h.0 ∙ (sym (top-on group 0 old p.0) ∙ ap (top group) p.1)))
       | inr h ↦
-          (let node : ℕ = top_from (top old) p.0 in
+          (let node : ℕ = top_from (top group old) (placed_of group p.0) in
           let more : history p.0 ≡ history h.before ++ h.store ∷ history h.after =
           ap history h.split ∙ history-append h.before (Placed node h.store h.link ∷ h.after) in
           let n : length (history p.0) ≡ length (history h.before) + length (h.store ∷ history h.after) =
@@ -195,7 +198,7 @@ placed_low seat place m y k n x l q = absurd (cc (q))
 abbrev pub Tried : Bool → Hand → List Event → Tally → ℕ → Store → ℕ → ℕ → Nib → Nib → Type 0
 Tried won h new tally n x l old before after =
     MatchBool won (Adds (Placed n x l) h.tally h.book.log new × (tally.count ≡ h.tally.count + 1))
-    ((old ≢ top new) × (after ≡ before) × Same h.tally tally (count x.seat new))
+    ((old ≢ top (group_of x.question) new) × (after ≡ before) × Same h.tally tally (count x.seat new))
 
 module _ (h : Hand) (n : ℕ) (x : Store) (l old : ℕ) (before after : Nib) (hand : IsHand h) (seat : x.seat ≡ h.number) where
   pub tried_hand : (k : Hand) → k.number ≡ h.number → k.seats ≡ h.seats → k.places ≡ h.places → k.book.names ≡ h.book.names
@@ -214,8 +217,8 @@ module _ (h : Hand) (n : ℕ) (x : Store) (l old : ℕ) (before after : Nib) (ha
 
   pub tried_lost : (new : List Event) (tally : Tally) → IsPrefix h.book.log new → (won : Bool)
       → Tried won h new tally n x l old before after
-      → MatchBool won (Unit {0}) ((seen : List Event) → IsPrefix seen h.book.log → top seen ≡ old
+      → MatchBool won (Unit {0}) ((seen : List Event) → IsPrefix seen h.book.log → top (group_of x.question) seen ≡ old
       → length (history seen) < length (history new))
   tried_lost new tally pre true m = tt
   tried_lost new tally pre false m = λ seen later last.
-      let T : ℕ → Type 0 = λ node. node ≢ top new in grows seen new (prefix_trans seen h.book.log new later pre) (subst T (sym last) m.0)
+      let T : ℕ → Type 0 = λ node. node ≢ top (group_of x.question) new in grows (group_of x.question) seen new (prefix_trans seen h.book.log new later pre) (subst T (sym last) m.0)

@@ -1,7 +1,7 @@
 pub mod Cells
 pub mod Logs
+pub mod Chains
 pub mod Growing
-pub mod Sizes
 pub mod Prefixes
 pub mod Counting
 pub mod Trades

@@ -5,7 +5,7 @@ use Rattle.logbook.specs.Pages.{Cell, cell}
 use Rattle.answer_log.specs.declared.store.Store.{Store}
 use Rattle.answer_log.specs.declared.event.Event.{Event}
 use Rattle.answer_log.specs.declared.event.Event.TheVariants.{Asks, Named, Opened, Placed}
-use Rattle.answer_log.specs.Logs.{seat_of, seats_in, history, top_from, top, Linked, In, Unplaced, Once}
+use Rattle.answer_log.specs.Logs.{seat_of, seats_in, history, top_from, Linked, In, Unplaced, Once}
 
 pub history-append : (xs ys : List Event) → history (xs ++ ys) ≡ history xs ++ history ys
 history-append [] ys = refl
@@ -48,7 +48,7 @@ linked-append cs p (Placed n x l ∷ xs) ys h r = (h.0, h.1, linked-append cs n 
 
 -- what is at home stays so
 abbrev pub Keeps : List Cell → List Cell → Type 0
-Keeps cs cs' = (l v : ℕ) → 1 < l → cell cs l ≡ (v, true) → cell cs' l ≡ (v, true)
+Keeps cs cs' = (l v : ℕ) → 64 < l → cell cs l ≡ (v, true) → cell cs' l ≡ (v, true)
 
 pub linked-map : (cs cs' : List Cell) (p : ℕ) (xs : List Event) → Keeps cs cs' → Linked cs p xs → Linked cs' p xs
 linked-map cs cs' p [] k h = tt
@@ -84,43 +84,10 @@ in-cases e [] ys i = inr i
 in-cases e (x ∷ xs) ys i =
     elim i [ inl p ↦ inl (inl p) | inr j ↦ elim (in-cases e xs ys j) [ inl a ↦ inl (inr a) | inr b ↦ inr b ] ]
 
--- the node that was placed last
-pub record Last (log : List Event) (node : ℕ) : Type 0 where
-  pub before : List Event
-  pub store : Store
-  pub link : ℕ
-  pub after : List Event
-  pub split : log ≡ before ++ Placed node store link ∷ after
-  pub none : history after ≡ []
-
--- nothing was placed, or there is a node placed last
-abbrev pub LastPlaced : ℕ → List Event → Type 0
-LastPlaced p log = ((top_from p log ≡ p) × (history log ≡ [])) ⊎ Last log (top_from p log)
-
-last-later : (e : Event) (p : ℕ) (xs : List Event) (node : ℕ) → Last xs node → Last (e ∷ xs) node
-last-later e p xs node h = record {
-  before = e ∷ h.before;
-  store = h.store;
-  link = h.link;
-  after = h.after;
-  split = ap (λ w. e ∷ w) h.split;
-  none = h.none;
-}
-
-pub last_placed : (p : ℕ) (xs : List Event) → LastPlaced p xs
-last_placed p [] = inl (refl, refl)
-last_placed p (Opened t ∷ xs) = elim (last_placed p xs) [ inl h ↦ inl h | inr h ↦ inr (last-later (Opened t) p xs (top_from p xs) h) ]
-last_placed p (Asks s t ∷ xs) = elim (last_placed p xs) [ inl h ↦ inl h | inr h ↦ inr (last-later (Asks s t) p xs (top_from p xs) h) ]
-last_placed p (Named n x l ∷ xs) = elim (last_placed p xs) [ inl h ↦ inl h | inr h ↦ inr (last-later (Named n x l) p xs (top_from p xs) h) ]
-last_placed p (Placed n x l ∷ xs) = elim (last_placed n xs) [
-  | inl h ↦ inr (record { before = []; store = x; link = l; after = xs; split = ap (λ (k : ℕ). Placed k x l ∷ xs) (sym h.0); none = h.1 })
-  | inr h ↦ inr (last-later (Placed n x l) p xs (top_from n xs) h)
-]
-
 abbrev pub prefix_trans : {A : Type 0} (xs ys zs : List A) → IsPrefix xs ys → IsPrefix ys zs → IsPrefix xs zs
 prefix_trans xs ys zs p q = (p.0 ++ q.0, sym (append_assoc xs p.0 q.0) ∙ (ap (λ w. w ++ q.0) p.1 ∙ q.1))
 
-unplaced-right : (n : ℕ) (xs ys : List Event) → Unplaced n (xs ++ ys) → Unplaced n ys
+pub unplaced-right : (n : ℕ) (xs ys : List Event) → Unplaced n (xs ++ ys) → Unplaced n ys
 unplaced-right n [] ys h = h
 unplaced-right n (Opened t ∷ xs) ys h = unplaced-right n xs ys h
 unplaced-right n (Asks s t ∷ xs) ys h = unplaced-right n xs ys h
@@ -144,7 +111,7 @@ unplaced-of n (Placed m y k ∷ xs) h = (
   unplaced-of n xs (λ x l i. h x l (inr i)),
 )
 
-once-right : (xs ys : List Event) → Once (xs ++ ys) → Once ys
+pub once-right : (xs ys : List Event) → Once (xs ++ ys) → Once ys
 once-right [] ys h = h
 once-right (Opened t ∷ xs) ys h = once-right xs ys h
 once-right (Asks s t ∷ xs) ys h = once-right xs ys h
@@ -167,33 +134,6 @@ once-placed (Placed m y k ∷ xs) n x l u h = (
   unplaced-append m xs (Placed n x l ∷ []) h.0 ((λ p. u.0 (sym p)), tt),
   once-placed xs n x l u.1 h.1,
 )
-
--- where the last node is the same, nothing was placed since
-pub same-top : (v r log : List Event) → v ++ r ≡ log → Once log → ((n : ℕ) (x : Store) (l : ℕ) → In (Placed n x l) log → n ≢ 0)
-    → top log ≡ top v → history r ≡ []
-same-top v r log p once some same =
-    let L : List Event → Type 0 = λ w. Once w in
-    elim (last_placed (top v) r) [
-      | inl h ↦ h.1
-      | inr h ↦
-          (let m : ℕ = top_from (top v) r in
-          let n : m ≡ top v = sym (top-append 0 v r) ∙ (ap top p ∙ same) in
-          let all : log ≡ (v ++ h.before) ++ Placed m h.store h.link ∷ h.after = sym p ∙ (ap (λ w. v ++ w) h.split
-          ∙ sym (append_assoc v h.before (Placed m h.store h.link ∷ h.after))) in
-          let I : List Event → Type 0 = λ w. In (Placed m h.store h.link) w in
-          elim (last_placed 0 v) [
-            | inl k ↦ absurd (some m h.store h.link (subst I (sym all) (in-here (Placed m h.store h.link) (v ++ h.before) h.after))
-                (n ∙ k.0))
-            | inr k ↦
-                (let whole : log ≡ k.before ++ Placed (top v) k.store k.link ∷ (k.after ++ r) = sym p
-                ∙ (ap (λ w. w ++ r) k.split ∙ append_assoc k.before (Placed (top v) k.store k.link ∷ k.after) r) in
-                let o = once-right k.before (Placed (top v) k.store k.link ∷ (k.after ++ r)) (subst L whole once) in
-                let U : List Event → Type 0 = λ w. Unplaced (top v) w in
-                let u = unplaced-right (top v) h.before (Placed m h.store h.link ∷ h.after)
-                (subst U h.split (unplaced-right (top v) k.after r o.0)) in
-                absurd (u.0 n))
-          ])
-    ]
 
 pub in-linked : (cs : List Cell) (p : ℕ) (xs : List Event) (n : ℕ) (x : Store) (l : ℕ) → Linked cs p xs → In (Placed n x l) xs
     → (cell cs l).1 ≡ true

@@ -1,7 +1,9 @@
 -- Each step keeps the rule.
 use Rattle.std.proofs.Common.{◌≡◌, ◌≢◌, ℕ, ◌<◌, ◌==◌, ◌⊎◌, inl, inr, Bool, true, false, List, []}
-use Rattle.std.proofs.Common.{◌∷◌, ◌++◌, length, refl, ap, sym, ◌∙◌, subst, arith, append_assoc, set, None, Some, length-set}
+use Rattle.std.proofs.Common.{◌∷◌, ◌++◌, ◌≤◌, length, refl, ap, sym, ◌∙◌, subst, arith, append_assoc, set, None, Some, length-set}
 use Rattle.std.proofs.lemmas.List.{append-nil, get_or-set_same}
+use Rattle.std.proofs.lemmas.List.Elements.{filter-append}
+use Rattle.std.proofs.lemmas.Bool.{eqb-true, eqb-false}
 use Rattle.std.proofs.lemmas.Bool.Decides.{nat_tests}
 use mathlib.Core.List.{IsPrefix}
 use prog.Atomic.{either}
@@ -11,14 +13,16 @@ use Rattle.answer_log.specs.declared.event.Event.{Event}
 use Rattle.answer_log.specs.declared.event.Counted.{Counted}
 use Rattle.answer_log.specs.declared.event.Event.TheVariants.{Asks, Named, Opened, Placed}
 use Rattle.answer_log.specs.Counts.{count, Counts}
-use Rattle.answer_log.specs.Histories.{IsFull, IsHistory, IsSound}
-use Rattle.answer_log.specs.Logs.{seat_of, seats_in, history, top, Linked, In}
+use Rattle.answer_log.specs.Groups.{group_of}
+use Rattle.answer_log.specs.Histories.{IsFull, IsHistory, IsSound, in_group}
+use Rattle.answer_log.specs.Logs.{seat_of, seats_in, history, placed_of, top, top_from, Linked, In}
 use Rattle.answer_log.specs.Rules.{IsKept, node_at}
 use Rattle.answer_log.specs.Steps.{Looks, Follows, Claims, Tries}
 use Rattle.answer_log.proofs.Counting.{counts_keep, counts_add, kept_answer, more_answer}
 use Rattle.answer_log.proofs.Growing.{history-more}
-use Rattle.answer_log.proofs.Logs.{unplaced-of, once-named, once-placed, same-top, in-linked, history-append}
-use Rattle.answer_log.proofs.Logs.{seats-append, seat-append, seat-prefix, top-append, linked-right, linked-append, linked-map, in-left}
+use Rattle.answer_log.proofs.Chains.{group-low, in-group, placed-append, placed-here, placed-else, same-top, top-on}
+use Rattle.answer_log.proofs.Logs.{unplaced-of, once-named, once-placed, in-linked, history-append}
+use Rattle.answer_log.proofs.Logs.{seats-append, seat-append, seat-prefix, linked-right, linked-append, linked-map, in-left}
 use Rattle.answer_log.proofs.Logs.{in-cases}
 use Rattle.answer_log.proofs.Cells.{cell-adds, home-in, same-cell, idle, keep-else, keeps-low, apart, keeps-out, keeps-trans, keeps-adds}
 
@@ -30,10 +34,10 @@ IsPlaced log link = (before : List Event) × (after : List Event) × (node : ℕ
 abbrev pub shown : List Event → List Event
 shown log = log
 
-head-home : (cs : List Cell) (log : List Event) → IsKept cs log → (cell cs 0).1 ≡ true
-head-home cs log kept = ap (λ (c : Cell). c.1) kept.head
+head-home : (cs : List Cell) (log : List Event) → IsKept cs log → (group : ℕ) → group < 64 → (cell cs group).1 ≡ true
+head-home cs log kept group low = ap (λ (c : Cell). c.1) (kept.heads group low)
 
-idle-home : (cs : List Cell) (log : List Event) → IsKept cs log → (cell cs 1).1 ≡ true
+idle-home : (cs : List Cell) (log : List Event) → IsKept cs log → (cell cs 64).1 ≡ true
 idle-home cs log kept = ap (λ (c : Cell). c.1) kept.idle
 
 -- with no event and no change of a word
@@ -47,9 +51,9 @@ kept-same cs log k n home e kept =
 pub kept-adds : (cs : List Cell) (log : List Event) → IsKept cs log → IsKept (cs ++ (0, false) ∷ []) log
 kept-adds cs log kept = record {
   seats = kept.seats;
-  head = cell-adds cs 0 ∙ kept.head;
-  idle = cell-adds cs 1 ∙ kept.idle;
-  linked = linked-map cs (cs ++ (0, false) ∷ []) 0 log (keeps-adds cs) kept.linked;
+  heads = λ group low. cell-adds cs group ∙ kept.heads group low;
+  idle = cell-adds cs 64 ∙ kept.idle;
+  linked = λ group. linked-map cs (cs ++ (0, false) ∷ []) 0 (placed_of group log) (keeps-adds cs) (kept.linked group);
   twins = kept.twins;
   named = kept.named;
   unique = kept.unique;
@@ -57,32 +61,36 @@ kept-adds cs log kept = record {
   history = kept.history;
 }
 
--- the word at a link is the name placed before
+-- the word at a link is the node placed before it for its group
 pub placed-cell : (cs : List Cell) (log a b : List Event) (n l : ℕ) (x : Store) → IsKept cs log → log ≡ a ++ Placed n x l ∷ b
-    → cell cs l ≡ (top a, true)
+    → cell cs l ≡ (top (group_of x.question) a, true)
 placed-cell cs log a b n l x kept split =
+    let g : ℕ = group_of x.question in
     let L : List Event → Type 0 = λ w. Linked cs 0 w in
-    let r = linked-right cs 0 a (Placed n x l ∷ b) (subst L split kept.linked) in r.1
+    let its : placed_of g log ≡ placed_of g a ++ Placed n x l ∷ placed_of g b =
+    ap (placed_of g) split ∙ (placed-append g a (Placed n x l ∷ b) ∙ ap (λ w. placed_of g a ++ w) (placed-here g n x l b refl)) in
+    let r = linked-right cs 0 (placed_of g a) (Placed n x l ∷ placed_of g b) (subst L its (kept.linked g)) in r.1
 
 pub longer : (v g log a b : List Event) (e : Event) → v ++ g ≡ log → v ≡ a ++ e ∷ b → log ≡ a ++ e ∷ (b ++ g)
 longer v g log a b e p split = sym p ∙ (ap (λ w. w ++ g) split ∙ append_assoc a (e ∷ b) g)
 
-pub look_moves : (v : List Event) (ask : Event) → seat_of ask < 64
-    → Moves IsKept shown (Counts ask) 0 (v, (no_nib, None)) (λ n. n) (Looks (step 0 0 0 ask) (v, (no_nib, None)))
-look_moves v ask low cs log kept pre away =
-    let T : List Event → Type 0 = λ w. (cell cs 0).0 ≡ top w in
+pub look_moves : (v : List Event) (group : ℕ) (ask : Event) → group < 64 → seat_of ask < 64
+    → Moves IsKept shown (Counts ask) group (v, (no_nib, None)) (λ n. n) (Looks (step group 0 0 ask) (v, (no_nib, None)))
+look_moves v group ask its low cs log kept pre away =
+    let T : List Event → Type 0 = λ w. (cell cs group).0 ≡ top group w in
+    let home = head-home cs log kept group its in
     let r : Counted = kept_answer (count (seat_of ask) log) in (
-      home-in cs 0 (head-home cs log kept),
-      head-home cs log kept,
+      home-in cs group home,
+      home,
       (
         keeps,
         [],
         Some r,
         tt,
-        kept-same cs log 0 (cell cs 0).0 (head-home cs log kept) refl kept,
+        kept-same cs log group (cell cs group).0 home refl kept,
         inr (r, refl, refl, counts_keep ask log low),
         (
-          subst T (sym (append-nil log)) (ap (λ (c : Cell). c.0) kept.head),
+          subst T (sym (append-nil log)) (ap (λ (c : Cell). c.0) (kept.heads group its)),
           (r, refl, (ap (count (seat_of ask)) (sym (append-nil log)), refl)),
         ),
       ),
@@ -119,7 +127,8 @@ not-placed : (cs : List Cell) (log : List Event) (n : ℕ) (x : Store) (l : ℕ)
     → (cell cs l).1 ≡ false → (y : Store) (k : ℕ) → In (Placed n y k) log → ⊥
 not-placed cs log n x l kept named out y k i =
     let same = kept.unique n x y l k named (kept.twins n y k i) in
-    let home = in-linked cs 0 log n y k kept.linked i in
+    let g : ℕ = group_of y.question in
+    let home = in-linked cs 0 (placed_of g log) n y k (kept.linked g) (in-group n y k log i) in
     let e : (cell cs l).1 ≡ (cell cs k).1 = ap (λ j. (cell cs j).1) same.1 in
     absurd (cc (out, home, e))
 
@@ -129,9 +138,11 @@ kept-named : (cs : List Cell) (log : List Event) (n : ℕ) (x : Store) (l places
 kept-named cs log n x l places kept none is some =
     let e : Event = Named n x l in record {
       seats = let same = seats-append log (e ∷ []) (omega arith) in let few = kept.seats in omega arith;
-      head = kept.head ∙ sym (ap (λ (m : ℕ). (m, true)) (top-append 0 log (e ∷ [])));
+      heads = λ group low. kept.heads group low ∙ sym (ap (λ (m : ℕ). (m, true)) (top-on group 0 log (e ∷ [])));
       idle = kept.idle;
-      linked = linked-append cs 0 log (e ∷ []) kept.linked tt;
+      linked = λ group.
+          let L : List Event → Type 0 = λ w. Linked cs 0 w in
+          subst L (sym (placed-append group log (e ∷ []))) (linked-append cs 0 (placed_of group log) [] (kept.linked group) tt);
       twins = λ m y k i. elim (in-cases (Placed m y k) log (e ∷ []) i) [
         | inl j ↦ in-left (Named m y k) log (e ∷ []) (kept.twins m y k j)
         | inr j ↦ elim j [ inl q ↦ absurd (cc (q)) | inr z ↦ absurd z ]
@@ -197,13 +208,13 @@ has n (Placed m x l ∷ log) = has-later n (Placed m x l) log (λ y k q. absurd 
 
 claim_goes : (v : List Event) (places n : ℕ) (x : Store) → n ≡ node_at x.seat places → x.seat < 64 → x.seat < seats_in v
     → (cs : List Cell) (log : List Event)
-    → IsKept cs log → IsPrefix v log → 1 < length cs → Has n log
-    → Goes IsKept shown (Counts (Named n x 0)) 1 (v, (no_nib, None)) (λ n. either (n == 0) 0 n)
-    (Claims (step 1 0 0 (Named n x 0)) (v, (no_nib, None))) cs log
+    → IsKept cs log → IsPrefix v log → 64 < length cs → Has n log
+    → Goes IsKept shown (Counts (Named n x 0)) 64 (v, (no_nib, None)) (λ n. either (n == 0) 0 n)
+    (Claims (step 64 0 0 (Named n x 0)) (v, (no_nib, None))) cs log
 claim_goes v places n x is some low cs log kept pre long h =
-    let n0 : ℕ = either ((cell cs 1).0 == 0) 0 (cell cs 1).0 in
-    let cs' : List Cell = set cs 1 (n0, true) in
-    let same : cs' ≡ cs = same-cell cs 1 n0 (idle-home cs log kept) (idle (cell cs 1).0) in
+    let n0 : ℕ = either ((cell cs 64).0 == 0) 0 (cell cs 64).0 in
+    let cs' : List Cell = set cs 64 (n0, true) in
+    let same : cs' ≡ cs = same-cell cs 64 n0 (idle-home cs log kept) (idle (cell cs 64).0) in
     let K : List Cell → Type 0 = λ c. IsKept c log in
     let kept' : IsKept cs' log = subst K (sym same) kept in
     elim h [
@@ -247,12 +258,12 @@ claim_goes v places n x is some low cs log kept pre long h =
     ]
 
 pub claim_moves : (v : List Event) (places n : ℕ) (x : Store) → n ≡ node_at x.seat places → x.seat < 64 → x.seat < seats_in v
-    → Moves IsKept shown (Counts (Named n x 0)) 1 (v, (no_nib, None)) (λ n. either (n == 0) 0 n)
-    (Claims (step 1 0 0 (Named n x 0)) (v, (no_nib, None)))
+    → Moves IsKept shown (Counts (Named n x 0)) 64 (v, (no_nib, None)) (λ n. either (n == 0) 0 n)
+    (Claims (step 64 0 0 (Named n x 0)) (v, (no_nib, None)))
 claim_moves v places n x is some low cs log kept pre away = (
-  home-in cs 1 (idle-home cs log kept),
+  home-in cs 64 (idle-home cs log kept),
   idle-home cs log kept,
-  claim_goes v places n x is some low cs log kept pre (home-in cs 1 (idle-home cs log kept)) (has n log),
+  claim_goes v places n x is some low cs log kept pre (home-in cs 64 (idle-home cs log kept)) (has n log),
 )
 
 out-apart : (cs : List Cell) (k : ℕ) (v : ℕ) (j : ℕ) → (cell cs j).1 ≡ false → (cell cs k).1 ≡ true
@@ -261,27 +272,70 @@ out-apart cs k v j out home =
     let ne : j ≢ k = (λ p. apart cs j k out home (sym p)) in
     ap (λ (c : Cell). c.1) (keep-else cs k v j (cell cs j) ne refl) ∙ out
 
+module _ (cs : List Cell) (log : List Event) (n : ℕ) (x : Store) (k v : ℕ) (kept : IsKept cs log) (out : (cell cs k).1 ≡ false) where
+  -- the head of its group leads to a node that was placed, and the other heads stay
+  placed-head : (group : ℕ) → group < 64 → (is : Bool) → (group_of x.question == group) ≡ is
+      → cell (set (set cs (group_of x.question) (n, true)) k (v, true)) group ≡ (top group (log ++ Placed n x k ∷ []), true)
+  placed-head group low true is =
+      let g : ℕ = group_of x.question in
+      let same : g ≡ group = eqb-true g group is in
+      let home = head-home cs log kept g (group-low x.question) in
+      let cs1 : List Cell = set cs g (n, true) in
+      let P : ℕ → Type 0 = λ j. cell cs1 j ≡ (n, true) in
+      let first : cell cs1 group ≡ (n, true) = subst P same (get_or-set_same cs g (n, true) (0, false) (home-in cs g home)) in
+      let out1 = out-apart cs g n k out home in
+      keep-else cs1 k v group (n, true) (apart cs1 k group out1 (ap (λ (c : Cell). c.1) first)) first
+      ∙ sym (ap (λ (m : ℕ). (m, true)) (top-on group 0 log (Placed n x k ∷ [])
+      ∙ ap (top_from (top group log)) (placed-here group n x k [] same)))
+  placed-head group low false is =
+      let g : ℕ = group_of x.question in
+      let other = eqb-false g group is in
+      let home = head-home cs log kept g (group-low x.question) in
+      let cs1 : List Cell = set cs g (n, true) in
+      let old : cell cs1 group ≡ (top group log, true) = keep-else cs g n group (top group log, true) (λ p. other (sym p))
+      (kept.heads group low) in
+      let out1 = out-apart cs g n k out home in
+      keep-else cs1 k v group (top group log, true) (apart cs1 k group out1 (ap (λ (c : Cell). c.1) old)) old
+      ∙ sym (ap (λ (m : ℕ). (m, true)) (top-on group 0 log (Placed n x k ∷ [])
+      ∙ ap (top_from (top group log)) (placed-else group n x k [] other)))
+
+-- the chain of its group goes on with a node that was placed, and the other chains stay
+placed-links : (cs : List Cell) (log : List Event) (n : ℕ) (x : Store) (l : ℕ) → ((group : ℕ) → Linked cs 0 (placed_of group log))
+    → 64 < l → cell cs l ≡ (top (group_of x.question) log, true)
+    → (group : ℕ) → (is : Bool) → (group_of x.question == group) ≡ is → Linked cs 0 (placed_of group (log ++ Placed n x l ∷ []))
+placed-links cs log n x l links some link group true is =
+    let e : Event = Placed n x l in
+    let same = eqb-true (group_of x.question) group is in
+    let L : List Event → Type 0 = λ w. Linked cs 0 w in
+    let P : ℕ → Type 0 = λ g. cell cs l ≡ (top g log, true) in
+    subst L (sym (placed-append group log (e ∷ []) ∙ ap (λ w. placed_of group log ++ w) (placed-here group n x l [] same)))
+    (linked-append cs 0 (placed_of group log) (e ∷ []) (links group) (some, subst P same link, tt))
+placed-links cs log n x l links some link group false is =
+    let e : Event = Placed n x l in
+    let other = eqb-false (group_of x.question) group is in
+    let L : List Event → Type 0 = λ w. Linked cs 0 w in
+    subst L (sym (placed-append group log (e ∷ []) ∙ ap (λ w. placed_of group log ++ w) (placed-else group n x l [] other)))
+    (linked-append cs 0 (placed_of group log) [] (links group) tt)
+
 kept-placed : (cs : List Cell) (log : List Event) (pen : Nib) (n : ℕ) (x : Store) → IsKept cs log
-    → (pen.key < length cs) × ((cell cs pen.key).1 ≡ false) → In (Named n x pen.key) log → 1 < pen.key → pen.value ≡ top log → IsSound x →
-    (IsFull (history log) x.question → ⊥)
-    → IsKept (set (set cs 0 (n, true)) pen.key (pen.value, true)) (log ++ Placed n x pen.key ∷ [])
+    → (pen.key < length cs) × ((cell cs pen.key).1 ≡ false) → In (Named n x pen.key) log → 64 < pen.key
+    → pen.value ≡ top (group_of x.question) log → IsSound x → (IsFull (history log) x.question → ⊥)
+    → IsKept (set (set cs (group_of x.question) (n, true)) pen.key (pen.value, true)) (log ++ Placed n x pen.key ∷ [])
 kept-placed cs log pen n x kept out named some value sound room =
     let l : ℕ = pen.key in
-    let cs1 : List Cell = set cs 0 (n, true) in
+    let g : ℕ = group_of x.question in
+    let g_low : g < 64 = group-low x.question in
+    let cs1 : List Cell = set cs g (n, true) in
     let cs' : List Cell = set cs1 pen.key (pen.value, true) in
     let e : Event = Placed n x l in
-    let head_home : (cell cs 0).1 ≡ true = ap (λ (c : Cell). c.1) kept.head in
-    let out1 : (cell cs1 pen.key).1 ≡ false = out-apart cs 0 n pen.key out.1 head_home in
-    let first : cell cs1 0 ≡ (n, true) = get_or-set_same cs 0 (n, true) (0, false) (home-in cs 0 head_home) in
-    let zero' : cell cs' 0 ≡ (n, true) = keep-else cs1 pen.key pen.value 0 (n, true)
-    (apart cs1 pen.key 0 out1 (ap (λ (c : Cell). c.1) first)) first in
-    let one1 : cell cs1 1 ≡ (0, true) = keep-else cs 0 n 1 (0, true) (λ q. absurd (omega arith)) kept.idle in
-    let one : cell cs' 1 ≡ (0, true) = keep-else cs1 pen.key pen.value 1 (0, true)
-    (apart cs1 pen.key 1 out1 (ap (λ (c : Cell). c.1) one1)) one1 in
+    let out1 : (cell cs1 pen.key).1 ≡ false = out-apart cs g n pen.key out.1 (head-home cs log kept g g_low) in
+    let one1 : cell cs1 64 ≡ (0, true) = keep-else cs g n 64 (0, true) (λ q. absurd (omega arith)) kept.idle in
+    let one : cell cs' 64 ≡ (0, true) = keep-else cs1 pen.key pen.value 64 (0, true)
+    (apart cs1 pen.key 64 out1 (ap (λ (c : Cell). c.1) one1)) one1 in
     let in_time : pen.key < length cs1 = (let q = out.0 in omega (arith, length-set {A = Cell})) in
     let there : cell cs' pen.key ≡ (pen.value, true) = get_or-set_same cs1 pen.key (pen.value, true) (0, false) in_time in
-    let stays = keeps-trans cs cs1 cs' (keeps-low cs 0 n (omega arith)) (keeps-out cs1 pen.key pen.value out1) in
-    let link : cell cs' l ≡ (top log, true) = there ∙ ap (λ (m : ℕ). (m, true)) value in
+    let stays = keeps-trans cs cs1 cs' (keeps-low cs g n (omega arith)) (keeps-out cs1 pen.key pen.value out1) in
+    let link : cell cs' l ≡ (top g log, true) = there ∙ ap (λ (m : ℕ). (m, true)) value in
     let old : (m : ℕ) (y : Store) (k : ℕ) → In (Named m y k) (log ++ e ∷ []) → In (Named m y k) log =
     (λ m y k i. elim (in-cases (Named m y k) log (e ∷ []) i) [
       | inl j ↦ j
@@ -290,9 +344,10 @@ kept-placed cs log pen n x kept out named some value sound room =
     ]) in
     let low : x.seat < seats_in log = (kept.named n x l named).0 in record {
       seats = let same = seats-append log (e ∷ []) (omega arith) in let few = kept.seats in omega arith;
-      head = zero' ∙ sym (ap (λ (m : ℕ). (m, true)) (top-append 0 log (e ∷ [])));
+      heads = λ group below. placed-head cs log n x pen.key pen.value kept out.1 group below _ refl;
       idle = one;
-      linked = linked-append cs' 0 log (e ∷ []) (linked-map cs cs' 0 log stays kept.linked) (some, link, tt);
+      linked = λ group. placed-links cs' log n x l (λ h. linked-map cs cs' 0 (placed_of h log) stays (kept.linked h)) some link
+          group _ refl;
       twins = λ m y k i. elim (in-cases (Placed m y k) log (e ∷ []) i) [
         | inl j ↦ in-left (Named m y k) log (e ∷ []) (kept.twins m y k j)
         | inr j ↦ elim j [ inl q ↦ in-left (Named m y k) log (e ∷ []) (same-named n m x y l k log q named) | inr z ↦ absurd z ]
@@ -312,28 +367,33 @@ kept-placed cs log pen n x kept out named some value sound room =
         subst P e i
 
 module _ (v seen : List Event) (pen : Nib) (n : ℕ) (x : Store) (old : ℕ) (right : pen.right ≡ may_write)
-    (named : In (Named n x pen.key) v) (some : 1 < pen.key) (value : pen.value ≡ old)
-    (later : IsPrefix seen v) (last : top seen ≡ old) (room : IsFull (history seen) x.question → ⊥) (sound : IsSound x)
+    (named : In (Named n x pen.key) v) (some : 64 < pen.key) (value : pen.value ≡ old)
+    (later : IsPrefix seen v) (last : top (group_of x.question) seen ≡ old) (room : IsFull (history seen) x.question → ⊥) (sound : IsSound x)
     (low : x.seat < 64) where
-  -- where the head is as it was then, nothing was placed since
-  same-since : (cs : List Cell) (log : List Event) → IsKept cs log → IsPrefix v log → (cell cs 0).0 ≡ old → history log ≡ history seen
+  -- where the head is as it was then, nothing was placed for the group since
+  same-since : (cs : List Cell) (log : List Event) → IsKept cs log → IsPrefix v log → (cell cs (group_of x.question)).0 ≡ old
+      → in_group (group_of x.question) (history log) ≡ in_group (group_of x.question) (history seen)
   same-since cs log kept pre found =
+      let g : ℕ = group_of x.question in
       let more : List Event = later.0 ++ pre.0 in
       let whole : seen ++ more ≡ log = sym (append_assoc seen later.0 pre.0) ∙ (ap (λ w. w ++ pre.0) later.1 ∙ pre.1) in
-      let none = same-top seen more log whole kept.once (some-name cs log kept) (sym (ap (λ (c : Cell). c.0) kept.head)
-      ∙ (found ∙ sym last)) in
-      ap history (sym whole) ∙ (history-append seen more ∙ (ap (λ k. history seen ++ k) none ∙ append-nil (history seen)))
+      let none = same-top g seen more log whole kept.once (some-name cs log kept)
+      (sym (ap (λ (c : Cell). c.0) (kept.heads g (group-low x.question))) ∙ (found ∙ sym last)) in
+      ap (λ w. in_group g (history w)) (sym whole)
+      ∙ (ap (in_group g) (history-append seen more)
+      ∙ (filter-append (λ it. group_of it.question == g) (history seen) (history more)
+      ∙ (ap (λ k. in_group g (history seen) ++ k) none ∙ append-nil (in_group g (history seen)))))
 
   try_goes : (cs : List Cell) (log : List Event) → IsKept cs log → (pre : IsPrefix v log) → Away pen cs → (b : Bool)
-      → ((cell cs 0).0 == old) ≡ b
-      → Goes IsKept shown (Counts (Placed n x 0)) 0 (v, (pen, None)) (λ m. either (m == old) n m)
-      (Tries (step 0 old n (Placed n x 0)) (v, (pen, None))) cs log
+      → ((cell cs (group_of x.question)).0 == old) ≡ b
+      → Goes IsKept shown (Counts (Placed n x 0)) (group_of x.question) (v, (pen, None)) (λ m. either (m == old) n m)
+      (Tries (step (group_of x.question) old n (Placed n x 0)) (v, (pen, None))) cs log
   try_goes cs log kept pre away true b =
-      let found : (cell cs 0).0 ≡ old = grind (arith, nat_tests) in
+      let found : (cell cs (group_of x.question)).0 ≡ old = grind (arith, nat_tests) in
       let same = same-since cs log kept pre found in
-      let tops : pen.value ≡ top log = value ∙ (sym found ∙ ap (λ (c : Cell). c.0) kept.head) in
+      let tops : pen.value ≡ top (group_of x.question) log = value ∙ (sym found ∙ ap (λ (c : Cell). c.0) (kept.heads (group_of x.question) (group-low x.question))) in
       let N : List Event → Type 0 = λ w. In (Named n x pen.key) w in
-      let G : List Store → Type 0 = λ k. IsFull k x.question → ⊥ in
+      let G : List Store → Type 0 = λ k. 64 ≤ length k → ⊥ in
       let e : Event = Placed n x pen.key in
       let r : Counted = more_answer (count x.seat log) in (
         gives,
@@ -346,29 +406,29 @@ module _ (v seen : List Event) (pen : Nib) (n : ℕ) (x : Store) (old : ℕ) (ri
         (r, refl, rw b (refl, (pre.0, ap (λ w. w ++ e ∷ []) (sym pre.1), ap (count x.seat) (sym pre.1)))),
       )
   try_goes cs log kept pre away false b =
-      let T : List Event → Type 0 = λ w. (cell cs 0).0 ≡ top w in
+      let T : List Event → Type 0 = λ w. (cell cs (group_of x.question)).0 ≡ top (group_of x.question) w in
       let r : Counted = kept_answer (count x.seat log) in (
         keeps,
         [],
         Some r,
         tt,
-        rw b (kept-same cs log 0 (cell cs 0).0 (ap (λ (c : Cell). c.1) kept.head) refl kept),
+        rw b (kept-same cs log (group_of x.question) (cell cs (group_of x.question)).0 (head-home cs log kept (group_of x.question) (group-low x.question)) refl kept),
         inr (r, refl, refl, counts_keep (Placed n x 0) log low),
         (
           r,
           refl,
           rw b (
-            subst T (sym (append-nil log)) (ap (λ (c : Cell). c.0) kept.head),
+            subst T (sym (append-nil log)) (ap (λ (c : Cell). c.0) (kept.heads (group_of x.question) (group-low x.question))),
             refl,
             (ap (count x.seat) (sym (append-nil log)), refl),
           ),
         ),
       )
 
-  pub try_moves : Moves IsKept shown (Counts (Placed n x 0)) 0 (v, (pen, None)) (λ m. either (m == old) n m)
-      (Tries (step 0 old n (Placed n x 0)) (v, (pen, None)))
+  pub try_moves : Moves IsKept shown (Counts (Placed n x 0)) (group_of x.question) (v, (pen, None)) (λ m. either (m == old) n m)
+      (Tries (step (group_of x.question) old n (Placed n x 0)) (v, (pen, None)))
   try_moves cs log kept pre away = (
-    home-in cs 0 (head-home cs log kept),
-    head-home cs log kept,
-    try_goes cs log kept pre away ((cell cs 0).0 == old) refl,
+    home-in cs (group_of x.question) (head-home cs log kept (group_of x.question) (group-low x.question)),
+    head-home cs log kept (group_of x.question) (group-low x.question),
+    try_goes cs log kept pre away ((cell cs (group_of x.question)).0 == old) refl,
   )

@@ -1,5 +1,5 @@
 -- What a seat has at the log, and how that goes on.
-use Rattle.std.specs.Prelude.{◌≡◌, ◌≢◌, ℕ, ◌+◌, ◌<◌, ◌≤◌, List, [], ◌∷◌, ◌++◌, length}
+use Rattle.std.specs.Prelude.{◌≡◌, ◌≢◌, ℕ, ◌+◌, ◌<◌, ◌≤◌, List, [], ◌∷◌, ◌++◌}
 use Rattle.std.specs.List.{All}
 use mathlib.Core.List.{IsPrefix}
 use Rattle.logbook.specs.Pages.{Book, Named as Word}
@@ -63,8 +63,6 @@ pub record EndsWith (store : Store) (before after : List Store) : Type 0 where
 
 -- what holds of each log that was seen
 pub record IsLog (log : List Event) : Type 0 where
-  -- 64 groups of 64
-  pub size : length (history log) ≤ 4096
   -- each store is of a seat that the log was opened for
   pub seats : All (λ store. store.seat < seats_in log) (history log)
   -- 0 is the number of no node

@@ -1,6 +1,8 @@
 -- The log: whose each event is, the history that was placed, and the cells that fit it.
-use Rattle.std.specs.Prelude.{◌≡◌, ◌≢◌, ℕ, ◌<◌, ◌⊎◌, true, List, [], ◌∷◌}
+use Rattle.std.specs.Prelude.{◌≡◌, ◌≢◌, ℕ, ◌<◌, ◌==◌, ◌⊎◌, Bool, true, false, List, [], ◌∷◌}
+use Rattle.std.specs.List.{filter}
 use Rattle.logbook.specs.Pages.{Cell, cell}
+use Rattle.answer_log.specs.Groups.{group_of}
 use Rattle.answer_log.specs.declared.event.Event.{Event}
 use Rattle.answer_log.specs.declared.event.Event.TheVariants.{Asks, Named, Opened, Placed}
 use Rattle.answer_log.specs.declared.store.Store.{Store}
@@ -31,6 +33,17 @@ history (Asks seat count ∷ log) = history log
 history (Named node store link ∷ log) = history log
 history (Placed node store link ∷ log) = store ∷ history log
 
+-- a node was placed, for a store whose question is in the group
+abbrev pub is_in : ℕ → Event → Bool
+is_in group (Opened seats) = false
+is_in group (Asks seat count) = false
+is_in group (Named node store link) = false
+is_in group (Placed node store link) = group_of store.question == group
+
+-- the nodes that were placed for a group
+abbrev pub placed_of : ℕ → List Event → List Event
+placed_of group log = filter (is_in group) log
+
 -- the node that was placed last; the one given where none was
 abbrev pub top_from : ℕ → List Event → ℕ
 top_from last [] = last
@@ -39,18 +52,19 @@ top_from last (Asks seat count ∷ log) = top_from last log
 top_from last (Named node store link ∷ log) = top_from last log
 top_from last (Placed node store link ∷ log) = top_from node log
 
--- nodes are numbered from 1, so 0 says that there is none
-abbrev pub top : List Event → ℕ
-top log = top_from 0 log
+-- The node that was placed last for a group. Nodes are numbered from 1, so 0 says that there is
+-- none.
+abbrev pub top : ℕ → List Event → ℕ
+top group log = top_from 0 (placed_of group log)
 
 -- The link of each placed node is at home, and holds the node that was placed before it. Cells 0
--- and 1 are no links.
+-- to 64 are no links.
 abbrev pub Linked : List Cell → ℕ → List Event → Type 0
 Linked cells last [] = Unit {0}
 Linked cells last (Opened seats ∷ log) = Linked cells last log
 Linked cells last (Asks seat count ∷ log) = Linked cells last log
 Linked cells last (Named node store link ∷ log) = Linked cells last log
-Linked cells last (Placed node store link ∷ log) = (1 < link) × (cell cells link ≡ (last, true))
+Linked cells last (Placed node store link ∷ log) = (64 < link) × (cell cells link ≡ (last, true))
     × Linked cells node log
 
 abbrev pub In : Event → List Event → Type 0

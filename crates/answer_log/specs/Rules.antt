@@ -1,8 +1,9 @@
 -- The rule of the log: what holds of its cells and its events at each moment.
-use Rattle.std.specs.Prelude.{◌≡◌, ℕ, ◌+◌, ◌*◌, ◌<◌, ◌≤◌, true, List}
+use Rattle.std.specs.Prelude.{◌≡◌, ℕ, ◌+◌, ◌*◌, ◌<◌, ◌≤◌, true, List, map}
+use Rattle.std.specs.List.{range_with_len}
 use Rattle.logbook.specs.Pages.{Cell, cell, Book, Named as Word}
 use Rattle.answer_log.specs.Histories.{IsHistory}
-use Rattle.answer_log.specs.Logs.{history, top, Linked, In, Once, seats_in}
+use Rattle.answer_log.specs.Logs.{history, placed_of, top, Linked, In, Once, seats_in}
 use Rattle.answer_log.specs.declared.event.Event.{Event}
 use Rattle.answer_log.specs.declared.event.Event.TheVariants.{Named, Placed}
 use Rattle.answer_log.specs.declared.store.Store.{Store}
@@ -11,12 +12,14 @@ use Rattle.answer_log.specs.declared.store.Store.{Store}
 abbrev pub node_at : ℕ → ℕ → ℕ
 node_at seat place = 1 + seat + 64 * place
 
--- Cell 0 is the head, which leads to the node placed last. Cell 1 is idle, and holds 0.
+-- Cells 0 to 63 are the heads of the groups: each leads to the node of its group placed last. Cell
+-- 64 is idle, and holds 0.
 pub record IsKept (cells : List Cell) (log : List Event) : Type 0 where
   pub seats : seats_in log ≤ 64
-  pub head : cell cells 0 ≡ (top log, true)
-  pub idle : cell cells 1 ≡ (0, true)
-  pub linked : Linked cells 0 log
+  pub heads : (group : ℕ) → group < 64 → cell cells group ≡ (top group log, true)
+  pub idle : cell cells 64 ≡ (0, true)
+  -- the chain of a group has its nodes alone
+  pub linked : (group : ℕ) → Linked cells 0 (placed_of group log)
   -- what is placed was named so
   pub twins : (node : ℕ) (store : Store) (link : ℕ) → In (Placed node store link) log
       → In (Named node store link) log
@@ -30,3 +33,7 @@ pub record IsKept (cells : List Cell) (log : List Event) : Type 0 where
 
 abbrev pub word_at : Book → ℕ → Word
 word_at book key = record { tracked = true; key = key; book = book }
+
+-- the heads of the first groups
+abbrev pub heads_of : Book → ℕ → List Word
+heads_of book count = map (word_at book) (range_with_len 0 count)

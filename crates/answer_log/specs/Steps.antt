@@ -7,6 +7,7 @@ use Rattle.dns_message.specs.declared.question.Question.{Question}
 use Rattle.logbook.specs.Pages.{Step, View, nib, may_make}
 use mathlib.Core.List.{IsPrefix}
 use Rattle.answer_log.specs.Counts.{count}
+use Rattle.answer_log.specs.Groups.{group_of}
 use Rattle.answer_log.specs.Histories.{IsFull}
 use Rattle.answer_log.specs.Logs.{seat_of, history, top, In}
 use Rattle.answer_log.specs.Rules.{node_at}
@@ -30,11 +31,11 @@ NamesBelow seat place log =
     (node : ℕ) (store : Store) (link : ℕ) → In (Named node store link) log → store.seat ≡ seat
     → node < node_at seat place
 
--- once the head led to this node, and the group of the question was not full then
+-- once the head of the question's group led to this node, and the group was not full then
 pub record HadRoom (log : List Event) (node : ℕ) (question : Question) : Type 0 where
   pub seen : List Event
   pub later : IsPrefix seen log
-  pub top : top seen ≡ node
+  pub top : top (group_of question) seen ≡ node
   pub room : IsFull (history seen) question → ⊥
 
 -- the tally is that of the seat, in the log of these names
@@ -70,16 +71,16 @@ Rose event before after counted = (counted.after ≡ counted.before + 1)
     × ((more : List Event) × (after ≡ (before ++ more) ++ event ∷ [])
     × (counted.before ≡ count (seat_of event) (before ++ more)))
 
--- the head leads to the node placed last
+-- the head of a group leads to its node placed last
 abbrev pub Looks : Step Event → View Event Counted → ℕ → View Event Counted → Type 0
-Looks s v found w = (found ≡ top w.0) × Says w (Kept (seat_of s.ask) w.0)
+Looks s v found w = (found ≡ top s.key w.0) × Says w (Kept (seat_of s.ask) w.0)
 
--- the link of a placed node leads to the one placed before it
+-- the link of a placed node leads to the one of its group placed before it
 abbrev pub Follows : Step Event → View Event Counted → ℕ → View Event Counted → Type 0
 Follows s v found w =
     (before after : List Event) (node : ℕ) (store : Store)
     → v.0 ≡ before ++ Placed node store s.key ∷ after
-    → found ≡ top before
+    → found ≡ top (group_of store.question) before
 
 abbrev pub linked_to : Event → ℕ → Event
 linked_to (Opened seats) link = Opened seats
@@ -101,13 +102,13 @@ IsTaken node log = (store : Store) × (link : ℕ) × In (Named node store link)
 -- A cell is made. The node was new and is named with that cell as its link, or it was named already
 -- and nothing is added.
 abbrev pub Claims : Step Event → View Event Counted → ℕ → View Event Counted → Type 0
-Claims s v found w = (link : ℕ) × (1 < link) × (w.1.0 ≡ nib may_make link 0)
+Claims s v found w = (link : ℕ) × (64 < link) × (w.1.0 ≡ nib may_make link 0)
     × Says w (λ counted. Rose (linked_to s.ask link) v.0 w.0 counted
     ⊎ (Kept (seat_of s.ask) w.0 counted × IsTaken (node_of s.ask) w.0))
 
--- The head was the one expected, and the node is placed; or it was another, which is the last one,
--- and nothing is added.
+-- The head was the one expected, and the node is placed; or it was another, which is the last one
+-- of the group, and nothing is added.
 abbrev pub Tries : Step Event → View Event Counted → ℕ → View Event Counted → Type 0
 Tries s v found w = Says w
     (λ counted. MatchBool (found == s.old) (Rose (linked_to s.ask v.1.0.key) v.0 w.0 counted)
-    ((found ≡ top w.0) × (w.1.0 ≡ v.1.0) × Kept (seat_of s.ask) w.0 counted))
+    ((found ≡ top s.key w.0) × (w.1.0 ≡ v.1.0) × Kept (seat_of s.ask) w.0 counted))

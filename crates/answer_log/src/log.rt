@@ -1,17 +1,19 @@
 //! The log that seats share.
-ghost use Rattle.std.specs.Prelude.{◌≡◌, ◌+◌, ◌<◌, ◌≤◌, ◌^◌, ◌⊎◌, List, MatchBool, length};
+ghost use Rattle.std.specs.Prelude.{◌≡◌, ◌+◌, ◌-◌, ◌<◌, ◌≤◌, ◌^◌, ◌⊎◌, IfOk, List, MatchBool, length};
 ghost use mathlib.Core.List.{IsPrefix};
 ghost use Rattle.std.specs.Arc.{arc_value};
 ghost use Rattle.logbook.specs.Pages.{may_write};
 ghost use Rattle.answer_log.specs.Hands.{AreHands, EndsWith, IsHand, IsLog, IsNamed, SeesMore};
-ghost use Rattle.answer_log.specs.Histories.{IsSound};
+ghost use Rattle.answer_log.specs.Groups.{group_of};
+ghost use Rattle.answer_log.specs.Histories.{IsSound, in_group};
 ghost use Rattle.answer_log.specs.Logs.{history, top};
-ghost use Rattle.answer_log.specs.Rules.{node_at};
+ghost use Rattle.answer_log.specs.Rules.{heads_of, node_at, word_at};
 ghost use Rattle.answer_log.specs.Steps.{HadRoom, store_by, store_of};
 ghost use Rattle.answer_log.specs.Walks.{Ahead};
 ghost use Rattle.answer_log.specs.declared.event.Event.{Event as Noted};
 
 use crate::event::Event;
+use crate::groups::GROUP_COUNT;
 use crate::hand::{Hand, Hands, MOST_SEATS};
 use crate::steps::{Book, Pen, Word, claim_node, place, top_node};
 use crate::store::Draft;
@@ -19,7 +21,8 @@ use crate::tally::Tallies;
 use crate::walk::Walk;
 use dns_answers::{Answer, Moment};
 use dns_message::Question;
-use logbook::Opening;
+use logbook::{Opening, Pens};
+use std::alloc::{AllocError, Global};
 use std::marker::Model;
 use std::sync::Arc;
 
@@ -33,26 +36,26 @@ impl Opening<u64, Event> for Blank {
     ghost log = { λ words seats. Opened seats ∷ [] };
 }
 
-/// The log: its head, which leads to the node placed last, and a word that holds 0.
+/// The log: the head of each group, which leads to its node placed last, and a word that holds 0.
 #[derive(Drop)]
 pub struct Log {
-    head: Word,
+    heads: Vec<Word>,
     idle: Word,
 }
 
 impl Model for Log {
     ghost use Rattle.std.specs.Prelude.{◌≡◌};
     ghost use Rattle.logbook.specs.Pages.{Book, book_coded};
-    ghost use Rattle.answer_log.specs.Rules.{word_at};
+    ghost use Rattle.answer_log.specs.Rules.{heads_of, word_at};
 
     ghost Value = { Book };
 
     ghost coded = { book_coded };
 
-    ghost view = { λ log. log.head.book };
+    ghost view = { λ log. log.idle.book };
 
-    ghost invariant = { λ log. (log.head ≡ word_at log.head.book 0)
-        × (log.idle ≡ word_at log.head.book 1) };
+    ghost invariant = { λ log. (log.heads.items ≡ heads_of log.idle.book 64)
+        × (log.idle ≡ word_at log.idle.book 64) };
 }
 
 /// A node that was named, its link, and what writes the link.
@@ -63,18 +66,32 @@ pub struct Claimed {
     pub pen: Pen,
 }
 
+/// The heads of all groups, by the first rights of a new book.
+fn make_heads(alloc: Global, pens: &mut Pens) -> Result<Vec<Word>, AllocError>
+    requires pens { (pens.old.next ≡ 0) × (pens.old.left ≡ 65) }
+    ensures heads { IfOk result (λ heads. heads.items ≡ heads_of pens.old.book 64) }
+    ensures rest { IfOk result (λ _. (pens.new.book ≡ pens.old.book) × (pens.new.next ≡ 64)
+        × (pens.new.left ≡ 1)) }
+{
+    let mut heads = Vec::new(alloc);
+    'groups: for _group in 0..GROUP_COUNT {
+        let mut pen = pens.take();
+        heads.push(Word::tracked(0, &mut pen))?;
+    }
+    Ok(heads)
+}
+
 impl Log {
     /// Opens a log without stores, and gives what its seats have at it.
-    pub fn open(seats: u64) -> (Log, Hands)
+    pub fn open(alloc: Global, seats: u64) -> Result<(Log, Hands), AllocError>
         requires seats { seats ≤ 64 }
-        ensures book { result.0 ≡ result.1.seen.book }
-        ensures first { (result.1.next ≡ 0) × (result.1.seats ≡ seats) }
-        ensures hands { AreHands result.1 }
+        ensures book { IfOk result (λ made. made.0 ≡ made.1.seen.book) }
+        ensures first { IfOk result (λ made. (made.1.next ≡ 0) × (made.1.seats ≡ seats)) }
+        ensures hands { IfOk result (λ made. AreHands made.1) }
     {
         let (start, tallies) = Tallies::open(seats);
-        let (seen, mut pens) = Book::open_row::<u64, Blank>(&seats, start, 2);
-        let mut pen = pens.take();
-        let head = Word::tracked(0, &mut pen);
+        let (seen, mut pens) = Book::open_row::<u64, Blank>(&seats, start, 65);
+        let heads = make_heads(alloc, &mut pens)?;
         let mut pen = pens.take();
         let idle = Word::tracked(0, &mut pen);
         let hands = Hands {
@@ -83,30 +100,40 @@ impl Log {
             tallies,
             seen,
         };
-        (Log { head, idle }, hands)
+        Ok((Log { heads, idle }, hands))
     }
 
-    /// A walk from the node placed last: one load of the head.
-    pub fn walk(&self, hand: &mut Hand) -> Walk
+    /// The head of a group.
+    fn head(&self, group: u8) -> &Word
+        requires { group < 64 }
+        ensures { result.now ≡ word_at self.now group }
+    {
+        &self.heads[group as usize]
+    }
+
+    /// A walk from the node of a group placed last: one load of its head.
+    pub fn walk(&self, hand: &mut Hand, group: u8) -> Walk
         requires book { hand.old.book.book ≡ self.now }
         requires hand { IsHand hand.old }
+        requires group { group < 64 }
         ensures hand { IsHand hand.new }
         ensures number { (hand.new.number ≡ hand.old.number) × (hand.new.seats ≡ hand.old.seats) }
         ensures book { hand.new.book.book ≡ self.now }
         ensures seen { SeesMore hand.old.number hand.old.book.log hand.new.book.log }
         ensures places { hand.new.places ≡ hand.old.places }
         ensures walk { (result.seen.book ≡ self.now) × (result.seen.log ≡ hand.new.book.log)
-            × (result.next ≡ top hand.new.book.log) }
-        ensures ahead { Ahead result (history hand.new.book.log) }
+            × (result.next ≡ top group hand.new.book.log) }
+        ensures ahead { Ahead result (in_group group (history hand.new.book.log)) }
     {
-        let next = top_node(&self.head, &mut hand.book, &mut hand.tally, hand.number);
+        let head = self.head(group);
+        let next = top_node(head, group, &mut hand.book, &mut hand.tally, hand.number);
         Walk {
             seen: hand.book.again(),
             next,
         }
     }
 
-    /// Sees what was told, and what came since: one load of the head.
+    /// Sees what was told, and what came since: one load of a head.
     pub fn learn(&self, hand: &mut Hand, told: &Book)
         requires book { hand.old.book.book ≡ self.now }
         requires told { told.now.book ≡ self.now }
@@ -118,7 +145,8 @@ impl Log {
         ensures told { IsPrefix (history told.now.log) (history hand.new.book.log) }
     {
         hand.book.learn(told);
-        let _node = top_node(&self.head, &mut hand.book, &mut hand.tally, hand.number);
+        let head = self.head(0);
+        let _node = top_node(head, 0, &mut hand.book, &mut hand.tally, hand.number);
     }
 
     /// Names the node of a place for a store, and makes its link: one exchange on the idle word. A
@@ -143,7 +171,7 @@ impl Log {
         ensures named { IsNamed self.now hand.new.book.log result.node
             (store_by hand.old.number question.now (arc_value answer.now) moment) result.link }
         ensures pen { (result.pen.book ≡ self.now) × (result.pen.nib.right ≡ may_write)
-            × (result.pen.nib.key ≡ result.link.key) × (1 < result.link.key) }
+            × (result.pen.nib.key ≡ result.link.key) × (64 < result.link.key) }
     {
         let node = 1 + hand.number + MOST_SEATS * place;
         let draft = Draft {
@@ -160,25 +188,28 @@ impl Log {
     }
 
     /// Tries to place a node on top of the node `old`, which its link holds: one exchange of the
-    /// head. Says whether the node was placed. It was not where the head had another node by then.
+    /// head of its group. Says whether the node was placed. It was not where the head had another
+    /// node by then.
     pub fn place(
         &self,
         hand: &mut Hand,
         pen: &mut Pen,
         old: u64,
         draft: &Draft<'_>,
+        group: u8,
         link: &Word,
     ) -> bool
         requires book { hand.old.book.book ≡ self.now }
         requires hand { IsHand hand.old }
         requires seat { draft.now.seat ≡ hand.old.number }
+        requires group { (group ≡ group_of draft.now.question.now) × (group < 64) }
         requires room { HadRoom hand.old.book.log old draft.now.question.now }
         requires sound { IsSound (store_of draft.now) }
         requires named { IsNamed self.now hand.old.book.log
             draft.now.node (store_of draft.now) link.now }
         requires pen { (pen.old.book ≡ self.now) × (pen.old.nib.right ≡ may_write)
             × (pen.old.nib.key ≡ link.now.key)
-            × (pen.old.nib.value ≡ old) × (1 < link.now.key) }
+            × (pen.old.nib.value ≡ old) × (64 < link.now.key) }
         ensures hand { IsHand hand.new }
         ensures number { (hand.new.number ≡ hand.old.number) × (hand.new.seats ≡ hand.old.seats) }
         ensures book { hand.new.book.book ≡ self.now }
@@ -187,14 +218,15 @@ impl Log {
             (SeesMore hand.old.number hand.old.book.log hand.new.book.log) }
         // Other stores came in between.
         ensures lost { MatchBool result (Unit {0})
-            ((seen : List Noted) → IsPrefix seen hand.old.book.log → top seen ≡ old
+            ((seen : List Noted) → IsPrefix seen hand.old.book.log
+            → top (group_of draft.now.question.now) seen ≡ old
             → length (history seen) < length (history hand.new.book.log)) }
         ensures pen { MatchBool result (Unit {0})
             ((pen.new.book ≡ self.now) × (pen.new.nib.right ≡ may_write)
             × (pen.new.nib.key ≡ link.now.key)) }
     {
         place(
-            &self.head,
+            self.head(group),
             &mut hand.book,
             &mut hand.tally,
             pen,
@@ -205,8 +237,8 @@ impl Log {
     }
 }
 
-/// A law: each log that was seen has a history of at most 4096 sound stores of its seats, 64 in a
-/// group, and no node 0.
+/// A law: each log that was seen has a history of sound stores of its seats, at most 64 in a group,
+/// and no node 0.
 pub fn log_keeps_its_rule(book: &Book)
     ensures { IsLog book.now.log }
 {

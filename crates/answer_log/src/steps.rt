@@ -4,6 +4,7 @@ ghost use Rattle.std.specs.Prelude.{true};
 ghost use mathlib.Core.List.{IsPrefix};
 ghost use Rattle.logbook.specs.Pages.{nib, may_make, may_write};
 ghost use Rattle.answer_log.specs.Counts.{count, first_name, first_seat, first_count};
+ghost use Rattle.answer_log.specs.Groups.{group_of};
 ghost use Rattle.answer_log.specs.Histories.{IsSound};
 ghost use Rattle.answer_log.specs.Hands.{IsNamed};
 ghost use Rattle.answer_log.specs.Logs.{In, seats_in, top};
@@ -37,7 +38,7 @@ impl Gain<Event, Counted> for Nothing {
     ghost after = { λ names about counted. ftrue };
 }
 
-/// A look at the head.
+/// A look at a head.
 struct Look;
 
 impl Play<Event, Counted> for Look {
@@ -122,14 +123,15 @@ fn settle(tally: &mut Tally, deal: Deal)
     tally.back(deal.into_gain());
 }
 
-/// A load of the head: the node placed last, 0 where there is none. Till then the log had as many
-/// events of the seat as the tally says.
-pub(crate) fn top_node(head: &Word, book: &mut Book, tally: &mut Tally, seat: u64) -> u64
-    requires head { head.now ≡ word_at book.old.book 0 }
+/// A load of the head of a group: its node placed last, 0 where there is none. Till then the log had
+/// as many events of the seat as the tally says.
+pub(crate) fn top_node(head: &Word, group: u8, book: &mut Book, tally: &mut Tally, seat: u64) -> u64
+    requires head { head.now ≡ word_at book.old.book group }
+    requires group { group < 64 }
     requires fits { Fits tally.old book.old.names seat }
     ensures book { (book.new.book ≡ book.old.book) × (book.new.names ≡ book.old.names) }
     ensures later { IsPrefix book.old.log book.new.log }
-    ensures top { result ≡ top book.new.log }
+    ensures top { result ≡ top group book.new.log }
     ensures same { Same tally.old tally.new (count seat book.new.log) }
 {
     let mut deal = tally.bid::<u64, Look>(&seat);
@@ -138,9 +140,9 @@ pub(crate) fn top_node(head: &Word, book: &mut Book, tally: &mut Tally, seat: u6
     found
 }
 
-/// The node placed before a placed node, 0 where there is none: one load of its link. The log that
-/// `named` has seen names the node with that link. The store that was placed is the one that was
-/// named.
+/// The node of its group placed before a placed node, 0 where there is none: one load of its link.
+/// The log that `named` has seen names the node with that link. The store that was placed is the
+/// one that was named.
 pub(crate) fn node_before(link: &Word, named: &Book, node: u64, book: &mut Book) -> u64
     requires books { named.now.book ≡ book.old.book }
     requires named { (store : Store) × IsNamed named.now.book named.now.log node store link.now }
@@ -149,7 +151,8 @@ pub(crate) fn node_before(link: &Word, named: &Book, node: u64, book: &mut Book)
     ensures book { book.new.book ≡ book.old.book }
     ensures later { IsPrefix book.old.log book.new.log }
     ensures before { (before after : List Noted) (store : Store) (key : ℕ)
-        → book.old.log ≡ before ++ Placed node store key ∷ after → result ≡ top before }
+        → book.old.log ≡ before ++ Placed node store key ∷ after
+        → result ≡ top (group_of store.question) before }
     ensures store { (before after : List Noted) (store placed : Store) (key : ℕ)
         → book.old.log ≡ before ++ Placed node placed key ∷ after
         → IsNamed named.now.book named.now.log node store link.now → placed ≡ store }
@@ -168,7 +171,7 @@ pub(crate) fn claim_node(
     place: u64,
     draft: &Draft<'_>,
 ) -> Pen
-    requires idle { idle.now ≡ word_at book.old.book 1 }
+    requires idle { idle.now ≡ word_at book.old.book 64 }
     requires fits { Fits tally.old book.old.names draft.now.seat }
     requires counted { count draft.now.seat book.old.log ≡ tally.old.count }
     requires below { NamesBelow draft.now.seat place book.old.log }
@@ -176,7 +179,7 @@ pub(crate) fn claim_node(
     requires seat { draft.now.seat < seats_in book.old.log }
     ensures book { (book.new.book ≡ book.old.book) × (book.new.names ≡ book.old.names)
         × (result.book ≡ book.old.book) }
-    ensures pen { (1 < result.nib.key) × (result.nib ≡ nib may_make result.nib.key 0) }
+    ensures pen { (64 < result.nib.key) × (result.nib ≡ nib may_make result.nib.key 0) }
     ensures tally { Stays tally.old tally.new × (tally.new.count ≡ tally.old.count + 1) }
     ensures adds { Adds (Named draft.now.node (store_of draft.now) result.nib.key)
         tally.old book.old.log book.new.log }
@@ -188,8 +191,8 @@ pub(crate) fn claim_node(
     pen
 }
 
-/// An exchange of the head: tries to place a node before the node `old`, which the pen has written
-/// into its link.
+/// An exchange of the head of a group: tries to place a node before the node `old`, which the pen
+/// has written into its link.
 pub(crate) fn place(
     head: &Word,
     book: &mut Book,
@@ -199,7 +202,7 @@ pub(crate) fn place(
     draft: &Draft<'_>,
     link: &Word,
 ) -> bool
-    requires head { head.now ≡ word_at book.old.book 0 }
+    requires head { head.now ≡ word_at book.old.book (group_of draft.now.question.now) }
     requires fits { Fits tally.old book.old.names draft.now.seat }
     requires pen { (pen.old.book ≡ book.old.book) × (pen.old.nib.right ≡ may_write)
         × (pen.old.nib.key ≡ link.now.key)
@@ -207,7 +210,7 @@ pub(crate) fn place(
     requires room { HadRoom book.old.log old draft.now.question.now }
     requires sound { IsSound (store_of draft.now) }
     requires named { In (Named draft.now.node (store_of draft.now) link.now.key) book.old.log
-        × (1 < link.now.key) }
+        × (64 < link.now.key) }
     ensures book { (book.new.book ≡ book.old.book) × (book.new.names ≡ book.old.names)
         × (pen.new.book ≡ pen.old.book) }
     ensures later { IsPrefix book.old.log book.new.log }
@@ -216,7 +219,7 @@ pub(crate) fn place(
         (Adds (Placed draft.now.node (store_of draft.now) link.now.key)
         tally.old book.old.log book.new.log
         × (tally.new.count ≡ tally.old.count + 1))
-        ((old ≢ top book.new.log) × (pen.new.nib ≡ pen.old.nib)
+        ((old ≢ top (group_of draft.now.question.now) book.new.log) × (pen.new.nib ≡ pen.old.nib)
         × Same tally.old tally.new (count draft.now.seat book.new.log)) }
 {
     let mut deal = tally.bid::<Draft<'_>, Try>(draft);

@@ -1,4 +1,4 @@
-//! A walk along the placed nodes.
+//! A walk along the placed nodes of a group.
 ghost use Rattle.std.specs.Prelude.{◌≡◌, ◌≢◌, ◌∷◌, ◌++◌, [], IfNone, IfSome, List};
 ghost use Rattle.answer_log.specs.Hands.{IsNamed};
 ghost use Rattle.answer_log.specs.Walks.{Ahead};
@@ -7,8 +7,8 @@ ghost use Rattle.answer_log.specs.declared.store.Store.{Store};
 use crate::log::log_keeps_its_rule;
 use crate::steps::{Book, Word, node_before};
 
-/// A walk from the node placed last to the first one: what it has seen, and the next node, 0 at the
-/// end.
+/// A walk from a group's node placed last to its first one: what it has seen, and the next node, 0
+/// at the end.
 #[derive(Drop)]
 pub struct Walk {
     pub seen: Book,

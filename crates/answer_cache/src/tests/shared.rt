@@ -1,22 +1,31 @@
 //! Stores of several seats at once.
 ghost use Rattle.std.specs.Prelude.{◌≡◌, ◌+◌, ◌<◌, IfSome, OnErr, OnOk, length, map};
 ghost use Rattle.std.specs.List.{All, range_with_len};
-ghost use Rattle.answer_cache.specs.Shared.{Belongs, HasStored, new_seat};
+ghost use Rattle.answer_cache.specs.Shared.{Belongs, CacheView, HasStored, cache_view, new_seat};
 
-use super::{answer_of, life_of, question_of, two_seats};
+use super::{answer_of, found, question_of, two_seats};
 use crate::*;
 use dns_answers::{Answer, Moment};
 use dns_message::{Kind, Question};
 use dns_name::Name;
 use std::alloc::Global;
-use std::marker::Model;
+use std::marker::{Brand, Model, PhantomData};
 use std::sync::{Arc, Wait};
 use std::test::*;
 use std::thread::{Threads, join};
 
+/// Which cache the seats of a test are of. Each call of a test picks it.
+trait Naming {
+    ghost cache: { CacheView };
+}
+
+impl Naming for Brand {
+    ghost cache = { cache_view (record { number = 0; log_name = 0; cells_name = 0 }) 0 };
+}
+
 /// Stores through another seat in the tries up to a last one, and counts the tries.
 #[derive(Drop)]
-struct Other<'a, R: Wait> {
+struct Other<'a, R: Wait, J: Naming> {
     rt: &'a R,
     cache: &'a SharedCache,
     seat: Seat,
@@ -25,9 +34,10 @@ struct Other<'a, R: Wait> {
     now: Moment,
     last: u8,
     tries: u8,
+    of: PhantomData<J>,
 }
 
-impl<'a, R: Wait> Model for Other<'a, R> {
+impl<'a, R: Wait, J: Naming> Model for Other<'a, R, J> {
     ghost use Rattle.std.specs.Prelude.{◌≡◌};
     ghost use Rattle.std.specs.Arc.{arc_value};
     ghost use Rattle.dns_answers.specs.Records.{kind_of};
@@ -37,11 +47,11 @@ impl<'a, R: Wait> Model for Other<'a, R> {
 
     ghost view = { λ _. tt };
 
-    ghost invariant = { λ it. Belongs it.cache.now it.seat
+    ghost invariant = { λ it. (it.cache.now ≡ J.cache) × Belongs J.cache it.seat
         × (kind_of (arc_value it.answer).records ≡ it.question.kind) };
 }
 
-impl<'a, R: Wait> Rival for Other<'a, R> {
+impl<'a, R: Wait, J: Naming> Rival for Other<'a, R, J> {
     fn between(&mut self, try_number: u8) {
         self.tries = try_number;
         if try_number <= self.last {
@@ -56,18 +66,20 @@ impl<'a, R: Wait> Rival for Other<'a, R> {
     }
 }
 
-/// The other seat, which stores in the tries up to a last one.
-fn other_of<'a, R: Wait + AllocGlobal>(
+/// The other seat, which stores a question of this kind in the tries up to a last one.
+fn other_of<'a, R: Wait + AllocGlobal, J: Naming>(
     rt: &'a R,
     cache: &'a SharedCache,
     seat: Seat,
+    kind: Kind,
     last: u8,
-) -> Option<Other<'a, R>>
-    requires { Belongs cache.now seat }
+) -> Option<Other<'a, R, J>>
+    requires cache { cache.now ≡ J.cache }
+    requires seat { Belongs J.cache seat }
 {
     let now = Moment::new(100)?;
-    let question = question_of(rt.alloc(), Kind::A)?;
-    let answer = answer_of(rt.alloc(), Kind::A, 10)?;
+    let question = question_of(rt.alloc(), kind)?;
+    let answer = answer_of(rt.alloc(), kind, 10)?;
     Some(Other {
         rt,
         cache,
@@ -77,48 +89,75 @@ fn other_of<'a, R: Wait + AllocGlobal>(
         now,
         last,
         tries: 0,
+        of: PhantomData,
     })
 }
 
-/// What a store against a rival says, and the life of what is found then: 20 for the store, 10 for
-/// the other seat's.
-fn said_against(
-    rt: &(impl Wait + AllocGlobal),
+/// What a store against a rival says, how many tries there were, and the lives that are found then:
+/// 20 for the store, 10 for the other seat's.
+type Said = (Result<(), StoreRefusal>, u8, Option<u32>, Option<u32>);
+
+/// What a store of one kind says against another seat that stores a question of another kind in the
+/// tries up to a last one. What is found of both, once the seat has learned what the other has
+/// seen.
+fn said_against<R: Wait + AllocGlobal, J: Naming>(
+    rt: &R,
     cache: &SharedCache,
     seat: &mut Seat,
-    rival: &mut impl Rival,
-) -> Option<(Result<(), StoreRefusal>, Option<u32>)>
-    requires { Belongs cache.now seat.old }
+    rival: &mut Other<'_, R, J>,
+    kind: Kind,
+) -> Option<Said>
+    requires cache { cache.now ≡ J.cache }
+    requires seat { Belongs J.cache seat.old }
 {
     let question = question_of(rt.alloc(), Kind::A)?;
     let answer = answer_of(rt.alloc(), Kind::A, 20)?;
     let now = Moment::new(100)?;
     let said = cache.store_against(rt, seat, &question, &answer, now, rival);
-    let life = life_of(cache.lookup(seat, &question, now).ok()?);
-    Some((said, life))
+    cache.learn(seat, &rival.seat.notice());
+    let life = found(rt.alloc(), cache, seat, Kind::A, 100)?;
+    let other = found(rt.alloc(), cache, seat, kind, 100)?;
+    Some((said, rival.tries, life, other))
 }
 
-/// The same against another seat that stores the same question in the tries up to a last one, and
-/// how many tries there were.
-fn against<R: Wait + AllocGlobal>(
+/// The same for two seats of this cache.
+fn said_by_two<J: Naming, R: Wait + AllocGlobal>(
     rt: &R,
+    cache: &SharedCache,
+    mut seat: Seat,
+    other: Seat,
+    kind: Kind,
     last: u8,
-) -> Option<(Result<(), StoreRefusal>, u8, Option<u32>)> {
-    let (cache, mut seat, other) = two_seats(rt.alloc())?;
-    let mut rival = other_of(rt, &cache, other, last)?;
-    let (said, life) = said_against(rt, &cache, &mut seat, &mut rival)?;
-    Some((said, rival.tries, life))
+) -> Option<Said>
+    requires cache { cache.now ≡ J.cache }
+    requires seat { Belongs J.cache seat }
+    requires other { Belongs J.cache other }
+{
+    let mut rival: Other<'_, R, J> = other_of(rt, cache, other, kind, last)?;
+    said_against(rt, cache, &mut seat, &mut rival, kind)
+}
+
+/// The same for a new cache.
+fn against(rt: &(impl Wait + AllocGlobal), kind: Kind, last: u8) -> Option<Said> {
+    let (cache, seat, other) = two_seats(rt.alloc())?;
+    said_by_two::<Brand, _>(rt, &cache, seat, other, kind, last)
 }
 
 #[test]
 fn stores_against_another_seat(rt: HostRuntime) {
     let rows = [
-        (0, (Ok(()), 1, Some(20))),
-        (15, (Ok(()), 16, Some(20))),
-        (16, (Err(StoreRefusal::Contended), 16, Some(10))),
+        (Kind::A, 0, (Ok(()), 1, Some(20), Some(20))),
+        (Kind::A, 15, (Ok(()), 16, Some(20), Some(20))),
+        (
+            Kind::A,
+            16,
+            (Err(StoreRefusal::Contended), 16, Some(10), Some(10)),
+        ),
+        // a question of another group
+        (Kind::Aaaa, 16, (Ok(()), 1, Some(20), Some(10))),
     ];
-    for (last, wanted) in rows {
-        assert_eq!(rt; against(&rt, last), Some(wanted), "{last}");
+    for (kind, last, wanted) in rows {
+        assert_eq!(rt; against(&rt, kind, last), Some(wanted), "{last}");
     }
 }
 

@@ -13,7 +13,7 @@ compare_exchange-found-requires c =
     let room = c.requires.room in
     let draft = c.args.draft.now in
     let P : ℕ → Type 0 = λ k. In (Named draft.node (store_of draft) k) c.args.book.now.log in
-    let L : ℕ → Type 0 = λ k. 1 < k in (
+    let L : ℕ → Type 0 = λ k. 64 < k in (
       ap (λ w. w.tracked) h,
       sym (ap (λ w. w.book) h),
       p.0 ∙ sym (ap (λ w. w.book) h),

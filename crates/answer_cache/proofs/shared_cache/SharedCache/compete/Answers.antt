@@ -41,6 +41,15 @@ attempt-requires-in-tries-clause-ready g c =
     (ready-on c.args.self.now.book c.tries.hand.book.log k.book.log c.tries.hand.number c.args.node.now c.tries.pen.nib
     c.in_ok-old.ensures.seen i.ready)
 
+pub attempt-requires-in-tries-clause-room : goal.attempt-requires-in-tries-clause-room
+attempt-requires-in-tries-clause-room g c =
+    let log = c.room.new.hand.book.log in record {
+      seen = log;
+      later = ([], append-nil log);
+      top = sym c.in_ok-old.ensures.room.0;
+      room = c.in_ok-old.ensures.room.1;
+    }
+
 pub tries-preserved : goal.tries-preserved
 tries-preserved g c =
     let h = c.args.hand.now in
@@ -70,7 +79,7 @@ tries-preserved g c =
       costs =
           let n = c.tries.number in
           let l = i.least in
-          costs.within _ _ ((n - 2) * 4096 + 4096 + 0) ((n + 1 - 2) * 4096) ((n - 1) + 0 + 1) (n + 1 - 1) (omega arith) (omega arith)
-          (costs.both _ c.room.new.notes _ ((n - 2) * 4096 + 4096) 0 ((n - 1) + 0) 1
-          (costs.both _ c.tries.notes _ ((n - 2) * 4096) 4096 (n - 1) 0 i.costs c.in_ok-old.ensures.costs) it.costs);
+          costs.within _ _ ((n - 2) * 64 + 64 + 0) ((n + 1 - 2) * 64) ((n - 1) + 0 + 1) (n + 1 - 1) (omega arith) (omega arith)
+          (costs.both _ c.room.new.notes _ ((n - 2) * 64 + 64) 0 ((n - 1) + 0) 1
+          (costs.both _ c.tries.notes _ ((n - 2) * 64) 64 (n - 1) 0 i.costs c.in_ok-old.ensures.costs) it.costs);
     }

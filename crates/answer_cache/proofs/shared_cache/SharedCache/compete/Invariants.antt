@@ -1,6 +1,7 @@
 use Rattle.std.proofs.Common.{◌≡◌, ◌+◌, ◌*◌, ◌-◌, ◌≤◌, List, length}
 use Rattle.answer_log.specs.Hands.{IsHand, SeesMore}
 use mathlib.Core.List.{IsPrefix}
+use Rattle.answer_log.specs.Groups.{group_of}
 use Rattle.answer_log.specs.Logs.{history, top}
 use Rattle.answer_log.specs.declared.event.Event.{Event}
 use Rattle.answer_cache.specs.Nodes.{Costs, IsReady}
@@ -14,7 +15,7 @@ invariant-tries g l = record {
   book : (l.hand.book.book ≡ l.self.book) × (l.pen.book ≡ l.self.book);
   ready : IsReady l.self.book l.hand.book.log l.hand.number l.node l.pen.nib;
   seen : SeesMore l.fn.hand.number l.fn.hand.book.log l.hand.book.log;
-  count : (seen : List Event) → IsPrefix seen l.fn.hand.book.log → top seen ≡ l.fn.old
+  count : (seen : List Event) → IsPrefix seen l.fn.hand.book.log → top (group_of l.fn.node.question) seen ≡ l.fn.old
       → length (history seen) + (l.number - 1) ≤ length (history l.hand.book.log);
-  costs : Costs l.fn.notes l.notes ((l.number - 2) * 4096) (l.number - 1);
+  costs : Costs l.fn.notes l.notes ((l.number - 2) * 64) (l.number - 1);
 }

@@ -1,12 +1,13 @@
-use Rattle.std.proofs.Common.{◌≡◌}
-use Rattle.answer_log.specs.Logs.{history}
+use Rattle.std.proofs.Common.{◌≡◌, List}
+use Rattle.answer_log.specs.Walks.{Ahead}
+use Rattle.answer_log.specs.declared.store.Store.{Store}
 use Rattle.answer_cache.specs.Nodes.{Costs}
-use Rattle.answer_cache.proofs.Lookups.{Counts}
+use Rattle.answer_cache.proofs.Lookups.{Passes}
 use Rattle.answer_cache.proofs.shared_cache.SharedCache.is_full.Given as goal
 
-abbrev pub invariant-links : goal.invariant-links
-invariant-links l = record {
+abbrev pub invariant-stores : goal.invariant-stores
+invariant-stores l = record {
   book : l.walk.seen.book ≡ l.self.book;
-  counts : Counts l.group (history l.fn.walk.seen.log) l.walk l.count l._link;
-  costs : Costs l.fn.notes l.notes l._link 0;
+  passes : (whole : List Store) → Ahead l.fn.walk whole → Passes whole l.walk l._store;
+  costs : Costs l.fn.notes l.notes l._store 0;
 }

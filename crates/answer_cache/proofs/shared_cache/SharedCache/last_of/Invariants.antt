@@ -1,4 +1,6 @@
 use Rattle.std.proofs.Common.{◌≡◌}
+use Rattle.answer_log.specs.Groups.{group_of}
+use Rattle.answer_log.specs.Histories.{in_group}
 use Rattle.answer_log.specs.Logs.{history}
 use Rattle.answer_cache.specs.Nodes.{Costs}
 use Rattle.answer_cache.proofs.Lookups.{Searches}
@@ -7,6 +9,6 @@ use Rattle.answer_cache.proofs.shared_cache.SharedCache.last_of.Given as goal
 abbrev pub invariant-links : goal.invariant-links
 invariant-links l = record {
   book : l.walk.seen.book ≡ l.self.book;
-  searches : Searches l.question (history l.fn.walk.seen.log) l.walk l._link;
+  searches : Searches l.asked.question.now (in_group (group_of l.asked.question.now) (history l.fn.walk.seen.log)) l.walk l._link;
   costs : Costs l.fn.notes l.notes l._link 0;
 }

@@ -4,7 +4,7 @@ use Rattle.std.specs.Arc.{arc_value}
 use Rattle.answer_log.specs.Hands.{SeesMore}
 use Rattle.answer_log.specs.Steps.{store_by}
 use Rattle.answer_cache.specs.Nodes.{store_in}
-use Rattle.answer_cache.proofs.Placing.{put-on, sees-trans, store-is}
+use Rattle.answer_cache.proofs.Placing.{lost-on, put-on, sees-trans, store-is}
 use Rattle.answer_cache.proofs.shared_cache.SharedCache.put.Goals as goal
 
 pub returns-in_err-pushed-clause-put : goal.returns-in_err-pushed-clause-put
@@ -30,3 +30,13 @@ returns-clause-put g c =
     (store_by h.number w.question.now (arc_value w.answer.now) w.moment) h.book.log k.book.log c.compete.new.hand.book.log
     number (store-is k.number h.number node w.question.now (arc_value w.answer.now) w.moment number c.in_ok-pushed.ensures.made) refl sees
     its
+
+pub returns-clause-lost : goal.returns-clause-lost
+returns-clause-lost g c =
+    let node = c.in_ok-pushed.pushed.value in
+    let r = c.room.new.hand in
+    let k = c.make_ready.new.hand in
+    let its = rw c.value.ensures at c.compete.ensures.lost in
+    lost-on c.compete.result node.question c.args.wanted.now.question.now c.args.hand.now.book.log r.book.log k.book.log
+    c.compete.new.hand.book.log c.in_ok-old.old c.in_ok-pushed.ensures.made.0 c.room.ensures.seen.stores
+    c.make_ready.ensures.seen.later c.in_ok-old.ensures.room.0 its

@@ -22,6 +22,7 @@ returns-clause-seen c = let t = c.top_node-next in hand_sees c.args.hand.now t.n
 pub returns-clause-ahead : goal.returns-clause-ahead
 returns-clause-ahead c =
     let t = c.top_node-next in record {
+      group = c.args.group;
       front = t.new.book.log;
       back = [];
       split = ap (λ b. b.log) c.again.ensures ∙ sym (append-nil t.new.book.log);
