@@ -4,11 +4,12 @@ use Rattle.std.specs.Prelude.{codes}
 use Rattle.dns_message.specs.declared.naptr.NaptrRecord.{NaptrRecord}
 use Rattle.dns_message.specs.declared.rdata.Rdata.{Rdata}
 use Rattle.dns_message.specs.declared.rdata.Rdata.TheVariants.{Addr4, Addr6, Srv, Naptr, Cname, Soa, Other}
+use Rattle.dns_message.specs.declared.soa.SoaRecord.{SoaRecord}
 use Rattle.dns_message.specs.declared.srv.SrvRecord.{SrvRecord}
 use Rattle.dns_name.specs.Texts.{TextOf}
 use Rattle.sip_uri.specs.Addresses.{AddressText}
 use Rattle.sip_uri.specs.declared.address.Address.TheVariants.{V4, V6}
-use Rattle.dns_zone.specs.Lines.{DataFields, NaptrFields, OneField, SrvFields}
+use Rattle.dns_zone.specs.Lines.{DataFields, NaptrFields, OneField, SoaFields, SrvFields}
 
 module _ (fields : List (List ℕ)) where
   pub a_data : (found : Rdata) → DataFields (codes "A") fields found
@@ -18,7 +19,7 @@ module _ (fields : List (List ℕ)) where
   a_data (Cname name) is = absurd (omega (arith, ap length is.0))
   a_data (Srv server) is = absurd (omega (arith, ap length is.0))
   a_data (Naptr rule) is = absurd (omega (arith, ap length is.0))
-  a_data (Soa authority) is = absurd is
+  a_data (Soa authority) is = absurd (omega (arith, ap length is.0))
   a_data (Other other) is = absurd is
 
   pub aaaa_data : (found : Rdata) → DataFields (codes "AAAA") fields found
@@ -28,7 +29,7 @@ module _ (fields : List (List ℕ)) where
   aaaa_data (Cname name) is = absurd (omega (arith, ap length is.0))
   aaaa_data (Srv server) is = absurd (omega (arith, ap length is.0))
   aaaa_data (Naptr rule) is = absurd (omega (arith, ap length is.0))
-  aaaa_data (Soa authority) is = absurd is
+  aaaa_data (Soa authority) is = absurd (omega (arith, ap length is.0))
   aaaa_data (Other other) is = absurd is
 
   pub cname_data : (found : Rdata) → DataFields (codes "CNAME") fields found
@@ -38,7 +39,7 @@ module _ (fields : List (List ℕ)) where
   cname_data (Cname name) is = (name, refl, is.1)
   cname_data (Srv server) is = absurd (omega (arith, ap length is.0))
   cname_data (Naptr rule) is = let first : ◌≡◌ {A = ℕ} 67 78 = ap (λ (l : List ℕ). get_or l 0 0) is.0 in absurd (omega (arith, first))
-  cname_data (Soa authority) is = absurd is
+  cname_data (Soa authority) is = absurd (omega (arith, ap length is.0))
   cname_data (Other other) is = absurd is
 
   pub srv_data : (found : Rdata) → DataFields (codes "SRV") fields found
@@ -48,7 +49,7 @@ module _ (fields : List (List ℕ)) where
   srv_data (Cname name) is = absurd (omega (arith, ap length is.0))
   srv_data (Srv server) is = (server, refl, is.1)
   srv_data (Naptr rule) is = absurd (omega (arith, ap length is.0))
-  srv_data (Soa authority) is = absurd is
+  srv_data (Soa authority) is = let second : ◌≡◌ {A = ℕ} 82 79 = ap (λ (l : List ℕ). get_or l 1 0) is.0 in absurd (omega (arith, second))
   srv_data (Other other) is = absurd is
 
   pub naptr_data : (found : Rdata) → DataFields (codes "NAPTR") fields found
@@ -58,5 +59,15 @@ module _ (fields : List (List ℕ)) where
   naptr_data (Cname name) is = let first : ◌≡◌ {A = ℕ} 78 67 = ap (λ (l : List ℕ). get_or l 0 0) is.0 in absurd (omega (arith, first))
   naptr_data (Srv server) is = absurd (omega (arith, ap length is.0))
   naptr_data (Naptr rule) is = (rule, refl, is.1)
-  naptr_data (Soa authority) is = absurd is
+  naptr_data (Soa authority) is = absurd (omega (arith, ap length is.0))
   naptr_data (Other other) is = absurd is
+
+  pub soa_data : (found : Rdata) → DataFields (codes "SOA") fields found
+      → (authority : SoaRecord) × (found ≡ Soa authority) × SoaFields fields authority
+  soa_data (Addr4 octets) is = absurd (omega (arith, ap length is.0))
+  soa_data (Addr6 octets) is = absurd (omega (arith, ap length is.0))
+  soa_data (Cname name) is = absurd (omega (arith, ap length is.0))
+  soa_data (Srv server) is = let second : ◌≡◌ {A = ℕ} 79 82 = ap (λ (l : List ℕ). get_or l 1 0) is.0 in absurd (omega (arith, second))
+  soa_data (Naptr rule) is = absurd (omega (arith, ap length is.0))
+  soa_data (Soa authority) is = (authority, refl, is.1)
+  soa_data (Other other) is = absurd is

@@ -32,7 +32,7 @@ module _ (line : List ℕ) where
         (drop (count + 1) (parts line)) in
         omega (arith, ap length split, length-append (passed (count + 1)) (filter is_field (drop (count + 1) (parts line))))
 
-    pub overflows : is_field part ≡ true → length (passed count) ≡ 9 → 9 < length (fields_of line)
+    pub overflows : is_field part ≡ true → length (passed count) ≡ 10 → 10 < length (fields_of line)
     overflows e full = omega (arith, few, full, ap length (takes e), length-append (passed count) (part ∷ []))
 
   pub all_passed : (count : ℕ) → count ≡ length (parts line) → passed count ≡ fields_of line

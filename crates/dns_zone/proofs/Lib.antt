@@ -1,5 +1,6 @@
 pub mod Lookups
 pub mod Paths
+pub mod Starts
 pub mod Headers
 pub mod Fields
 pub mod Texts

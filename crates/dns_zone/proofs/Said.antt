@@ -1,6 +1,6 @@
 -- What lines say, one after the other.
 use Rattle.std.proofs.Common.{◌≡◌, ℕ, suc, ◌<◌, ◌≤◌, ◌+◌, false, List, [], ◌∷◌, ◌++◌, length, min, take, drop, get_or, Option, Some, None, inl, inr, refl, sym, ap, subst, ◌∙◌, append_assoc, arith, true≢false}
-use Rattle.std.specs.Prelude.{Contains}
+use Rattle.std.specs.Prelude.{◌==◌, Contains}
 use Rattle.std.proofs.lemmas.List.Elements.{Contains-get_or}
 use Rattle.std.specs.List.{enumerate_from}
 use Rattle.std.proofs.lemmas.List.FromFn.{get_or-enumerate_from, length-enumerate_from}
@@ -9,12 +9,16 @@ use Rattle.dns_message.specs.declared.resource.Record.{Record}
 use Rattle.dns_zone.specs.Lines.{Holds, IsEntryLine, IsFirstBad, LineSays, LinesSay, RecordFields, fields_of, is_comment}
 use Rattle.dns_zone.specs.Zones.{Owned}
 
--- a line with fields that is no comment says a record
-pub line_said : (line : List ℕ) (fields : List (List ℕ)) → is_comment line ≡ false → fields_of line ≡ fields → (fields ≡ [] → ⊥)
+-- a line that is not empty has octets
+pub some_octets : (line : List ℕ) → false ≡ (length line == 0) → line ≡ [] → ⊥
+some_octets line some none = true≢false (sym (some ∙ ap (λ (octets : List ℕ). length octets == 0) none))
+
+-- a line with octets that is no comment says a record
+pub line_said : (line : List ℕ) (fields : List (List ℕ)) → is_comment line ≡ false → (line ≡ [] → ⊥) → fields_of line ≡ fields
     → (said : Option Record) → LineSays line said → (entry : Record) × (said ≡ Some entry) × RecordFields fields entry
-line_said line fields plain are some None (inl comment) = absurd (true≢false (sym comment ∙ plain))
-line_said line fields plain are some None (inr empty) = absurd (some (sym are ∙ empty))
-line_said line fields plain are some (Some entry) is = (entry, refl, subst (λ (f : List (List ℕ)). RecordFields f entry) are is.1)
+line_said line fields plain some are None (inl comment) = absurd (true≢false (sym comment ∙ plain))
+line_said line fields plain some are None (inr empty) = absurd (some empty)
+line_said line fields plain some are (Some entry) is = (entry, refl, subst (λ (f : List (List ℕ)). RecordFields f entry) are is.1)
 
 -- a line that says a record is to say one
 pub says_entry : (line : List ℕ) (entry : Record) → LineSays line (Some entry) → IsEntryLine line

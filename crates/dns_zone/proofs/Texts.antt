@@ -1,7 +1,6 @@
 -- Texts by their places.
-use Rattle.std.proofs.Common.{◌≡◌, ℕ, zero, suc, List, [], ◌∷◌, length, get_or, false, true≢false, refl, sym, ap, subst, ◌∙◌, arith}
+use Rattle.std.proofs.Common.{◌≡◌, ℕ, zero, suc, List, [], ◌∷◌, length, get_or, refl, sym, ap, subst, ◌∙◌, arith}
 use Rattle.std.specs.Borrow.{Bor}
-use Rattle.std.specs.Prelude.{◌==◌}
 use Rattle.dns_zone.specs.Lines.{OneField}
 use Rattle.dns_zone.specs.Views.{texts}
 
@@ -39,7 +38,17 @@ six_texts (a ∷ b ∷ c ∷ d ∷ e ∷ []) six = absurd (omega arith)
 six_texts (a ∷ b ∷ c ∷ d ∷ e ∷ f ∷ []) six = refl
 six_texts (a ∷ b ∷ c ∷ d ∷ e ∷ f ∷ g ∷ others) six = absurd (omega arith)
 
--- where there are fields, there are texts
-pub some_texts : (fields : List (Bor (List ℕ))) → false ≡ (length fields == 0) → texts fields ≡ [] → ⊥
-some_texts [] some none = true≢false (sym some)
-some_texts (field ∷ fields) some none = absurd cc
+-- of seven
+pub seven_texts : (fields : List (Bor (List ℕ))) → length fields ≡ 7
+    → texts fields
+    ≡ (get_or fields 0 nothing).now ∷ (get_or fields 1 nothing).now ∷ (get_or fields 2 nothing).now ∷ (get_or fields 3 nothing).now ∷
+    (get_or fields 4 nothing).now ∷ (get_or fields 5 nothing).now ∷ (get_or fields 6 nothing).now ∷ []
+seven_texts [] seven = absurd (omega arith)
+seven_texts (a ∷ []) seven = absurd (omega arith)
+seven_texts (a ∷ b ∷ []) seven = absurd (omega arith)
+seven_texts (a ∷ b ∷ c ∷ []) seven = absurd (omega arith)
+seven_texts (a ∷ b ∷ c ∷ d ∷ []) seven = absurd (omega arith)
+seven_texts (a ∷ b ∷ c ∷ d ∷ e ∷ []) seven = absurd (omega arith)
+seven_texts (a ∷ b ∷ c ∷ d ∷ e ∷ f ∷ []) seven = absurd (omega arith)
+seven_texts (a ∷ b ∷ c ∷ d ∷ e ∷ f ∷ g ∷ []) seven = refl
+seven_texts (a ∷ b ∷ c ∷ d ∷ e ∷ f ∷ g ∷ h ∷ others) seven = absurd (omega arith)

@@ -1,4 +1,5 @@
 pub mod Zones
+pub mod Authorities
 pub mod Replies
 pub mod Lines
 pub mod Refusals

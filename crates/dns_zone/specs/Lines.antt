@@ -7,6 +7,7 @@ use Rattle.dns_message.specs.declared.naptr.NaptrRecord.{NaptrRecord}
 use Rattle.dns_message.specs.declared.rdata.Rdata.{Rdata}
 use Rattle.dns_message.specs.declared.rdata.Rdata.TheVariants.{Addr4, Addr6, Srv, Naptr, Cname, Soa, Other}
 use Rattle.dns_message.specs.declared.resource.Record.{Record}
+use Rattle.dns_message.specs.declared.soa.SoaRecord.{SoaRecord}
 use Rattle.dns_message.specs.declared.srv.SrvRecord.{SrvRecord}
 use Rattle.dns_name.specs.Labels.{same_name}
 use Rattle.dns_name.specs.Texts.{TextOf}
@@ -70,6 +71,24 @@ pub record NaptrFields (fields : List (List ℕ)) (rule : NaptrRecord) : Type 0 
   pub regexp_is : string_of regexp ≡ Some rule.regexp
   pub replacement_is : TextOf rule.replacement replacement
 
+-- MNAME, RNAME, SERIAL, REFRESH, RETRY, EXPIRE and MINIMUM (RFC 1035 3.3.13)
+pub record SoaFields (fields : List (List ℕ)) (authority : SoaRecord) : Type 0 where
+  pub mname : List ℕ
+  pub rname : List ℕ
+  pub serial : List ℕ
+  pub refresh : List ℕ
+  pub retry : List ℕ
+  pub expire : List ℕ
+  pub minimum : List ℕ
+  pub are : fields ≡ mname ∷ rname ∷ serial ∷ refresh ∷ retry ∷ expire ∷ minimum ∷ []
+  pub mname_is : TextOf authority.mname mname
+  pub rname_is : TextOf authority.rname rname
+  pub serial_is : number_of 4294967295 serial ≡ Some authority.serial
+  pub refresh_is : number_of 4294967295 refresh ≡ Some authority.refresh
+  pub retry_is : number_of 4294967295 retry ≡ Some authority.retry
+  pub expire_is : number_of 4294967295 expire ≡ Some authority.expire
+  pub minimum_is : number_of 4294967295 minimum ≡ Some authority.minimum
+
 -- there is one field alone, which is this
 abbrev pub OneField : (List ℕ → Type 0) → List (List ℕ) → Type 0
 OneField Is fields = (text : List ℕ) × (fields ≡ text ∷ []) × Is text
@@ -83,7 +102,7 @@ DataFields kind fields (Addr6 octets) =
 DataFields kind fields (Cname name) = (kind ≡ codes "CNAME") × OneField (TextOf name) fields
 DataFields kind fields (Srv server) = (kind ≡ codes "SRV") × SrvFields fields server
 DataFields kind fields (Naptr rule) = (kind ≡ codes "NAPTR") × NaptrFields fields rule
-DataFields kind fields (Soa authority) = ⊥
+DataFields kind fields (Soa authority) = (kind ≡ codes "SOA") × SoaFields fields authority
 DataFields kind fields (Other other) = ⊥
 
 -- ---- records
@@ -106,10 +125,9 @@ abbrev pub is_comment : List ℕ → Bool
 is_comment [] = false
 is_comment (first ∷ others) = first == 35
 
--- the record that a line says; a comment says none, and neither does an empty line, or one of
--- blanks alone
+-- the record that a line says; a comment says none, and neither does a line without octets
 abbrev pub LineSays : List ℕ → Option Record → Type 0
-LineSays line None = (is_comment line ≡ true) ⊎ (fields_of line ≡ [])
+LineSays line None = (is_comment line ≡ true) ⊎ (line ≡ [])
 LineSays line (Some entry) = (is_comment line ≡ false) × RecordFields (fields_of line) entry
 
 -- the records that lines say, in their order

@@ -1,31 +1,41 @@
--- What is replied from a zone (RFC 1034 3.6.2, 4.3.2, RFC 1035 4.1.1).
+-- What is replied from a zone (RFC 1034 3.6.2, 4.3.2, RFC 1035 4.1.1, RFC 2308 3).
 use Rattle.std.specs.Prelude.{◌≡◌, ℕ, ◌≤◌, ◌==◌, Bool, true, false, ◌&&◌, ◌||◌, List, [], ◌∷◌, ◌++◌, length, if◌then◌else◌}
-use Rattle.std.specs.List.{filter}
 use Rattle.dns_message.specs.Messages.{Begins, Spells}
-use Rattle.dns_message.specs.Written.{fitted, plain, rdata_code}
+use Rattle.dns_message.specs.Written.{fitted, plain}
 use Rattle.dns_message.specs.declared.header.Header.{Header}
 use Rattle.dns_message.specs.declared.message.Message.{Message}
 use Rattle.dns_message.specs.declared.question.Asked.{Asked}
 use Rattle.dns_message.specs.declared.resource.Record.{Record}
-use Rattle.dns_zone.specs.Zones.{Owned, entries_at, path, records_at}
+use Rattle.dns_zone.specs.Authorities.{nearest_start, records_of}
+use Rattle.dns_zone.specs.Zones.{Owned, entries_at, path}
 use Rattle.dns_zone.specs.declared.zone.ZoneEntry.{ZoneEntry}
 
 -- ---- what a zone has for a question
 
--- the types of question that are answered: A, AAAA, SRV and NAPTR
+-- the types of question that are answered: A, SOA, AAAA, SRV and NAPTR
 abbrev pub is_answered : ℕ → Bool
-is_answered code = code == 1 || code == 28 || code == 33 || code == 35
-
-abbrev pub is_of : ℕ → Record → Bool
-is_of code entry = rdata_code entry.rdata == code
+is_answered code = code == 1 || code == 6 || code == 28 || code == 33 || code == 35
 
 -- the CNAME records that lead from the name, and the records of the type where they lead
 abbrev pub answers : List Owned → Asked → List Record
 answers zone asked =
     if is_answered asked.code
     then (path zone asked.name).links
-    ++ filter (is_of asked.code) (records_at zone (path zone asked.name).last)
+    ++ records_of zone (path zone asked.name).last asked.code
     else []
+
+-- these, where there is none of those
+abbrev pub without : List Record → List Record → List Record
+without [] records = records
+without (entry ∷ entries) records = []
+
+-- about a name without records of the type, the SOA record of the zone that it is in (RFC 2308 3)
+abbrev pub authority_at : List Owned → List (List ℕ) → ℕ → List Record
+authority_at zone name code = without (records_of zone name code) (nearest_start zone name)
+
+-- about the name where the CNAME records lead
+abbrev pub authority : List Owned → Asked → List Record
+authority zone asked = authority_at zone (path zone asked.name).last asked.code
 
 -- RCODE of what a name has: 3 where it has nothing, and so does not exist
 abbrev pub name_rcode : List ZoneEntry → ℕ
@@ -51,18 +61,18 @@ reply_header query code = record {
   rcode = code;
 }
 
-abbrev pub reply_of : Header → ℕ → List Asked → List Record → Message
-reply_of query code questions records = record {
+abbrev pub reply_of : Header → ℕ → List Asked → List Record → List Record → Message
+reply_of query code questions records authorities = record {
   header = reply_header query code;
   questions = questions;
   answers = records;
-  authority = [];
+  authority = authorities;
   additional = [];
 }
 
 -- RCODE 5: refused
 abbrev pub refusal : Header → List Asked → Message
-refusal query questions = reply_of query 5 questions []
+refusal query questions = reply_of query 5 questions [] []
 
 -- a standard query, in class IN
 abbrev pub is_taken : Header → Asked → Bool
@@ -73,7 +83,7 @@ abbrev pub reply_about : List Owned → Header → List Asked → Message
 reply_about zone query [] = refusal query []
 reply_about zone query (asked ∷ []) =
     if is_taken query asked
-    then reply_of query (rcode zone asked) (asked ∷ []) (answers zone asked)
+    then reply_of query (rcode zone asked) (asked ∷ []) (answers zone asked) (authority zone asked)
     else refusal query (asked ∷ [])
 reply_about zone query (asked ∷ other ∷ more) = refusal query []
 

@@ -1,5 +1,6 @@
 -- How what the code keeps is seen in the definitions.
-use Rattle.std.specs.Prelude.{ℕ, List, map, take}
+use Rattle.std.specs.Prelude.{ℕ, ◌==◌, Bool, List, map, take}
+use Rattle.dns_message.specs.Written.{rdata_code}
 use Rattle.dns_message.specs.declared.message.Message.{Message}
 use Rattle.std.specs.Borrow.{Bor}
 use Rattle.std.specs.declared.vec.Vec.{Vec}
@@ -13,6 +14,13 @@ owned_of entry = record { owner = entry.0; entries = entry.1.items }
 
 abbrev pub alias_value : Alias → ZoneAlias
 alias_value alias = record { ttl = alias.ttl; target = alias.target.now }
+
+abbrev pub entry_value : Bor ZoneEntry → ZoneEntry
+entry_value entry = entry.now
+
+-- it is of this type
+abbrev pub says : ℕ → ZoneEntry → Bool
+says code entry = rdata_code entry.rdata == code
 
 -- the octets of texts
 abbrev pub texts : List (Bor (List ℕ)) → List (List ℕ)

@@ -32,9 +32,11 @@ impl Zone {
     /// repeated. From its name the first CNAME record of each name is followed, at most eight of
     /// them, and these records are the first that answer; after them stand the records of the asked
     /// type where they lead, in the order of the zone (RFC 1034 3.6.2). RCODE is 3 where that name
-    /// has no records in the zone, and else 0. A question for another type than A, AAAA, SRV and
-    /// NAPTR is answered without records. A reply of more than 512 octets is cut to its question,
-    /// with TC set (RFC 1035 4.2.1).
+    /// has no records in the zone, and else 0. A question for another type than A, SOA, AAAA, SRV
+    /// and NAPTR is answered without records. Where that name has no record of the asked type, the
+    /// authority section is the SOA record whose owner is the longest suffix of it, or the name
+    /// itself, and the first one of that owner (RFC 2308 3); else, and without an SOA record, it is
+    /// empty. A reply of more than 512 octets is cut to its question, with TC set (RFC 1035 4.2.1).
     pub fn answer_datagram(
         &self,
         alloc: Global,

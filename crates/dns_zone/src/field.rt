@@ -10,15 +10,15 @@ use dns_message::CharString;
 use sip_uri::decimal;
 use std::alloc::Global;
 
-/// The most fields of a line: those of NAPTR.
-const FIELD_LIMIT: usize = 9;
+/// The most fields of a line: those of SOA.
+const FIELD_LIMIT: usize = 10;
 
 /// The most octets of a character string (RFC 1035 3.3).
 const STRING_LIMIT: usize = 255;
 
-/// The fields of a line, between blanks, unless there are more than nine.
-pub(crate) fn fields_of(line: &str) -> Option<ArrayVec<&str, 9>>
-    ensures { MatchOption result (9 < length (spec.fields_of line.now))
+/// The fields of a line, between blanks, unless there are more than ten.
+pub(crate) fn fields_of(line: &str) -> Option<ArrayVec<&str, 10>>
+    ensures { MatchOption result (10 < length (spec.fields_of line.now))
         (λ fields. texts fields.items ≡ spec.fields_of line.now) }
 {
     let mut fields = ArrayVec::new();

@@ -2,9 +2,10 @@
 //!
 //! A `Zone` is read from a text of records, and replies to the octets of a query as an
 //! authoritative server does (RFC 1034 4.3.2): it follows its own aliases, and has records of types
-//! A, AAAA, SRV and NAPTR in class IN. What it gives is a whole message, or a part of one with TC
-//! set. Octets that are no query get no reply. It opens no socket: octets are handed in, and octets
-//! to send are handed out.
+//! A, AAAA, SRV, NAPTR and SOA in class IN. Where it has no record of the type, it says by its SOA
+//! record for how long that may be kept (RFC 2308 3). What it gives is a whole message, or a part
+//! of one with TC set. Octets that are no query get no reply. It opens no socket: octets are handed
+//! in, and octets to send are handed out.
 //!
 //! ```
 //! let zone = Zone::read(
@@ -17,10 +18,12 @@
 //! }
 //! ```
 //!
-//! Read `specs/Zones.antt`, `specs/Replies.antt` and `specs/Lines.antt` first: what a zone has,
-//! what it replies, and what its text says.
+//! Read `specs/Zones.antt`, `specs/Authorities.antt`, `specs/Replies.antt` and `specs/Lines.antt`
+//! first: what a zone has, which SOA record is about a name, what it replies, and what its text
+//! says.
 #![tactic(auto)]
 
+mod authority;
 mod datagram;
 mod field;
 mod laws;

@@ -1,5 +1,5 @@
 //! A line of a zone.
-ghost use Rattle.std.specs.Prelude.{◌≡◌, Option, IfErr, IfOk, MatchResult};
+ghost use Rattle.std.specs.Prelude.{◌≡◌, [], Option, IfErr, IfOk, MatchResult};
 ghost use Rattle.dns_zone.specs.Lines as spec;
 ghost use Rattle.dns_zone.specs.Views.{texts};
 ghost use Rattle.dns_message.specs.declared.resource.Record as resource;
@@ -13,6 +13,8 @@ use std::alloc::Global;
 
 /// The record of an owner, a TTL, a type and data.
 fn record_of(alloc: Global, fields: &[&str]) -> Result<Record, LineRefusal>
+    ensures memory { IfErr result
+        (λ refusal. refusal ≡ LineRefusal.Memory → texts fields.now ≡ [] → ⊥) }
     ensures found { IfOk result (spec.RecordFields (texts fields.now)) }
     ensures read { (entry : resource.Record) → spec.RecordFields (texts fields.now) entry
         → MatchResult result (λ it. it ≡ entry) (λ refusal. refusal ≡ LineRefusal.Memory) }
@@ -45,14 +47,11 @@ pub(crate) fn line_record(alloc: Global, line: &str) -> Result<Option<Record>, L
     ensures read { (said : Option resource.Record) → spec.LineSays line.now said
         → MatchResult result (λ it. it ≡ said) (λ refusal. refusal ≡ LineRefusal.Memory) }
 {
-    if is_comment(line.as_bytes()) {
+    if line.is_empty() || is_comment(line.as_bytes()) {
         return Ok(None);
     }
     let Some(fields) = fields_of(line) else {
         return Err(LineRefusal::Bad);
     };
-    if fields.is_empty() {
-        return Ok(None);
-    }
     Ok(Some(record_of(alloc, fields.as_slice())?))
 }

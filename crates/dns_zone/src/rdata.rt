@@ -1,5 +1,5 @@
-//! The data of a zone's line, by its type (RFC 1035 3.4.1, 3.3.1, RFC 3596 2.1, RFC 2782, RFC 3403
-//! 4.1).
+//! The data of a zone's line, by its type (RFC 1035 3.4.1, 3.3.1, 3.3.13, RFC 3596 2.1, RFC 2782,
+//! RFC 3403 4.1).
 ghost use Rattle.std.specs.Prelude.{◌≡◌, List, ℕ, Ok, IfErr, IfOk, MatchResult};
 ghost use Rattle.dns_name.specs.Texts.{TextOf};
 ghost use Rattle.sip_uri.specs.Addresses.{AddressText};
@@ -9,10 +9,11 @@ ghost use Rattle.dns_zone.specs.Views.{texts};
 ghost use Rattle.dns_message.specs.declared.rdata.Rdata as rdata;
 ghost use Rattle.dns_message.specs.declared.srv.SrvRecord as srv;
 ghost use Rattle.dns_message.specs.declared.naptr.NaptrRecord as naptr;
+ghost use Rattle.dns_message.specs.declared.soa.SoaRecord as soa;
 
-use crate::field::{char_string, number_of_16_bits};
+use crate::field::{char_string, number_of_16_bits, number_of_32_bits};
 use crate::refusal::LineRefusal;
-use dns_message::{NaptrRecord, Rdata, SrvRecord};
+use dns_message::{NaptrRecord, Rdata, SoaRecord, SrvRecord};
 use dns_name::Name;
 use sip_uri::{Address, address_from_text};
 use std::alloc::Global;
@@ -106,6 +107,27 @@ fn naptr(alloc: Global, fields: &[&str]) -> Result<NaptrRecord, LineRefusal>
     })
 }
 
+/// The data of an SOA record: the server and the mailbox of a zone, serial, refresh, retry, expire
+/// and minimum. Memory is asked for after the numbers are read.
+fn soa(alloc: Global, fields: &[&str]) -> Result<SoaRecord, LineRefusal>
+    ensures found { IfOk result (spec.SoaFields (texts fields.now)) }
+    ensures read { (authority : soa.SoaRecord) → spec.SoaFields (texts fields.now) authority
+        → MatchResult result (λ it. it ≡ authority) (λ refusal. refusal ≡ LineRefusal.Memory) }
+{
+    let [mname, rname, serial, refresh, retry, expire, minimum] = fields else {
+        return Err(LineRefusal::Bad);
+    };
+    Ok(SoaRecord {
+        serial: number_of_32_bits(serial)?,
+        refresh: number_of_32_bits(refresh)?,
+        retry: number_of_32_bits(retry)?,
+        expire: number_of_32_bits(expire)?,
+        minimum: number_of_32_bits(minimum)?,
+        mname: Name::from_text(alloc, mname)?,
+        rname: Name::from_text(alloc, rname)?,
+    })
+}
+
 /// The data of a type, from the fields after it.
 pub(crate) fn rdata(alloc: Global, kind: &str, fields: &[&str]) -> Result<Rdata, LineRefusal>
     ensures found { IfOk result (spec.DataFields kind.now (texts fields.now)) }
@@ -118,6 +140,7 @@ pub(crate) fn rdata(alloc: Global, kind: &str, fields: &[&str]) -> Result<Rdata,
         "CNAME" => Ok(Rdata::Cname(name(alloc, fields)?)),
         "SRV" => Ok(Rdata::Srv(srv(alloc, fields)?)),
         "NAPTR" => Ok(Rdata::Naptr(naptr(alloc, fields)?)),
+        "SOA" => Ok(Rdata::Soa(soa(alloc, fields)?)),
         _ => Err(LineRefusal::Bad),
     }
 }

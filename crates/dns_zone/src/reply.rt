@@ -1,10 +1,12 @@
-//! What is replied from a zone (RFC 1034 3.6.2, 4.3.2, RFC 1035 4.1.1).
+//! What is replied from a zone (RFC 1034 3.6.2, 4.3.2, RFC 1035 4.1.1, RFC 2308 3).
 ghost use Rattle.std.specs.Prelude.{◌≡◌, ◌≤◌, ◌++◌, IfOk, OnOk, length, map, take};
 ghost use Rattle.std.specs.List.{filter};
 ghost use Rattle.dns_zone.specs.Zones as zones;
+ghost use Rattle.dns_zone.specs.Authorities.{is_of};
 ghost use Rattle.dns_zone.specs.Replies as spec;
 ghost use Rattle.dns_zone.specs.Views.{bounded};
 
+use crate::authority::authority_at;
 use crate::zone::{Zone, ZoneEntry};
 use dns_message::{Asked, CLASS_IN, Header, Message, Rdata, Record, Section};
 use dns_name::Name;
@@ -48,11 +50,11 @@ fn path<'a>(
     Ok((links, name))
 }
 
-/// Whether questions of a type are answered: A, AAAA, SRV and NAPTR.
+/// Whether questions of a type are answered: A, SOA, AAAA, SRV and NAPTR.
 fn is_answered(code: u16) -> bool
     ensures { result ≡ spec.is_answered code }
 {
-    matches!(code, 1 | 28 | 33 | 35)
+    matches!(code, 1 | 6 | 28 | 33 | 35)
 }
 
 /// Adds the records of a type that an owner has, until there are 46.
@@ -65,7 +67,7 @@ fn push_records(
     requires { length records.old.items ≤ 46 }
     ensures { OnOk result (records.new.items
         ≡ take 46 (records.old.items
-        ++ filter (spec.is_of code) (map (zones.record_of owner.now) entries.now))) }
+        ++ filter (is_of code) (map (zones.record_of owner.now) entries.now))) }
 {
     for entry in entries {
         if records.len() == ANSWER_LIMIT {
@@ -89,30 +91,43 @@ fn name_rcode(entries: &[ZoneEntry]) -> u8
     if entries.is_empty() { NAME_ERROR } else { 0 }
 }
 
-/// RCODE and the records that answer a question in class IN, the first 46.
-fn found(zone: &Zone, alloc: Global, asked: &Asked) -> Result<(u8, Vec<Record>), AllocError>
-    ensures { IfOk result (λ found. (found.0 ≡ spec.rcode zone.now asked.now)
-        × (found.1.items ≡ take 46 (spec.answers zone.now asked.now))) }
+/// What a zone has for a question in class IN.
+#[derive(Drop)]
+struct ReplyBody {
+    rcode: u8,
+    answers: Vec<Record>,
+    authority: Vec<Record>,
+}
+
+/// RCODE of a question in class IN, the records that answer it, the first 46, and the authority
+/// section.
+fn found(zone: &Zone, alloc: Global, asked: &Asked) -> Result<ReplyBody, AllocError>
+    ensures rcode { IfOk result (λ found. found.rcode ≡ spec.rcode zone.now asked.now) }
+    ensures answers { IfOk result
+        (λ found. found.answers.items ≡ take 46 (spec.answers zone.now asked.now)) }
+    ensures authority { IfOk result
+        (λ found. found.authority.items ≡ spec.authority zone.now asked.now) }
 {
-    let (mut records, last) = path(zone, alloc, &asked.name)?;
+    let (mut answers, last) = path(zone, alloc, &asked.name)?;
     let entries = zone.entries_at(last);
     let rcode = name_rcode(entries);
-    if !is_answered(asked.code) {
-        return Ok((rcode, Vec::new(alloc)));
+    let authority = authority_at(zone, alloc, last, asked.code)?;
+    if is_answered(asked.code) {
+        push_records(&mut answers, last, entries, asked.code)?;
+    } else {
+        answers.clear();
     }
-    push_records(&mut records, last, entries, asked.code)?;
-    Ok((rcode, records))
+    Ok(ReplyBody {
+        rcode,
+        answers,
+        authority,
+    })
 }
 
 /// The reply to a query of this header.
-fn reply_of(
-    alloc: Global,
-    query: Header,
-    rcode: u8,
-    questions: Section<Asked>,
-    answers: Vec<Record>,
-) -> Message
-    ensures { result ≡ spec.reply_of query rcode questions answers.items }
+fn reply_of(alloc: Global, query: Header, questions: Section<Asked>, body: ReplyBody) -> Message
+    ensures { result ≡ spec.reply_of query body.rcode questions body.answers.items
+        body.authority.items }
 {
     Message {
         header: Header {
@@ -120,17 +135,29 @@ fn reply_of(
             authoritative: true,
             truncated: false,
             recursion_available: false,
-            rcode,
+            rcode: body.rcode,
             ..query
         },
         questions,
-        answers: Section::from_vec(answers),
-        authority: Section::from_vec(Vec::new(alloc)),
+        answers: Section::from_vec(body.answers),
+        authority: Section::from_vec(body.authority),
         additional: Section::from_vec(Vec::new(alloc)),
     }
 }
 
-/// The reply to a query, with at most 46 records.
+/// A refusal of a query of this header (RFC 1035 4.1.1).
+fn refusal(alloc: Global, query: Header, questions: Section<Asked>) -> Message
+    ensures { result ≡ spec.refusal query questions }
+{
+    let body = ReplyBody {
+        rcode: REFUSED,
+        answers: Vec::new(alloc),
+        authority: Vec::new(alloc),
+    };
+    reply_of(alloc, query, questions, body)
+}
+
+/// The reply to a query, with at most 46 records that answer.
 pub(crate) fn reply_to(zone: &Zone, alloc: Global, query: Message) -> Result<Message, AllocError>
     ensures { IfOk result (λ reply. reply ≡ bounded (spec.reply_to zone.now query)) }
 {
@@ -138,11 +165,11 @@ pub(crate) fn reply_to(zone: &Zone, alloc: Global, query: Message) -> Result<Mes
     let questions = query.questions;
     let [asked] = questions.as_slice() else {
         let none = Section::from_vec(Vec::new(alloc));
-        return Ok(reply_of(alloc, header, REFUSED, none, Vec::new(alloc)));
+        return Ok(refusal(alloc, header, none));
     };
     if header.opcode != 0 || asked.class_code != CLASS_IN {
-        return Ok(reply_of(alloc, header, REFUSED, questions, Vec::new(alloc)));
+        return Ok(refusal(alloc, header, questions));
     }
-    let (rcode, answers) = found(zone, alloc, asked)?;
-    Ok(reply_of(alloc, header, rcode, questions, answers))
+    let body = found(zone, alloc, asked)?;
+    Ok(reply_of(alloc, header, questions, body))
 }

@@ -52,11 +52,12 @@ impl Zone {
     /// - `CNAME` and a name
     /// - `SRV`, priority, weight, port and target
     /// - `NAPTR`, order, preference, flags, services, regular expression and replacement
+    /// - `SOA`, server, mailbox, serial, refresh, retry, expire and minimum
     ///
-    /// Numbers are decimal, a TTL up to 4294967295, the others up to 65535. The three strings of
-    /// NAPTR are `-` for the empty one, or 1 to 255 octets from 33 to 126. Names are those of
-    /// `Name::from_text`, addresses those of `address_from_text`. The class is IN. A line that
-    /// begins with `#` is passed over, and so is one without fields.
+    /// Numbers are decimal, a TTL and those of SOA up to 4294967295, the others up to 65535. The
+    /// three strings of NAPTR are `-` for the empty one, or 1 to 255 octets from 33 to 126. Names,
+    /// the mailbox too, are those of `Name::from_text`, addresses those of `address_from_text`. The
+    /// class is IN. A line that begins with `#` is passed over, and so is one without octets.
     ///
     /// Where lines are bad, the refusal names the first one, also where there are too many records.
     /// Memory is asked for lines that are to say a record, and no others.

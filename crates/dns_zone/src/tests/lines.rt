@@ -17,7 +17,7 @@ fn said(alloc: Global, zone: &str, code: u8) -> Option<Vec<u8>> {
 }
 
 /// A text of one record of a.example, its type, and the octets of its TTL, RDLENGTH and RDATA.
-const GOOD: [(&str, u8, &[u8]); 16] = [
+const GOOD: [(&str, u8, &[u8]); 17] = [
     (
         "a.example. 300 A 192.0.2.7",
         1,
@@ -44,7 +44,7 @@ const GOOD: [(&str, u8, &[u8]); 16] = [
         b"\xff\xff\xff\xff\x00\x04\xff\xff\xff\xff",
     ),
     (
-        "\n\n# one\n#\n   \na.example. 1 A 192.0.2.7\n \n# a.example. x A 192.0.2.8\n",
+        "\n\n# one\n#\n\na.example. 1 A 192.0.2.7\n\n# a.example. x A 192.0.2.8\n",
         1,
         b"\x00\x00\x00\x01\x00\x04\xc0\x00\x02\x07",
     ),
@@ -84,6 +84,12 @@ const GOOD: [(&str, u8, &[u8]); 16] = [
         35,
         b"\x00\x00\x01\x2c\x00\x0f\x00\x01\x00\x02\x02--\x02!~\x03#\"\\\x00",
     ),
+    (
+        "a.example. 300 SOA ns.b.example. . 0 007 4294967295 3600 60",
+        6,
+        b"\x00\x00\x01\x2c\x00\x23\x02ns\x01b\x07example\x00\x00\x00\x00\x00\x00\x00\x00\x00\x07\xff\xff\xff\
+        \xff\x00\x00\x0e\x10\x00\x00\x00\x3c",
+    ),
     ("", 1, b""),
     ("a.example. 300 A 192.0.2.7", 28, b""),
     ("# a.example. 300 A 192.0.2.7", 1, b""),
@@ -98,11 +104,14 @@ fn good_lines(rt: HostRuntime) {
 }
 
 /// A text, and the number of its first bad line.
-const BAD: [(&str, usize); 42] = [
+const BAD: [(&str, usize); 56] = [
     ("a.example. x A 192.0.2.7", 1),
     ("\n# two\na.example. 300 A 192.0.2.7\nthree\nfour", 4),
     ("one\ntwo", 1),
     ("a.example. 300 A 192.0.2.7\n# two\n # three", 3),
+    // blanks alone
+    (" ", 1),
+    ("a.example. 300 A 192.0.2.7\r\n\r\n   \r\n", 3),
     // fields
     ("a.example.", 1),
     ("a.example. 300", 1),
@@ -139,6 +148,34 @@ const BAD: [(&str, usize); 42] = [
     ("a.example. 300 CNAME", 1),
     ("a.example. 300 CNAME b..example.", 1),
     ("a.example. 300 CNAME b.example. c.example.", 1),
+    // SOA
+    ("a.example. 300 SOA", 1),
+    ("a.example. 300 SOA n.example. h.example. 1 2 3 4", 1),
+    ("a.example. 300 SOA n.example. h.example. 1 2 3 4 5 6", 1),
+    ("a.example. 300 SOA n..example. h.example. 1 2 3 4 5", 1),
+    ("a.example. 300 SOA n.example. h@example. 1 2 3 4 5", 1),
+    (
+        "a.example. 300 SOA n.example. h.example. 4294967296 2 3 4 5",
+        1,
+    ),
+    (
+        "a.example. 300 SOA n.example. h.example. 1 4294967296 3 4 5",
+        1,
+    ),
+    (
+        "a.example. 300 SOA n.example. h.example. 1 2 4294967296 4 5",
+        1,
+    ),
+    (
+        "a.example. 300 SOA n.example. h.example. 1 2 3 4294967296 5",
+        1,
+    ),
+    (
+        "a.example. 300 SOA n.example. h.example. 1 2 3 4 4294967296",
+        1,
+    ),
+    ("a.example. 300 SOA n.example. h.example. 1 2 3 4 +5", 1),
+    ("a.example. 300 soa n.example. h.example. 1 2 3 4 5", 1),
     // SRV
     ("a.example. 300 SRV 10 20 5060", 1),
     ("a.example. 300 SRV 10 20 5060 b.example. c", 1),
@@ -198,9 +235,18 @@ const RECORD: &str = "a.example. 300 A 192.0.2.7\n";
 
 const RULE: &str = "a.example. 300 NAPTR 10 50 ";
 
+/// The front of an SOA record with a name of 255 octets, and with one that lacks its last label.
+const START: &str = "example. 1 SOA \
+    mmmmmmmmmmmmmmmmmmmmmmmmmmmmmmmmmmmmmmmmmmmmmmmmmmmmmmmmmmmmmmm.\
+    mmmmmmmmmmmmmmmmmmmmmmmmmmmmmmmmmmmmmmmmmmmmmmmmmmmmmmmmmmmmmmm.\
+    mmmmmmmmmmmmmmmmmmmmmmmmmmmmmmmmmmmmmmmmmmmmmmmmmmmmmmmmmmmmmmm.\
+    mmmmmmmmmmmmmmmmmmmmmmmmmmmmmmmmmmmmmmmmmmmmmmmmmmmmmmmmmmmmm. \
+    rrrrrrrrrrrrrrrrrrrrrrrrrrrrrrrrrrrrrrrrrrrrrrrrrrrrrrrrrrrrrrr.\
+    rrrrrrrrrrrrrrrrrrrrrrrrrrrrrrrrrrrrrrrrrrrrrrrrrrrrrrrrrrrrrrr.";
+
 /// A text of a part that stands so many times between two others, and the length of the reply, or
 /// why there is no zone.
-const LONGEST: [(&str, &str, usize, &str, Result<usize, ZoneRefusal>); 8] = [
+const LONGEST: [(&str, &str, usize, &str, Result<usize, ZoneRefusal>); 10] = [
     ("", RECORD, 19, "", Ok(502)),
     ("", RECORD, 20, "", Ok(27)),
     ("", RECORD, 47, "", Ok(27)),
@@ -210,6 +256,9 @@ const LONGEST: [(&str, &str, usize, &str, Result<usize, ZoneRefusal>); 8] = [
     // the longest string, and one that is too long
     (RULE, "s", 255, " - - .", Ok(27)),
     (RULE, "s", 256, " - - .", Err(ZoneRefusal::BadLine(1))),
+    // the longest negative reply, and one that is cut
+    (START, "r", 61, ". 1 2 3 4 5", Ok(512)),
+    (START, "r", 62, ". 1 2 3 4 5", Ok(27)),
 ];
 
 #[test]

@@ -1,8 +1,8 @@
 use Rattle.std.proofs.Common.{ap}
 use Rattle.std.proofs.lemmas.Result.{err_from_is_err_and}
-use Rattle.dns_message.specs.declared.rdata.Rdata.TheVariants.{Cname, Srv, Naptr}
+use Rattle.dns_message.specs.declared.rdata.Rdata.TheVariants.{Cname, Srv, Naptr, Soa}
 use Rattle.dns_zone.specs.Views.{texts}
-use Rattle.dns_zone.proofs.DataKinds.{a_data, aaaa_data, cname_data, srv_data, naptr_data}
+use Rattle.dns_zone.proofs.DataKinds.{a_data, aaaa_data, cname_data, srv_data, naptr_data, soa_data}
 use Rattle.dns_zone.proofs.rdata.rdata.Goals as goal
 
 pub returns-in_err-ipv4-in-A-clause-read : goal.returns-in_err-ipv4-in-A-clause-read
@@ -63,3 +63,14 @@ pub returns-in_ok-naptr-in-NAPTR-clause-read : goal.returns-in_ok-naptr-in-NAPTR
 returns-in_ok-naptr-in-NAPTR-clause-read c = λ found is.
     let k = naptr_data (texts c.args.fields.now) found (rw c.in-NAPTR.is at is) in
     rw k.1 (ap Naptr (c.in_ok-naptr-in-NAPTR.ensures.read k.0 k.2))
+
+pub returns-in_err-soa-in-SOA-clause-read : goal.returns-in_err-soa-in-SOA-clause-read
+returns-in_err-soa-in-SOA-clause-read c = λ found is.
+    let k = soa_data (texts c.args.fields.now) found (rw c.in-SOA.is at is) in
+    let r = err_from_is_err_and c.from_residual-in_err-soa-in-SOA.result c.from_residual-in_err-soa-in-SOA.ensures.1 in
+    rw (r.1, r.2) (c.in_err-soa-in-SOA.ensures.read k.0 k.2)
+
+pub returns-in_ok-soa-in-SOA-clause-read : goal.returns-in_ok-soa-in-SOA-clause-read
+returns-in_ok-soa-in-SOA-clause-read c = λ found is.
+    let k = soa_data (texts c.args.fields.now) found (rw c.in-SOA.is at is) in
+    rw k.1 (ap Soa (c.in_ok-soa-in-SOA.ensures.read k.0 k.2))

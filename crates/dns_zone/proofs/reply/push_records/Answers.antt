@@ -1,6 +1,6 @@
 use Rattle.std.proofs.Common.{ap, ◌∙◌, length, arith}
 use Rattle.dns_zone.specs.Zones.{record_of}
-use Rattle.dns_zone.specs.Replies.{is_of}
+use Rattle.dns_zone.specs.Authorities.{is_of}
 use Rattle.dns_zone.proofs.Additions.{filled, whole}
 use Rattle.dns_zone.proofs.reply.push_records.Goals as goal
 

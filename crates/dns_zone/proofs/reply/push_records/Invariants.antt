@@ -1,6 +1,6 @@
 use Rattle.std.proofs.Common.{◌≡◌, ◌≤◌, length}
 use Rattle.dns_zone.specs.Zones.{record_of}
-use Rattle.dns_zone.specs.Replies.{is_of}
+use Rattle.dns_zone.specs.Authorities.{is_of}
 use Rattle.dns_zone.proofs.Additions.{passed}
 use Rattle.dns_zone.proofs.reply.push_records.Given as goal
 
