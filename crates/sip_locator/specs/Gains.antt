@@ -60,8 +60,17 @@ pub record IsNext (old new : SelectionValue) (first last : List Store) (now : �
   pub is : resolution ≡ now_of new
   pub lacks : (question : Question) → resolution ≡ need question → Lacks first last now question
 
--- the same of what a step gives; where memory was refused, the answers gained stay
+-- a question is asked
+abbrev pub IsAsking : Resolution → Type 0
+IsAsking resolution = (question : Question) × (resolution ≡ need question)
+
+-- memory was refused while a question was asked: the answers gained until then stay
+pub record IsCutShort (old new : SelectionValue) (first last : List Store) (now : ℕ) : Type 0 where
+  pub gains : Gains last now first old new
+  pub asking : IsAsking (now_of new)
+
+-- the same of what a step gives
 abbrev pub Steps : SelectionValue → SelectionValue → List Store → List Store → ℕ
     → Result Next AllocError → Type 0
 Steps old new first last now (Ok next) = IsNext old new first last now (next_of next)
-Steps old new first last now (Err refusal) = Gains last now first old new
+Steps old new first last now (Err refusal) = IsCutShort old new first last now

@@ -14,6 +14,7 @@ use Rattle.dns_message.specs.declared.refusal.MessageRefusal.TheVariants as mess
 use Rattle.sip_selection.specs.Choice.{Resolution, need}
 use Rattle.sip_selection.specs.Selections.{SelectionValue, given_too, now_of}
 use Rattle.answer_cache.specs.Seats.{SeatView, IsRefused, IsStored, offer_of}
+use Rattle.sip_locator.specs.Gains.{IsAsking}
 use Rattle.sip_locator.specs.declared.refusal.LocatorRefusal.{LocatorRefusal}
 use Rattle.sip_locator.specs.declared.refusal.LocatorRefusal.TheVariants as locator
 use Rattle.sip_locator.specs.declared.kept.Kept.{Kept}
@@ -33,9 +34,6 @@ MayAnswer question octets =
     NamedAt octets 12 ⊎ ((it : Message) × Begins octets it × (reply_refusal question it ≡ None))
 
 -- ---- refusals
-
-abbrev pub IsAsking : Resolution → Type 0
-IsAsking resolution = (question : Question) × (resolution ≡ need question)
 
 -- why no message is in front of the octets
 abbrev pub MessageFault : List ℕ → MessageRefusal → Type 0

@@ -6,7 +6,7 @@ ghost use Rattle.answer_cache.specs.Seats.{GoesOn, StoresNothing};
 ghost use Rattle.sip_selection.specs.Choice.{need};
 ghost use Rattle.sip_selection.specs.Nexts.{next_of};
 ghost use Rattle.sip_selection.specs.Selections.{begun, given_too, now_of};
-ghost use Rattle.sip_locator.specs.Gains.{Gains, Lacks, LookedUp, Steps};
+ghost use Rattle.sip_locator.specs.Gains.{Gains, IsAsking, Lacks, LookedUp, Steps};
 ghost use Rattle.sip_locator.specs.Replies.{Answers, IsTaken, Refuses};
 ghost use Rattle.dns_message.specs.declared.question.Question as question;
 
@@ -15,8 +15,8 @@ use crate::read::read_answer;
 use crate::refusal::LocatorRefusal;
 use answer_cache::AnswerBook;
 use dns_answers::{Answer, Moment};
-use dns_message::Question;
-use sip_selection::{Caps, Next, Request, Selection};
+use dns_message::{Question, same_questions_are_equal};
+use sip_selection::{Caps, GiveRefusal, Next, Request, Selection};
 use srv_choice::Words;
 use std::alloc::{AllocError, Global};
 use std::marker::{Model, PhantomData};
@@ -86,6 +86,7 @@ impl<B: AnswerBook> Locator<B> {
         ensures found { IfOk result
             (λ found. LookedUp self.old self.new (B.shown seat.new).seen now found) }
         ensures unchanged { OnErr result (self.new ≡ self.old) }
+        ensures asking { OnErr result (IsAsking (now_of self.old)) }
     {
         let Next::Ask(question) = self.selection.next() else {
             return Ok(false);
@@ -94,9 +95,23 @@ impl<B: AnswerBook> Locator<B> {
             return Ok(false);
         };
         let question = question.try_clone()?;
-        match self.selection.give(self.alloc, &question, answer) {
-            Ok(()) => Ok(true),
-            Err(_) => Err(AllocError),
+        same_questions_are_equal();
+        self.give(&question, answer)?;
+        Ok(true)
+    }
+
+    /// Gives the answer to the question that is asked. Where memory was refused all is as before.
+    fn give(&mut self, question: &Question, answer: Arc<Answer>) -> Result<(), AllocError>
+        requires asked { now_of self.old ≡ need question.now }
+        requires kind { kind_of (arc_value answer).records ≡ question.now.kind }
+        ensures given { OnOk result
+            (self.new ≡ given_too self.old question.now (arc_value answer)) }
+        ensures unchanged { OnErr result (self.new ≡ self.old) }
+    {
+        match self.selection.give(self.alloc, question, answer) {
+            Ok(()) => Ok(()),
+            Err(GiveRefusal::Memory) => Err(AllocError),
+            Err(GiveRefusal::NotAsked | GiveRefusal::WrongKind) => unreachable!(),
         }
     }
 
@@ -111,6 +126,7 @@ impl<B: AnswerBook> Locator<B> {
         ensures lacks { OnOk result ((question : question.Question)
             → now_of self.new ≡ need question
             → Lacks (B.shown seat.old).seen (B.shown seat.new).seen now question) }
+        ensures asking { OnErr result (IsAsking (now_of self.new)) }
     {
         for _round in 0..ROUND_LIMIT {
             if !self.look_up(book, seat, now)? {
@@ -122,8 +138,8 @@ impl<B: AnswerBook> Locator<B> {
     }
 
     /// Looks up each question that is asked, until the book has no answer to one, and gives what is
-    /// next then. Where memory is refused, the answers found before it stay used, and `step` can be
-    /// called again.
+    /// next then. Memory is wanted only while a question is asked: where it is refused, the answers
+    /// found before it stay used, and `step` can be called again.
     pub fn step(
         &mut self,
         book: &B,
@@ -181,9 +197,7 @@ impl<B: AnswerBook> Locator<B> {
         let answer = Arc::new(self.alloc, answer)?;
         let given = Arc::try_clone(&answer)?;
         let question = question.try_clone()?;
-        if self.selection.give(self.alloc, &question, given).is_err() {
-            return Err(LocatorRefusal::Memory);
-        }
+        self.give(&question, given)?;
         Ok((question, answer))
     }
 }

@@ -60,7 +60,7 @@ module _ (missing : Missing) where
     -- a step gains nothing
     step-stays : (result : Result Next AllocError) → Steps old new before.seen after.seen now result → new ≡ old
     step-stays (Ok next) steps = none-gained after now fits-after steps.gains
-    step-stays (Err refusal) steps = none-gained after now fits-after steps
+    step-stays (Err refusal) steps = none-gained after now fits-after steps.gains
 
     pub next-is : (next : Next) → Steps old new before.seen after.seen now (Ok next) → next_of next ≡ now_of old
     next-is next steps = steps.is ∙ ap now_of (step-stays (Ok next) steps)

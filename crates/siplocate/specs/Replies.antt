@@ -9,7 +9,7 @@ use Rattle.dns_answers.specs.Replies.{reply_refusal}
 use Rattle.sip_selection.specs.Choice.{Resolution, need}
 use Rattle.sip_selection.specs.Known.{Given}
 use Rattle.dns_message.specs.declared.refusal.MessageRefusal.TheVariants as message
-use Rattle.sip_locator.specs.Replies.{IsAsking}
+use Rattle.sip_locator.specs.Gains.{IsAsking}
 use Rattle.sip_locator.specs.declared.refusal.LocatorRefusal.{LocatorRefusal}
 use Rattle.sip_locator.specs.declared.refusal.LocatorRefusal.TheVariants as locator
 use Rattle.siplocate.specs.Talks.{goes, talk}

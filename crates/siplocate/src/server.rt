@@ -14,7 +14,7 @@ use crate::requests::parts;
 use crate::run::run_text;
 use crate::udp::{UdpServerWire, UdpWire};
 use answer_cache::{CacheRefusal, SharedCache};
-use dns_asker::serve;
+use dns_asker::{PeerWire, serve};
 use dns_zone::{Zone, ZoneRefusal};
 use sip_workers::{OpenGate, RunRefusal};
 use std::alloc::{AllocError, AllocFailed, Global};
@@ -99,6 +99,24 @@ impl From<RunRefusal> for RunFault {
     }
 }
 
+/// What it is that a thread could not be made, whatever the system says of it.
+fn no_thread<E: Drop>(_refused: E) -> RunFault
+    ensures { result ≡ faults.Thread }
+{
+    RunFault::Thread
+}
+
+/// A wire of this host's own, for a server that this host alone can reach.
+///
+/// # Errors
+///
+/// Those of the system, where no port is left.
+pub(crate) fn local_wire<R: Net>(rt: &R) -> io::Result<UdpServerWire>
+    ensures { IfOk result (λ wire. ⟦<UdpServerWire as PeerWire>⟧.failed wire ≡ 0) }
+{
+    UdpServerWire::bind(rt, SocketAddr::from((Ipv4Addr::LOCALHOST, 0)))
+}
+
 /// So many wires to a server.
 fn wires_to<R: Net>(
     rt: &R,
@@ -147,7 +165,7 @@ fn run_over_zone<R: Net + Threads + Wait + Clock + Sync>(
     ensures refused { IfErr result (Faults workers requests.now) }
     ensures range { IfOk result (λ told. told.1 ≤ 5) }
 {
-    let mut wire = UdpServerWire::bind(rt, SocketAddr::from((Ipv4Addr::LOCALHOST, 0)))?;
+    let mut wire = local_wire(rt)?;
     let address = wire.address()?;
     let stop = AtomicBool::new(false);
     thread::scope(
@@ -161,7 +179,7 @@ fn run_over_zone<R: Net + Threads + Wait + Clock + Sync>(
         {
             let _server = scope
                 .spawn(|| serve(rt, alloc, &mut wire, zone, &stop))
-                .map_err(|_| RunFault::Thread)?;
+                .map_err(no_thread)?;
             let told = run_to_server(rt, alloc, address, workers, requests);
             stop.store(true, Ordering::SeqCst);
             told

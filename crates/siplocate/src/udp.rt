@@ -1,7 +1,10 @@
 //! Wires over UDP.
 ghost use Rattle.std.specs.Prelude.{◌≡◌, ◌↔◌, ◌+◌, ◌-◌, ◌^◌, ◌<◌, IfErr, IfOk, IsOk, IsTrue, None, Ok, OnErr, OnOk, Some, if◌then◌else◌, option_and_then};
 ghost use Rattle.std.specs.IoError.{error_kind};
-ghost use Rattle.siplocate.specs.Datagrams.{IsWait, server_of};
+ghost use Rattle.std.specs.Net.Addr.{is_ipv4};
+ghost use Rattle.std.specs.Net.Socket.{socket_ip, socket_port};
+ghost use Rattle.dns_asker.specs.Wires.{IsGiven};
+ghost use Rattle.siplocate.specs.Datagrams.{HearsFrom, IsWait, server_of};
 
 use dns_asker::{DATAGRAM_LIMIT, PeerWire, Wire, WireFault};
 use std::io::{self, ErrorKind};
@@ -151,6 +154,37 @@ fn from_server(datagram: Option<(usize, SocketAddr)>, server: SocketAddr) -> Opt
     }
 }
 
+/// Receives a datagram, and gives the number of its octets where the server sent it. One that
+/// another peer sent is dropped.
+fn receive_from<W: PeerWire<Peer = SocketAddr>>(
+    wire: &mut W,
+    server: SocketAddr,
+    buffer: &mut [u8; DATAGRAM_LIMIT],
+) -> Result<Option<usize>, WireFault>
+    requires { W.failed wire.old < 2 ^ 64 - 1 }
+    ensures fault { OnErr result (W.failed wire.new ≡ W.failed wire.old + 1) }
+    ensures no_fault { OnOk result (W.failed wire.new ≡ W.failed wire.old) }
+    ensures given { IfOk result
+        (λ given. IfSome given (λ count. IsGiven W.gives count buffer.new)) }
+    ensures hears { HearsFrom W.does (λ peer. ⟦<SocketAddr as PartialEq>⟧.eq peer server)
+        wire.old wire.new buffer.new result }
+{
+    let datagram = wire.receive(buffer)?;
+    Ok(from_server(datagram, server))
+}
+
+/// The address of every interface, in the family of a server, and a port that the system chooses.
+fn any_port_for(server: SocketAddr) -> SocketAddr
+    ensures family { is_ipv4 (socket_ip result) ≡ is_ipv4 (socket_ip server) }
+    ensures port { socket_port result ≡ 0 }
+{
+    let any = match server {
+        SocketAddr::V4(_) => IpAddr::V4(Ipv4Addr::UNSPECIFIED),
+        SocketAddr::V6(_) => IpAddr::V6(Ipv6Addr::UNSPECIFIED),
+    };
+    SocketAddr::new(any, 0)
+}
+
 impl UdpWire {
     /// A wire to this server.
     ///
@@ -161,11 +195,7 @@ impl UdpWire {
         ensures no_failure { IfOk result (λ wire. ⟦<UdpWire as Wire>⟧.failed wire ≡ 0) }
         ensures server { IfOk result (λ wire. server_of wire ≡ server) }
     {
-        let any = match server {
-            SocketAddr::V4(_) => IpAddr::V4(Ipv4Addr::UNSPECIFIED),
-            SocketAddr::V6(_) => IpAddr::V6(Ipv6Addr::UNSPECIFIED),
-        };
-        let wire = UdpServerWire::bind(rt, SocketAddr::new(any, 0))?;
+        let wire = UdpServerWire::bind(rt, any_port_for(server))?;
         wire.socket.connect(server)?;
         Ok(UdpWire { wire, server })
     }
@@ -184,8 +214,7 @@ impl Wire for UdpWire {
     }
 
     fn receive(&mut self, buffer: &mut [u8; DATAGRAM_LIMIT]) -> Result<Option<usize>, WireFault> {
-        let datagram = self.wire.receive(buffer)?;
-        Ok(from_server(datagram, self.server))
+        receive_from(&mut self.wire, self.server, buffer)
     }
 
     fn failures(&self) -> u64 {

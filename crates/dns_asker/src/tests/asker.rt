@@ -27,7 +27,8 @@ pub(crate) enum Wanted {
 /// What octets mean, for which id.
 #[derive(Drop)]
 pub(crate) enum Meant {
-    Answered(u16),
+    /// An answer of this life, in seconds.
+    Answered(u16, u32),
     Faulty(u16, ReplyRefusal),
     Ignored(Why),
 }
@@ -49,6 +50,15 @@ pub(crate) const REPLY: &[u8] =
     b"\x12\x34\x81\x80\x00\x01\x00\x01\x00\x00\x00\x00\x01a\x07example\x00\x00\x01\x00\x01\xc0\x0c\
     \x00\x01\x00\x01\x00\x00\x01\x2c\x00\x04\xc0\x00\x02\x07";
 
+/// The same, with a TTL of 0.
+const LIFELESS_REPLY: &[u8] =
+    b"\x12\x34\x81\x80\x00\x01\x00\x01\x00\x00\x00\x00\x01a\x07example\x00\x00\x01\x00\x01\xc0\x0c\
+    \x00\x01\x00\x01\x00\x00\x00\x00\x00\x04\xc0\x00\x02\x07";
+
+/// The query for the A records of a.example. under the greatest id.
+const LAST_QUERY: &[u8] =
+    b"\xff\xff\x01\x00\x00\x01\x00\x00\x00\x00\x00\x00\x01a\x07example\x00\x00\x01\x00\x01";
+
 /// A reply for b.example. that was cut, and one of a server that failed.
 const CUT_REPLY: &[u8] =
     b"\x12\x34\x83\x80\x00\x01\x00\x00\x00\x00\x00\x00\x01b\x07example\x00\x00\x01\x00\x01";
@@ -57,7 +67,7 @@ const FAILURE: &[u8] =
     b"\x12\x34\x81\x82\x00\x01\x00\x00\x00\x00\x00\x00\x01b\x07example\x00\x00\x01\x00\x01";
 
 /// An asker of one question at once.
-pub(crate) const STEPS: [Step; 27] = [
+pub(crate) const STEPS: [Step; 29] = [
     Step::Ask(7, "a.example", 10, Ok(QUERY)),
     Step::Ask(7, "b.example", 10, Err(AskRefusal::IdTaken)),
     Step::Ask(8, "a.example", 10, Err(AskRefusal::Full)),
@@ -68,7 +78,7 @@ pub(crate) const STEPS: [Step; 27] = [
     Step::Due(13, Wanted::GaveUp(7)),
     Step::Due(14, Wanted::Nothing),
     Step::Ask(0x1234, "a.example", 20, Ok(LATER_QUERY)),
-    Step::Hear(REPLY, Meant::Answered(0x1234)),
+    Step::Hear(REPLY, Meant::Answered(0x1234, 300)),
     Step::Hear(REPLY, Meant::Ignored(Why::UnknownId)),
     Step::Due(30, Wanted::Nothing),
     Step::Ask(0x1234, "b.example", 30, Ok(OTHER_QUERY)),
@@ -86,6 +96,8 @@ pub(crate) const STEPS: [Step; 27] = [
     Step::Hear(FAILURE, Meant::Faulty(0x1234, ReplyRefusal::ServerFault(2))),
     Step::Hear(FAILURE, Meant::Ignored(Why::UnknownId)),
     Step::Due(60, Wanted::Nothing),
+    Step::Ask(0x1234, "a.example", 60, Ok(LATER_QUERY)),
+    Step::Hear(LIFELESS_REPLY, Meant::Answered(0x1234, 0)),
 ];
 
 /// Asks, and answers whether it went as wanted; nothing where memory is refused.
@@ -112,7 +124,7 @@ fn asks(
 fn ended(id: u16, ending: Ending, wanted: &Meant) -> bool {
     match ending {
         Ending::Answered(answer) => {
-            matches!(wanted, Meant::Answered(other) if *other == id) && answer.life() == 300
+            matches!(wanted, Meant::Answered(other, life) if *other == id && *life == answer.life())
         }
         Ending::Faulty(fault) => {
             matches!(wanted, Meant::Faulty(other, why) if *other == id && *why == fault)
@@ -155,7 +167,7 @@ pub(crate) fn does(alloc: Global, asker: &mut Asker, step: &Step) -> Option<bool
 
 /// An asker of two questions at once, which has one number left.
 const LAST_STEPS: [Step; 2] = [
-    Step::Ask(7, "a.example", 10, Ok(QUERY)),
+    Step::Ask(0xffff, "a.example", 10, Ok(LAST_QUERY)),
     Step::Ask(8, "a.example", 10, Err(AskRefusal::Spent)),
 ];
 
@@ -172,7 +184,7 @@ fn done(alloc: Global, asker: &mut Asker, steps: &[Step]) -> usize {
 #[test]
 fn steps(rt: HostRuntime) {
     if let Ok(mut asker) = Asker::new(rt.alloc(), 1, 0) {
-        assert_eq!(rt; done(rt.alloc(), &mut asker, STEPS.as_slice()), 27);
+        assert_eq!(rt; done(rt.alloc(), &mut asker, STEPS.as_slice()), 29);
     }
     if let Ok(mut asker) = Asker::new(rt.alloc(), 2, u64::MAX - 1) {
         assert_eq!(rt; done(rt.alloc(), &mut asker, LAST_STEPS.as_slice()), 2);

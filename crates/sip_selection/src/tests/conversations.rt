@@ -394,6 +394,22 @@ const NAMED: &[Row] = &[
         ],
         outcome: Goes(&[(Tls, Address::V6(V6), 5061)]),
     },
+    // three times the 32 addresses that an answer has at most
+    Row {
+        request: "sip:b.example;transport=udp",
+        transports: &[Udp],
+        families: Families::V4,
+        words: &[],
+        steps: &[
+            (
+                Kind::Srv,
+                "_sip._udp.b.example.",
+                Srv(&[(1, 0, 5070, "s.b.example"); 3]),
+            ),
+            (Kind::A, "s.b.example.", A(&[[192, 0, 2, 1]; 32])),
+        ],
+        outcome: Goes(&[(Udp, Address::V4([192, 0, 2, 1]), 5070); 96]),
+    },
     // two servers of one name, which is asked for once
     Row {
         request: "sip:b.example;transport=udp",

@@ -1,6 +1,8 @@
 //! The edges of the program: an input of the greatest length, a reader and a writer that fail.
+use crate::clock::SystemClock;
 use crate::input::{InputRefusal, input_text};
 use crate::job::{Told, report};
+use dns_asker::Clock;
 use std::io::{self, ErrorKind, Read, Write};
 use std::test::Fail;
 
@@ -52,4 +54,11 @@ fn reports(rt: HostRuntime) -> Result<(), Fail> {
     assert_eq!(rt; output.as_slice(), b"ask\nfault memory\n".as_slice());
     assert_eq!(rt; report(&mut Broken, &told), 5);
     Ok(())
+}
+
+/// The system's clock goes: it shows seconds since 1970, and not the beginning.
+#[test]
+fn time_of_the_system(rt: HostRuntime) {
+    // the first second of 2024
+    assert!(rt; SystemClock::new(&rt).now().get() > 1_704_067_200);
 }

@@ -1,4 +1,5 @@
 //! A question over UDP, to a server on another thread, and to the one that the environment names.
+use crate::server::local_wire;
 use crate::udp::{UdpServerWire, UdpWire};
 use dns_answers::{Records, answer_of};
 use dns_asker::{DATAGRAM_LIMIT, PeerWire, Wire, Zone, serve};
@@ -6,7 +7,7 @@ use dns_message::{Kind, Question, read_message};
 use dns_name::Name;
 use std::alloc::Global;
 use std::env::{self, VarError};
-use std::net::{Ipv4Addr, Net, SocketAddr};
+use std::net::{Ipv4Addr, Ipv6Addr, Net, SocketAddr};
 use std::rt::Env;
 use std::sync::Arc;
 use std::sync::atomic::{AtomicBool, Ordering};
@@ -75,21 +76,36 @@ pub(crate) fn named_server<R: Env + AllocGlobal>(rt: &R) -> Result<Option<Socket
 
 #[test]
 fn answer_over_udp(rt: HostRuntime) -> Result<(), Fail> {
-    let Ok(zone) = Zone::read(rt.alloc(), "a.example. 300 A 192.0.2.7") else {
-        return Err(Fail::new(format_args!("the zone was not read")));
-    };
-    let mut wire = UdpServerWire::bind(&rt, SocketAddr::from((Ipv4Addr::LOCALHOST, 0)))?;
-    let own = wire.address()?;
-    let stop = Arc::new(rt.alloc(), AtomicBool::new(false))?;
-    let seen = Arc::try_clone(&stop)?;
-    let server = thread::spawn(&rt, move || serve(&rt, rt.alloc(), &mut wire, &zone, &seen))?;
-    let is_right = is_answered(&rt, own);
-    stop.store(true, Ordering::SeqCst);
-    assert!(rt; server.join(&rt) >= 1);
-    assert!(rt; is_right?);
+    // A host without IPv6 has no such address.
+    let sixth = UdpServerWire::bind(&rt, SocketAddr::from((Ipv6Addr::LOCALHOST, 0)));
+    for wire in [Ok(local_wire(&rt)?), sixth] {
+        let Ok(mut wire) = wire else {
+            continue;
+        };
+        let Ok(zone) = Zone::read(rt.alloc(), "a.example. 300 A 192.0.2.7") else {
+            return Err(Fail::new(format_args!("the zone was not read")));
+        };
+        let own = wire.address()?;
+        let stop = Arc::new(rt.alloc(), AtomicBool::new(false))?;
+        let seen = Arc::try_clone(&stop)?;
+        let server = thread::spawn(&rt, move || serve(&rt, rt.alloc(), &mut wire, &zone, &seen))?;
+        let is_right = is_answered(&rt, own);
+        stop.store(true, Ordering::SeqCst);
+        assert!(rt; server.join(&rt) >= 1);
+        assert!(rt; is_right?, "{own}");
+    }
     if let Some(server) = named_server(&rt)? {
         assert!(rt; is_answered(&rt, server)?, "{server}");
     }
+    Ok(())
+}
+
+/// Two servers of this host can run at once.
+#[test]
+fn ports_of_two_servers(rt: HostRuntime) -> Result<(), Fail> {
+    let one = local_wire(&rt)?;
+    let other = local_wire(&rt)?;
+    assert!(rt; one.address()? != other.address()?);
     Ok(())
 }
 

@@ -1,0 +1,12 @@
+use Rattle.std.proofs.Common.{◌≡◌, Some, sym, ◌∙◌, ap}
+use Rattle.std.specs.Arc.{arc_value}
+use Rattle.std.specs.Option.{option_map}
+use Rattle.sip_locator.proofs.CachedKinds.{cached-kind}
+use Rattle.sip_locator.proofs.locator.Locator.look_up.Goals as goal
+
+pub give-requires-clause-kind : goal.give-requires-clause-kind
+give-requires-clause-kind g c =
+    let found = rw c.in-Some.is at c.in_ok-answer.ensures.found in
+    let question = c.in_ok-question.ensures in
+    let holds = g.met.B.AnswerBook.holds _ _ c.lookup.ensures.stays in
+    rw question (cached-kind c.same_questions_are_equal.ensures _ _ _ _ holds.history found)
