@@ -66,6 +66,12 @@ const ROWS: &[(u16, &[u8], &str)] = &[
     (35, b"\x00\x01\x00\x02\x00\x00\x00", MALFORMED),
     (35, b"\x00\x01\x00\x02\x00\x00\x00\x00\x00", MALFORMED),
     (35, b"\x00\x01\x00", MALFORMED),
+    // the rule from above, with an octet more
+    (
+        35,
+        b"\x00\x0a\x002\x01s\x08SIPS+D2T\x00\x05_sips\x04_tcp\x01b\x07example\x00\x00",
+        MALFORMED,
+    ),
     (6, START, "SOA a. a. 1 2 3 4 5"),
     (
         6,

@@ -68,6 +68,19 @@ const ROWS: &[Row] = &[
         current: Some(TWO),
         progress: Progress::Answered,
     },
+    // a failure more when all were tried
+    Row {
+        targets: &[ONE, TWO, THREE],
+        events: &[
+            Failed(Timeout),
+            Failed(Status503),
+            Failed(Timeout),
+            Failed(Timeout),
+        ],
+        tried: &[ONE, TWO, THREE],
+        current: None,
+        progress: Progress::Exhausted,
+    },
     Row {
         targets: &[ONE, TWO],
         events: &[Failed(Timeout), Failed(Timeout), Responded],
