@@ -223,8 +223,8 @@ fn replies_cut_short(rt: HostRuntime) {
 /// That an answer is used, and not stored.
 const LIFELESS_ANSWER: Kept = Kept::No(StoreRefusal::Lifeless);
 
-/// A reply, whether its answer is stored, what the first locator then gives, and what the second one
-/// gives at a later moment.
+/// A reply, whether its answer is stored, what the first locator then gives, and what the second
+/// one gives at a later moment.
 const ROWS: [(&[u8], Kept, Gives, u64, Gives); 8] = [
     (&LIFELESS, LIFELESS_ANSWER, Gives::Goes, 100, Gives::Asks),
     (&REPLY, Kept::Yes, Gives::Goes, 100, Gives::Goes),
