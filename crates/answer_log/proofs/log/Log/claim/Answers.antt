@@ -20,7 +20,7 @@ returns-clause-hand c =
     let t = c.claim_node-pen in
     let node : ℕ = node_at h.number c.args.place in
     let store : Store = store_by h.number c.args.question.now (arc_value c.args.answer.now) c.args.moment in
-    hand_adds h record { number = h.number; seats = h.seats; places = c.args.place + 1; tally = t.new.tally; book = t.new.book }
+    hand_adds h _
     (Named node store t.result.nib.key) c.requires.hand t.ensures.adds refl refl
     (let p = c.requires.place.0 in omega arith) t.ensures.book.1 t.ensures.tally.0 t.ensures.tally.1 refl
     (named_low h.number c.args.place node store t.result.nib.key refl)
