@@ -13,6 +13,7 @@ ghost use Rattle.answer_log.specs.Hands.{AreHands, EndsWith, IsHand, IsSame, See
 ghost use Rattle.answer_log.specs.Spending.{one_try};
 ghost use Rattle.answer_log.specs.Histories.{IsFull, IsSound, cached, in_group};
 ghost use Rattle.answer_log.specs.Logs.{history, top};
+ghost use Rattle.answer_log.specs.Rules.{node_at};
 ghost use Rattle.answer_log.specs.Steps.{HadRoom, store_by};
 ghost use Rattle.answer_log.specs.declared.store.Store.{Store};
 ghost use Rattle.dns_answers.specs.Records.{kind_of};
@@ -35,7 +36,7 @@ use crate::rival::{NoRival, Rival};
 use crate::seat::{Notice, Seat};
 use answer_log::{
     Book, Claimed, Draft, GROUP_LIMIT, Hand, Hands, Log, MOST_SEATS, Pen, Walk, group_of_hash,
-    hash, log_keeps_its_rule,
+    hash, log_keeps_its_rule, seat_and_place,
 };
 use boxcar::Pushed;
 use boxcar::tag::Tag;
@@ -143,9 +144,9 @@ impl SharedCache {
     fn node(&self, number: u64) -> Option<&Node>
         ensures { IfSome result (λ node. (node.now.node ≡ number) × IsNode self.now.book node.now) }
     {
-        let at = number.checked_sub(1)?;
-        let shelf = self.shelves.get((at % MOST_SEATS) as usize)?;
-        let node = shelf.get((at / MOST_SEATS) as usize)?;
+        let (seat, place) = seat_and_place(number)?;
+        let shelf = self.shelves.get(seat as usize)?;
+        let node = shelf.get(place as usize)?;
         if node.node == number {
             Some(node)
         } else {
@@ -279,6 +280,8 @@ impl SharedCache {
         ensures shown { IfOk result (λ ready. Shows shelf.now ready.0) }
         ensures ready { IfOk result (λ ready. (ready.1.book ≡ self.now.book)
             × IsReady self.now.book hand.new.book.log hand.old.number ready.0.value ready.1.nib) }
+        ensures numbered { IfOk result
+            (λ ready. ready.0.value.node ≡ node_at hand.old.number place) }
         ensures made { IfOk result
             (λ ready. Says ready.0.value wanted.now.question.now
             (arc_value wanted.now.answer.now) wanted.now.moment) }
@@ -327,6 +330,8 @@ impl SharedCache {
         ensures shown { IfOk result (λ ready. Shows shelf.now ready.0) }
         ensures ready { IfOk result (λ ready. (ready.1.book ≡ self.now.book)
             × IsReady self.now.book hand.new.book.log hand.old.number ready.0.value ready.1.nib) }
+        ensures numbered { IfOk result
+            (λ ready. ready.0.value.node ≡ node_at hand.old.number ready.0.index) }
         ensures made { IfOk result
             (λ ready. Says ready.0.value wanted.now.question.now
             (arc_value wanted.now.answer.now) wanted.now.moment) }

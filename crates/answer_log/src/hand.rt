@@ -7,9 +7,6 @@ use crate::spent::Spent;
 use crate::steps::Book;
 use crate::tally::{Tallies, Tally};
 
-/// How many seats a log can have.
-pub const MOST_SEATS: u64 = 64;
-
 /// What a seat has at the log: its number, how many seats there are, the place of its next node,
 /// its count, what it has seen, and what its calls have spent.
 #[derive(Drop)]

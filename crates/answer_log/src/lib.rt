@@ -73,6 +73,7 @@ mod event;
 mod groups;
 mod hand;
 mod log;
+mod nodes;
 mod spent;
 mod steps;
 mod store;
@@ -81,8 +82,9 @@ mod walk;
 
 pub use event::{Counted, Event};
 pub use groups::{GROUP_COUNT, GROUP_LIMIT, group, group_of_hash, hash};
-pub use hand::{Hand, Hands, MOST_SEATS};
+pub use hand::{Hand, Hands};
 pub use log::{Claimed, Log, histories_are_one, log_keeps_its_rule};
+pub use nodes::{MOST_SEATS, node_at, seat_and_place};
 pub use spent::Spent;
 pub use steps::{Book, Pen, Word};
 pub use store::{Draft, Store};

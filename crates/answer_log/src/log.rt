@@ -16,7 +16,8 @@ ghost use Rattle.answer_log.specs.declared.event.Event.{Event as Noted};
 
 use crate::event::Event;
 use crate::groups::GROUP_COUNT;
-use crate::hand::{Hand, Hands, MOST_SEATS};
+use crate::hand::{Hand, Hands};
+use crate::nodes::node_at;
 use crate::steps::{Book, Pen, Word, claim_node, place, top_node};
 use crate::store::Draft;
 use crate::tally::Tallies;
@@ -178,7 +179,7 @@ impl Log {
         ensures pen { (result.pen.book ≡ self.now) × (result.pen.nib.right ≡ may_write)
             × (result.pen.nib.key ≡ result.link.key) × (64 < result.link.key) }
     {
-        let node = 1 + hand.number + MOST_SEATS * place;
+        let node = node_at(hand.number, place);
         let draft = Draft {
             node,
             seat: hand.number,
