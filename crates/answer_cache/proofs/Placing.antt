@@ -1,18 +1,22 @@
 -- A node is placed, or it is ready for another try.
-use Rattle.std.proofs.Common.{◌≡◌, ◌+◌, ◌≤◌, ℕ, Bool, true, false, List, ◌++◌, length, MatchBool, MatchResult, IfErr, Ok, Err, ap, sym, ◌∙◌}
+use Rattle.std.proofs.Common.{◌≡◌, ◌+◌, ◌<◌, ◌≤◌, inr, ℕ, Bool, true, false, List, ◌++◌, length, MatchBool, MatchResult, IfErr, Ok, Err, ap, sym, ◌∙◌}
 use Rattle.std.proofs.Common.{subst, arith, append_assoc, length-append}
 use mathlib.Core.List.{IsPrefix}
 use Rattle.std.specs.declared.result.Result.{Result}
 use Rattle.logbook.specs.Pages.{Book, Nib, may_write}
-use Rattle.answer_log.specs.Hands.{EndsWith, SeesMore}
+use Rattle.answer_log.specs.Hands.{EndsWith, SeesMore, spent_of}
 use Rattle.answer_log.specs.Groups.{group_of}
 use Rattle.answer_log.specs.Logs.{history, top}
+use Rattle.answer_log.specs.Spending.{Spending}
 use Rattle.answer_log.specs.Steps.{store_by}
 use Rattle.dns_answers.specs.Values.{AnswerValue}
 use Rattle.answer_log.specs.declared.event.Event.{Event}
+use Rattle.answer_log.specs.declared.hand.Hand.{Hand}
 use Rattle.answer_log.specs.declared.store.Store.{Store}
 use Rattle.dns_message.specs.declared.question.Question.{Question}
-use Rattle.answer_cache.specs.Nodes.{IsReady, Says, WhyLost, store_in}
+use Rattle.answer_cache.specs.Nodes.{IsReady, Says, WhyLost, WhyNotPut, store_in}
+use Rattle.answer_cache.specs.Seats.{Offer}
+use Rattle.answer_cache.specs.Shared.{Leaves, view_of}
 use Rattle.answer_cache.specs.declared.refusal.StoreRefusal.{StoreRefusal}
 use Rattle.answer_cache.specs.declared.refusal.StoreRefusal.TheVariants.{Lifeless, GenerationFull, Contended, Memory}
 use Rattle.answer_cache.specs.declared.node.Node.{Node}
@@ -85,20 +89,43 @@ put-on (Ok a) seat its placed store old mid new number is mine' sees it =
 put-on (Err e) seat its placed store old mid new number is mine' sees it =
     let S : ℕ → Type 0 = λ n. SeesMore n mid new in sees-trans seat old mid new sees (subst S number it)
 
-why-on : (question : Question) (old mid new : List Store) (refusal : StoreRefusal) → IsPrefix old mid → WhyLost question mid new refusal
-    → WhyLost question old new refusal
-why-on question old mid new Lifeless p why = why
-why-on question old mid new GenerationFull p why = why
-why-on question old mid new Contended p why = longer old mid 16 new p why
-why-on question old mid new Memory p why = tt
+why-on : (question : Question) (old mid new : List Store) (before after : Spending) (refusal : StoreRefusal) → IsPrefix old mid
+    → WhyLost question mid new before after refusal → WhyNotPut question old new refusal
+why-on question old mid new before after Lifeless p why = why
+why-on question old mid new before after GenerationFull p why = why
+why-on question old mid new before after Contended p why = longer old mid 16 new p why
+why-on question old mid new before after Memory p why = tt
 
 -- why the tries were lost, after more was seen
 pub lost-on : {A : Type 0} (result : Result A StoreRefusal) (its question : Question) (old mid now new : List Event) (was : ℕ)
+    (begun spent : Spending)
     → its ≡ question → IsPrefix (history old) (history mid) → IsPrefix mid now → was ≡ top (group_of question) mid
     → IfErr result (λ refusal. (seen : List Event) → IsPrefix seen now → top (group_of its) seen ≡ was
-    → WhyLost its (history seen) (history new) refusal)
-    → IfErr result (WhyLost question (history old) (history new))
-lost-on (Ok a) its question old mid now new was same before later last why = tt
-lost-on (Err refusal) its question old mid now new was same before later last why =
-    let W : Question → Type 0 = λ q. top (group_of q) mid ≡ was → WhyLost q (history mid) (history new) refusal in
-    why-on question (history old) (history mid) (history new) refusal before (subst W same (why mid later) (sym last))
+    → WhyLost its (history seen) (history new) begun spent refusal)
+    → IfErr result (WhyNotPut question (history old) (history new))
+lost-on (Ok a) its question old mid now new was begun spent same before later last why = tt
+lost-on (Err refusal) its question old mid now new was begun spent same before later last why =
+    let W : Question → Type 0 = λ q. top (group_of q) mid ≡ was → WhyLost q (history mid) (history new) begun spent refusal in
+    why-on question (history old) (history mid) (history new) begun spent refusal before (subst W same (why mid later) (sym last))
+
+-- what is left after the tries were lost
+leaves-why : (question its : Question) (h k new : Hand) (before : List Store) (refusal : StoreRefusal) → (spent_of h).tries ≤ (spent_of k).tries
+    → (spent_of h).missed ≤ (spent_of k).missed → (spent_of k).tries < (spent_of new).tries
+    → WhyLost its before (history new.book.log) (spent_of k) (spent_of new) refusal
+    → (old more : List Offer) → Leaves question (view_of h old) (view_of new more) refusal
+leaves-why question its h k new before Lifeless tries missed tried why old more = absurd why
+leaves-why question its h k new before GenerationFull tries missed tried why old more = λ same. absurd (omega (arith, same, tries, tried))
+leaves-why question its h k new before Contended tries missed tried why old more = omega (arith, tries, tried)
+leaves-why question its h k new before Memory tries missed tried why old more = inr (omega (arith, missed, why))
+
+pub leaves-on : {A : Type 0} (result : Result A StoreRefusal) (its question : Question) (h k new : Hand) (mid : List Event) (was : ℕ)
+    → (spent_of h).tries ≤ (spent_of k).tries → (spent_of h).missed ≤ (spent_of k).missed → (spent_of k).tries < (spent_of new).tries
+    → its ≡ question → IsPrefix mid k.book.log → was ≡ top (group_of question) mid
+    → IfErr result (λ refusal. (seen : List Event) → IsPrefix seen k.book.log → top (group_of its) seen ≡ was
+    → WhyLost its (history seen) (history new.book.log) (spent_of k) (spent_of new) refusal)
+    → IfErr result (λ refusal. (old more : List Offer) → Leaves question (view_of h old) (view_of new more) refusal)
+leaves-on (Ok a) its question h k new mid was tries missed tried same later last why = tt
+leaves-on (Err refusal) its question h k new mid was tries missed tried same later last why =
+    let W : Question → Type 0 = λ q. top (group_of q) mid ≡ was
+    → WhyLost q (history mid) (history new.book.log) (spent_of k) (spent_of new) refusal in
+    leaves-why question question h k new (history mid) refusal tries missed tried (subst W same (why mid later) (sym last))

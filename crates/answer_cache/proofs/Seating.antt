@@ -17,7 +17,7 @@ use Rattle.answer_log.specs.Steps.{store_by}
 use Rattle.answer_log.specs.declared.event.Event.{Event}
 use Rattle.answer_log.specs.declared.hand.Hand.{Hand}
 use Rattle.answer_log.specs.declared.store.Store.{Store}
-use Rattle.answer_cache.specs.Seats.{IsStored, Noted, Offer, offer_of}
+use Rattle.answer_cache.specs.Seats.{IsStored, Offer, offer_of}
 use Rattle.answer_cache.specs.Shared.{Belongs, CacheView, SharedView, cache_view, new_seat, view_of}
 
 range-more : (from size : ℕ) → range_with_len from (suc size) ≡ range_with_len from size ++ (from + size) ∷ []
@@ -38,17 +38,19 @@ seats-more cache size =
     ∙ ap (λ n. map (new_seat cache) (range_with_len 0 size) ++ new_seat cache n ∷ []) first))
 
 -- what is dealt for a new seat
-pub new-view : (hand : Hand) (noted : Noted) (cache : CacheView) (its : Book) (number seats size : ℕ) → IsNew hand its number seats
+pub new-view : (hand : Hand) (offered : List Offer) (cache : CacheView) (its : Book) (number seats size : ℕ) → IsNew hand its number seats
     → cache_view its seats ≡ cache → number ≡ size
-    → noted ≡ record { offered = []; links = 0; tries = 0 } → view_of hand noted ≡ new_seat cache size
-new-view hand noted cache its number seats size it same is none =
+    → offered ≡ [] → view_of hand offered ≡ new_seat cache size
+new-view hand offered cache its number seats size it same is none =
     let at : cache_view hand.book.book hand.seats ≡ cache = (λ i. cache_view (it.book i) (it.count i)) ∙ same in
     let n = it.number ∙ is in
     λ i. record {
       cache = at i;
-      seat = record { number = n i; seen = history (it.log i); own = mine (history (it.log i)) (n i); offered = (none i).offered };
-      links = (none i).links;
-      tries = (none i).tries;
+      seat = record { number = n i; seen = history (it.log i); own = mine (history (it.log i)) (n i); offered = none i };
+      links = (it.spent i).links;
+      tries = (it.spent i).tries;
+      missed = (it.spent i).missed;
+      places = it.places i;
     }
 
 all-of : {X : Type 0} (P : X → Type 0) → ((x : X) → P x) → (xs : List X) → All P xs
@@ -81,7 +83,7 @@ module _ (front whole : List Store) (store : Store) (last : whole ≡ front ++ s
       ap (λ h. mine h store.seat) last
       ∙ (filter-append (λ it. it.seat == store.seat) front (store ∷ []) ∙ ap (λ l. mine front store.seat ++ l) one)
 
-pub stored : {A E : Type 0} (result : Result A E) (hand : Hand) (noted : Noted) (view : SharedView) (new : List Event) (number : ℕ)
+pub stored : {A E : Type 0} (result : Result A E) (hand : Hand) (noted : List Offer) (view : SharedView) (new : List Event) (number : ℕ)
     (offered : List Offer)
     (question : Question) (answer : AnswerValue) (moment : ℕ) → view_of hand noted ≡ view → number ≡ hand.number → 0 < answer.life
     → IsHistory (history new)

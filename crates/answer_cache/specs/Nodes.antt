@@ -10,13 +10,15 @@ use Rattle.dns_message.specs.declared.question.Question.{Question}
 use Rattle.answer_log.specs.Groups.{hash_of, hashed_of}
 use Rattle.answer_log.specs.Hands.{IsHand, IsNamed}
 use Rattle.answer_log.specs.Histories.{IsFull, stores_of}
+use Rattle.answer_log.specs.Spending.{Spending}
 use Rattle.answer_log.specs.Steps.{store_by}
 use Rattle.answer_log.specs.Walks.{Ahead}
 use Rattle.answer_log.specs.declared.hand.Hand.{Hand}
 use Rattle.answer_log.specs.declared.store.Store.{Store}
 use Rattle.answer_log.specs.declared.walk.Walk.{Walk}
-use Rattle.answer_cache.specs.Seats.{Noted}
 use Rattle.answer_cache.specs.declared.node.Node.{Node}
+use Rattle.answer_cache.specs.declared.node.ShelfRefusal.{ShelfRefusal}
+use Rattle.answer_cache.specs.declared.node.ShelfRefusal.TheVariants.{Unnamed, Untaken}
 use Rattle.answer_cache.specs.declared.refusal.StoreRefusal.{StoreRefusal}
 use Rattle.answer_cache.specs.declared.refusal.StoreRefusal.TheVariants.{Lifeless, GenerationFull}
 use Rattle.answer_cache.specs.declared.refusal.StoreRefusal.TheVariants.{Contended, Memory}
@@ -51,11 +53,12 @@ IsLastOf question stores None = last_or None (stores_of question stores) ≡ Non
 IsLastOf question stores (Some node) =
     (seat : ℕ) × (last_or None (stores_of question stores) ≡ Some (store_in seat node))
 
--- the notes are those of before but for so many links and tries at most
-pub record Costs (old new : Noted) (links tries : ℕ) : Type 0 where
-  pub offered : new.offered ≡ old.offered
+-- so many links and tries at most were spent
+pub record Costs (old new : Spending) (links tries : ℕ) : Type 0 where
   pub along : new.links ≤ old.links + links
+  pub before : old.tries ≤ new.tries
   pub tried : new.tries ≤ old.tries + tries
+  pub missed : old.missed ≤ new.missed
 
 -- the hand goes on at its book
 pub record Holds (book : Book) (old new : Hand) : Type 0 where
@@ -77,16 +80,29 @@ abbrev pub Says : Node → Question → AnswerValue → ℕ → Type 0
 Says node question answer moment = (node.question ≡ question) × (arc_value node.answer ≡ answer)
     × (node.moment ≡ moment) × (node.tag ≡ hash_of (hashed_of node.question))
 
+-- a node that was not named leaves the places of its seat as they were
+abbrev pub LeavesPlaces : Hand → Hand → ShelfRefusal → Type 0
+LeavesPlaces old new Unnamed = new.places ≡ old.places
+LeavesPlaces old new Untaken = Unit {0}
+
 -- why a try does not begin
-abbrev pub WhyNoRoom : Question → List Store → StoreRefusal → Type 0
-WhyNoRoom question after Lifeless = ⊥
-WhyNoRoom question after GenerationFull = IsFull after question
-WhyNoRoom question after Contended = ⊥
-WhyNoRoom question after Memory = Unit {0}
+abbrev pub WhyNoRoom : Question → List Store → Spending → Spending → StoreRefusal → Type 0
+WhyNoRoom question after old new Lifeless = ⊥
+WhyNoRoom question after old new GenerationFull = IsFull after question
+WhyNoRoom question after old new Contended = ⊥
+WhyNoRoom question after old new Memory = old.missed < new.missed
 
 -- why no try placed the node
-abbrev pub WhyLost : Question → List Store → List Store → StoreRefusal → Type 0
-WhyLost question before after Lifeless = ⊥
-WhyLost question before after GenerationFull = IsFull after question
-WhyLost question before after Contended = length before + 16 ≤ length after
-WhyLost question before after Memory = Unit {0}
+abbrev pub WhyLost : Question → List Store → List Store → Spending → Spending → StoreRefusal
+    → Type 0
+WhyLost question before after old new Lifeless = ⊥
+WhyLost question before after old new GenerationFull = IsFull after question
+WhyLost question before after old new Contended = length before + 16 ≤ length after
+WhyLost question before after old new Memory = old.missed < new.missed
+
+-- why nothing was put
+abbrev pub WhyNotPut : Question → List Store → List Store → StoreRefusal → Type 0
+WhyNotPut question before after Lifeless = ⊥
+WhyNotPut question before after GenerationFull = IsFull after question
+WhyNotPut question before after Contended = length before + 16 ≤ length after
+WhyNotPut question before after Memory = Unit {0}

@@ -18,13 +18,6 @@ pub record Offer : Type 0 where
 abbrev pub offer_of : Question → AnswerValue → ℕ → Offer
 offer_of question answer moment = record { question = question; answer = answer; moment = moment }
 
--- what contracts note of a seat: what its stores were handed, how many links its calls went along,
--- and how many times they tried to place a node
-pub record Noted : Type 0 where
-  pub offered : List Offer
-  pub links : ℕ
-  pub tries : ℕ
-
 -- its number, the history that it has seen, its own stores, and what its stores were handed
 pub record SeatView : Type 0 where
   pub number : ℕ
@@ -79,3 +72,10 @@ WhyNot old new offer Memory = 0 < offer.answer.life
 -- the seat has no store more
 abbrev pub IsRefused : SeatView → SeatView → Offer → StoreRefusal → Type 0
 IsRefused old new offer refusal = (new.own ≡ old.own) × WhyNot old new offer refusal
+
+-- in between, a history was seen in which the question's group was not full
+pub record HasSeenRoom (question : Question) (before after : List Store) : Type 0 where
+  pub seen : List Store
+  pub later : IsPrefix before seen
+  pub earlier : IsPrefix seen after
+  pub room : IsFull seen question → ⊥

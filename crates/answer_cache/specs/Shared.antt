@@ -1,15 +1,20 @@
 -- What contracts see of the seats of a shared cache.
-use Rattle.std.specs.Prelude.{◌≡◌, ℕ, ◌+◌, ◌<◌, ◌≤◌, ◌⊎◌, List, [], length}
+use Rattle.std.specs.Prelude.{◌≡◌, ◌≢◌, ℕ, ◌+◌, ◌<◌, ◌≤◌, ◌⊎◌, List, [], length, None}
 use base.Stored.{Coded, coded×, coded_ℕ, coded_via}
 use Rattle.logbook.specs.Pages.{Book, book_coded}
-use Rattle.answer_log.specs.Histories.{mine}
+use Rattle.dns_message.specs.declared.question.Question.{Question}
+use Rattle.answer_log.specs.Histories.{cached, mine}
+use Rattle.answer_log.specs.Hands.{spent_of}
 use Rattle.answer_log.specs.Logs.{history}
 use Rattle.answer_log.specs.declared.hand.Hand.{Hand}
 use Rattle.answer_log.specs.declared.store.Store.{Store}
-use Rattle.answer_cache.specs.Seats.{Noted, SeatView, IsSeat}
+use Rattle.answer_cache.specs.Seats.{HasSeenRoom, Offer, SeatView, IsSeat}
 use Rattle.answer_cache.specs.declared.cache_refusal.CacheRefusal.{CacheRefusal}
 use Rattle.answer_cache.specs.declared.cache_refusal.CacheRefusal.TheVariants.{BadCount}
 use Rattle.answer_cache.specs.declared.cache_refusal.CacheRefusal.TheVariants.{Memory as NoMemory}
+use Rattle.answer_cache.specs.declared.refusal.StoreRefusal.{StoreRefusal}
+use Rattle.answer_cache.specs.declared.refusal.StoreRefusal.TheVariants.{Lifeless, GenerationFull}
+use Rattle.answer_cache.specs.declared.refusal.StoreRefusal.TheVariants.{Contended, Memory}
 
 -- which cache it is, and how many seats it was made with
 pub record CacheView : Type 0 where
@@ -23,25 +28,30 @@ abbrev pub cache_coded : Coded CacheView
 cache_coded = coded_via (coded× book_coded coded_ℕ) (λ (it : CacheView). (it.book, it.seats))
     (λ x y e i. cache_view (e i).0 (e i).1)
 
--- the cache that it was made with, what each book sees of its seats, and how many links its calls
--- went along and how many times they tried to place a node
+-- the cache that it was made with, what each book sees of its seats, how many links its calls went
+-- along, how many times they tried to place a node, how many numbers led to no node, and how many
+-- places on its shelf its nodes were named for
 pub record SharedView : Type 0 where
   pub cache : CacheView
   pub seat : SeatView
   pub links : ℕ
   pub tries : ℕ
+  pub missed : ℕ
+  pub places : ℕ
 
-abbrev pub view_of : Hand → Noted → SharedView
-view_of hand noted = record {
+abbrev pub view_of : Hand → List Offer → SharedView
+view_of hand offered = record {
   cache = cache_view hand.book.book hand.seats;
   seat = record {
     number = hand.number;
     seen = history hand.book.log;
     own = mine (history hand.book.log) hand.number;
-    offered = noted.offered;
+    offered = offered;
   };
-  links = noted.links;
-  tries = noted.tries;
+  links = (spent_of hand).links;
+  tries = (spent_of hand).tries;
+  missed = (spent_of hand).missed;
+  places = hand.places;
 }
 
 -- what a notice tells: the cache, and the history that a seat had seen
@@ -68,6 +78,8 @@ new_seat cache number =
       seat = record { number = number; seen = []; own = []; offered = [] };
       links = 0;
       tries = 0;
+      missed = 0;
+      places = 0;
     }
 
 -- The count is bad exactly outside 1 to 64. Memory is wanted only for a good one.
@@ -79,3 +91,19 @@ Refuses seats NoMemory = (0 < seats) × (seats ≤ 64)
 pub record Takes (old new : SharedView) (links tries : ℕ) : Type 0 where
   pub along : new.links ≤ old.links + links
   pub tried : new.tries ≤ old.tries + tries
+
+-- a look-up wants memory only for an answer, or else a number led to no node
+abbrev pub WantsForAnswer : Question → ℕ → SharedView → SharedView → Type 0
+WantsForAnswer question now old new =
+    (cached new.seat.seen question now ≢ None) ⊎ (old.missed < new.missed)
+
+-- What a refused store leaves. Where the answer does not live, or the group is full before a try, no
+-- node was named. Memory is wanted before a try, where the group was not full at the first look; or
+-- else a number led to no node.
+abbrev pub Leaves : Question → SharedView → SharedView → StoreRefusal → Type 0
+Leaves question old new Lifeless = (new.tries ≡ old.tries) × (new.places ≡ old.places)
+Leaves question old new GenerationFull = new.tries ≡ old.tries → new.places ≡ old.places
+Leaves question old new Contended = old.tries < new.tries
+Leaves question old new Memory =
+    ((new.tries ≡ old.tries) × HasSeenRoom question old.seat.seen new.seat.seen)
+    ⊎ (old.missed < new.missed)

@@ -28,9 +28,9 @@ pub trait AnswerBook {
     // Its number, the history that it has seen, its own stores, and what its stores were handed.
     ghost shown: { Self.Seat → SeatView };
 
-    /// The answer of the last store of the question, while it lives: from the moment of its store
-    /// on, for as many seconds as its life is. An older store does not come back when the last one
-    /// has expired.
+    /// The answer of the last store of the question, while it lives: until as many seconds after the
+    /// moment of its store as its life is. A look-up at an earlier moment finds it too. An older
+    /// store does not come back when the last one has expired.
     fn lookup(
         &self,
         seat: &mut Self::Seat,
@@ -44,7 +44,7 @@ pub trait AnswerBook {
         ensures found { IfOk result
             (λ found. option_map arc_value found ≡ cached (shown seat.new).seen question.now now) };
 
-    /// Stores an answer, whose life begins now.
+    /// Stores an answer at this moment: it lives until as many seconds after it as its life is.
     fn store<R: Wait>(
         &self,
         rt: &R,

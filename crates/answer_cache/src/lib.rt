@@ -9,14 +9,15 @@
 //! its own seat. A seat sees a history, and after each call it sees the same history or a longer
 //! one.
 //!
-//! `lookup` answers from the last store of the question. It gives the answer while that lives: from
-//! the moment of the store on, for as many seconds as the life of the answer says. When the life
-//! has ended, it finds nothing. An older store of the question does not come back.
+//! `lookup` answers from the last store of the question. It gives the answer while that lives: until
+//! as many seconds after the moment of the store as the life of the answer says. A look-up at an
+//! earlier moment finds it too. When the life has ended, it finds nothing. An older store of the
+//! question does not come back.
 //!
-//! `store` adds an answer behind all others, and its life begins at the moment that the caller
-//! gives. It refuses an answer of life 0, because that may not be kept. It also refuses an answer
-//! when the group of its question is full, when other stores came in between 16 times, and when
-//! there is no memory. `StoreRefusal` says which it was, and nothing was stored then.
+//! `store` adds an answer behind all others, at the moment that the caller gives. It refuses an
+//! answer of life 0, because that may not be kept. It also refuses an answer when the group of its
+//! question is full, when other stores came in between 16 times, and when there is no memory.
+//! `StoreRefusal` says which it was, and nothing was stored then.
 //!
 //! `group` puts each question, by its name and type, into one of 64 groups, and a group has at most
 //! 64 stores. So a book never has more than 4096. Stores do not make room for others: when groups
@@ -32,8 +33,9 @@
 //! own. All seats see one history: of what two seats have seen, one is the beginning of the other.
 //! Each store in it is of one of the seats, so their own stores together are the history. A seat
 //! sees what another had seen once it has learned that one's notice. A lookup takes no memory, and
-//! looks through all stores, the newest first: 4096 at most. A store is tried 16 times at most, and
-//! it may lose each try to stores of other seats.
+//! looks through the stores of its question's group, the newest first: 64 at most. A store is tried
+//! 16 times at most, and it may lose each try to stores of other seats in the same group. It asks
+//! for memory before its first try, and may be made again where that is refused.
 //!
 //! ```
 //! // in the thread of the second seat

@@ -35,7 +35,7 @@ impl Model for ListSeat {
 
     ghost Value = { SeatView };
 
-    ghost view = { λ it. seat_at it.stores it.notes.offered };
+    ghost view = { λ it. seat_at it.stores it.notes };
 }
 
 impl ListCache {

@@ -3,13 +3,14 @@ ghost use Rattle.std.specs.Prelude.{◌≡◌, ◌↔◌, ◌+◌, ◌<◌, IsTr
 ghost use Rattle.std.specs.Arc.{arc_value};
 ghost use Rattle.dns_message.specs.Questions.{same_question};
 ghost use Rattle.answer_log.specs.Groups.{hash_of, hashed_of};
+ghost use Rattle.answer_cache.specs.declared.node.ShelfRefusal.TheVariants as refusals;
 
 use answer_log::{Book, Word};
 use boxcar::Keeps;
 use boxcar::tag::Names;
 use dns_answers::{Answer, Moment};
 use dns_message::{Question, same_questions_are_equal};
-use std::alloc::Global;
+use std::alloc::{AllocError, Global};
 use std::sync::Arc;
 
 /// A question with its hash.
@@ -49,6 +50,23 @@ impl Node {
         ensures { IsTrue result ↔ (now < self.now.moment + (arc_value self.now.answer).life) }
     {
         now.get() < self.moment.get() + u64::from(self.answer.life())
+    }
+}
+
+/// Why there is no node on a shelf.
+#[derive(Clone, Copy)]
+pub(crate) enum ShelfRefusal {
+    /// None was named.
+    Unnamed,
+    /// A node was named, and the shelf did not take it at its place.
+    Untaken,
+}
+
+impl From<AllocError> for ShelfRefusal {
+    ghost from_gives = { λ _ refusal. refusal ≡ refusals.Unnamed };
+
+    fn from(_: AllocError) -> ShelfRefusal {
+        ShelfRefusal::Unnamed
     }
 }
 

@@ -1,5 +1,5 @@
 //! What contracts note of a seat, and nothing at run time.
-ghost use Rattle.std.specs.Prelude.{◌≡◌, ◌+◌, ◌∷◌, ◌++◌, []};
+ghost use Rattle.std.specs.Prelude.{◌≡◌, ◌∷◌, ◌++◌, []};
 ghost use Rattle.std.specs.Arc.{arc_value};
 ghost use Rattle.answer_cache.specs.Seats.{offer_of};
 
@@ -22,14 +22,9 @@ pub(crate) enum Note {
         answer: Snapshot<Arc<Answer>>,
         moment: Moment,
     },
-    /// A call went along a link.
-    Link(Snapshot<Notes>),
-    /// A store tried to place a node.
-    Try(Snapshot<Notes>),
 }
 
-/// What stores were handed, and how many links and tries there were: a snapshot of the last note.
-/// It has no octets.
+/// What stores were handed: a snapshot of the last note. It has no octets.
 #[derive(Drop)]
 #[cycle(notes)]
 pub(crate) struct Notes {
@@ -37,23 +32,23 @@ pub(crate) struct Notes {
 }
 
 impl Model for Notes {
-    ghost use Rattle.std.specs.Prelude.{◌+◌, length};
-    ghost use Rattle.answer_cache.specs.Seats.{Noted};
+    ghost use Rattle.std.specs.Prelude.{List, length};
+    ghost use Rattle.answer_cache.specs.Seats.{Offer};
 
-    ghost Value = { Noted };
+    ghost Value = { List Offer };
 
     ghost use Rattle.answer_cache.specs.Notes.{noted_with};
 
     ghost view = { λ it. noted_with it.last.value };
 
     // How many notes there are.
-    ghost size = { λ it. length it.offered + it.links + it.tries };
+    ghost size = { λ it. length it };
 }
 
 impl Notes {
     /// None.
     pub(crate) fn none() -> Notes
-        ensures { result ≡ record { offered = []; links = 0; tries = 0 } }
+        ensures { result ≡ [] }
     {
         Notes {
             last: Snapshot::of(&Note::Nothing),
@@ -62,9 +57,8 @@ impl Notes {
 
     /// With one more that a store was handed.
     pub(crate) fn with(&self, question: &Question, answer: &Arc<Answer>, now: Moment) -> Notes
-        ensures { result ≡ record self.now {
-          offered = self.now.offered ++ offer_of question.now (arc_value answer.now) now ∷ [];
-        } }
+        ensures { result
+            ≡ self.now ++ offer_of question.now (arc_value answer.now) now ∷ [] }
     {
         Notes {
             last: Snapshot::of(&Note::Offered {
@@ -73,24 +67,6 @@ impl Notes {
                 answer: Snapshot::of(answer),
                 moment: now,
             }),
-        }
-    }
-
-    /// With one try more.
-    pub(crate) fn with_try(&self) -> Notes
-        ensures { result ≡ record self.now { tries = self.now.tries + 1 } }
-    {
-        Notes {
-            last: Snapshot::of(&Note::Try(Snapshot::of(self))),
-        }
-    }
-
-    /// With one link more.
-    pub(crate) fn with_link(&self) -> Notes
-        ensures { result ≡ record self.now { links = self.now.links + 1 } }
-    {
-        Notes {
-            last: Snapshot::of(&Note::Link(Snapshot::of(self))),
         }
     }
 }

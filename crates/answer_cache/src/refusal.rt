@@ -2,6 +2,7 @@
 ghost use Rattle.std.specs.Prelude.{◌≡◌};
 ghost use Rattle.answer_cache.specs.declared.refusal.StoreRefusal.TheVariants as refusals;
 
+use crate::node::ShelfRefusal;
 use std::alloc::{AllocError, AllocFailed};
 use thiserror::Error;
 
@@ -27,6 +28,14 @@ impl From<AllocError> for StoreRefusal {
     ghost from_gives = { λ _ refusal. refusal ≡ refusals.Memory };
 
     fn from(_: AllocError) -> StoreRefusal {
+        StoreRefusal::Memory
+    }
+}
+
+impl From<ShelfRefusal> for StoreRefusal {
+    ghost from_gives = { λ _ refusal. refusal ≡ refusals.Memory };
+
+    fn from(_: ShelfRefusal) -> StoreRefusal {
         StoreRefusal::Memory
     }
 }

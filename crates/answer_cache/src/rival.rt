@@ -1,6 +1,6 @@
 //! What comes between the two halves of a try.
 
-/// What runs between the load of the head and the exchange of each try of
+/// What runs between the load of a head and the exchange of each try of
 /// `SharedCache::store_against`, so that a test can let another seat store just then.
 pub trait Rival {
     /// Runs in the try of this number, from 1.

@@ -9,29 +9,34 @@ ghost use Rattle.std.specs.Arc.{arc_value};
 ghost use Rattle.std.specs.List.{All, range_with_len};
 ghost use Rattle.std.specs.Option.{option_map};
 ghost use Rattle.answer_log.specs.Groups.{group_of, hash_of, hashed_of};
-ghost use Rattle.answer_log.specs.Hands.{AreHands, EndsWith, IsHand, SeesMore};
+ghost use Rattle.answer_log.specs.Hands.{AreHands, EndsWith, IsHand, IsSame, SeesMore, spent_of};
+ghost use Rattle.answer_log.specs.Spending.{one_try};
 ghost use Rattle.answer_log.specs.Histories.{IsFull, IsSound, cached, in_group};
 ghost use Rattle.answer_log.specs.Logs.{history, top};
+ghost use Rattle.answer_log.specs.Rules.{node_at};
 ghost use Rattle.answer_log.specs.Steps.{HadRoom, store_by};
 ghost use Rattle.answer_log.specs.declared.store.Store.{Store};
 ghost use Rattle.dns_answers.specs.Records.{kind_of};
-ghost use Rattle.answer_cache.specs.Nodes.{Costs, Holds, IsLastOf, IsNode, IsReady, Meets, Says};
-ghost use Rattle.answer_cache.specs.Nodes.{WhyLost, WhyNoRoom, numbers_of, store_in};
-ghost use Rattle.answer_cache.specs.Seats.{GoesOn, IsRefused, IsStored, StoresNothing, offer_of};
-ghost use Rattle.answer_cache.specs.Shared.{Belongs, Takes, Refuses, cache_view, new_seat};
+ghost use Rattle.answer_cache.specs.Nodes.{Costs, Holds, IsLastOf, IsNode, IsReady, LeavesPlaces};
+ghost use Rattle.answer_cache.specs.Nodes.{Meets, Says};
+ghost use Rattle.answer_cache.specs.Nodes.{WhyLost, WhyNoRoom, WhyNotPut, numbers_of, store_in};
+ghost use Rattle.answer_cache.specs.Seats.{GoesOn, IsRefused, IsStored, Offer, StoresNothing};
+ghost use Rattle.answer_cache.specs.Seats.{offer_of};
+ghost use Rattle.answer_cache.specs.Shared.{Belongs, Leaves, Takes, Refuses, WantsForAnswer};
+ghost use Rattle.answer_cache.specs.Shared.{cache_view, new_seat, view_of};
 ghost use Rattle.answer_log.specs.Walks.{Ahead};
 ghost use Rattle.answer_log.specs.declared.event.Event.{Event as Noticed};
 
 use crate::book::AnswerBook;
 use crate::cache_refusal::CacheRefusal;
-use crate::node::{ByBook, Hashed, Node, Shelf, Shelved};
+use crate::node::{ByBook, Hashed, Node, Shelf, ShelfRefusal, Shelved};
 use crate::notes::Notes;
 use crate::refusal::StoreRefusal;
 use crate::rival::{NoRival, Rival};
 use crate::seat::{Notice, Seat};
 use answer_log::{
     Book, Claimed, Draft, GROUP_LIMIT, Hand, Hands, Log, MOST_SEATS, Pen, Walk, group_of_hash,
-    hash, log_keeps_its_rule,
+    hash, log_keeps_its_rule, seat_and_place,
 };
 use boxcar::Pushed;
 use boxcar::tag::Tag;
@@ -139,9 +144,9 @@ impl SharedCache {
     fn node(&self, number: u64) -> Option<&Node>
         ensures { IfSome result (λ node. (node.now.node ≡ number) × IsNode self.now.book node.now) }
     {
-        let at = number.checked_sub(1)?;
-        let shelf = self.shelves.get((at % MOST_SEATS) as usize)?;
-        let node = shelf.get((at / MOST_SEATS) as usize)?;
+        let (seat, place) = seat_and_place(number)?;
+        let shelf = self.shelves.get(seat as usize)?;
+        let node = shelf.get(place as usize)?;
         if node.node == number {
             Some(node)
         } else {
@@ -150,28 +155,29 @@ impl SharedCache {
     }
 
     /// The next node of a walk: one load of its link.
-    fn step(&self, walk: &mut Walk, notes: &mut Notes) -> Result<Option<&Node>, AllocError>
-        requires book { walk.old.seen.book ≡ self.now.book }
+    fn step(&self, walk: &mut Walk, hand: &mut Hand) -> Result<Option<&Node>, AllocError>
+        requires books { (walk.old.seen.book ≡ self.now.book)
+            × (hand.old.book.book ≡ self.now.book) }
+        requires hand { IsHand hand.old }
         requires ahead { (left : List Store) × Ahead walk.old left }
+        ensures same { IsSame hand.old hand.new }
         ensures book { walk.new.seen.book ≡ self.now.book }
         ensures met { IfOk result (λ found. (left : List Store) → Ahead walk.old left
             → Meets self.now.book walk.new left (option_map (λ node. node.now) found)) }
         ensures tagged { IfOk result
             (λ found. IfSome found (λ node. node.now.tag ≡ hash_of (hashed_of node.now.question))) }
-        ensures link { Costs notes.old notes.new 1 0 }
-        ensures counted { IfOk result
-            (λ found. IfSome found (λ _. notes.new.links ≡ notes.old.links + 1)) }
-        ensures none { IfOk result (λ found. IfNone found (notes.new ≡ notes.old)) }
-        ensures failed { IfErr result (λ _. notes.new ≡ notes.old) }
+        ensures costs { Costs (spent_of hand.old) (spent_of hand.new) 1 0 }
+        ensures missed { IfErr result
+            (λ _. (spent_of hand.old).missed < (spent_of hand.new).missed) }
     {
         let Some(next) = walk.next() else {
             return Ok(None);
         };
         let Some(node) = self.node(next) else {
+            hand.miss();
             return Err(AllocError);
         };
-        *notes = notes.with_link();
-        walk.pass(&node.link, &node.seen);
+        walk.pass(hand, &node.link, &node.seen);
         Ok(Some(node))
     }
 
@@ -179,22 +185,27 @@ impl SharedCache {
     fn last_of(
         &self,
         walk: &mut Walk,
-        notes: &mut Notes,
+        hand: &mut Hand,
         asked: &Hashed<'_>,
     ) -> Result<Option<&Node>, AllocError>
         requires hash { asked.now.hash ≡ hash_of (hashed_of asked.now.question.now) }
-        requires book { walk.old.seen.book ≡ self.now.book }
+        requires books { (walk.old.seen.book ≡ self.now.book)
+            × (hand.old.book.book ≡ self.now.book) }
+        requires hand { IsHand hand.old }
         requires ahead { Ahead walk.old
             (in_group (group_of asked.now.question.now) (history walk.old.seen.log)) }
+        ensures same { IsSame hand.old hand.new }
         ensures last { IfOk result
             (λ found. IsLastOf asked.now.question.now (history walk.old.seen.log)
             (option_map (λ node. node.now) found)) }
-        ensures costs { Costs notes.old notes.new 64 0 }
+        ensures costs { Costs (spent_of hand.old) (spent_of hand.new) 64 0 }
+        ensures missed { IfErr result
+            (λ _. (spent_of hand.old).missed < (spent_of hand.new).missed) }
     {
         log_keeps_its_rule(&walk.seen);
         same_questions_are_equal();
         'links: for _link in 0..GROUP_LIMIT {
-            match self.step(walk, notes)? {
+            match self.step(walk, hand)? {
                 None => return Ok(None),
                 Some(node) if node.is_of(asked.hash, asked.question) => return Ok(Some(node)),
                 Some(_) => {}
@@ -204,15 +215,20 @@ impl SharedCache {
     }
 
     /// Whether 64 stores are ahead of a walk.
-    fn is_full(&self, walk: &mut Walk, notes: &mut Notes) -> Result<bool, AllocError>
-        requires book { walk.old.seen.book ≡ self.now.book }
+    fn is_full(&self, walk: &mut Walk, hand: &mut Hand) -> Result<bool, AllocError>
+        requires books { (walk.old.seen.book ≡ self.now.book)
+            × (hand.old.book.book ≡ self.now.book) }
+        requires hand { IsHand hand.old }
         requires ahead { (left : List Store) × Ahead walk.old left }
+        ensures same { IsSame hand.old hand.new }
         ensures full { IfOk result (λ full. (left : List Store) → Ahead walk.old left
             → IsTrue full ↔ (64 ≤ length left)) }
-        ensures costs { Costs notes.old notes.new 64 0 }
+        ensures costs { Costs (spent_of hand.old) (spent_of hand.new) 64 0 }
+        ensures missed { IfErr result
+            (λ _. (spent_of hand.old).missed < (spent_of hand.new).missed) }
     {
         'stores: for _store in 0..GROUP_LIMIT {
-            let Some(_node) = self.step(walk, notes)? else {
+            let Some(_node) = self.step(walk, hand)? else {
                 return Ok(false);
             };
         }
@@ -220,33 +236,30 @@ impl SharedCache {
     }
 
     /// The start of a try: the node of the question's group placed last, where the group is not full.
-    fn room(
-        &self,
-        hand: &mut Hand,
-        notes: &mut Notes,
-        asked: &Hashed<'_>,
-    ) -> Result<u64, StoreRefusal>
+    fn room(&self, hand: &mut Hand, asked: &Hashed<'_>) -> Result<u64, StoreRefusal>
         requires hash { asked.now.hash ≡ hash_of (hashed_of asked.now.question.now) }
         requires hand { IsHand hand.old }
         requires book { hand.old.book.book ≡ self.now.book }
         ensures holds { Holds self.now.book hand.old hand.new }
         ensures seen { SeesMore hand.old.number hand.old.book.log hand.new.book.log }
         ensures places { hand.new.places ≡ hand.old.places }
-        ensures costs { Costs notes.old notes.new 64 0 }
+        ensures costs { Costs (spent_of hand.old) (spent_of hand.new) 64 0 }
         ensures room { IfOk result
             (λ old. (old ≡ top (group_of asked.now.question.now) hand.new.book.log)
             × (IsFull (history hand.new.book.log) asked.now.question.now → ⊥)) }
-        ensures full { IfErr result (WhyNoRoom asked.now.question.now (history hand.new.book.log)) }
+        ensures full { IfErr result (WhyNoRoom asked.now.question.now (history hand.new.book.log)
+            (spent_of hand.old) (spent_of hand.new)) }
     {
         let mut walk = self.log.walk(hand, group_of_hash(asked.hash));
         let old = walk.next;
-        if self.is_full(&mut walk, notes)? {
+        if self.is_full(&mut walk, hand)? {
             return Err(StoreRefusal::GenerationFull);
         }
         Ok(old)
     }
 
-    /// Names a node of this place, and puts it on the shelf, wherever it lands there.
+    /// Names a node of this place, and puts it on the shelf, wherever it lands there. All memory that
+    /// it needs is there before it is named.
     fn shelve<R: Wait>(
         &self,
         rt: &R,
@@ -254,7 +267,7 @@ impl SharedCache {
         hand: &mut Hand,
         place: u64,
         wanted: &Wanted<'_>,
-    ) -> Result<(Pushed<Node, Global, Shelved>, Pen), AllocError>
+    ) -> Result<(Pushed<Node, Global, Shelved>, Pen), ShelfRefusal>
         requires hand { IsHand hand.old }
         requires book { hand.old.book.book ≡ self.now.book }
         requires shelf { shelf.now.tag ≡ numbers_of self.now.book }
@@ -262,15 +275,19 @@ impl SharedCache {
         requires hash { wanted.now.hash ≡ hash_of (hashed_of wanted.now.question.now) }
         ensures holds { Holds self.now.book hand.old hand.new }
         ensures seen { SeesMore hand.old.number hand.old.book.log hand.new.book.log }
+        ensures spent { spent_of hand.new ≡ spent_of hand.old }
+        ensures leaves { IfErr result (LeavesPlaces hand.old hand.new) }
         ensures shown { IfOk result (λ ready. Shows shelf.now ready.0) }
         ensures ready { IfOk result (λ ready. (ready.1.book ≡ self.now.book)
             × IsReady self.now.book hand.new.book.log hand.old.number ready.0.value ready.1.nib) }
+        ensures numbered { IfOk result
+            (λ ready. ready.0.value.node ≡ node_at hand.old.number place) }
         ensures made { IfOk result
             (λ ready. Says ready.0.value wanted.now.question.now
             (arc_value wanted.now.answer.now) wanted.now.moment) }
     {
         if place >= MOST_PLACES {
-            return Err(AllocError);
+            return Err(ShelfRefusal::Unnamed);
         }
         let question = wanted.question.try_clone()?;
         let answer = Arc::try_clone(wanted.answer)?;
@@ -289,7 +306,7 @@ impl SharedCache {
         };
         match shelf.push_shown(rt, node) {
             Ok(pushed) => Ok((pushed, pen)),
-            Err(_) => Err(AllocError),
+            Err(_) => Err(ShelfRefusal::Untaken),
         }
     }
 
@@ -301,16 +318,20 @@ impl SharedCache {
         shelf: &Shelf,
         hand: &mut Hand,
         wanted: &Wanted<'_>,
-    ) -> Result<(Pushed<Node, Global, Shelved>, Pen), AllocError>
+    ) -> Result<(Pushed<Node, Global, Shelved>, Pen), ShelfRefusal>
         requires hand { IsHand hand.old }
         requires book { hand.old.book.book ≡ self.now.book }
         requires shelf { shelf.now.tag ≡ numbers_of self.now.book }
         requires hash { wanted.now.hash ≡ hash_of (hashed_of wanted.now.question.now) }
         ensures holds { Holds self.now.book hand.old hand.new }
         ensures seen { SeesMore hand.old.number hand.old.book.log hand.new.book.log }
+        ensures spent { spent_of hand.new ≡ spent_of hand.old }
+        ensures leaves { IfErr result (LeavesPlaces hand.old hand.new) }
         ensures shown { IfOk result (λ ready. Shows shelf.now ready.0) }
         ensures ready { IfOk result (λ ready. (ready.1.book ≡ self.now.book)
             × IsReady self.now.book hand.new.book.log hand.old.number ready.0.value ready.1.nib) }
+        ensures numbered { IfOk result
+            (λ ready. ready.0.value.node ≡ node_at hand.old.number ready.0.index) }
         ensures made { IfOk result
             (λ ready. Says ready.0.value wanted.now.question.now
             (arc_value wanted.now.answer.now) wanted.now.moment) }
@@ -322,11 +343,9 @@ impl SharedCache {
             return Ok((pushed, pen));
         }
         let place = hand.places.max(landed.saturating_add(1));
-        let (pushed, pen) = self.shelve(rt, shelf, hand, place, wanted)?;
-        if pushed.index() as u64 == place {
-            Ok((pushed, pen))
-        } else {
-            Err(AllocError)
+        match self.shelve(rt, shelf, hand, place, wanted) {
+            Ok((pushed, pen)) if pushed.index() as u64 == place => Ok((pushed, pen)),
+            _ => Err(ShelfRefusal::Untaken),
         }
     }
 
@@ -334,7 +353,6 @@ impl SharedCache {
     fn attempt<V: Rival>(
         &self,
         hand: &mut Hand,
-        notes: &mut Notes,
         node: &Node,
         pen: &mut Pen,
         old: u64,
@@ -349,8 +367,8 @@ impl SharedCache {
         requires tagged { node.now.tag ≡ hash_of (hashed_of node.now.question) }
         requires room { HadRoom hand.old.book.log old node.now.question }
         ensures holds { Holds self.now.book hand.old hand.new }
-        ensures costs { Costs notes.old notes.new 0 1 }
-        ensures counted { notes.new.tries ≡ notes.old.tries + 1 }
+        ensures spent { spent_of hand.new ≡ one_try (spent_of hand.old) }
+        ensures places { hand.new.places ≡ hand.old.places }
         ensures placed { MatchBool result
             (EndsWith (store_in hand.old.number node.now) (history hand.old.book.log)
             (history hand.new.book.log))
@@ -364,7 +382,6 @@ impl SharedCache {
             × IsReady self.now.book hand.new.book.log hand.old.number node.now pen.new.nib) }
     {
         rival.between(number);
-        *notes = notes.with_try();
         node.link.store(pen, old);
         let draft = Draft {
             node: node.node,
@@ -381,7 +398,6 @@ impl SharedCache {
     fn compete<V: Rival>(
         &self,
         hand: &mut Hand,
-        notes: &mut Notes,
         node: &Node,
         mut pen: Pen,
         old: u64,
@@ -394,16 +410,18 @@ impl SharedCache {
         requires tagged { node.now.tag ≡ hash_of (hashed_of node.now.question) }
         requires room { HadRoom hand.old.book.log old node.now.question }
         ensures holds { Holds self.now.book hand.old hand.new }
-        ensures costs { Costs notes.old notes.new (15 * 64) 16 }
+        ensures costs { Costs (spent_of hand.old) (spent_of hand.new) (15 * 64) 16 }
+        ensures tried { (spent_of hand.old).tries < (spent_of hand.new).tries }
         ensures competed { MatchResult result
             (λ _. EndsWith (store_in hand.old.number node.now) (history hand.old.book.log)
             (history hand.new.book.log))
             (λ _. SeesMore hand.old.number hand.old.book.log hand.new.book.log) }
         ensures lost { IfErr result (λ refusal. (seen : List Noticed)
             → IsPrefix seen hand.old.book.log → top (group_of node.now.question) seen ≡ old
-            → WhyLost node.now.question (history seen) (history hand.new.book.log) refusal) }
+            → WhyLost node.now.question (history seen) (history hand.new.book.log)
+            (spent_of hand.old) (spent_of hand.new) refusal) }
     {
-        if self.attempt(hand, notes, node, &mut pen, old, 1, rival) {
+        if self.attempt(hand, node, &mut pen, old, 1, rival) {
             return Ok(());
         }
         let asked = Hashed {
@@ -411,8 +429,8 @@ impl SharedCache {
             hash: node.tag,
         };
         'tries: for number in 2..TRIES + 1 {
-            let old = self.room(hand, notes, &asked)?;
-            if self.attempt(hand, notes, node, &mut pen, old, number, rival) {
+            let old = self.room(hand, &asked)?;
+            if self.attempt(hand, node, &mut pen, old, number, rival) {
                 return Ok(());
             }
         }
@@ -424,41 +442,42 @@ impl SharedCache {
         &self,
         rt: &R,
         hand: &mut Hand,
-        notes: &mut Notes,
         wanted: &Wanted<'_>,
         rival: &mut V,
     ) -> Result<(), StoreRefusal>
         requires hand { IsHand hand.old }
         requires book { hand.old.book.book ≡ self.now.book }
+        requires shelf { hand.old.number < self.now.seats }
         requires sound { IsSound
             (store_by hand.old.number wanted.now.question.now
             (arc_value wanted.now.answer.now) wanted.now.moment) }
         requires hash { wanted.now.hash ≡ hash_of (hashed_of wanted.now.question.now) }
         ensures holds { Holds self.now.book hand.old hand.new }
-        ensures costs { Costs notes.old notes.new (16 * 64) 16 }
+        ensures costs { Costs (spent_of hand.old) (spent_of hand.new) (16 * 64) 16 }
         ensures put { MatchResult result
             (λ _. EndsWith (store_by hand.old.number wanted.now.question.now
             (arc_value wanted.now.answer.now) wanted.now.moment) (history hand.old.book.log)
             (history hand.new.book.log))
             (λ _. SeesMore hand.old.number hand.old.book.log hand.new.book.log) }
         ensures lost { IfErr result
-            (WhyLost wanted.now.question.now (history hand.old.book.log)
+            (WhyNotPut wanted.now.question.now (history hand.old.book.log)
             (history hand.new.book.log)) }
+        ensures leaves { IfErr result (λ refusal. (before after : List Offer)
+            → Leaves wanted.now.question.now (view_of hand.old before) (view_of hand.new after)
+            refusal) }
     {
         let asked = Hashed {
             question: wanted.question,
             hash: wanted.hash,
         };
-        let old = self.room(hand, notes, &asked)?;
-        let Some(shelf) = self.shelves.get(hand.number as usize) else {
-            return Err(StoreRefusal::Memory);
-        };
+        let old = self.room(hand, &asked)?;
+        let shelf = &self.shelves[hand.number as usize];
         let (pushed, pen) = self.make_ready(rt, shelf, hand, wanted)?;
-        self.compete(hand, notes, shelf.value(&pushed), pen, old, rival)
+        self.compete(hand, shelf.value(&pushed), pen, old, rival)
     }
 
-    /// As `store`, with something that comes between the load of the head and the exchange of each
-    /// try. For tests.
+    /// As `store`, with something that comes between the load of a head and the exchange of each try.
+    /// For tests.
     pub fn store_against<R: Wait, V: Rival>(
         &self,
         rt: &R,
@@ -481,6 +500,7 @@ impl SharedCache {
         ensures refused { IfErr result
             (IsRefused seat.old.seat seat.new.seat
             (offer_of question.now (arc_value answer.now) now)) }
+        ensures leaves { IfErr result (Leaves question.now seat.old seat.new) }
     {
         seat.notes = seat.notes.with(question, answer, now);
         if answer.life() == 0 {
@@ -492,7 +512,7 @@ impl SharedCache {
             answer,
             moment: now,
         };
-        let stored = self.put(rt, &mut seat.hand, &mut seat.notes, &wanted, rival);
+        let stored = self.put(rt, &mut seat.hand, &wanted, rival);
         log_keeps_its_rule(&seat.hand.book);
         stored
     }
@@ -537,6 +557,7 @@ impl AnswerBook for SharedCache {
         ensures takes { Takes seat.old seat.new 64 0 }
         ensures found { IfOk result
             (λ found. option_map arc_value found ≡ cached seat.new.seat.seen question.now now) }
+        ensures wanted { OnErr result (WantsForAnswer question.now now seat.old seat.new) }
     {
         let asked = Hashed {
             question,
@@ -544,7 +565,7 @@ impl AnswerBook for SharedCache {
         };
         let mut walk = self.log.walk(&mut seat.hand, group_of_hash(asked.hash));
         log_keeps_its_rule(&seat.hand.book);
-        match self.last_of(&mut walk, &mut seat.notes, &asked)? {
+        match self.last_of(&mut walk, &mut seat.hand, &asked)? {
             Some(node) if node.lives_at(now) => Ok(Some(Arc::try_clone(&node.answer)?)),
             _ => Ok(None),
         }
@@ -571,6 +592,7 @@ impl AnswerBook for SharedCache {
         ensures refused { IfErr result
             (IsRefused seat.old.seat seat.new.seat
             (offer_of question.now (arc_value answer.now) now)) }
+        ensures leaves { IfErr result (Leaves question.now seat.old seat.new) }
     {
         self.store_against(rt, seat, question, answer, now, &mut NoRival)
     }

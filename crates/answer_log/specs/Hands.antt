@@ -7,12 +7,17 @@ use Rattle.answer_log.specs.Counts.{count}
 use Rattle.answer_log.specs.Histories.{IsHistory, mine}
 use Rattle.answer_log.specs.Logs.{history, In, seats_in}
 use Rattle.answer_log.specs.Rules.{word_at}
+use Rattle.answer_log.specs.Spending.{Spending, nothing}
 use Rattle.answer_log.specs.Steps.{Fits, NamesBelow}
 use Rattle.answer_log.specs.declared.event.Event.{Event}
 use Rattle.answer_log.specs.declared.event.Event.TheVariants.{Named, Opened, Placed}
 use Rattle.answer_log.specs.declared.hand.Hand.{Hand}
 use Rattle.answer_log.specs.declared.hand.Hands.{Hands}
 use Rattle.answer_log.specs.declared.store.Store.{Store}
+
+-- what its calls have spent
+abbrev pub spent_of : Hand → Spending
+spent_of hand = hand.spent
 
 -- The seat is one of those that the log was opened for. It has the count of its events in what it
 -- has seen, and its nodes stand below the next place.
@@ -30,7 +35,16 @@ pub record IsNew (hand : Hand) (new_book : Book) (seat seats : ℕ) : Type 0 whe
   pub number : hand.number ≡ seat
   pub count : hand.seats ≡ seats
   pub places : hand.places ≡ 0
+  pub spent : spent_of hand ≡ nothing
   pub log : hand.book.log ≡ Opened seats ∷ []
+
+-- the hand has what it had before, but for what it has spent
+pub record IsSame (old new : Hand) : Type 0 where
+  pub hand : IsHand new
+  pub number : new.number ≡ old.number
+  pub seats : new.seats ≡ old.seats
+  pub places : new.places ≡ old.places
+  pub book : new.book ≡ old.book
 
 -- what is left for the seats from the next one on
 pub record AreHands (hands : Hands) : Type 0 where

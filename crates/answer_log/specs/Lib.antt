@@ -6,3 +6,5 @@ pub mod Rules
 pub mod Steps
 pub mod Hands
 pub mod Walks
+pub mod Spending
+pub mod Spent

@@ -5,7 +5,7 @@ use crate::store::Store;
 pub enum Event {
     /// The first event of a log: it has so many seats.
     Opened(u64),
-    /// In no log: how a seat asks what the log has of it, and says how many events it knows of.
+    /// How a seat asks what the log has of it, and says how many events it knows of.
     Asks(u64, u64),
     /// The node of this number has this store and this link.
     Named(u64, Store, u64),

@@ -1,15 +1,14 @@
 //! What a seat has at the log.
 ghost use Rattle.std.specs.Prelude.{◌≡◌, ◌+◌, ◌-◌, ◌<◌, ◌∷◌, []};
-ghost use Rattle.answer_log.specs.Hands.{AreHands, IsNew};
+ghost use Rattle.answer_log.specs.Hands.{AreHands, IsHand, IsNew, IsSame, spent_of};
+ghost use Rattle.answer_log.specs.Spending.{one_miss};
 
+use crate::spent::Spent;
 use crate::steps::Book;
 use crate::tally::{Tallies, Tally};
 
-/// How many seats a log can have.
-pub const MOST_SEATS: u64 = 64;
-
 /// What a seat has at the log: its number, how many seats there are, the place of its next node,
-/// its count, and what it has seen.
+/// its count, what it has seen, and what its calls have spent.
 #[derive(Drop)]
 pub struct Hand {
     pub number: u64,
@@ -17,6 +16,18 @@ pub struct Hand {
     pub places: u64,
     pub tally: Tally,
     pub book: Book,
+    pub(crate) spent: Spent,
+}
+
+impl Hand {
+    /// Notes that a walk of the seat was led to a number whose node was not found.
+    pub fn miss(&mut self)
+        requires { IsHand self.old }
+        ensures same { IsSame self.old self.new }
+        ensures spent { spent_of self.new ≡ one_miss (spent_of self.old) }
+    {
+        self.spent = self.spent.with_miss();
+    }
 }
 
 /// What the seats of a new log are given, one after the other.
@@ -47,6 +58,7 @@ impl Hands {
             places: 0,
             tally: self.tallies.take(),
             book: self.seen.again(),
+            spent: Spent::nothing(),
         }
     }
 }

@@ -7,18 +7,22 @@
 //! list of the stores whose nodes were placed, the oldest first. Nothing leaves the log, so what
 //! was seen of it stays true.
 //!
-//! No value of the log is made, and what a program has is words. The head holds the number of the
-//! node placed last, and the link of each placed node holds the number of the one placed before it.
-//! 0 is the number of no node. A seat numbers its nodes by its own number and a place: node 1 +
-//! seat + 64 * place.
+//! No value of the log is made, and what a program has is words. Each question is in one of 64
+//! groups, and each group has a head, which holds the number of its node placed last. The link of
+//! each placed node holds the number of the node of its group placed before it. 0 is the number of
+//! no node. A seat numbers its nodes by its own number and a place: node 1 + seat + 64 * place.
 //!
 //! ```text
 //!  events   Opened 2, Named 1 a, Placed 1 a, Named 2 b, Named 65 c, Placed 2 b, Placed 65 c,
-//!           Named 66 d
+//!           Named 66 d                            a and c are in group 6, b and d in group 45
 //!
-//!  head      node 65      node 2      node 1                        node 66
-//! +----+     store c      store b     store a                       store d
-//! | 65 | --> link 2  ---> link 1 ---> link 0                        link 65
+//!  head 6    node 65      node 1
+//! +----+     store c      store a
+//! | 65 | --> link 1  ---> link 0
+//! +----+
+//!  head 45   node 2                                                 node 66
+//! +----+     store b                                                store d
+//! |  2 | --> link 0                                                 link 2
 //! +----+                                                            (not placed yet)
 //!  idle
 //! +----+
@@ -28,46 +32,49 @@
 //!
 //! A step is of one of seven kinds. Four of them read or write one word that others may read:
 //!
-//! - a load of the head: `Log::walk`, and `Log::learn`, which first takes over what another has
-//!   seen;
+//! - a load of a head: `Log::walk`, and `Log::learn`, which first takes over what another has seen.
+//!   By the rule it tells the whole log, and not that group alone;
 //! - a load of a link: `Walk::pass`;
 //! - a store into the link of a node that is not placed yet: `Word::store`, by the pen that
 //!   `Log::claim` gives;
-//! - an exchange of the head, from the node that the link holds to the new one: `Log::place`. It
-//!   fails where the head has another node by then, and the seat may try again with that one in its
-//!   link.
+//! - an exchange of the head of a group, from the node that the link holds to the new one:
+//!   `Log::place`. It fails where the head has another node by then, and the seat may try again with
+//!   that one in its link.
 //!
 //! Three say who may write which word:
 //!
-//! - the two words are made, and the seats have their counts of events: `Log::open`, before any
+//! - the heads and the idle word are made, and the seats have their counts of events: `Log::open`, before any
 //!   other step;
 //! - a link is made and its node is named, by an exchange of 0 with 0 on the idle word:
 //!   `Log::claim`;
 //! - the link of a placed node is given over to the log, and nobody writes it again: within the
 //!   exchange of `Log::place`.
 //!
-//! Each seat has a `Hand`, which `Hands::deal` gives: how many events the seat has in the log, and
-//! what it has seen. Nobody else adds an event of that seat, so a seat knows that its next node has
-//! no name yet.
+//! Each seat has a `Hand`, which `Hands::deal` gives: how many events the seat has in the log, what
+//! it has seen, and what its calls have spent. Nobody else adds an event of that seat, so a seat
+//! knows that its next node has no name yet. What is spent is counted for contracts alone: a link
+//! more by `Walk::pass`, and a try more by `Log::place`.
 //!
-//! So a store is a row of calls: `Log::walk` tells the node placed last, `Log::claim` names a node
-//! and gives its link and its pen, `Word::store` writes the node placed last into that link, and
-//! `Log::place` tries to place the node. The crate `answer_cache` is the one user, and its
+//! So a store is a row of calls: `Log::walk` tells the node of the group placed last, `Log::claim`
+//! names a node and gives its link and its pen, `Word::store` writes the node placed last into that
+//! link, and `Log::place` tries to place the node. The crate `answer_cache` is the one user, and its
 //! `SharedCache` makes these calls.
 //!
-//! A `Walk` goes from the node placed last to the first one. It says which node is next, and
+//! A `Walk` goes from a group's node placed last to its first one. It says which node is next, and
 //! whoever finds that node passes its link.
 //!
 //! Read `specs/Histories.antt` and `specs/Logs.antt` first: what a history answers, and what events
 //! say of it. Then `specs/Rules.antt`, what holds at each moment, `specs/Steps.antt`, what each
-//! step says, and `specs/Hands.antt`, what a seat has, and `specs/Walks.antt`, what is ahead of a
-//! walk.
+//! step says, `specs/Hands.antt`, what a seat has, `specs/Spending.antt`, what its calls spend, and
+//! `specs/Walks.antt`, what is ahead of a walk.
 #![tactic(auto)]
 
 mod event;
 mod groups;
 mod hand;
 mod log;
+mod nodes;
+mod spent;
 mod steps;
 mod store;
 mod tally;
@@ -75,8 +82,10 @@ mod walk;
 
 pub use event::{Counted, Event};
 pub use groups::{GROUP_COUNT, GROUP_LIMIT, group, group_of_hash, hash};
-pub use hand::{Hand, Hands, MOST_SEATS};
+pub use hand::{Hand, Hands};
 pub use log::{Claimed, Log, histories_are_one, log_keeps_its_rule};
+pub use nodes::{MOST_SEATS, node_at, seat_and_place};
+pub use spent::Spent;
 pub use steps::{Book, Pen, Word};
 pub use store::{Draft, Store};
 pub use tally::{Law, Tallies, Tally};

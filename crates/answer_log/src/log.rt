@@ -4,6 +4,8 @@ ghost use mathlib.Core.List.{IsPrefix};
 ghost use Rattle.std.specs.Arc.{arc_value};
 ghost use Rattle.logbook.specs.Pages.{may_write};
 ghost use Rattle.answer_log.specs.Hands.{AreHands, EndsWith, IsHand, IsLog, IsNamed, SeesMore};
+ghost use Rattle.answer_log.specs.Hands.{spent_of};
+ghost use Rattle.answer_log.specs.Spending.{one_try};
 ghost use Rattle.answer_log.specs.Groups.{group_of};
 ghost use Rattle.answer_log.specs.Histories.{IsSound, in_group};
 ghost use Rattle.answer_log.specs.Logs.{history, top};
@@ -14,7 +16,8 @@ ghost use Rattle.answer_log.specs.declared.event.Event.{Event as Noted};
 
 use crate::event::Event;
 use crate::groups::GROUP_COUNT;
-use crate::hand::{Hand, Hands, MOST_SEATS};
+use crate::hand::{Hand, Hands};
+use crate::nodes::node_at;
 use crate::steps::{Book, Pen, Word, claim_node, place, top_node};
 use crate::store::Draft;
 use crate::tally::Tallies;
@@ -121,6 +124,7 @@ impl Log {
         ensures book { hand.new.book.book ≡ self.now }
         ensures seen { SeesMore hand.old.number hand.old.book.log hand.new.book.log }
         ensures places { hand.new.places ≡ hand.old.places }
+        ensures spent { spent_of hand.new ≡ spent_of hand.old }
         ensures walk { (result.seen.book ≡ self.now) × (result.seen.log ≡ hand.new.book.log)
             × (result.next ≡ top group hand.new.book.log) }
         ensures ahead { Ahead result (in_group group (history hand.new.book.log)) }
@@ -142,6 +146,7 @@ impl Log {
         ensures number { (hand.new.number ≡ hand.old.number) × (hand.new.seats ≡ hand.old.seats) }
         ensures book { hand.new.book.book ≡ self.now }
         ensures seen { SeesMore hand.old.number hand.old.book.log hand.new.book.log }
+        ensures spent { spent_of hand.new ≡ spent_of hand.old }
         ensures told { IsPrefix (history told.now.log) (history hand.new.book.log) }
     {
         hand.book.learn(told);
@@ -166,6 +171,7 @@ impl Log {
         ensures number { (hand.new.number ≡ hand.old.number) × (hand.new.seats ≡ hand.old.seats) }
         ensures book { hand.new.book.book ≡ self.now }
         ensures places { hand.new.places ≡ place + 1 }
+        ensures spent { spent_of hand.new ≡ spent_of hand.old }
         ensures seen { SeesMore hand.old.number hand.old.book.log hand.new.book.log }
         ensures node { result.node ≡ node_at hand.old.number place }
         ensures named { IsNamed self.now hand.new.book.log result.node
@@ -173,7 +179,7 @@ impl Log {
         ensures pen { (result.pen.book ≡ self.now) × (result.pen.nib.right ≡ may_write)
             × (result.pen.nib.key ≡ result.link.key) × (64 < result.link.key) }
     {
-        let node = 1 + hand.number + MOST_SEATS * place;
+        let node = node_at(hand.number, place);
         let draft = Draft {
             node,
             seat: hand.number,
@@ -189,7 +195,7 @@ impl Log {
 
     /// Tries to place a node on top of the node `old`, which its link holds: one exchange of the
     /// head of its group. Says whether the node was placed. It was not where the head had another
-    /// node by then.
+    /// node by then. The seat has spent one try more.
     pub fn place(
         &self,
         hand: &mut Hand,
@@ -213,6 +219,8 @@ impl Log {
         ensures hand { IsHand hand.new }
         ensures number { (hand.new.number ≡ hand.old.number) × (hand.new.seats ≡ hand.old.seats) }
         ensures book { hand.new.book.book ≡ self.now }
+        ensures places { hand.new.places ≡ hand.old.places }
+        ensures spent { spent_of hand.new ≡ one_try (spent_of hand.old) }
         ensures placed { MatchBool result
             (EndsWith (store_of draft.now) (history hand.old.book.log) (history hand.new.book.log))
             (SeesMore hand.old.number hand.old.book.log hand.new.book.log) }
@@ -225,6 +233,7 @@ impl Log {
             ((pen.new.book ≡ self.now) × (pen.new.nib.right ≡ may_write)
             × (pen.new.nib.key ≡ link.now.key)) }
     {
+        hand.spent = hand.spent.with_try();
         place(
             self.head(group),
             &mut hand.book,

@@ -1,9 +1,11 @@
 //! A walk along the placed nodes of a group.
 ghost use Rattle.std.specs.Prelude.{◌≡◌, ◌≢◌, ◌∷◌, ◌++◌, [], IfNone, IfSome, List};
-ghost use Rattle.answer_log.specs.Hands.{IsNamed};
+ghost use Rattle.answer_log.specs.Hands.{IsHand, IsNamed, IsSame, spent_of};
+ghost use Rattle.answer_log.specs.Spending.{one_link};
 ghost use Rattle.answer_log.specs.Walks.{Ahead};
 ghost use Rattle.answer_log.specs.declared.store.Store.{Store};
 
+use crate::hand::Hand;
 use crate::log::log_keeps_its_rule;
 use crate::steps::{Book, Word, node_before};
 
@@ -29,19 +31,25 @@ impl Walk {
         }
     }
 
-    /// Passes the next node, which the log that `named` has seen named so: one load of its link.
-    pub fn pass(&mut self, link: &Word, named: &Book)
+    /// Passes the next node, which the log that `named` has seen named so: one load of its link. The
+    /// seat whose walk it is has spent one link more.
+    pub fn pass(&mut self, hand: &mut Hand, link: &Word, named: &Book)
         requires books { named.now.book ≡ self.old.seen.book }
+        requires hand { IsHand hand.old }
+        requires its_own { hand.old.book.book ≡ self.old.seen.book }
         requires node { self.old.next ≢ 0 }
         requires ahead { (left : List Store) × Ahead self.old left }
         requires named { (store : Store)
             × IsNamed named.now.book named.now.log self.old.next store link.now }
+        ensures same { IsSame hand.old hand.new }
+        ensures spent { spent_of hand.new ≡ one_link (spent_of hand.old) }
         ensures book { self.new.seen.book ≡ self.old.seen.book }
         ensures passed { (store : Store) (left : List Store)
             → IsNamed named.now.book named.now.log self.old.next store link.now
             → Ahead self.old left → (rest : List Store) × (left ≡ rest ++ store ∷ [])
             × Ahead self.new rest }
     {
+        hand.spent = hand.spent.with_link();
         self.next = node_before(link, named, self.next, &mut self.seen);
     }
 }

@@ -99,13 +99,14 @@ type Said = (Result<(), StoreRefusal>, u8, Option<u32>, Option<u32>);
 
 /// What a store of one kind says against another seat that stores a question of another kind in the
 /// tries up to a last one. What is found of both, once the seat has learned what the other has
-/// seen.
+/// seen. Before that the seat stores its question so often.
 fn said_against<R: Wait + AllocGlobal, J: Naming>(
     rt: &R,
     cache: &SharedCache,
     seat: &mut Seat,
     rival: &mut Other<'_, R, J>,
     kind: Kind,
+    before: u8,
 ) -> Option<Said>
     requires cache { cache.now ≡ J.cache }
     requires seat { Belongs J.cache seat.old }
@@ -113,6 +114,9 @@ fn said_against<R: Wait + AllocGlobal, J: Naming>(
     let question = question_of(rt.alloc(), Kind::A)?;
     let answer = answer_of(rt.alloc(), Kind::A, 20)?;
     let now = Moment::new(100)?;
+    'earlier: for _store in 0..before {
+        cache.store(rt, seat, &question, &answer, now).ok()?;
+    }
     let said = cache.store_against(rt, seat, &question, &answer, now, rival);
     cache.learn(seat, &rival.seat.notice());
     let life = found(rt.alloc(), cache, seat, Kind::A, 100)?;
@@ -127,6 +131,7 @@ fn said_by_two<J: Naming, R: Wait + AllocGlobal>(
     mut seat: Seat,
     other: Seat,
     kind: Kind,
+    before: u8,
     last: u8,
 ) -> Option<Said>
     requires cache { cache.now ≡ J.cache }
@@ -134,30 +139,50 @@ fn said_by_two<J: Naming, R: Wait + AllocGlobal>(
     requires other { Belongs J.cache other }
 {
     let mut rival: Other<'_, R, J> = other_of(rt, cache, other, kind, last)?;
-    said_against(rt, cache, &mut seat, &mut rival, kind)
+    said_against(rt, cache, &mut seat, &mut rival, kind, before)
 }
 
 /// The same for a new cache.
-fn against(rt: &(impl Wait + AllocGlobal), kind: Kind, last: u8) -> Option<Said> {
+fn against(rt: &(impl Wait + AllocGlobal), kind: Kind, before: u8, last: u8) -> Option<Said> {
     let (cache, seat, other) = two_seats(rt.alloc())?;
-    said_by_two::<Brand, _>(rt, &cache, seat, other, kind, last)
+    said_by_two::<Brand, _>(rt, &cache, seat, other, kind, before, last)
 }
 
 #[test]
 fn stores_against_another_seat(rt: HostRuntime) {
     let rows = [
-        (Kind::A, 0, (Ok(()), 1, Some(20), Some(20))),
-        (Kind::A, 15, (Ok(()), 16, Some(20), Some(20))),
+        (Kind::A, 0, 0, (Ok(()), 1, Some(20), Some(20))),
+        (Kind::A, 0, 15, (Ok(()), 16, Some(20), Some(20))),
         (
             Kind::A,
+            0,
             16,
             (Err(StoreRefusal::Contended), 16, Some(10), Some(10)),
         ),
+        // the history has stores already
+        (Kind::A, 3, 15, (Ok(()), 16, Some(20), Some(20))),
+        (
+            Kind::A,
+            3,
+            16,
+            (Err(StoreRefusal::Contended), 16, Some(10), Some(10)),
+        ),
+        // the group is full after two tries
+        (
+            Kind::A,
+            62,
+            16,
+            (Err(StoreRefusal::GenerationFull), 2, Some(10), Some(10)),
+        ),
         // a question of another group
-        (Kind::Aaaa, 16, (Ok(()), 1, Some(20), Some(10))),
+        (Kind::Aaaa, 0, 16, (Ok(()), 1, Some(20), Some(10))),
     ];
-    for (kind, last, wanted) in rows {
-        assert_eq!(rt; against(&rt, kind, last), Some(wanted), "{last}");
+    for (kind, before, last, wanted) in rows {
+        assert_eq!(rt;
+            against(&rt, kind, before, last),
+            Some(wanted),
+            "{before} {last}"
+        );
     }
 }
 

@@ -1,7 +1,7 @@
 use Rattle.std.proofs.Common.{◌+◌, ◌-◌, ◌*◌, ℕ, arith, sym, ◌∙◌, subst, []}
 use Rattle.std.proofs.lemmas.List.{append-nil}
 use Rattle.std.proofs.lemmas.Result.{err_from_is_err_and}
-use Rattle.answer_log.specs.Hands.{SeesMore}
+use Rattle.answer_log.specs.Hands.{SeesMore, spent_of}
 use Rattle.answer_log.specs.Logs.{history}
 use Rattle.answer_cache.specs.Nodes.{IsReady}
 use Rattle.answer_cache.proofs.Costing as costs
@@ -20,7 +20,8 @@ tries-init g c =
       ready = subst R (sym it.holds.number) c.if-attempt.ensures.again.1;
       seen = c.if-attempt.ensures.placed;
       count = λ seen later last. let less = c.if-attempt.ensures.lost seen later last in omega arith;
-      costs = it.costs;
+      costs = costs.tried _ _ it.spent;
+      tried = costs.more _ _ it.spent;
     }
 
 pub returns-in_err-old-clause-competed : goal.returns-in_err-old-clause-competed
@@ -80,6 +81,7 @@ tries-preserved g c =
           let n = c.tries.number in
           let l = i.least in
           costs.within _ _ ((n - 2) * 64 + 64 + 0) ((n + 1 - 2) * 64) ((n - 1) + 0 + 1) (n + 1 - 1) (omega arith) (omega arith)
-          (costs.both _ c.room.new.notes _ ((n - 2) * 64 + 64) 0 ((n - 1) + 0) 1
-          (costs.both _ c.tries.notes _ ((n - 2) * 64) 64 (n - 1) 0 i.costs c.in_ok-old.ensures.costs) it.costs);
+          (costs.both _ (spent_of c.room.new.hand) _ ((n - 2) * 64 + 64) 0 ((n - 1) + 0) 1
+          (costs.both _ (spent_of c.tries.hand) _ ((n - 2) * 64) 64 (n - 1) 0 i.costs c.in_ok-old.ensures.costs) (costs.tried _ _ it.spent));
+      tried = let a = i.tried in let b = c.in_ok-old.ensures.costs.before in let m = costs.more _ _ it.spent in omega arith;
     }

@@ -1,5 +1,5 @@
-use Rattle.std.proofs.Common.{◌≡◌, ◌+◌, ◌*◌, ◌-◌, ◌≤◌, List, length}
-use Rattle.answer_log.specs.Hands.{IsHand, SeesMore}
+use Rattle.std.proofs.Common.{◌≡◌, ◌+◌, ◌*◌, ◌-◌, ◌<◌, ◌≤◌, List, length}
+use Rattle.answer_log.specs.Hands.{IsHand, SeesMore, spent_of}
 use mathlib.Core.List.{IsPrefix}
 use Rattle.answer_log.specs.Groups.{group_of}
 use Rattle.answer_log.specs.Logs.{history, top}
@@ -17,5 +17,6 @@ invariant-tries g l = record {
   seen : SeesMore l.fn.hand.number l.fn.hand.book.log l.hand.book.log;
   count : (seen : List Event) → IsPrefix seen l.fn.hand.book.log → top (group_of l.fn.node.question) seen ≡ l.fn.old
       → length (history seen) + (l.number - 1) ≤ length (history l.hand.book.log);
-  costs : Costs l.fn.notes l.notes ((l.number - 2) * 64) (l.number - 1);
+  costs : Costs (spent_of l.fn.hand) (spent_of l.hand) ((l.number - 2) * 64) (l.number - 1);
+  tried : (spent_of l.fn.hand).tries < (spent_of l.hand).tries;
 }

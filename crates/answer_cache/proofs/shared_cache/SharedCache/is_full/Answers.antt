@@ -1,4 +1,5 @@
-use Rattle.std.proofs.Common.{arith, refl}
+use Rattle.std.proofs.Common.{ap, arith, refl, ◌∙◌}
+use Rattle.answer_log.specs.Hands.{spent_of}
 use Rattle.answer_cache.specs.Nodes.{store_in}
 use Rattle.answer_cache.proofs.Costing as costs
 use Rattle.answer_cache.proofs.Lookups.{passed-all, passed-some, passes-on}
@@ -19,12 +20,13 @@ returns-in_default-clause-full c whole ahead =
 pub stores-preserved : goal.stores-preserved
 stores-preserved c =
     let met = rw c.in-Some.is at c.in_ok-_node.ensures.met in record {
-      book = c.in_ok-_node.ensures.book;
+      books = (c.in_ok-_node.ensures.book, ap (λ b. b.book) c.in_ok-_node.ensures.same.book ∙ c.stores.invariant.books.1);
+      same = costs.same-hand c.args.hand.now c.stores.hand c.step.new.hand c.stores.invariant.same c.in_ok-_node.ensures.same;
       passes = λ whole ahead.
           let it = c.stores.invariant.passes whole ahead in
           let here = met it.left it.ahead in
           passes-on whole c.stores.walk c.stores._store it here.0 (store_in here.1 c.in-Some._node.now) c.step.new.walk here.2 here.3;
-      costs = costs.both _ c.stores.notes _ c.stores._store 1 0 0 c.stores.invariant.costs c.in_ok-_node.ensures.link;
+      costs = costs.both _ (spent_of c.stores.hand) _ c.stores._store 1 0 0 c.stores.invariant.costs c.in_ok-_node.ensures.costs;
     }
 
 pub returns-clause-full : goal.returns-clause-full

@@ -1,4 +1,5 @@
-use Rattle.std.proofs.Common.{Some, None, arith, sym, ◌∙◌}
+use Rattle.std.proofs.Common.{Some, None, ap, arith, refl, sym, ◌∙◌}
+use Rattle.answer_log.specs.Hands.{spent_of}
 use Rattle.answer_log.specs.Groups.{group_of}
 use Rattle.answer_log.specs.Histories.{in_group}
 use Rattle.answer_log.specs.Logs.{history}
@@ -10,9 +11,10 @@ use Rattle.answer_cache.proofs.shared_cache.SharedCache.last_of.Goals as goal
 pub links-init : goal.links-init
 links-init c =
     let q = c.args.asked.now.question.now in record {
-      book = c.requires.book;
+      books = c.requires.books;
+      same = record { hand = c.requires.hand; number = refl; seats = refl; places = refl; book = refl };
       searches = begins q (in_group (group_of q) (history c.args.walk.now.seen.log)) c.args.walk.now c.requires.ahead;
-      costs = costs.free c.args.notes.now;
+      costs = costs.free (spent_of c.args.hand.now);
     }
 
 pub returns-in-None-clause-last : goal.returns-in-None-clause-last
@@ -44,10 +46,11 @@ links-preserved c =
     let it = c.links.invariant in
     let met = rw c.in-Some.is at c.in_ok-step.ensures.met in
     let here = met it.searches.passes.left it.searches.passes.ahead in record {
-      book = c.in_ok-step.ensures.book;
+      books = (c.in_ok-step.ensures.book, ap (λ b. b.book) c.in_ok-step.ensures.same.book ∙ it.books.1);
+      same = costs.same-hand c.args.hand.now c.links.hand c.step.new.hand it.same c.in_ok-step.ensures.same;
       searches = goes-on q (in_group (group_of q) (history c.args.walk.now.seen.log)) c.links.walk c.links._link it.searches here.0
           (store_in here.1 c.in-Some.node.now) c.step.new.walk here.2 (sym c.is_of.ensures ∙ c.if-is_of.false) here.3;
-      costs = costs.both _ c.links.notes _ c.links._link 1 0 0 it.costs c.in_ok-step.ensures.link;
+      costs = costs.both _ (spent_of c.links.hand) _ c.links._link 1 0 0 it.costs c.in_ok-step.ensures.costs;
     }
 
 pub returns-clause-last : goal.returns-clause-last

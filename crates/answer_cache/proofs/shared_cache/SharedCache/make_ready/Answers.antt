@@ -3,15 +3,8 @@ use Rattle.answer_log.specs.Hands.{SeesMore}
 use Rattle.answer_cache.proofs.Placing.{sees-trans}
 use Rattle.answer_cache.proofs.shared_cache.SharedCache.make_ready.Goals as goal
 
-pub returns-in_err-pushed-2-clause-seen : goal.returns-in_err-pushed-2-clause-seen
-returns-in_err-pushed-2-clause-seen g c =
-    let h = c.args.hand.now in
-    let S : ℕ → Type 0 = λ n. SeesMore n c.shelve.new.hand.book.log c.shelve-2.new.hand.book.log in
-    sees-trans h.number h.book.log c.shelve.new.hand.book.log c.shelve-2.new.hand.book.log c.shelve.ensures.seen
-    (subst S c.shelve.ensures.holds.number c.shelve-2.ensures.seen)
-
-pub returns-then-index-place-clause-seen : goal.returns-then-index-place-clause-seen
-returns-then-index-place-clause-seen g c =
+pub returns-in-Ok-clause-seen : goal.returns-in-Ok-clause-seen
+returns-in-Ok-clause-seen g c =
     let h = c.args.hand.now in
     let S : ℕ → Type 0 = λ n. SeesMore n c.shelve.new.hand.book.log c.shelve-2.new.hand.book.log in
     sees-trans h.number h.book.log c.shelve.new.hand.book.log c.shelve-2.new.hand.book.log c.shelve.ensures.seen

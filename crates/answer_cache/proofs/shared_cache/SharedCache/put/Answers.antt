@@ -1,10 +1,10 @@
-use Rattle.std.proofs.Common.{ℕ, subst, refl, ◌∙◌}
+use Rattle.std.proofs.Common.{ℕ, ap, arith, subst, refl, ◌∙◌}
 use Rattle.std.proofs.lemmas.Result.{err_from_is_err_and}
 use Rattle.std.specs.Arc.{arc_value}
-use Rattle.answer_log.specs.Hands.{SeesMore}
+use Rattle.answer_log.specs.Hands.{SeesMore, spent_of}
 use Rattle.answer_log.specs.Steps.{store_by}
 use Rattle.answer_cache.specs.Nodes.{store_in}
-use Rattle.answer_cache.proofs.Placing.{lost-on, put-on, sees-trans, store-is}
+use Rattle.answer_cache.proofs.Placing.{leaves-on, lost-on, put-on, sees-trans, store-is}
 use Rattle.answer_cache.proofs.shared_cache.SharedCache.put.Goals as goal
 
 pub returns-in_err-pushed-clause-put : goal.returns-in_err-pushed-clause-put
@@ -38,5 +38,19 @@ returns-clause-lost g c =
     let k = c.make_ready.new.hand in
     let its = rw c.value.ensures at c.compete.ensures.lost in
     lost-on c.compete.result node.question c.args.wanted.now.question.now c.args.hand.now.book.log r.book.log k.book.log
-    c.compete.new.hand.book.log c.in_ok-old.old c.in_ok-pushed.ensures.made.0 c.room.ensures.seen.stores
+    c.compete.new.hand.book.log c.in_ok-old.old (spent_of k) (spent_of c.compete.new.hand) c.in_ok-pushed.ensures.made.0 c.room.ensures.seen.stores
+    c.make_ready.ensures.seen.later c.in_ok-old.ensures.room.0 its
+
+pub returns-clause-leaves : goal.returns-clause-leaves
+returns-clause-leaves g c =
+    let h = c.args.hand.now in
+    let r = c.room.new.hand in
+    let k = c.make_ready.new.hand in
+    let node = c.in_ok-pushed.pushed.value in
+    let costs = c.room.ensures.costs in
+    let spent = c.make_ready.ensures.spent in
+    let its = rw c.value.ensures at c.compete.ensures.lost in
+    leaves-on c.compete.result node.question c.args.wanted.now.question.now h k c.compete.new.hand r.book.log c.in_ok-old.old
+    (let a = ap (λ s. s.tries) spent in omega (arith, costs.before)) (let a = ap (λ s. s.missed) spent in omega (arith, costs.missed))
+    c.compete.ensures.tried c.in_ok-pushed.ensures.made.0
     c.make_ready.ensures.seen.later c.in_ok-old.ensures.room.0 its

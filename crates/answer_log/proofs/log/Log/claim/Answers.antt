@@ -4,7 +4,6 @@ use Rattle.answer_log.specs.declared.event.Event.{Event}
 use Rattle.answer_log.specs.declared.event.Event.TheVariants.{Named}
 use Rattle.answer_log.specs.declared.store.Store.{Store}
 use Rattle.answer_log.specs.Logs.{In}
-use Rattle.answer_log.specs.Rules.{node_at}
 use Rattle.answer_log.specs.Steps.{store_by}
 use Rattle.answer_log.proofs.Logs.{in-here}
 use Rattle.answer_log.proofs.Handling.{hand_adds, named_sees, named_low, names_more}
@@ -18,19 +17,19 @@ pub returns-clause-hand : goal.returns-clause-hand
 returns-clause-hand c =
     let h = c.args.hand.now in
     let t = c.claim_node-pen in
-    let node : ℕ = node_at h.number c.args.place in
+    let node : ℕ = c.node_at-node.result in
     let store : Store = store_by h.number c.args.question.now (arc_value c.args.answer.now) c.args.moment in
-    hand_adds h record { number = h.number; seats = h.seats; places = c.args.place + 1; tally = t.new.tally; book = t.new.book }
+    hand_adds h _
     (Named node store t.result.nib.key) c.requires.hand t.ensures.adds refl refl
     (let p = c.requires.place.0 in omega arith) t.ensures.book.1 t.ensures.tally.0 t.ensures.tally.1 refl
-    (named_low h.number c.args.place node store t.result.nib.key refl)
+    (named_low h.number c.args.place node store t.result.nib.key c.node_at-node.ensures)
 
 pub returns-clause-seen : goal.returns-clause-seen
 returns-clause-seen c =
     let h = c.args.hand.now in
     let t = c.claim_node-pen in
     let store : Store = store_by h.number c.args.question.now (arc_value c.args.answer.now) c.args.moment in
-    named_sees h t.new.book.log (node_at h.number c.args.place) store t.result.nib.key c.requires.hand refl t.ensures.adds
+    named_sees h t.new.book.log c.node_at-node.result store t.result.nib.key c.requires.hand refl t.ensures.adds
 
 pub returns-clause-named : goal.returns-clause-named
 returns-clause-named c =
@@ -38,7 +37,7 @@ returns-clause-named c =
     let t = c.claim_node-pen in
     let a = t.ensures.adds in
     let link = c.tracked-link in
-    let node : ℕ = node_at h.number c.args.place in
+    let node : ℕ = c.node_at-node.result in
     let store : Store = store_by h.number c.args.question.now (arc_value c.args.answer.now) c.args.moment in
     let I : List Event → Type 0 = λ log. In (Named node store t.result.nib.key) log in
     let K : ℕ → Type 0 = λ k. In (Named node store k) t.new.book.log in record {

@@ -8,14 +8,7 @@ returns-clause-hand c =
     let h = c.args.hand.now in
     let t = c.top_node-node in
     let whole = prefix_trans h.book.log c.learn.new.self.log t.new.book.log c.learn.ensures.2 t.ensures.later in
-    hand_on h record {
-      number = h.number;
-      seats = h.seats;
-      places = h.places;
-      tally = t.new.tally;
-      book =
-          t.new.book;
-    } whole.0 c.requires.hand refl refl refl (t.ensures.book.1 ∙ c.learn.ensures.1) t.ensures.same whole.1
+    hand_on h _ whole.0 c.requires.hand refl refl refl (t.ensures.book.1 ∙ c.learn.ensures.1) t.ensures.same whole.1
 
 pub returns-clause-seen : goal.returns-clause-seen
 returns-clause-seen c =

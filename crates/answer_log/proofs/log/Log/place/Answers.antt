@@ -9,14 +9,7 @@ returns-clause-hand c =
     let d = c.args.draft.now in
     let t = c.place in
     tried_hand h d.node (store_of d) c.args.link.now.key c.args.old c.args.pen.now.nib t.new.pen.nib c.requires.hand c.requires.seat
-    record {
-      number = h.number;
-      seats = h.seats;
-      places = h.places;
-      tally = t.new.tally;
-      book =
-          t.new.book;
-    } refl refl refl t.ensures.book.1 t.ensures.tally
+    _ refl refl refl t.ensures.book.1 t.ensures.tally
     t.ensures.later t.result t.ensures.tried
 
 pub returns-clause-placed : goal.returns-clause-placed

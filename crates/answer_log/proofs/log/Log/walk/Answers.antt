@@ -7,14 +7,7 @@ pub returns-clause-hand : goal.returns-clause-hand
 returns-clause-hand c =
     let h = c.args.hand.now in
     let t = c.top_node-next in
-    hand_on h record {
-      number = h.number;
-      seats = h.seats;
-      places = h.places;
-      tally = t.new.tally;
-      book =
-          t.new.book;
-    } t.ensures.later.0 c.requires.hand refl refl refl t.ensures.book.1 t.ensures.same t.ensures.later.1
+    hand_on h _ t.ensures.later.0 c.requires.hand refl refl refl t.ensures.book.1 t.ensures.same t.ensures.later.1
 
 pub returns-clause-seen : goal.returns-clause-seen
 returns-clause-seen c = let t = c.top_node-next in hand_sees c.args.hand.now t.new.book.log c.requires.hand t.ensures.later t.ensures.same.2

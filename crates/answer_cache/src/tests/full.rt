@@ -1,0 +1,116 @@
+//! A cache whose groups are all full.
+ghost use Rattle.std.specs.Prelude.{◌≡◌, IfSome};
+ghost use Rattle.dns_message.specs.declared.kind.Kind.TheVariants as kinds;
+ghost use Rattle.answer_cache.specs.Shared.{Belongs};
+
+use super::{answer_of, two_seats};
+use crate::*;
+use dns_answers::Moment;
+use dns_message::{Kind, Question};
+use dns_name::Name;
+use std::alloc::Global;
+use std::sync::Wait;
+
+/// For each group the name of a question for addresses that is in it.
+const FIRSTS: [&str; 64] = [
+    "o", "ab", "ai", "cb", "k", "bw", "ae", "x", "g", "az", "aa", "t", "c", "av", "bt", "p", "ca",
+    "ar", "ay", "al", "ce", "n", "au", "ah", "w", "j", "aq", "ad", "s", "f", "m", "bi", "ao", "b",
+    "i", "bu", "ak", "fk", "e", "ax", "ag", "z", "a", "at", "ac", "v", "cc", "ap", "bv", "r", "y",
+    "l", "br", "an", "u", "h", "aw", "aj", "q", "d", "as", "af", "am", "fu",
+];
+
+/// The same with other names.
+const SECONDS: [&str; 64] = [
+    "cq", "bk", "dv", "fi", "cu", "da", "bl", "cf", "cy", "bs", "bh", "cj", "fv", "di", "db", "cn",
+    "fj", "dm", "bp", "be", "fn", "cp", "dj", "ba", "ci", "ct", "bx", "bm", "cm", "cx", "cs", "el",
+    "bf", "fw", "cw", "dc", "bb", "gt", "fp", "bq", "bn", "cd", "ft", "dk", "bj", "ch", "fh", "by",
+    "es", "cl", "cg", "cr", "dd", "bg", "ck", "cv", "dh", "bc", "co", "cz", "bz", "bo", "bd", "gj",
+];
+
+/// The question for the addresses of a name.
+fn question_for(alloc: Global, name: &str) -> Option<Question>
+    ensures { IfSome result (λ made. made.kind ≡ kinds.A) }
+{
+    let name = Name::from_text(alloc, name).ok()?;
+    Some(Question {
+        name,
+        kind: Kind::A,
+    })
+}
+
+/// Whether an answer of this life is taken for a name, or refused so.
+fn says(
+    rt: &(impl Wait + AllocGlobal),
+    cache: &SharedCache,
+    seat: &mut Seat,
+    name: &str,
+    life: u32,
+    wanted: Result<(), StoreRefusal>,
+) -> Option<bool>
+    requires { Belongs cache.now seat.old }
+    ensures { Belongs cache.now seat.new }
+{
+    let question = question_for(rt.alloc(), name)?;
+    let answer = answer_of(rt.alloc(), Kind::A, life)?;
+    Some(cache.store(rt, seat, &question, &answer, Moment::new(100)?) == wanted)
+}
+
+/// Whether a group takes one store of the first name and 63 of the other one, and no more.
+fn fills_group(
+    rt: &(impl Wait + AllocGlobal),
+    cache: &SharedCache,
+    seat: &mut Seat,
+    first: &str,
+    second: &str,
+) -> Option<bool>
+    requires { Belongs cache.now seat.old }
+    ensures { Belongs cache.now seat.new }
+{
+    let mut taken = says(rt, cache, seat, first, 100, Ok(()))?;
+    'lives: for life in 1..64 {
+        taken = taken && says(rt, cache, seat, second, life, Ok(()))?;
+    }
+    let full = Err(StoreRefusal::GenerationFull);
+    Some(taken && says(rt, cache, seat, second, 64, full)?)
+}
+
+/// The life that is found for a name.
+fn life_for(alloc: Global, cache: &SharedCache, seat: &mut Seat, name: &str) -> Option<u32>
+    requires { Belongs cache.now seat.old }
+    ensures { Belongs cache.now seat.new }
+{
+    let question = question_for(alloc, name)?;
+    let found = cache.lookup(seat, &question, Moment::new(100)?);
+    Some(found.ok()??.life())
+}
+
+/// Whether all groups are filled so, and each look-up finds its own last store: for the first names
+/// at the end of its walk, and for the others at its begin.
+fn fills_all(rt: &(impl Wait + AllocGlobal), cache: &SharedCache, mut seat: Seat) -> Option<bool>
+    requires { Belongs cache.now seat }
+{
+    'filled: for group in 0..64 {
+        if !fills_group(rt, cache, &mut seat, FIRSTS[group], SECONDS[group])? {
+            return Some(false);
+        }
+    }
+    'found: for group in 0..64 {
+        let first = life_for(rt.alloc(), cache, &mut seat, FIRSTS[group])?;
+        let second = life_for(rt.alloc(), cache, &mut seat, SECONDS[group])?;
+        if first != 100 || second != 63 {
+            return Some(false);
+        }
+    }
+    Some(true)
+}
+
+/// The same for a new cache.
+fn new_fills_all(rt: &(impl Wait + AllocGlobal)) -> Option<bool> {
+    let (cache, seat, _) = two_seats(rt.alloc())?;
+    fills_all(rt, &cache, seat)
+}
+
+#[test]
+fn all_groups_full(rt: HostRuntime) {
+    assert_eq!(rt; new_fills_all(&rt), Some(true));
+}

@@ -1,0 +1,21 @@
+-- What contracts count of the calls of a seat.
+use Rattle.std.specs.Prelude.{ℕ, ◌+◌}
+
+-- how many links they have passed, how many times they have tried to place a node, and how many
+-- numbers led to no node
+pub record Spending : Type 0 where
+  pub links : ℕ
+  pub tries : ℕ
+  pub missed : ℕ
+
+abbrev pub nothing : Spending
+nothing = record { links = 0; tries = 0; missed = 0 }
+
+abbrev pub one_link : Spending → Spending
+one_link spent = record spent { links = spent.links + 1 }
+
+abbrev pub one_try : Spending → Spending
+one_try spent = record spent { tries = spent.tries + 1 }
+
+abbrev pub one_miss : Spending → Spending
+one_miss spent = record spent { missed = spent.missed + 1 }
