@@ -48,7 +48,7 @@ mod zone_wire;
 pub use asker::Asker;
 pub use asker_laws::asking_stays_in_order;
 pub use clock::{Clock, StandingClock};
-pub use dns_zone::{Zone, ZoneEntry, ZoneRefusal, zone_follows_aliases};
+pub use dns_zone::{Zone, ZoneEntry, ZoneRefusal, zone_follows_aliases, zone_names_its_authority};
 pub use due::Due;
 pub use incoming::{Ending, Incoming, Why};
 pub use refusal::AskRefusal;

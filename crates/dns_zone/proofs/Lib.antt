@@ -1,6 +1,7 @@
 pub mod Lookups
 pub mod Paths
 pub mod Starts
+pub mod Nearest
 pub mod Headers
 pub mod Fields
 pub mod Texts

@@ -34,7 +34,7 @@ mod reply;
 mod text;
 mod zone;
 
-pub use laws::zone_follows_aliases;
+pub use laws::{zone_follows_aliases, zone_names_its_authority};
 pub use refusal::ZoneRefusal;
 pub use zone::{Zone, ZoneEntry};
 

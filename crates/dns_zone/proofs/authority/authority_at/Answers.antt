@@ -17,6 +17,8 @@ returns c =
     let whole = lacks_type c.args.zone.now c.args.name.now c.args.code c.first_of.result
     (c.first_of.ensures ∙ ap (find (says c.args.code)) c.entries_at.ensures) c.if-is_some.ensures in
     elim c.match-branch-2.branch [
-      | in-Some+in_ok-push w ↦ (let here = rw w.in-Some.is at c.in_ok-start.ensures in rw (w.records-is, w.in_ok-push.ensures.items, none, whole) (sym here))
+      | in-Some+in_ok-push w ↦
+          (let here = rw w.in-Some.is at c.in_ok-start.ensures in
+          rw (w.records-is, w.in_ok-push.ensures.items, none, whole) (sym here))
       | in_default w ↦ (let here = rw w.in_default.is at c.in_ok-start.ensures in rw (w.records-is, none, whole) (sym here))
     ]
