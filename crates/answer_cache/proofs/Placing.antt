@@ -109,8 +109,8 @@ lost-on (Err refusal) its question old mid now new was begun spent same before l
     why-on question (history old) (history mid) (history new) begun spent refusal before (subst W same (why mid later) (sym last))
 
 -- what is left after the tries were lost
-leaves-why : (question its : Question) (h k new : Hand) (before : List Store) (refusal : StoreRefusal) → (spent_of h).tries ≤ (spent_of k).tries
-    → (spent_of h).missed ≤ (spent_of k).missed → (spent_of k).tries < (spent_of new).tries
+leaves-why : (question its : Question) (h k new : Hand) (before : List Store) (refusal : StoreRefusal)
+    → (spent_of h).tries ≤ (spent_of k).tries → (spent_of h).missed ≤ (spent_of k).missed → (spent_of k).tries < (spent_of new).tries
     → WhyLost its before (history new.book.log) (spent_of k) (spent_of new) refusal
     → (old more : List Offer) → Leaves question (view_of h old) (view_of new more) refusal
 leaves-why question its h k new before Lifeless tries missed tried why old more = absurd why

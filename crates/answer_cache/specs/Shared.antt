@@ -97,9 +97,9 @@ abbrev pub WantsForAnswer : Question → ℕ → SharedView → SharedView → T
 WantsForAnswer question now old new =
     (cached new.seat.seen question now ≢ None) ⊎ (old.missed < new.missed)
 
--- What a refused store leaves. Where the answer does not live, or the group is full before a try, no
--- node was named. Memory is wanted before a try, where the group was not full at the first look; or
--- else a number led to no node.
+-- What a refused store leaves. Where the answer does not live, or the group is full before a try,
+-- no node was named. Memory is wanted before a try, where the group was not full at the first look;
+-- or else a number led to no node.
 abbrev pub Leaves : Question → SharedView → SharedView → StoreRefusal → Type 0
 Leaves question old new Lifeless = (new.tries ≡ old.tries) × (new.places ≡ old.places)
 Leaves question old new GenerationFull = new.tries ≡ old.tries → new.places ≡ old.places

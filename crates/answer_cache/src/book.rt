@@ -28,9 +28,9 @@ pub trait AnswerBook {
     // Its number, the history that it has seen, its own stores, and what its stores were handed.
     ghost shown: { Self.Seat → SeatView };
 
-    /// The answer of the last store of the question, while it lives: until as many seconds after the
-    /// moment of its store as its life is. A look-up at an earlier moment finds it too. An older
-    /// store does not come back when the last one has expired.
+    /// The answer of the last store of the question, while it lives: until as many seconds after
+    /// the moment of its store as its life is. A look-up at an earlier moment finds it too. An
+    /// older store does not come back when the last one has expired.
     fn lookup(
         &self,
         seat: &mut Self::Seat,

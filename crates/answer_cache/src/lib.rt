@@ -9,9 +9,9 @@
 //! its own seat. A seat sees a history, and after each call it sees the same history or a longer
 //! one.
 //!
-//! `lookup` answers from the last store of the question. It gives the answer while that lives: until
-//! as many seconds after the moment of the store as the life of the answer says. A look-up at an
-//! earlier moment finds it too. When the life has ended, it finds nothing. An older store of the
+//! `lookup` answers from the last store of the question. It gives the answer while that lives:
+//! until as many seconds after the moment of the store as the life of the answer says. A look-up at
+//! an earlier moment finds it too. When the life has ended, it finds nothing. An older store of the
 //! question does not come back.
 //!
 //! `store` adds an answer behind all others, at the moment that the caller gives. It refuses an

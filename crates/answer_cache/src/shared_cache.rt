@@ -235,7 +235,8 @@ impl SharedCache {
         Ok(true)
     }
 
-    /// The start of a try: the node of the question's group placed last, where the group is not full.
+    /// The start of a try: the node of the question's group placed last, where the group is not
+    /// full.
     fn room(&self, hand: &mut Hand, asked: &Hashed<'_>) -> Result<u64, StoreRefusal>
         requires hash { asked.now.hash ≡ hash_of (hashed_of asked.now.question.now) }
         requires hand { IsHand hand.old }
@@ -258,8 +259,8 @@ impl SharedCache {
         Ok(old)
     }
 
-    /// Names a node of this place, and puts it on the shelf, wherever it lands there. All memory that
-    /// it needs is there before it is named.
+    /// Names a node of this place, and puts it on the shelf, wherever it lands there. All memory
+    /// that it needs is there before it is named.
     fn shelve<R: Wait>(
         &self,
         rt: &R,
@@ -476,8 +477,8 @@ impl SharedCache {
         self.compete(hand, shelf.value(&pushed), pen, old, rival)
     }
 
-    /// As `store`, with something that comes between the load of a head and the exchange of each try.
-    /// For tests.
+    /// As `store`, with something that comes between the load of a head and the exchange of each
+    /// try. For tests.
     pub fn store_against<R: Wait, V: Rival>(
         &self,
         rt: &R,

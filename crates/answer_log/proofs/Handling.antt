@@ -221,4 +221,5 @@ module _ (h : Hand) (n : ℕ) (x : Store) (l old : ℕ) (before after : Nib) (ha
       → length (history seen) < length (history new))
   tried_lost new tally pre true m = tt
   tried_lost new tally pre false m = λ seen later last.
-      let T : ℕ → Type 0 = λ node. node ≢ top (group_of x.question) new in grows (group_of x.question) seen new (prefix_trans seen h.book.log new later pre) (subst T (sym last) m.0)
+      let T : ℕ → Type 0 = λ node. node ≢ top (group_of x.question) new in
+      grows (group_of x.question) seen new (prefix_trans seen h.book.log new later pre) (subst T (sym last) m.0)

@@ -368,7 +368,8 @@ kept-placed cs log pen n x kept out named some value sound room =
 
 module _ (v seen : List Event) (pen : Nib) (n : ℕ) (x : Store) (old : ℕ) (right : pen.right ≡ may_write)
     (named : In (Named n x pen.key) v) (some : 64 < pen.key) (value : pen.value ≡ old)
-    (later : IsPrefix seen v) (last : top (group_of x.question) seen ≡ old) (room : IsFull (history seen) x.question → ⊥) (sound : IsSound x)
+    (later : IsPrefix seen v) (last : top (group_of x.question) seen ≡ old) (room : IsFull (history seen) x.question → ⊥)
+    (sound : IsSound x)
     (low : x.seat < 64) where
   -- where the head is as it was then, nothing was placed for the group since
   same-since : (cs : List Cell) (log : List Event) → IsKept cs log → IsPrefix v log → (cell cs (group_of x.question)).0 ≡ old
@@ -391,7 +392,8 @@ module _ (v seen : List Event) (pen : Nib) (n : ℕ) (x : Store) (old : ℕ) (ri
   try_goes cs log kept pre away true b =
       let found : (cell cs (group_of x.question)).0 ≡ old = grind (arith, nat_tests) in
       let same = same-since cs log kept pre found in
-      let tops : pen.value ≡ top (group_of x.question) log = value ∙ (sym found ∙ ap (λ (c : Cell). c.0) (kept.heads (group_of x.question) (group-low x.question))) in
+      let tops : pen.value ≡ top (group_of x.question) log =
+      value ∙ (sym found ∙ ap (λ (c : Cell). c.0) (kept.heads (group_of x.question) (group-low x.question))) in
       let N : List Event → Type 0 = λ w. In (Named n x pen.key) w in
       let G : List Store → Type 0 = λ k. 64 ≤ length k → ⊥ in
       let e : Event = Placed n x pen.key in
@@ -412,7 +414,8 @@ module _ (v seen : List Event) (pen : Nib) (n : ℕ) (x : Store) (old : ℕ) (ri
         [],
         Some r,
         tt,
-        rw b (kept-same cs log (group_of x.question) (cell cs (group_of x.question)).0 (head-home cs log kept (group_of x.question) (group-low x.question)) refl kept),
+        rw b (kept-same cs log (group_of x.question) (cell cs (group_of x.question)).0
+        (head-home cs log kept (group_of x.question) (group-low x.question)) refl kept),
         inr (r, refl, refl, counts_keep (Placed n x 0) log low),
         (
           r,

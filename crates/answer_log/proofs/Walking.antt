@@ -18,7 +18,8 @@ at-end walk left log none it = elim (last_placed it.group 0 it.front) [
   | inl h ↦ it.stores ∙ h.1
   | inr h ↦
       (let whole = it.split
-      ∙ (ap (λ events. events ++ it.back) h.split ∙ append_assoc h.before (Placed (top it.group it.front) h.store h.link ∷ h.after) it.back) in
+      ∙ (ap (λ events. events ++ it.back) h.split
+      ∙ append_assoc h.before (Placed (top it.group it.front) h.store h.link ∷ h.after) it.back) in
       absurd (log.nodes h.before (h.after ++ it.back) (top it.group it.front) h.store h.link whole (sym it.at ∙ none)))
 ]
 
@@ -44,7 +45,8 @@ is-next walk left some it = elim (last_placed it.group 0 it.front) [
         store = h.store;
         link = h.link;
         whole = subst W (sym it.at) (it.split
-            ∙ (ap (λ events. events ++ it.back) h.split ∙ append_assoc h.before (Placed (top it.group it.front) h.store h.link ∷ h.after) it.back));
+            ∙ (ap (λ events. events ++ it.back) h.split
+            ∙ append_assoc h.before (Placed (top it.group it.front) h.store h.link ∷ h.after) it.back));
         its = h.its;
         stores = it.stores ∙ stores-last it.group it.front h.before h.after (top it.group it.front) h.store h.link h.split h.its h.none;
       })

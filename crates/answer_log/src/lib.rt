@@ -38,13 +38,13 @@
 //! - a store into the link of a node that is not placed yet: `Word::store`, by the pen that
 //!   `Log::claim` gives;
 //! - an exchange of the head of a group, from the node that the link holds to the new one:
-//!   `Log::place`. It fails where the head has another node by then, and the seat may try again with
-//!   that one in its link.
+//!   `Log::place`. It fails where the head has another node by then, and the seat may try again
+//!   with that one in its link.
 //!
 //! Three say who may write which word:
 //!
-//! - the heads and the idle word are made, and the seats have their counts of events: `Log::open`, before any
-//!   other step;
+//! - the heads and the idle word are made, and the seats have their counts of events: `Log::open`,
+//!   before any other step;
 //! - a link is made and its node is named, by an exchange of 0 with 0 on the idle word:
 //!   `Log::claim`;
 //! - the link of a placed node is given over to the log, and nobody writes it again: within the
@@ -56,9 +56,9 @@
 //! more by `Walk::pass`, and a try more by `Log::place`.
 //!
 //! So a store is a row of calls: `Log::walk` tells the node of the group placed last, `Log::claim`
-//! names a node and gives its link and its pen, `Word::store` writes the node placed last into that
-//! link, and `Log::place` tries to place the node. The crate `answer_cache` is the one user, and its
-//! `SharedCache` makes these calls.
+//! names a node and gives its link and its pen, `Word::store` writes the node placed last into
+//! that link, and `Log::place` tries to place the node. The crate `answer_cache` is the one user,
+//! and its `SharedCache` makes these calls.
 //!
 //! A `Walk` goes from a group's node placed last to its first one. It says which node is next, and
 //! whoever finds that node passes its link.

@@ -123,8 +123,8 @@ fn settle(tally: &mut Tally, deal: Deal)
     tally.back(deal.into_gain());
 }
 
-/// A load of the head of a group: its node placed last, 0 where there is none. Till then the log had
-/// as many events of the seat as the tally says.
+/// A load of the head of a group: its node placed last, 0 where there is none. Till then the log
+/// had as many events of the seat as the tally says.
 pub(crate) fn top_node(head: &Word, group: u8, book: &mut Book, tally: &mut Tally, seat: u64) -> u64
     requires head { head.now ≡ word_at book.old.book group }
     requires group { group < 64 }

@@ -3,8 +3,8 @@ use dns_answers::{Answer, Moment};
 use dns_message::Question;
 use std::sync::Arc;
 
-/// A store: the number of its seat, the question, the answer, and the moment at which it was stored.
-/// A log says so; no value of it is made.
+/// A store: the number of its seat, the question, the answer, and the moment at which it was
+/// stored. A log says so; no value of it is made.
 #[derive(Drop)]
 pub struct Store {
     pub seat: u64,

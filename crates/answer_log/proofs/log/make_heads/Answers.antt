@@ -18,5 +18,6 @@ groups-preserved c =
       next = rest.1 ∙ ap (λ n. n + 1) i.next;
       left = let sum = i.left in let less = rest.2 in let test = c.groups-test.true in omega arith;
       heads = c.in_ok-push.ensures.items
-          ∙ ((λ j. i.heads j ++ word j ∷ []) ∙ sym (map-range_with_len_more (word_at book) 0 c.groups._group c.groups._group (omega arith)));
+          ∙ ((λ j. i.heads j ++ word j ∷ [])
+          ∙ sym (map-range_with_len_more (word_at book) 0 c.groups._group c.groups._group (omega arith)));
     }

@@ -82,6 +82,7 @@ tries-preserved g c =
           let l = i.least in
           costs.within _ _ ((n - 2) * 64 + 64 + 0) ((n + 1 - 2) * 64) ((n - 1) + 0 + 1) (n + 1 - 1) (omega arith) (omega arith)
           (costs.both _ (spent_of c.room.new.hand) _ ((n - 2) * 64 + 64) 0 ((n - 1) + 0) 1
-          (costs.both _ (spent_of c.tries.hand) _ ((n - 2) * 64) 64 (n - 1) 0 i.costs c.in_ok-old.ensures.costs) (costs.tried _ _ it.spent));
+          (costs.both _ (spent_of c.tries.hand) _ ((n - 2) * 64) 64 (n - 1) 0 i.costs c.in_ok-old.ensures.costs)
+          (costs.tried _ _ it.spent));
       tried = let a = i.tried in let b = c.in_ok-old.ensures.costs.before in let m = costs.more _ _ it.spent in omega arith;
     }

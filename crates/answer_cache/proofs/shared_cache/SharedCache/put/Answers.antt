@@ -38,7 +38,8 @@ returns-clause-lost g c =
     let k = c.make_ready.new.hand in
     let its = rw c.value.ensures at c.compete.ensures.lost in
     lost-on c.compete.result node.question c.args.wanted.now.question.now c.args.hand.now.book.log r.book.log k.book.log
-    c.compete.new.hand.book.log c.in_ok-old.old (spent_of k) (spent_of c.compete.new.hand) c.in_ok-pushed.ensures.made.0 c.room.ensures.seen.stores
+    c.compete.new.hand.book.log c.in_ok-old.old (spent_of k) (spent_of c.compete.new.hand) c.in_ok-pushed.ensures.made.0
+    c.room.ensures.seen.stores
     c.make_ready.ensures.seen.later c.in_ok-old.ensures.room.0 its
 
 pub returns-clause-leaves : goal.returns-clause-leaves
