@@ -1,6 +1,6 @@
 /*
- * To be preloaded: refuses the allocation whose number is in REFUSE_AT, counted from 1, and writes one octet to the
- * descriptor in REFUSE_TOLD when it does. It needs no headers.
+ * To be preloaded: refuses the allocation whose number is in REFUSE_AT, counted from 1, or the thread whose number is in
+ * REFUSE_THREAD, and writes one octet to the descriptor in REFUSE_TOLD when it does. It needs no headers.
  */
 typedef unsigned long size_t;
 extern void *dlsym(void *handle, const char *symbol);
@@ -10,33 +10,45 @@ extern long write(int descriptor, const void *octets, size_t count);
 extern void abort(void);
 
 #define NEXT ((void *)-1L)
+#define EAGAIN 11
 
 static void *(*next_malloc)(size_t);
 static void *(*next_realloc)(void *, size_t);
+static int (*next_thread)(void *, const void *, void *(*)(void *), void *);
 static int left;
+static int threads_left;
 static int told;
 
 __attribute__((constructor)) static void start(void) {
     const char *at = getenv("REFUSE_AT");
+    const char *thread = getenv("REFUSE_THREAD");
     const char *descriptor = getenv("REFUSE_TOLD");
     next_malloc = (void *(*)(size_t))dlsym(NEXT, "malloc");
     next_realloc = (void *(*)(void *, size_t))dlsym(NEXT, "realloc");
     told = descriptor ? atoi(descriptor) : 2;
     left = at ? atoi(at) : 0;
+    threads_left = thread ? atoi(thread) : 0;
 }
 
-static int refuses(void) {
-    if (left <= 0 || __atomic_sub_fetch(&left, 1, __ATOMIC_SEQ_CST) != 0) return 0;
+/* Counts down, and refuses what comes when nothing is left. */
+static int refuses(int *left) {
+    if (*left <= 0 || __atomic_sub_fetch(left, 1, __ATOMIC_SEQ_CST) != 0) return 0;
     if (write(told, "r", 1) != 1) abort();
     return 1;
 }
 
 void *malloc(size_t size) {
     if (!next_malloc) next_malloc = (void *(*)(size_t))dlsym(NEXT, "malloc");
-    return refuses() ? (void *)0 : next_malloc(size);
+    return refuses(&left) ? (void *)0 : next_malloc(size);
 }
 
 void *realloc(void *block, size_t size) {
     if (!next_realloc) next_realloc = (void *(*)(void *, size_t))dlsym(NEXT, "realloc");
-    return refuses() ? (void *)0 : next_realloc(block, size);
+    return refuses(&left) ? (void *)0 : next_realloc(block, size);
+}
+
+int pthread_create(void *thread, const void *attributes, void *(*start)(void *), void *argument) {
+    if (!next_thread)
+        next_thread = (int (*)(void *, const void *, void *(*)(void *), void *))dlsym(NEXT, "pthread_create");
+    return refuses(&threads_left) ? EAGAIN : next_thread(thread, attributes, start, argument);
 }

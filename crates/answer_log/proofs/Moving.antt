@@ -415,7 +415,7 @@ module _ (v seen : List Event) (pen : Nib) (n : ℕ) (x : Store) (old : ℕ) (ri
         Some r,
         tt,
         rw b (kept-same cs log (group_of x.question) (cell cs (group_of x.question)).0
-        (head-home cs log kept (group_of x.question) (group-low x.question)) refl kept),
+            (head-home cs log kept (group_of x.question) (group-low x.question)) refl kept),
         inr (r, refl, refl, counts_keep (Placed n x 0) log low),
         (
           r,

@@ -11,5 +11,5 @@ load-found-requires c =
       sym (ap (λ w. w.book) h),
       d.0 ∙ c.requires.fits.1,
       rw (ap (λ w. w.key) h, d.1, d.3) (look_moves c.args.book.now.log c.args.group (Asks c.args.seat 0) c.requires.group
-      c.requires.fits.3),
+          c.requires.fits.3),
     )
