@@ -6,7 +6,7 @@ use Rattle.std.proofs.lemmas.List.{map-append, length-append, append_assoc, appe
 use Rattle.std.proofs.lemmas.List.{get_or-set_other}
 use Rattle.std.proofs.lemmas.List.Elements.{filter-append, All-nil, All-push}
 use Rattle.answer_cache.specs.Chains.{IsChain, none, some, IsGroup, IsKept, no_group, store_in, stores_in}
-use Rattle.answer_log.specs.Groups.{group_of}
+use Rattle.answer_log.specs.Groups.{group_limit, group_of}
 use Rattle.answer_log.specs.Histories.{IsHistory, IsSound, in_group, mine}
 use Rattle.answer_log.specs.declared.store.Store.{Store}
 use Rattle.answer_cache.specs.declared.store_list.Entry.{Entry}
@@ -53,8 +53,8 @@ module _ (entries : List Entry) (entry : Entry) where
   }
 
   few-by : (number : ℕ) (is : Bool) → (group_of entry.question == number) ≡ is
-      → length (in_group (group_of entry.question) (stores_in entries)) < 64 → length (in_group number (stores_in entries)) ≤ 64
-      → length (in_group number (stores_in entries ++ store_in entry ∷ [])) ≤ 64
+      → length (in_group (group_of entry.question) (stores_in entries)) < group_limit → length (in_group number (stores_in entries)) ≤ group_limit
+      → length (in_group number (stores_in entries ++ store_in entry ∷ [])) ≤ group_limit
   few-by number true is room few =
       let same = eqb-true (group_of entry.question) number is in
       let more = length-append (in_group number (stores_in entries)) (store_in entry ∷ []) in
@@ -64,7 +64,7 @@ module _ (entries : List Entry) (entry : Entry) where
       let other = eqb-false (group_of entry.question) number is in
       rw (no-more (stores_in entries) (store_in entry) number other) few
 
-  history-more : IsSound (store_in entry) → length (in_group (group_of entry.question) (stores_in entries)) < 64
+  history-more : IsSound (store_in entry) → length (in_group (group_of entry.question) (stores_in entries)) < group_limit
       → IsHistory (stores_in entries) → IsHistory (stores_in entries ++ store_in entry ∷ [])
   history-more sound room it = record {
     sound = All-push IsSound (stores_in entries) (store_in entry) it.sound sound;
@@ -89,7 +89,7 @@ module _ (entries : List Entry) (entry : Entry) where
 
   kept-by : (groups : List Group) → group_of entry.question < 64
       → entry.before ≡ (get_or groups (group_of entry.question) no_group).last
-      → (get_or groups (group_of entry.question) no_group).count < 64
+      → (get_or groups (group_of entry.question) no_group).count < group_limit
       → IsSound (store_in entry) → IsKept entries groups
       → IsKept (entries ++ entry ∷ []) (set groups (group_of entry.question)
       (record { last = Some (length entries); count = (get_or groups (group_of entry.question) no_group).count + 1 }))
@@ -102,7 +102,7 @@ module _ (entries : List Entry) (entry : Entry) where
       }
 
   pub kept-more : (groups : List Group) (number : ℕ) → number ≡ group_of entry.question → number < 64
-      → entry.before ≡ (get_or groups number no_group).last → (get_or groups number no_group).count < 64
+      → entry.before ≡ (get_or groups number no_group).last → (get_or groups number no_group).count < group_limit
       → IsSound (store_in entry) → IsKept entries groups
       → IsKept (entries ++ entry ∷ [])
       (set groups number (record { last = Some (length entries); count = (get_or groups number no_group).count + 1 }))

@@ -5,3 +5,6 @@ pub mod Lookups
 pub mod Placing
 pub mod Seating
 pub mod Together
+pub mod Succeeding
+pub mod Carrying
+pub mod CarriedAnswers

@@ -77,7 +77,7 @@ module _ (front whole : List Store) (store : Store) (last : whole ≡ front ++ s
       let size = ap length split ∙ length-append (in_group (group_of store.question) front) (store ∷ []) in
       omega arith
 
-  own-one-more : mine whole store.seat ≡ mine front store.seat ++ store ∷ []
+  pub own-one-more : mine whole store.seat ≡ mine front store.seat ++ store ∷ []
   own-one-more =
       let one : mine (store ∷ []) store.seat ≡ store ∷ [] = rw (eq-eqb store.seat store.seat refl) refl in
       ap (λ h. mine h store.seat) last

@@ -10,7 +10,7 @@ use Rattle.answer_log.specs.declared.store.Store.{Store}
 use Rattle.answer_cache.specs.Seats.{GoesOn, IsSeat, StoresNothing}
 use Rattle.answer_cache.specs.Shared.{CacheView, HasStored, SharedView, new_seat}
 
-mine-short : (seat : ℕ) (xs ys : List Store) → IsPrefix xs ys → length (mine xs seat) ≤ length (mine ys seat)
+pub mine-short : (seat : ℕ) (xs ys : List Store) → IsPrefix xs ys → length (mine xs seat) ≤ length (mine ys seat)
 mine-short seat xs ys p =
     let split = ap (λ l. mine l seat) (sym p.1) ∙ filter-append (λ it. it.seat == seat) xs p.0 in
     let sizes = ap length split ∙ length-append (mine xs seat) (mine p.0 seat) in

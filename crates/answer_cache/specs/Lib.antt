@@ -4,3 +4,4 @@ pub mod Lists
 pub mod Nodes
 pub mod Notes
 pub mod Shared
+pub mod Carried

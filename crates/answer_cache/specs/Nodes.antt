@@ -16,6 +16,7 @@ use Rattle.answer_log.specs.Walks.{Ahead}
 use Rattle.answer_log.specs.declared.hand.Hand.{Hand}
 use Rattle.answer_log.specs.declared.store.Store.{Store}
 use Rattle.answer_log.specs.declared.walk.Walk.{Walk}
+use Rattle.answer_cache.specs.Seats.{Offer, offer_of}
 use Rattle.answer_cache.specs.declared.node.Node.{Node}
 use Rattle.answer_cache.specs.declared.node.ShelfRefusal.{ShelfRefusal}
 use Rattle.answer_cache.specs.declared.node.ShelfRefusal.TheVariants.{Unnamed, Untaken}
@@ -30,6 +31,10 @@ numbers_of book = book.number ∷ book.log_name ∷ book.cells_name ∷ []
 -- the store of a node, by the seat that made it
 abbrev pub store_in : ℕ → Node → Store
 store_in seat node = store_by seat node.question (arc_value node.answer) node.moment
+
+-- what a node says, without its seat
+abbrev pub offer_of_node : Node → Offer
+offer_of_node node = offer_of node.question (arc_value node.answer) node.moment
 
 -- a node, as the log that its seat had seen names it
 pub record IsNode (book : Book) (it : Node) : Type 0 where
@@ -66,6 +71,7 @@ pub record Holds (book : Book) (old new : Hand) : Type 0 where
   pub number : new.number ≡ old.number
   pub seats : new.seats ≡ old.seats
   pub same : new.book.book ≡ book
+  pub names : new.book.names ≡ old.book.names
 
 -- what is to be placed: the log names the node so, and the pen writes its link
 pub record IsReady (book : Book) (log : List Event) (seat : ℕ) (node : Node)

@@ -20,7 +20,7 @@
 //! `StoreRefusal` says which it was, and nothing was stored then.
 //!
 //! `group` puts each question, by its name and type, into one of 64 groups, and a group has at most
-//! 64 stores. So a book never has more than 4096. Stores do not make room for others: when groups
+//! 128 stores. So a book never has more than 8,192. Stores do not make room for others: when groups
 //! are full, the user of a book begins a new one.
 //!
 //! `AnswerBook` is the trait of all books. Its `store` takes a runtime that may wait, for books
@@ -33,7 +33,7 @@
 //! own. All seats see one history: of what two seats have seen, one is the beginning of the other.
 //! Each store in it is of one of the seats, so their own stores together are the history. A seat
 //! sees what another had seen once it has learned that one's notice. A lookup takes no memory, and
-//! looks through the stores of its question's group, the newest first: 64 at most. A store is tried
+//! looks through the stores of its question's group, the newest first: 128 at most. A store is tried
 //! 16 times at most, and it may lose each try to stores of other seats in the same group. It asks
 //! for memory before its first try, and may be made again where that is refused.
 //!
@@ -55,6 +55,7 @@
 
 mod book;
 mod cache_refusal;
+mod carried;
 mod list_cache;
 mod node;
 mod notes;
@@ -63,10 +64,12 @@ mod rival;
 mod seat;
 mod shared_cache;
 mod store_list;
+mod successor;
 
 pub use answer_log::group;
 pub use book::AnswerBook;
 pub use cache_refusal::CacheRefusal;
+pub use carried::{Carried, carried_answers_as_before};
 pub use list_cache::{ListCache, ListSeat};
 pub use refusal::StoreRefusal;
 pub use rival::Rival;

@@ -13,7 +13,7 @@ pub enum StoreRefusal {
     /// Its life is 0.
     #[error("the answer may not be kept")]
     Lifeless,
-    /// There are 64 stores in the group of the question.
+    /// There are 128 stores in the group of the question.
     #[error("the group of the question is full")]
     GenerationFull,
     /// Other stores came in between, 16 times.

@@ -8,7 +8,7 @@ ghost use Rattle.logbook.specs.Pages.{may_write};
 ghost use Rattle.std.specs.Arc.{arc_value};
 ghost use Rattle.std.specs.List.{All, range_with_len};
 ghost use Rattle.std.specs.Option.{option_map};
-ghost use Rattle.answer_log.specs.Groups.{group_of, hash_of, hashed_of};
+ghost use Rattle.answer_log.specs.Groups.{group_limit, group_of, hash_of, hashed_of};
 ghost use Rattle.answer_log.specs.Hands.{AreHands, EndsWith, IsHand, IsSame, SeesMore, spent_of};
 ghost use Rattle.answer_log.specs.Spending.{one_try};
 ghost use Rattle.answer_log.specs.Histories.{IsFull, IsSound, cached, in_group};
@@ -55,8 +55,8 @@ const MOST_PLACES: u64 = 1 << 32;
 /// A book of answers that up to 64 seats share without a lock, each in a thread of its own.
 #[derive(Drop)]
 pub struct SharedCache {
-    log: Log,
-    shelves: Vec<Shelf>,
+    pub(crate) log: Log,
+    pub(crate) shelves: Vec<Shelf>,
 }
 
 impl Model for SharedCache {
@@ -76,15 +76,19 @@ impl Model for SharedCache {
 
 /// What is to be stored.
 #[derive(Clone, Copy)]
-struct Wanted<'a> {
-    question: &'a Question,
-    hash: u32,
-    answer: &'a Arc<Answer>,
-    moment: Moment,
+pub(crate) struct Wanted<'a> {
+    pub question: &'a Question,
+    pub hash: u32,
+    pub answer: &'a Arc<Answer>,
+    pub moment: Moment,
 }
 
 /// An empty shelf for each seat.
-fn empty_shelves(alloc: Global, seats: usize, seen: &Book) -> Result<Vec<Shelf>, AllocError>
+pub(crate) fn empty_shelves(
+    alloc: Global,
+    seats: usize,
+    seen: &Book,
+) -> Result<Vec<Shelf>, AllocError>
     ensures tagged { IfOk result
         (λ shelves. All (λ shelf. shelf.tag ≡ numbers_of seen.now.book) shelves.items) }
     ensures count { IfOk result (λ shelves. length shelves.items ≡ seats) }
@@ -155,7 +159,7 @@ impl SharedCache {
     }
 
     /// The next node of a walk: one load of its link.
-    fn step(&self, walk: &mut Walk, hand: &mut Hand) -> Result<Option<&Node>, AllocError>
+    pub(crate) fn step(&self, walk: &mut Walk, hand: &mut Hand) -> Result<Option<&Node>, AllocError>
         requires books { (walk.old.seen.book ≡ self.now.book)
             × (hand.old.book.book ≡ self.now.book) }
         requires hand { IsHand hand.old }
@@ -198,7 +202,7 @@ impl SharedCache {
         ensures last { IfOk result
             (λ found. IsLastOf asked.now.question.now (history walk.old.seen.log)
             (option_map (λ node. node.now) found)) }
-        ensures costs { Costs (spent_of hand.old) (spent_of hand.new) 64 0 }
+        ensures costs { Costs (spent_of hand.old) (spent_of hand.new) group_limit 0 }
         ensures missed { IfErr result
             (λ _. (spent_of hand.old).missed < (spent_of hand.new).missed) }
     {
@@ -214,7 +218,7 @@ impl SharedCache {
         Ok(None)
     }
 
-    /// Whether 64 stores are ahead of a walk.
+    /// Whether as many stores are ahead of a walk as a group can have.
     fn is_full(&self, walk: &mut Walk, hand: &mut Hand) -> Result<bool, AllocError>
         requires books { (walk.old.seen.book ≡ self.now.book)
             × (hand.old.book.book ≡ self.now.book) }
@@ -222,8 +226,8 @@ impl SharedCache {
         requires ahead { (left : List Store) × Ahead walk.old left }
         ensures same { IsSame hand.old hand.new }
         ensures full { IfOk result (λ full. (left : List Store) → Ahead walk.old left
-            → IsTrue full ↔ (64 ≤ length left)) }
-        ensures costs { Costs (spent_of hand.old) (spent_of hand.new) 64 0 }
+            → IsTrue full ↔ (group_limit ≤ length left)) }
+        ensures costs { Costs (spent_of hand.old) (spent_of hand.new) group_limit 0 }
         ensures missed { IfErr result
             (λ _. (spent_of hand.old).missed < (spent_of hand.new).missed) }
     {
@@ -244,7 +248,7 @@ impl SharedCache {
         ensures holds { Holds self.now.book hand.old hand.new }
         ensures seen { SeesMore hand.old.number hand.old.book.log hand.new.book.log }
         ensures places { hand.new.places ≡ hand.old.places }
-        ensures costs { Costs (spent_of hand.old) (spent_of hand.new) 64 0 }
+        ensures costs { Costs (spent_of hand.old) (spent_of hand.new) group_limit 0 }
         ensures room { IfOk result
             (λ old. (old ≡ top (group_of asked.now.question.now) hand.new.book.log)
             × (IsFull (history hand.new.book.log) asked.now.question.now → ⊥)) }
@@ -411,7 +415,7 @@ impl SharedCache {
         requires tagged { node.now.tag ≡ hash_of (hashed_of node.now.question) }
         requires room { HadRoom hand.old.book.log old node.now.question }
         ensures holds { Holds self.now.book hand.old hand.new }
-        ensures costs { Costs (spent_of hand.old) (spent_of hand.new) (15 * 64) 16 }
+        ensures costs { Costs (spent_of hand.old) (spent_of hand.new) (15 * group_limit) 16 }
         ensures tried { (spent_of hand.old).tries < (spent_of hand.new).tries }
         ensures competed { MatchResult result
             (λ _. EndsWith (store_in hand.old.number node.now) (history hand.old.book.log)
@@ -439,7 +443,7 @@ impl SharedCache {
     }
 
     /// Stores what lives.
-    fn put<R: Wait, V: Rival>(
+    pub(crate) fn put<R: Wait, V: Rival>(
         &self,
         rt: &R,
         hand: &mut Hand,
@@ -454,7 +458,7 @@ impl SharedCache {
             (arc_value wanted.now.answer.now) wanted.now.moment) }
         requires hash { wanted.now.hash ≡ hash_of (hashed_of wanted.now.question.now) }
         ensures holds { Holds self.now.book hand.old hand.new }
-        ensures costs { Costs (spent_of hand.old) (spent_of hand.new) (16 * 64) 16 }
+        ensures costs { Costs (spent_of hand.old) (spent_of hand.new) (16 * group_limit) 16 }
         ensures put { MatchResult result
             (λ _. EndsWith (store_by hand.old.number wanted.now.question.now
             (arc_value wanted.now.answer.now) wanted.now.moment) (history hand.old.book.log)
@@ -492,7 +496,7 @@ impl SharedCache {
         requires kind { kind_of (arc_value answer.now).records ≡ question.now.kind }
         ensures stays { Belongs self.now seat.new }
         ensures goes_on { GoesOn seat.old.seat seat.new.seat }
-        ensures takes { Takes seat.old seat.new (16 * 64) 16 }
+        ensures takes { Takes seat.old seat.new (16 * group_limit) 16 }
         ensures offered { seat.new.seat.offered
             ≡ seat.old.seat.offered ++ offer_of question.now (arc_value answer.now) now ∷ [] }
         ensures stored { OnOk result
@@ -555,7 +559,7 @@ impl AnswerBook for SharedCache {
         ensures stays { Belongs self.now seat.new }
         ensures goes_on { GoesOn seat.old.seat seat.new.seat }
         ensures stores_nothing { StoresNothing seat.old.seat seat.new.seat }
-        ensures takes { Takes seat.old seat.new 64 0 }
+        ensures takes { Takes seat.old seat.new group_limit 0 }
         ensures found { IfOk result
             (λ found. option_map arc_value found ≡ cached seat.new.seat.seen question.now now) }
         ensures wanted { OnErr result (WantsForAnswer question.now now seat.old seat.new) }
@@ -584,7 +588,7 @@ impl AnswerBook for SharedCache {
         requires kind { kind_of (arc_value answer.now).records ≡ question.now.kind }
         ensures stays { Belongs self.now seat.new }
         ensures goes_on { GoesOn seat.old.seat seat.new.seat }
-        ensures takes { Takes seat.old seat.new (16 * 64) 16 }
+        ensures takes { Takes seat.old seat.new (16 * group_limit) 16 }
         ensures offered { seat.new.seat.offered
             ≡ seat.old.seat.offered ++ offer_of question.now (arc_value answer.now) now ∷ [] }
         ensures stored { OnOk result

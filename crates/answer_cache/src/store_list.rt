@@ -34,7 +34,7 @@ struct Group {
     count: usize,
 }
 
-/// Stores in the order of time, at most 64 of each group.
+/// Stores in the order of time, at most 128 of each group.
 #[derive(Drop)]
 pub(crate) struct StoreList {
     entries: Vec<Entry>,

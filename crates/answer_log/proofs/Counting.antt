@@ -102,3 +102,10 @@ count-quiet s (x ∷ xs) none = let r = quiet-when s x (count s xs) (seat_of x =
 pub count-same : (s : ℕ) (v g w : List Event) → v ++ g ≡ w → count s w ≡ count s v → Quiet s g
 count-same s v g w p same = let n : count s w ≡ count s v + count s g = ap (count s) (sym p) ∙ count-append s v g in count-quiet s g
     (omega arith)
+
+-- what lies between two logs with as many events of a seat has as many
+pub count-between : (s : ℕ) (v a b w : List Event) → (v ++ a) ++ b ≡ w → count s w ≡ count s v → count s (v ++ a) ≡ count s v
+count-between s v a b w p same =
+    let whole = ap (count s) (sym p) ∙ count-append s (v ++ a) b in
+    let front = count-append s v a in
+    omega arith

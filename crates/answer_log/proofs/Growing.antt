@@ -3,7 +3,7 @@ use Rattle.std.proofs.Common.{◌≡◌, ◌≢◌, ℕ, ◌<◌, ◌≤◌, ◌
 use Rattle.std.proofs.lemmas.Bool.{eqb-true, eqb-false, eq-eqb, ne_eqb}
 use Rattle.std.proofs.lemmas.List.{length-append, append-nil}
 use Rattle.std.proofs.lemmas.List.Elements.{filter-append, All-push}
-use Rattle.answer_log.specs.Groups.{group_of}
+use Rattle.answer_log.specs.Groups.{group_limit, group_of}
 use Rattle.answer_log.specs.Histories.{IsFull, IsHistory, IsSound, in_group}
 use Rattle.answer_log.specs.declared.store.Store.{Store}
 
@@ -17,16 +17,16 @@ module _ (stores : List Store) (store : Store) where
       (append-nil (in_group group stores))
 
   few-by : (group : ℕ) (is : Bool) → (group_of store.question == group) ≡ is → (IsFull stores store.question → ⊥)
-      → length (in_group group stores) ≤ 64 → length (in_group group (stores ++ store ∷ [])) ≤ 64
+      → length (in_group group stores) ≤ group_limit → length (in_group group (stores ++ store ∷ [])) ≤ group_limit
   few-by group true is room few =
       let same = eqb-true (group_of store.question) group is in
       let more = length-append (in_group group stores) (store ∷ []) in
-      let below : length (in_group (group_of store.question) stores) < 64 = below-of
+      let below : length (in_group (group_of store.question) stores) < group_limit = below-of
       (length (in_group (group_of store.question) stores)) room in
       let below' = rw same at below in
       rw (one-more group same, more) omega arith
     where
-      below-of : (n : ℕ) → (64 ≤ n → ⊥) → n < 64
+      below-of : (n : ℕ) → (group_limit ≤ n → ⊥) → n < group_limit
       below-of n not = omega arith
   few-by group false is room few =
       let other = eqb-false (group_of store.question) group is in rw (no-more group other) few

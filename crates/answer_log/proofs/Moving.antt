@@ -13,7 +13,7 @@ use Rattle.answer_log.specs.declared.event.Event.{Event}
 use Rattle.answer_log.specs.declared.event.Counted.{Counted}
 use Rattle.answer_log.specs.declared.event.Event.TheVariants.{Asks, Named, Opened, Placed}
 use Rattle.answer_log.specs.Counts.{count, Counts}
-use Rattle.answer_log.specs.Groups.{group_of}
+use Rattle.answer_log.specs.Groups.{group_limit, group_of}
 use Rattle.answer_log.specs.Histories.{IsFull, IsHistory, IsSound, in_group}
 use Rattle.answer_log.specs.Logs.{seat_of, seats_in, history, placed_of, top, top_from, Linked, In}
 use Rattle.answer_log.specs.Rules.{IsKept, node_at}
@@ -395,7 +395,7 @@ module _ (v seen : List Event) (pen : Nib) (n : ℕ) (x : Store) (old : ℕ) (ri
       let tops : pen.value ≡ top (group_of x.question) log =
       value ∙ (sym found ∙ ap (λ (c : Cell). c.0) (kept.heads (group_of x.question) (group-low x.question))) in
       let N : List Event → Type 0 = λ w. In (Named n x pen.key) w in
-      let G : List Store → Type 0 = λ k. 64 ≤ length k → ⊥ in
+      let G : List Store → Type 0 = λ k. group_limit ≤ length k → ⊥ in
       let e : Event = Placed n x pen.key in
       let r : Counted = more_answer (count x.seat log) in (
         gives,

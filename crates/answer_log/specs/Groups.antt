@@ -17,6 +17,10 @@ abbrev pub hashed_of : Question → List ℕ
 hashed_of question = wire_of question.name ++ (kind_code question.kind / 256)
     ∷ (kind_code question.kind % 256) ∷ []
 
+-- how many stores of one group there can be
+abbrev pub group_limit : ℕ
+group_limit = 128
+
 -- one of 64
 abbrev pub group_of : Question → ℕ
 group_of question = hash_of (hashed_of question) % 64

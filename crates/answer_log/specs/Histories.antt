@@ -6,7 +6,7 @@ use Rattle.dns_answers.specs.Records.{kind_of}
 use Rattle.dns_answers.specs.Values.{AnswerValue}
 use Rattle.dns_message.specs.Questions.{same_question}
 use Rattle.dns_message.specs.declared.question.Question.{Question}
-use Rattle.answer_log.specs.Groups.{group_of}
+use Rattle.answer_log.specs.Groups.{group_limit, group_of}
 use Rattle.answer_log.specs.declared.store.Store.{Store}
 
 -- the stores of a question
@@ -26,9 +26,9 @@ cached history question now =
 abbrev pub in_group : ℕ → List Store → List Store
 in_group group history = filter (λ store. group_of store.question == group) history
 
--- there are 64 stores in the question's group
+-- there are as many stores in the question's group as there can be
 abbrev pub IsFull : List Store → Question → Type 0
-IsFull history question = 64 ≤ length (in_group (group_of question) history)
+IsFull history question = group_limit ≤ length (in_group (group_of question) history)
 
 -- the stores of a seat
 abbrev pub mine : List Store → ℕ → List Store
@@ -38,7 +38,7 @@ mine history seat = filter (λ store. store.seat == seat) history
 abbrev pub IsSound : Store → Type 0
 IsSound store = (0 < store.answer.life) × (kind_of store.answer.records ≡ store.question.kind)
 
--- each store is sound, and no group has more than 64
+-- each store is sound, and no group has more than its limit
 pub record IsHistory (history : List Store) : Type 0 where
   pub sound : All IsSound history
-  pub few : (group : ℕ) → length (in_group group history) ≤ 64
+  pub few : (group : ℕ) → length (in_group group history) ≤ group_limit

@@ -8,7 +8,7 @@ use dns_message::Question;
 pub const GROUP_COUNT: u8 = 64;
 
 /// How many stores of one group there can be.
-pub const GROUP_LIMIT: usize = 64;
+pub const GROUP_LIMIT: usize = 128;
 
 /// The hash with one octet more (FNV-1a, 32 bits).
 fn hash_more(hash: u32, octet: u8) -> u32

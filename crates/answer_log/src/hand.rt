@@ -48,6 +48,7 @@ impl Hands {
         ensures next { self.new.next ≡ self.old.next + 1 }
         ensures seats { self.new.seats ≡ self.old.seats }
         ensures book { self.new.seen.book ≡ self.old.seen.book }
+        ensures seen { (self.new.seen ≡ self.old.seen) × (result.book ≡ self.old.seen) }
         ensures hand { IsNew result self.old.seen.book self.old.next self.old.seats }
     {
         let number = self.next;

@@ -121,7 +121,8 @@ impl Log {
         requires group { group < 64 }
         ensures hand { IsHand hand.new }
         ensures number { (hand.new.number ≡ hand.old.number) × (hand.new.seats ≡ hand.old.seats) }
-        ensures book { hand.new.book.book ≡ self.now }
+        ensures book { (hand.new.book.book ≡ self.now)
+            × (hand.new.book.names ≡ hand.old.book.names) }
         ensures seen { SeesMore hand.old.number hand.old.book.log hand.new.book.log }
         ensures places { hand.new.places ≡ hand.old.places }
         ensures spent { spent_of hand.new ≡ spent_of hand.old }
@@ -154,6 +155,27 @@ impl Log {
         let _node = top_node(head, 0, &mut hand.book, &mut hand.tally, hand.number);
     }
 
+    /// Sees just what was told: one load of a head. What was told goes on from what the seat has
+    /// seen. The load shows that it has no event of this seat that is new.
+    pub fn meet(&self, hand: &mut Hand, told: &Book)
+        requires book { hand.old.book.book ≡ self.now }
+        requires hand { IsHand hand.old }
+        requires told { (told.now.book ≡ self.now) × (told.now.names ≡ hand.old.book.names)
+            × IsPrefix hand.old.book.log told.now.log }
+        ensures hand { IsHand hand.new }
+        ensures number { (hand.new.number ≡ hand.old.number) × (hand.new.seats ≡ hand.old.seats) }
+        ensures places { hand.new.places ≡ hand.old.places }
+        ensures spent { spent_of hand.new ≡ spent_of hand.old }
+        ensures book { hand.new.book ≡ told.now }
+        ensures seen { SeesMore hand.old.number hand.old.book.log told.now.log }
+    {
+        let mut seen = hand.book.again();
+        seen.learn(told);
+        let head = self.head(0);
+        let _node = top_node(head, 0, &mut seen, &mut hand.tally, hand.number);
+        hand.book = told.again();
+    }
+
     /// Names the node of a place for a store, and makes its link: one exchange on the idle word. A
     /// place is named once, so it is none below those that the seat has used.
     pub fn claim(
@@ -169,7 +191,8 @@ impl Log {
         requires place { (hand.old.places ≤ place) × (place < 2 ^ 32) }
         ensures hand { IsHand hand.new }
         ensures number { (hand.new.number ≡ hand.old.number) × (hand.new.seats ≡ hand.old.seats) }
-        ensures book { hand.new.book.book ≡ self.now }
+        ensures book { (hand.new.book.book ≡ self.now)
+            × (hand.new.book.names ≡ hand.old.book.names) }
         ensures places { hand.new.places ≡ place + 1 }
         ensures spent { spent_of hand.new ≡ spent_of hand.old }
         ensures seen { SeesMore hand.old.number hand.old.book.log hand.new.book.log }
@@ -218,7 +241,8 @@ impl Log {
             × (pen.old.nib.value ≡ old) × (64 < link.now.key) }
         ensures hand { IsHand hand.new }
         ensures number { (hand.new.number ≡ hand.old.number) × (hand.new.seats ≡ hand.old.seats) }
-        ensures book { hand.new.book.book ≡ self.now }
+        ensures book { (hand.new.book.book ≡ self.now)
+            × (hand.new.book.names ≡ hand.old.book.names) }
         ensures places { hand.new.places ≡ hand.old.places }
         ensures spent { spent_of hand.new ≡ one_try (spent_of hand.old) }
         ensures placed { MatchBool result
@@ -246,8 +270,8 @@ impl Log {
     }
 }
 
-/// A law: each log that was seen has a history of sound stores of its seats, at most 64 in a group,
-/// and no node 0.
+/// A law: each log that was seen has a history of sound stores of its seats, at most 128 in a
+/// group, and no node 0.
 pub fn log_keeps_its_rule(book: &Book)
     ensures { IsLog book.now.log }
 {

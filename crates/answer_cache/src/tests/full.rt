@@ -55,7 +55,7 @@ fn says(
     Some(cache.store(rt, seat, &question, &answer, Moment::new(100)?) == wanted)
 }
 
-/// Whether a group takes one store of the first name and 63 of the other one, and no more.
+/// Whether a group takes one store of the first name and 127 of the other one, and no more.
 fn fills_group(
     rt: &(impl Wait + AllocGlobal),
     cache: &SharedCache,
@@ -66,12 +66,12 @@ fn fills_group(
     requires { Belongs cache.now seat.old }
     ensures { Belongs cache.now seat.new }
 {
-    let mut taken = says(rt, cache, seat, first, 100, Ok(()))?;
-    'lives: for life in 1..64 {
+    let mut taken = says(rt, cache, seat, first, 200, Ok(()))?;
+    'lives: for life in 1..128 {
         taken = taken && says(rt, cache, seat, second, life, Ok(()))?;
     }
     let full = Err(StoreRefusal::GenerationFull);
-    Some(taken && says(rt, cache, seat, second, 64, full)?)
+    Some(taken && says(rt, cache, seat, second, 128, full)?)
 }
 
 /// The life that is found for a name.
@@ -97,7 +97,7 @@ fn fills_all(rt: &(impl Wait + AllocGlobal), cache: &SharedCache, mut seat: Seat
     'found: for group in 0..64 {
         let first = life_for(rt.alloc(), cache, &mut seat, FIRSTS[group])?;
         let second = life_for(rt.alloc(), cache, &mut seat, SECONDS[group])?;
-        if first != 100 || second != 63 {
+        if first != 200 || second != 127 {
             return Some(false);
         }
     }

@@ -58,19 +58,19 @@ fn does_as_rows_say<B: AnswerBook>(
     true
 }
 
-/// Whether a book takes 64 stores of a group and no more, but none of life 0, and those of another
+/// Whether a book takes 128 stores of a group and no more, but none of life 0, and those of another
 /// group.
-fn is_full_at_64<B: AnswerBook>(
+fn is_full_at_128<B: AnswerBook>(
     rt: &(impl Wait + AllocGlobal),
     book: &B,
     seat: &mut B::Seat,
 ) -> bool
     requires { B.belongs book.now seat.old }
 {
-    'lives: for life in 0..66 {
+    'lives: for life in 0..130 {
         let wanted = match life {
             0 => Err(StoreRefusal::Lifeless),
-            65 => Err(StoreRefusal::GenerationFull),
+            129 => Err(StoreRefusal::GenerationFull),
             _ => Ok(()),
         };
         if stored(rt, book, seat, Kind::A, life, 100) != Some(wanted) {
@@ -78,7 +78,7 @@ fn is_full_at_64<B: AnswerBook>(
         }
     }
     stored(rt, book, seat, Kind::Aaaa, 7, 100) == Some(Ok(()))
-        && found(rt.alloc(), book, seat, Kind::A, 100) == Some(Some(64))
+        && found(rt.alloc(), book, seat, Kind::A, 100) == Some(Some(128))
         && found(rt.alloc(), book, seat, Kind::Aaaa, 100) == Some(Some(7))
 }
 
@@ -87,7 +87,7 @@ fn list_does(rt: &(impl Wait + AllocGlobal)) -> [bool; 2] {
     let (book, mut seat) = ListCache::new(rt.alloc());
     let rows = does_as_rows_say(rt, &book, &mut seat);
     let (book, mut seat) = ListCache::new(rt.alloc());
-    [rows, is_full_at_64(rt, &book, &mut seat)]
+    [rows, is_full_at_128(rt, &book, &mut seat)]
 }
 
 #[test]
@@ -101,16 +101,16 @@ fn first_seat_does_as_rows_say(rt: &(impl Wait + AllocGlobal)) -> Option<bool> {
     Some(does_as_rows_say(rt, &cache, &mut seat))
 }
 
-/// Whether the second seat of a new cache fills a group with 64 stores.
-fn second_seat_is_full_at_64(rt: &(impl Wait + AllocGlobal)) -> Option<bool> {
+/// Whether the second seat of a new cache fills a group with 128 stores.
+fn second_seat_is_full_at_128(rt: &(impl Wait + AllocGlobal)) -> Option<bool> {
     let (cache, _, mut seat) = two_seats(rt.alloc())?;
-    Some(is_full_at_64(rt, &cache, &mut seat))
+    Some(is_full_at_128(rt, &cache, &mut seat))
 }
 
 #[test]
 fn shared_cache(rt: HostRuntime) {
     assert_eq!(rt; first_seat_does_as_rows_say(&rt), Some(true));
-    assert_eq!(rt; second_seat_is_full_at_64(&rt), Some(true));
+    assert_eq!(rt; second_seat_is_full_at_128(&rt), Some(true));
 }
 
 #[test]

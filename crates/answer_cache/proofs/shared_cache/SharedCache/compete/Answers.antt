@@ -1,6 +1,7 @@
 use Rattle.std.proofs.Common.{◌+◌, ◌-◌, ◌*◌, ℕ, arith, sym, ◌∙◌, subst, []}
 use Rattle.std.proofs.lemmas.List.{append-nil}
 use Rattle.std.proofs.lemmas.Result.{err_from_is_err_and}
+use Rattle.answer_log.specs.Groups.{group_limit}
 use Rattle.answer_log.specs.Hands.{SeesMore, spent_of}
 use Rattle.answer_log.specs.Logs.{history}
 use Rattle.answer_cache.specs.Nodes.{IsReady}
@@ -17,6 +18,7 @@ tries-init g c =
       hand = it.holds.hand;
       number = (it.holds.number, it.holds.seats);
       book = (it.holds.same, c.if-attempt.ensures.again.0);
+      names = it.holds.names;
       ready = subst R (sym it.holds.number) c.if-attempt.ensures.again.1;
       seen = c.if-attempt.ensures.placed;
       count = λ seen later last. let less = c.if-attempt.ensures.lost seen later last in omega arith;
@@ -67,6 +69,7 @@ tries-preserved g c =
       hand = it.holds.hand;
       number = (it.holds.number ∙ number, it.holds.seats ∙ (c.in_ok-old.ensures.holds.seats ∙ i.number.1));
       book = (it.holds.same, lost.again.0);
+      names = it.holds.names ∙ (c.in_ok-old.ensures.holds.names ∙ i.names);
       ready = subst R (sym it.holds.number) lost.again.1;
       seen = sees-trans h.number h.book.log k.book.log t.hand.book.log
           (sees-trans h.number h.book.log c.tries.hand.book.log k.book.log i.seen (subst S i.number.0 c.in_ok-old.ensures.seen))
@@ -80,9 +83,9 @@ tries-preserved g c =
       costs =
           let n = c.tries.number in
           let l = i.least in
-          costs.within _ _ ((n - 2) * 64 + 64 + 0) ((n + 1 - 2) * 64) ((n - 1) + 0 + 1) (n + 1 - 1) (omega arith) (omega arith)
-          (costs.both _ (spent_of c.room.new.hand) _ ((n - 2) * 64 + 64) 0 ((n - 1) + 0) 1
-          (costs.both _ (spent_of c.tries.hand) _ ((n - 2) * 64) 64 (n - 1) 0 i.costs c.in_ok-old.ensures.costs)
+          costs.within _ _ ((n - 2) * group_limit + group_limit + 0) ((n + 1 - 2) * group_limit) ((n - 1) + 0 + 1) (n + 1 - 1) (omega arith) (omega arith)
+          (costs.both _ (spent_of c.room.new.hand) _ ((n - 2) * group_limit + group_limit) 0 ((n - 1) + 0) 1
+          (costs.both _ (spent_of c.tries.hand) _ ((n - 2) * group_limit) group_limit (n - 1) 0 i.costs c.in_ok-old.ensures.costs)
           (costs.tried _ _ it.spent));
       tried = let a = i.tried in let b = c.in_ok-old.ensures.costs.before in let m = costs.more _ _ it.spent in omega arith;
     }

@@ -1,0 +1,75 @@
+-- What a cache hands on to the one that comes after it, and what the seats of that one see.
+use Rattle.std.specs.Prelude.{◌≡◌, ℕ, zero, suc, ◌+◌, ◌<◌, nat_lt, Bool, List, [], ◌∷◌, map}
+use Rattle.std.specs.Prelude.{if◌then◌else◌}
+use Rattle.std.specs.Arc.{arc_value}
+use Rattle.std.specs.List.{filter, flat_map, list_any, range_with_len}
+use mathlib.Core.List.{IsPrefix}
+use Rattle.dns_message.specs.Questions.{same_question}
+use Rattle.dns_message.specs.declared.question.Question.{Question}
+use Rattle.answer_log.specs.Histories.{in_group}
+use Rattle.answer_log.specs.declared.store.Store.{Store}
+use Rattle.answer_cache.specs.Lists.{own_store}
+use Rattle.answer_cache.specs.Seats.{Offer, SeatView, offer_of}
+use Rattle.answer_cache.specs.declared.carried.Entry.{Entry}
+
+abbrev pub offer_in : Entry → Offer
+offer_in entry = offer_of entry.question (arc_value entry.answer) entry.moment
+
+abbrev pub offers_in : List Entry → List Offer
+offers_in entries = map offer_in entries
+
+-- what is carried, as stores of seat 0
+abbrev pub carried_stores : List Offer → List Store
+carried_stores offers = map own_store offers
+
+-- a store without its seat
+abbrev pub unseated : Store → Offer
+unseated store = offer_of store.question store.answer store.moment
+
+-- a store of the question is among them
+abbrev pub has_question : Question → List Store → Bool
+has_question question stores = list_any (λ store. same_question store.question question) stores
+
+-- the stores that are the last of their question, in their order
+abbrev pub last_stores : List Store → List Store
+last_stores [] = []
+last_stores (store ∷ later) =
+    if has_question store.question later then last_stores later else store ∷ last_stores later
+
+abbrev pub lives_at : ℕ → Offer → Bool
+lives_at now offer = nat_lt now (offer.moment + offer.answer.life)
+
+-- the last stores of their questions that live, in their order and without their seats
+abbrev pub living_of : ℕ → List Store → List Offer
+living_of now stores = filter (lives_at now) (map unseated (last_stores stores))
+
+-- What is carried of the first groups, from 0 on, by a seat that had seen one history before and
+-- has seen another one afterwards: of each group the last stores of their questions that live, at a
+-- history of its own. None of these is shorter than that of the group before.
+pub record IsCarriedOf (groups : ℕ) (before after : List Store) (now : ℕ)
+    (carried : List Offer) : Type 0 where
+  pub history : ℕ → List Store
+  pub from : (group : ℕ) → group < groups → IsPrefix before (history group)
+  pub next : (group : ℕ) → group + 1 < groups → IsPrefix (history group) (history (group + 1))
+  pub till : (group : ℕ) → group < groups → IsPrefix (history group) after
+  pub all : carried ≡ flat_map (λ group. living_of now (in_group group (history group)))
+      (range_with_len 0 groups)
+
+-- of all groups
+abbrev pub IsCarried : List Store → List Store → ℕ → List Offer → Type 0
+IsCarried before after now carried = IsCarriedOf 64 before after now carried
+
+-- the own stores of a seat, where all are of seat 0
+abbrev pub own_of : List Store → ℕ → List Store
+own_of stores zero = stores
+own_of stores (suc number) = []
+
+-- a seat of a cache that begins with what was carried, and was handed nothing
+abbrev pub seat_after : List Offer → ℕ → SeatView
+seat_after carried number =
+    record {
+      number = number;
+      seen = carried_stores carried;
+      own = own_of (carried_stores carried) number;
+      offered = [];
+    }

@@ -1,0 +1,87 @@
+//! What a cache hands on to the one that comes after it.
+ghost use Rattle.std.specs.Prelude.{◌≡◌, ◌↔◌, ◌≤◌, ℕ, [], IsTrue, List, None, length, slice_get};
+ghost use Rattle.std.specs.Arc.{arc_value};
+ghost use Rattle.std.specs.Option.{option_map};
+ghost use Rattle.dns_message.specs.declared.question.Question.{Question as Asked};
+ghost use Rattle.answer_log.specs.Groups.{group_of};
+ghost use Rattle.answer_log.specs.Histories.{cached};
+ghost use Rattle.answer_log.specs.declared.store.Store.{Store};
+ghost use Rattle.answer_cache.specs.Carried.{IsCarried, carried_stores};
+ghost use Rattle.answer_cache.specs.Seats.{offer_of};
+
+use dns_answers::{Answer, Moment};
+use dns_message::{Question, same_questions_are_equal};
+use std::marker::Model;
+use std::sync::Arc;
+
+/// A store without its seat.
+#[derive(Drop)]
+pub(crate) struct Entry {
+    pub question: Question,
+    pub answer: Arc<Answer>,
+    pub moment: Moment,
+}
+
+/// What a cache hands on to the one that comes after it: stores without their seats. Each answer
+/// has a life above 0 and records of its question's kind, and no group has more than 128 stores.
+#[derive(Drop)]
+pub struct Carried {
+    pub(crate) entries: Vec<Entry>,
+}
+
+impl Model for Carried {
+    ghost use Rattle.std.specs.Prelude.{List};
+    ghost use Rattle.answer_log.specs.Histories.{IsHistory};
+    ghost use Rattle.answer_cache.specs.Carried.{carried_stores, offers_in};
+    ghost use Rattle.answer_cache.specs.Seats.{Offer};
+
+    ghost Value = { List Offer };
+
+    ghost view = { λ it. offers_in it.entries.items };
+
+    ghost invariant = { λ it. IsHistory (carried_stores (offers_in it.entries.items)) };
+}
+
+impl Carried {
+    /// How many stores there are.
+    #[must_use]
+    pub fn len(&self) -> usize
+        ensures { result ≡ length self.now }
+    {
+        self.entries.len()
+    }
+
+    /// Whether there is none.
+    #[must_use]
+    pub fn is_empty(&self) -> bool
+        ensures { IsTrue result ↔ (self.now ≡ []) }
+    {
+        self.entries.is_empty()
+    }
+
+    /// The question, the answer and the moment of the store at this place, from 0.
+    #[must_use]
+    pub fn get(&self, place: usize) -> Option<(&Question, &Arc<Answer>, Moment)>
+        ensures { option_map (λ it. offer_of it.0.now (arc_value it.1.now) it.2) result
+            ≡ slice_get self.now place }
+    {
+        let entry = self.entries.get(place)?;
+        Some((&entry.question, &entry.answer, entry.moment))
+    }
+}
+
+/// A law: at the moment of the carrying and at each later one, what was carried answers a question
+/// as the history did at which its group was carried. What it doesn't answer it doesn't answer
+/// later either.
+pub fn carried_answers_as_before(carried: &Carried)
+    ensures same { (before after : List Store) (now later : ℕ) → now ≤ later
+        → (it : IsCarried before after now carried.now) → (question : Asked)
+        → cached (carried_stores carried.now) question later
+        ≡ cached (it.history (group_of question)) question later }
+    ensures no_more { (now later : ℕ) → now ≤ later → (question : Asked)
+        → cached (carried_stores carried.now) question now ≡ None
+        → cached (carried_stores carried.now) question later ≡ None }
+{
+    let _ = &carried.entries;
+    same_questions_are_equal();
+}

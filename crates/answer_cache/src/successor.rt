@@ -1,0 +1,123 @@
+//! The cache that comes after another one.
+ghost use Rattle.std.specs.Prelude.{◌≡◌, ◌<◌, ◌≤◌, [], IfErr, IfOk, OnOk, map};
+ghost use Rattle.std.specs.List.{All, range_with_len};
+ghost use Rattle.answer_log.specs.Hands.{AreHands, IsHand};
+ghost use Rattle.answer_log.specs.Histories.{mine};
+ghost use Rattle.answer_log.specs.Logs.{history};
+ghost use Rattle.answer_cache.specs.Carried.{carried_stores, seat_after};
+ghost use Rattle.answer_cache.specs.Nodes.{Holds};
+ghost use Rattle.answer_cache.specs.Shared.{Belongs, Refuses, cache_view};
+
+use crate::cache_refusal::CacheRefusal;
+use crate::carried::Carried;
+use crate::notes::Notes;
+use crate::rival::NoRival;
+use crate::seat::Seat;
+use crate::shared_cache::{SharedCache, Wanted, empty_shelves};
+use answer_log::{Hand, Hands, Log, MOST_SEATS, hash, log_keeps_its_rule};
+use std::alloc::{AllocError, Global};
+use std::sync::Wait;
+
+impl SharedCache {
+    /// Stores what is carried, in its order, through a seat that has stored nothing.
+    fn restore<R: Wait>(&self, rt: &R, hand: &mut Hand, carried: &Carried) -> Result<(), AllocError>
+        requires hand { IsHand hand.old }
+        requires book { hand.old.book.book ≡ self.now.book }
+        requires first { (hand.old.number ≡ 0) × (mine (history hand.old.book.log) 0 ≡ []) }
+        requires shelf { 0 < self.now.seats }
+        ensures holds { OnOk result (Holds self.now.book hand.old hand.new) }
+        ensures own { OnOk result
+            (mine (history hand.new.book.log) 0 ≡ carried_stores carried.now) }
+    {
+        'entries: for at in 0..carried.entries.len() {
+            let entry = &carried.entries[at];
+            let wanted = Wanted {
+                question: &entry.question,
+                hash: hash(&entry.question),
+                answer: &entry.answer,
+                moment: entry.moment,
+            };
+            let Ok(()) = self.put(rt, hand, &wanted, &mut NoRival) else {
+                return Err(AllocError);
+            };
+        }
+        Ok(())
+    }
+
+    /// All seats, which have seen what the first one has: the history has stores of that one alone.
+    fn seats_after(
+        &self,
+        alloc: Global,
+        hands: &mut Hands,
+        first: Hand,
+        seats: usize,
+        carried: &Carried,
+    ) -> Result<Vec<Seat>, AllocError>
+        requires hands { AreHands hands.old }
+        requires next { (hands.old.next ≡ 1) × (hands.old.seats ≡ seats) × (0 < seats) }
+        requires here { (hands.old.seen.book ≡ self.now.book)
+            × (first.book.book ≡ self.now.book)
+            × (first.book.names ≡ hands.old.seen.names) }
+        requires first { IsHand first × (first.number ≡ 0) × (first.seats ≡ seats) }
+        requires own { mine (history first.book.log) 0 ≡ carried_stores carried.now }
+        ensures seats { IfOk result (λ made. map (λ seat. seat.seat) made.items
+            ≡ map (seat_after carried.now) (range_with_len 0 seats)) }
+        ensures belong { IfOk result
+            (λ made. All (Belongs (cache_view self.now.book seats)) made.items) }
+    {
+        let told = first.book.again();
+        log_keeps_its_rule(&told);
+        let mut made = Vec::new(alloc);
+        made.push(Seat {
+            hand: first,
+            notes: Notes::none(),
+        })?;
+        'seats: for _seat in 1..seats {
+            let mut hand = hands.deal();
+            self.log.meet(&mut hand, &told);
+            made.push(Seat {
+                hand,
+                notes: Notes::none(),
+            })?;
+        }
+        Ok(made)
+    }
+
+    /// A cache whose history begins with what another one hands on, and its seats, numbered from 0.
+    /// What is carried counts as stores of seat 0.
+    ///
+    /// # Errors
+    /// `BadCount` outside 1 to 64 seats, and then `Memory`.
+    pub fn successor<R: Wait>(
+        rt: &R,
+        alloc: Global,
+        carried: &Carried,
+        seats: usize,
+    ) -> Result<(SharedCache, Vec<Seat>), CacheRefusal>
+        ensures count { IfOk result (λ made. (0 < seats) × (seats ≤ 64) × (made.0.seats ≡ seats)) }
+        ensures seats { IfOk result
+            (λ made. map (λ seat. seat.seat) made.1.items
+            ≡ map (seat_after carried.now) (range_with_len 0 seats)) }
+        ensures belong { IfOk result (λ made. All (Belongs made.0) made.1.items) }
+        ensures refused { IfErr result (Refuses seats) }
+    {
+        if seats == 0 || seats as u64 > MOST_SEATS {
+            return Err(CacheRefusal::BadCount);
+        }
+        let Ok((log, mut hands)) = Log::open(alloc, seats as u64) else {
+            return Err(CacheRefusal::Memory);
+        };
+        let Ok(shelves) = empty_shelves(alloc, seats, &hands.seen) else {
+            return Err(CacheRefusal::Memory);
+        };
+        let cache = SharedCache { log, shelves };
+        let mut first = hands.deal();
+        let Ok(()) = cache.restore(rt, &mut first, carried) else {
+            return Err(CacheRefusal::Memory);
+        };
+        let Ok(made) = cache.seats_after(alloc, &mut hands, first, seats, carried) else {
+            return Err(CacheRefusal::Memory);
+        };
+        Ok((cache, made))
+    }
+}
