@@ -8,3 +8,4 @@ pub mod Together
 pub mod Succeeding
 pub mod Carrying
 pub mod CarriedAnswers
+pub mod Gathering

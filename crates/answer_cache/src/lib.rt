@@ -56,6 +56,7 @@
 mod book;
 mod cache_refusal;
 mod carried;
+mod carry;
 mod list_cache;
 mod node;
 mod notes;

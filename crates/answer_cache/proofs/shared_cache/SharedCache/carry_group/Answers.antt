@@ -1,0 +1,70 @@
+use Rattle.std.proofs.Common.{◌≡◌, ◌≢◌, ◌⊎◌, ◌<◌, ◌≤◌, ◌++◌, [], Bor, List, inl, inr, length, map, ap, arith, refl, sym, subst, ◌∙◌, Ok, Err, OnErr, OnOk}
+use Rattle.std.specs.List.{filter}
+use Rattle.std.specs.declared.result.Result.{Result}
+use Rattle.answer_log.specs.Groups.{group_limit}
+use Rattle.answer_log.specs.Hands.{spent_of}
+use Rattle.answer_log.specs.Histories.{in_group}
+use Rattle.answer_log.specs.Logs.{history}
+use Rattle.answer_log.specs.Spending.{Spending}
+use Rattle.answer_log.specs.declared.event.Event.{Event}
+use Rattle.answer_log.specs.declared.store.Store.{Store}
+use Rattle.answer_cache.specs.Carried.{last_stores, lives_at, offers_in, unseated}
+use Rattle.answer_cache.specs.Nodes.{offer_of_node}
+use Rattle.answer_cache.specs.Seats.{Offer}
+use Rattle.answer_cache.specs.declared.node.Node.{Node}
+use Rattle.answer_cache.proofs.Gathering.{from-group, from-nodes, on-err, turn-err, turn-ok, turned-lasts}
+use Rattle.answer_cache.proofs.shared_cache.SharedCache.carry_group.Goals as goal
+
+abbrev said : Bor Node → Offer
+said node = offer_of_node node.now
+
+pub last_nodes-requires-clause-ahead : goal.last_nodes-requires-clause-ahead
+last_nodes-requires-clause-ahead c =
+    let stores = in_group c.args.group (history c.walk-walk.new.hand.book.log) in
+    let F : List Event → Type 0 = λ log. length (in_group c.args.group (history log)) ≤ group_limit in
+    (stores, c.walk-walk.ensures.ahead, subst F c.walk-walk.ensures.walk.1 (c.log_keeps_its_rule.ensures.history.few c.args.group))
+
+pub returns-in_err-nodes-clause-wanted : goal.returns-in_err-nodes-clause-wanted
+returns-in_err-nodes-clause-wanted c =
+    let same = ap (λ b. b.log) c.in_err-nodes.ensures.same.book in
+    let S : List Event → Type 0 = λ log. history log ≢ [] in
+    let M : Spending → Type 0 = λ spent. spent.missed < (spent_of c.last_nodes.new.hand).missed in
+    on-err c.from_residual.result _ (elim c.in_err-nodes.ensures.wanted [
+      | inl some ↦ inl (subst S (sym same)
+          (from-group c.args.group (history c.walk-walk.new.hand.book.log) (some _ c.walk-walk.ensures.ahead)))
+      | inr missed ↦ inr (subst M c.walk-walk.ensures.spent missed)
+    ])
+
+pub returns-clause-added : goal.returns-clause-added
+returns-clause-added c =
+    let group = c.args.group in
+    let its = c.in_ok-nodes.ensures in
+    let log = c.walk-walk.new.hand.book.log in
+    let same = ap (λ b. b.log) its.same.book in
+    let F : List Event → Type 0 = λ l. length (in_group group (history l)) ≤ group_limit in
+    let few = subst F c.walk-walk.ensures.walk.1 (c.log_keeps_its_rule.ensures.history.few group) in
+    let turned : List (Bor Node) = c.deref.result.now in
+    let said-all : map said turned ≡ map unseated (last_stores (in_group group (history log))) =
+    turned-lasts said c.in_ok-nodes.nodes.items turned (map unseated (last_stores (in_group group (history log))))
+    (c.deref.ensures.value ∙ c.reverse.ensures.items)
+    (its.last (in_group group (history log)) c.walk-walk.ensures.ahead few) in
+    turn-ok c.add_living.result _ _ (λ added. added
+    ∙ ap (λ offers. offers_in c.args.entries.now.items ++ filter (lives_at c.args.now) offers)
+    (said-all ∙ ap (λ l. map unseated (last_stores (in_group group (history l)))) (sym same))) c.add_living.ensures.added
+
+pub returns-clause-wanted : goal.returns-clause-wanted
+returns-clause-wanted c =
+    let group = c.args.group in
+    let its = c.in_ok-nodes.ensures in
+    let log = c.walk-walk.new.hand.book.log in
+    let same = ap (λ b. b.log) its.same.book in
+    let F : List Event → Type 0 = λ l. length (in_group group (history l)) ≤ group_limit in
+    let S : List Event → Type 0 = λ l. history l ≢ [] in
+    let few = subst F c.walk-walk.ensures.walk.1 (c.log_keeps_its_rule.ensures.history.few group) in
+    let turned : List (Bor Node) = c.deref.result.now in
+    let said-all : map said turned ≡ map unseated (last_stores (in_group group (history log))) =
+    turned-lasts said c.in_ok-nodes.nodes.items turned (map unseated (last_stores (in_group group (history log))))
+    (c.deref.ensures.value ∙ c.reverse.ensures.items)
+    (its.last (in_group group (history log)) c.walk-walk.ensures.ahead few) in
+    turn-err c.add_living.result _ _ (λ some. inl (subst S (sym same) (from-nodes said turned group (history log) said-all some)))
+    c.add_living.ensures.wanted
