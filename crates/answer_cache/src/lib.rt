@@ -21,7 +21,8 @@
 //!
 //! `group` puts each question, by its name and type, into one of 64 groups, and a group has at most
 //! 128 stores. So a book never has more than 8,192. Stores do not make room for others: when groups
-//! are full, the user of a book begins a new one.
+//! are full, the user of a book begins a new one. A `SharedCache` hands on what lives (`carry`), and
+//! its successor begins with that.
 //!
 //! `AnswerBook` is the trait of all books. Its `store` takes a runtime that may wait, for books
 //! that other threads share. `ListCache` is the book of one thread, and has one seat. It never
@@ -47,10 +48,15 @@
 //! let after = life_of(cache.lookup(first, &question, now).ok()?);
 //! ```
 //!
+//! `carry` gives what a cache is to hand on at a moment: of each group the last stores of their
+//! questions, where they live then. `successor` makes a cache whose history begins with that. Its
+//! seats are seats like any other, and look-ups answer as they did before. The old cache goes on by
+//! itself: what is stored there afterwards is not in its successor.
+//!
 //! Read `specs/Histories.antt` of `answer_log` first: it says what a history is, and `cached` is
 //! what a lookup answers. Then read `specs/Seats.antt`: it says what a seat sees, how each call
 //! changes that, and why a store is refused. `specs/Shared.antt` says what contracts see of the
-//! seats of a `SharedCache`.
+//! seats of a `SharedCache`, and `specs/Carried.antt` what is carried.
 #![tactic(auto)]
 
 mod book;

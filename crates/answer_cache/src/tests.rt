@@ -12,6 +12,7 @@ use std::alloc::Global;
 use std::sync::{Arc, Wait};
 
 mod allocations;
+mod carried;
 mod full;
 mod page;
 mod rows;

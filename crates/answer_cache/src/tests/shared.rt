@@ -170,7 +170,7 @@ fn stores_against_another_seat(rt: HostRuntime) {
         // the group is full after two tries
         (
             Kind::A,
-            62,
+            126,
             16,
             (Err(StoreRefusal::GenerationFull), 2, Some(10), Some(10)),
         ),

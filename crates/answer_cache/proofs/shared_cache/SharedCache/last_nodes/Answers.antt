@@ -49,9 +49,9 @@ pub returns-in_err-push-clause-wanted : goal.returns-in_err-push-clause-wanted
 returns-in_err-push-clause-wanted c =
     let met = rw c.in-Some.is at c.in_ok-node.ensures.met in
     on-err c.from_residual-in_err-push.result _ (inl (λ whole ahead.
-        let it = c.links.invariant.gathers whole ahead in
-        let here = met it.left it.ahead in
-        some-left whole c.links.walk c.links._link (map said c.links.nodes.items) it here.0 (store_in here.1 c.in-Some.node.now) here.2))
+    let it = c.links.invariant.gathers whole ahead in
+    let here = met it.left it.ahead in
+    some-left whole c.links.walk c.links._link (map said c.links.nodes.items) it here.0 (store_in here.1 c.in-Some.node.now) here.2))
 
 pub links-preserved : goal.links-preserved
 links-preserved c =
@@ -64,7 +64,7 @@ links-preserved c =
     let same = costs.same-hand c.args.hand.now c.links.hand c.step.new.hand i.same its.same in
     let spent = costs.both _ (spent_of c.links.hand) _ c.links._link 1 0 0 i.costs its.costs in
     let had : (whole : List Store) (ahead : Ahead c.args.walk.now whole)
-        → c.is_among.result ≡ has_question node.now.question (i.gathers whole ahead).done =
+    → c.is_among.result ≡ has_question node.now.question (i.gathers whole ahead).done =
     (λ whole ahead. c.is_among.ensures
     ∙ (ap (list_any (λ it. asks node.now.question (said it))) c.deref.ensures.value
     ∙ was-met c.same_questions_are_equal.ensures said items (i.gathers whole ahead).done node.now.question (i.gathers whole ahead).met)) in
