@@ -53,7 +53,8 @@ module _ (entries : List Entry) (entry : Entry) where
   }
 
   few-by : (number : ℕ) (is : Bool) → (group_of entry.question == number) ≡ is
-      → length (in_group (group_of entry.question) (stores_in entries)) < group_limit → length (in_group number (stores_in entries)) ≤ group_limit
+      → length (in_group (group_of entry.question) (stores_in entries)) < group_limit
+      → length (in_group number (stores_in entries)) ≤ group_limit
       → length (in_group number (stores_in entries ++ store_in entry ∷ [])) ≤ group_limit
   few-by number true is room few =
       let same = eqb-true (group_of entry.question) number is in

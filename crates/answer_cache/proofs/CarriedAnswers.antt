@@ -1,18 +1,16 @@
 -- What is carried answers as the histories did.
-use Rattle.std.proofs.Common.{◌≡◌, ◌≢◌, ◌↔◌, ◌+◌, ◌<◌, ◌≤◌, ◌==◌, ◌||◌, ◌%◌, ℕ, Bool, true, false, IsTrue, List, [], ◌∷◌, ◌++◌, map, Option, Some, None, refl, ap}
+use Rattle.std.proofs.Common.{◌≡◌, ◌≢◌, ◌↔◌, ◌+◌, ◌<◌, ◌≤◌, ◌%◌, ℕ, Bool, true, false, IsTrue, List, [], ◌∷◌, Option, Some, None, refl, ap}
 use Rattle.std.proofs.Common.{sym, ◌∙◌, arith, nat_lt, option_and_then}
-use Rattle.std.proofs.lemmas.Bool.{ne_eqb}
 use Rattle.std.proofs.lemmas.Bool.Decides.{nat_tests}
-use Rattle.std.proofs.lemmas.List.Elements.{All-cons, All-head, All-nil, All-tail}
-use Rattle.std.specs.List.{All, filter, flat_map, last_or, list_any, range_with_len}
+use Rattle.std.proofs.lemmas.List.Elements.{All-cons, All-nil}
+use Rattle.std.specs.List.{All, last_or}
 use Rattle.dns_answers.specs.Values.{AnswerValue}
 use Rattle.dns_message.specs.Questions.{same_question}
 use Rattle.dns_message.specs.declared.question.Question.{Question}
 use Rattle.answer_log.specs.Groups.{group_of, hash_of, hashed_of}
 use Rattle.answer_log.specs.Histories.{cached, in_group, living, stores_of}
 use Rattle.answer_log.specs.declared.store.Store.{Store}
-use Rattle.answer_cache.specs.Carried.{IsCarriedOf, carried_stores, has_question, last_stores, lives_at, living_of, unseated}
-use Rattle.answer_cache.specs.Lists.{own_store}
+use Rattle.answer_cache.specs.Carried.{IsCarriedOf, carried_stores, has_question, living_of}
 use Rattle.answer_cache.specs.Seats.{Offer}
 use Rattle.answer_cache.proofs.Carrying.{all-in-group, all-turn, carried-all, none-filter, only}
 use Rattle.answer_cache.proofs.Lookups.{grouped}
@@ -125,7 +123,8 @@ module _ (question : Question) where
         ∙ ap (λ stores. last (last_or None stores)) (grouped same question (it.history at))))
 
   -- what isn't found at a moment isn't found later
-  pub no-more : (stores : List Store) (now later : ℕ) → now ≤ later → cached stores question now ≡ None → cached stores question later ≡ None
+  pub no-more : (stores : List Store) (now later : ℕ) → now ≤ later → cached stores question now ≡ None
+      → cached stores question later ≡ None
   no-more stores now later le none = by-last (last_or None (stores_of question stores)) refl
     where
       by-last : (last : Option Store) → last_or None (stores_of question stores) ≡ last → cached stores question later ≡ None

@@ -1,23 +1,18 @@
 -- What is carried of a history.
-use Rattle.std.proofs.Common.{◌≡◌, ◌≢◌, ◌↔◌, ◌+◌, ◌<◌, ◌≤◌, ◌==◌, ℕ, zero, suc, Bool, true, false, IsTrue, List, [], ◌∷◌, ◌++◌, length, map, Option, Some, None, refl, ap}
-use Rattle.std.proofs.Common.{sym, ◌∙◌, arith, subst, nat_lt, append_assoc}
-use Rattle.std.proofs.lemmas.Bool.{eqb-true, eqb-false, eq-eqb, ne_eqb}
+use Rattle.std.proofs.Common.{◌≡◌, ◌≢◌, ◌+◌, ◌<◌, ◌≤◌, ◌==◌, ℕ, zero, suc, Bool, true, false, List, [], ◌∷◌, ◌++◌, length, map, refl, ap}
+use Rattle.std.proofs.Common.{sym, ◌∙◌, arith, subst, nat_lt}
+use Rattle.std.proofs.lemmas.Bool.{eqb-true, eqb-false, ne_eqb}
 use Rattle.std.proofs.lemmas.Bool.Decides.{nat_tests}
-use Rattle.std.proofs.lemmas.List.{append-nil, length-append, length-map, map-append, nil_from_length, reverse-append}
-use Rattle.std.proofs.lemmas.List.Elements.{All-append, All-cons, All-filter, All-head, All-map, All-nil, All-same, All-tail, filter-append}
+use Rattle.std.proofs.lemmas.List.{append-nil, length-append, length-map, map-append}
+use Rattle.std.proofs.lemmas.List.Elements.{All-append, All-cons, All-filter, All-head, All-map, All-nil, All-tail, filter-append}
 use Rattle.std.specs.List.{All, filter, flat_map, range_with_len}
 use mathlib.Core.List.{IsPrefix}
-use Rattle.dns_message.specs.Questions.{same_question}
-use Rattle.dns_message.specs.declared.question.Question.{Question}
 use Rattle.answer_log.specs.Groups.{group_limit, group_of}
-use Rattle.answer_log.specs.Histories.{IsHistory, IsSound, cached, in_group, living, stores_of}
-use Rattle.answer_log.specs.Walks.{Ahead}
+use Rattle.answer_log.specs.Histories.{IsHistory, IsSound, in_group}
 use Rattle.answer_log.specs.declared.store.Store.{Store}
-use Rattle.answer_log.specs.declared.walk.Walk.{Walk}
 use Rattle.answer_cache.specs.Carried.{IsCarriedOf, carried_stores, has_question, last_stores, lives_at, living_of, unseated}
 use Rattle.answer_cache.specs.Lists.{own_store}
 use Rattle.answer_cache.specs.Seats.{Offer}
-use Rattle.answer_cache.proofs.Lookups.{grouped}
 
 -- the last stores of their questions are some of the stores
 pub all-lasts : (P : Store → Type 0) (stores : List Store) → All P stores → All P (last_stores stores)
@@ -148,8 +143,8 @@ few-front group old new p =
     omega arith
 
 -- what is carried of some groups is a history
-pub carried-history : (groups : ℕ) (before after : List Store) (now : ℕ) (carried : List Offer) → IsCarriedOf groups before after now carried
-    → IsHistory after → IsHistory (carried_stores carried)
+pub carried-history : (groups : ℕ) (before after : List Store) (now : ℕ) (carried : List Offer)
+    → IsCarriedOf groups before after now carried → IsHistory after → IsHistory (carried_stores carried)
 carried-history groups before after now carried it kept =
     let H : List Offer → Type 0 = λ offers. IsHistory (carried_stores offers) in
     subst H (sym it.all) (record {

@@ -1,6 +1,6 @@
 -- A walk that gathers the last stores of their questions, and groups that are carried one after the other.
 use Rattle.std.proofs.Common.{◌≡◌, ◌≢◌, ◌↔◌, ◌+◌, ◌<◌, ◌≤◌, ◌==◌, ◌||◌, ℕ, zero, suc, Bool, true, false, IsTrue, List, [], ◌∷◌, ◌++◌, length, map, refl, ap}
-use Rattle.std.proofs.Common.{sym, ◌∙◌, arith, reverse, subst, append_assoc, Ok, Err, OnErr, OnOk}
+use Rattle.std.proofs.Common.{sym, ◌∙◌, arith, reverse, append_assoc, Ok, Err, OnErr, OnOk}
 use Rattle.std.specs.declared.result.Result.{Result}
 use Rattle.std.proofs.lemmas.Bool.{eqb-true, eqb-false, eq-eqb, ne_eqb}
 use Rattle.std.proofs.lemmas.Grind.{flat_map-append}

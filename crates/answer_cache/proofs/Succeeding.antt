@@ -1,8 +1,8 @@
 -- A cache begins with what another one hands on.
-use Rattle.std.proofs.Common.{◌≡◌, ◌≢◌, ◌+◌, ◌<◌, ◌==◌, ℕ, zero, suc, Bool, true, false, List, [], ◌∷◌, ◌++◌, length, take, map, get_or, refl, ap, sym}
+use Rattle.std.proofs.Common.{◌≡◌, ◌+◌, ◌<◌, ◌==◌, ℕ, zero, suc, Bool, true, false, List, [], ◌∷◌, ◌++◌, length, take, map, get_or, refl, ap, sym}
 use Rattle.std.proofs.Common.{subst, ◌∙◌, arith}
 use Rattle.std.proofs.lemmas.Bool.{eqb-true, eqb-false, eq-eqb, ne_eqb}
-use Rattle.std.proofs.lemmas.List.{get_or-map, length-map, map-append, nil_from_length, take_more}
+use Rattle.std.proofs.lemmas.List.{get_or-map, length-map, map-append, take_more}
 use Rattle.std.proofs.lemmas.List.Elements.{All-head, All-tail}
 use Rattle.std.proofs.lemmas.List.FromFn.{map-range_with_len_more}
 use Rattle.std.specs.Arc.{arc_value}
@@ -22,7 +22,6 @@ use Rattle.answer_cache.specs.Seats.{Offer, SeatView}
 use Rattle.answer_cache.specs.Shared.{Belongs, CacheView, SharedView, cache_view, view_of}
 use Rattle.answer_cache.specs.declared.carried.Entry.{Entry}
 use Rattle.answer_cache.proofs.Seating.{own-one-more}
-use Rattle.answer_cache.proofs.Together.{mine-short}
 
 module _ (entries : List Entry) (at : ℕ) (entry : Entry) (low : at < length entries) (is : entry ≡ get_or entries at entry) where
   within : at < length (carried_stores (offers_in entries))

@@ -21,8 +21,8 @@
 //!
 //! `group` puts each question, by its name and type, into one of 64 groups, and a group has at most
 //! 128 stores. So a book never has more than 8,192. Stores do not make room for others: when groups
-//! are full, the user of a book begins a new one. A `SharedCache` hands on what lives (`carry`), and
-//! its successor begins with that.
+//! are full, the user of a book begins a new one. A `SharedCache` hands on what lives (`carry`),
+//! and its successor begins with that.
 //!
 //! `AnswerBook` is the trait of all books. Its `store` takes a runtime that may wait, for books
 //! that other threads share. `ListCache` is the book of one thread, and has one seat. It never
@@ -34,9 +34,9 @@
 //! own. All seats see one history: of what two seats have seen, one is the beginning of the other.
 //! Each store in it is of one of the seats, so their own stores together are the history. A seat
 //! sees what another had seen once it has learned that one's notice. A lookup takes no memory, and
-//! looks through the stores of its question's group, the newest first: 128 at most. A store is tried
-//! 16 times at most, and it may lose each try to stores of other seats in the same group. It asks
-//! for memory before its first try, and may be made again where that is refused.
+//! looks through the stores of its question's group, the newest first: 128 at most. A store is
+//! tried 16 times at most, and it may lose each try to stores of other seats in the same group. It
+//! asks for memory before its first try, and may be made again where that is refused.
 //!
 //! ```
 //! // in the thread of the second seat

@@ -1,13 +1,11 @@
-use Rattle.std.proofs.Common.{◌≡◌, ◌≢◌, ◌⊎◌, ◌<◌, ◌≤◌, ◌++◌, [], Bor, List, inl, inr, length, map, ap, arith, refl, sym, subst, ◌∙◌, Ok, Err, OnErr, OnOk}
+use Rattle.std.proofs.Common.{◌≡◌, ◌≢◌, ◌<◌, ◌≤◌, ◌++◌, [], Bor, List, inl, inr, length, map, ap, sym, subst, ◌∙◌}
 use Rattle.std.specs.List.{filter}
-use Rattle.std.specs.declared.result.Result.{Result}
 use Rattle.answer_log.specs.Groups.{group_limit}
 use Rattle.answer_log.specs.Hands.{spent_of}
 use Rattle.answer_log.specs.Histories.{in_group}
 use Rattle.answer_log.specs.Logs.{history}
 use Rattle.answer_log.specs.Spending.{Spending}
 use Rattle.answer_log.specs.declared.event.Event.{Event}
-use Rattle.answer_log.specs.declared.store.Store.{Store}
 use Rattle.answer_cache.specs.Carried.{last_stores, lives_at, offers_in, unseated}
 use Rattle.answer_cache.specs.Nodes.{offer_of_node}
 use Rattle.answer_cache.specs.Seats.{Offer}

@@ -1,9 +1,8 @@
-use Rattle.std.proofs.Common.{◌≡◌, ◌≢◌, ◌⊎◌, ◌+◌, ◌*◌, ◌<◌, ◌++◌, ℕ, [], List, inl, inr, map, ap, arith, refl, sym, subst, ◌∙◌}
+use Rattle.std.proofs.Common.{◌≡◌, ◌+◌, ◌*◌, ℕ, List, inl, inr, arith, refl, sym, subst, ◌∙◌}
 use Rattle.answer_log.specs.Groups.{group_limit}
 use Rattle.answer_log.specs.Hands.{SeesMore, spent_of}
-use Rattle.answer_log.specs.Histories.{in_group}
 use Rattle.answer_log.specs.Logs.{history}
-use Rattle.answer_cache.specs.Carried.{IsCarriedOf, living_of, offer_in, offers_in}
+use Rattle.answer_cache.specs.Carried.{IsCarriedOf, offers_in}
 use Rattle.answer_cache.specs.Seats.{Offer}
 use Rattle.answer_cache.specs.declared.carried.Entry.{Entry}
 use Rattle.answer_cache.proofs.Costing as costs

@@ -83,7 +83,8 @@ tries-preserved g c =
       costs =
           let n = c.tries.number in
           let l = i.least in
-          costs.within _ _ ((n - 2) * group_limit + group_limit + 0) ((n + 1 - 2) * group_limit) ((n - 1) + 0 + 1) (n + 1 - 1) (omega arith) (omega arith)
+          costs.within _ _ ((n - 2) * group_limit + group_limit + 0) ((n + 1 - 2) * group_limit) ((n - 1) + 0 + 1) (n + 1 - 1)
+          (omega arith) (omega arith)
           (costs.both _ (spent_of c.room.new.hand) _ ((n - 2) * group_limit + group_limit) 0 ((n - 1) + 0) 1
           (costs.both _ (spent_of c.tries.hand) _ ((n - 2) * group_limit) group_limit (n - 1) 0 i.costs c.in_ok-old.ensures.costs)
           (costs.tried _ _ it.spent));

@@ -1,4 +1,4 @@
-use Rattle.std.proofs.Common.{◌≡◌, ◌<◌, ◌+◌, ℕ, List, length, take, sym, subst, ◌∙◌, arith}
+use Rattle.std.proofs.Common.{◌≡◌, ◌+◌, List, take, sym, subst, ◌∙◌, arith}
 use Rattle.answer_log.specs.Histories.{mine}
 use Rattle.answer_log.specs.Logs.{history}
 use Rattle.answer_cache.specs.Carried.{carried_stores}
@@ -37,5 +37,6 @@ entries-preserved g c =
       };
       own = subst New c.carried.view_is
           (own-next c.carried.inside.entries.items c.entries.at c.index-entry.result.now (omega arith) c.index-entry.ensures
-          c.entries.hand.number old new (i.holds.number ∙ c.requires.first.0) (subst Old (sym c.carried.view_is) i.own) c.in-Ok.ensures.put);
+          c.entries.hand.number old new (i.holds.number ∙ c.requires.first.0) (subst Old (sym c.carried.view_is) i.own)
+          c.in-Ok.ensures.put);
     }

@@ -1,12 +1,10 @@
-use Rattle.std.proofs.Common.{◌≡◌, ◌<◌, ◌+◌, ◌++◌, ◌∷◌, [], ℕ, List, ap, map, sym, subst, refl, ◌∙◌, arith}
+use Rattle.std.proofs.Common.{◌≡◌, ◌<◌, ◌+◌, [], ℕ, List, ap, map, sym, subst, refl, ◌∙◌, arith}
 use Rattle.std.proofs.lemmas.List.Elements.{All-push}
 use Rattle.std.specs.List.{All, range_with_len}
 use mathlib.Core.List.{IsPrefix}
 use Rattle.answer_log.specs.Histories.{mine}
 use Rattle.answer_log.specs.Logs.{history, seats_in}
 use Rattle.answer_log.specs.declared.event.Event.{Event}
-use Rattle.answer_log.specs.declared.store.Store.{Store}
-use Rattle.answer_cache.specs.Seats.{SeatView}
 use Rattle.answer_cache.specs.Shared.{Belongs, SharedView, cache_view, view_of}
 use Rattle.answer_cache.proofs.Succeeding.{alone, none-more, opened-first, seat-belongs, seat-seen, seat_seen, seats-are, seats-on}
 use Rattle.answer_cache.proofs.shared_cache.SharedCache.seats_after.Goals as goal
