@@ -1,3 +1,12 @@
 pub mod Standing
 pub mod Orders
 pub mod Finding
+pub mod Memory
+pub mod Distinct
+pub mod Linking
+pub mod Sharing
+pub mod Keeping
+pub mod Slots
+pub mod Tables
+pub mod Values
+pub mod Walking

@@ -1,4 +1,14 @@
 pub mod Ids
+pub mod Entries
 pub mod Pending
+pub mod Cells
+pub mod Links
+pub mod LinkedListKept
+pub mod NodeLends
+pub mod Slots
+pub mod TableKept
+pub mod Table
 pub mod Kept
+pub mod LinkedListLends
 pub mod Lends
+pub mod Walks

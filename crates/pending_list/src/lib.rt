@@ -26,9 +26,14 @@
 
 mod entry;
 mod id;
+mod linked_list;
 mod list;
-mod places;
+mod lookup;
+mod node;
+mod nodes;
+mod raw_box;
 mod refusal;
+mod table;
 mod walk;
 
 pub use id::PendingId;

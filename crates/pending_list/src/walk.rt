@@ -3,21 +3,28 @@ ghost use Rattle.std.specs.Iterator.{YieldsFirstBy, item_count};
 
 use crate::entry::Entry;
 use crate::id::PendingId;
+use crate::linked_list::LinkedList;
+use crate::nodes::Link;
 use std::marker::Model;
 
 /// The entries that are left, seen as their list: the id, the deadline and the item of each.
 #[derive(Drop)]
 pub struct Walk<'a, T> {
-    pub(crate) entries: &'a [Entry<T>],
+    pub(crate) entries: &'a LinkedList<Entry<T>>,
+    pub(crate) next: Option<Link<Entry<T>>>,
 }
 
 impl<'a, T> Model for Walk<'a, T> {
     ghost use Rattle.std.specs.Prelude.{List};
-    ghost use Rattle.pending_list.specs.declared.entry.Entry.{Entry};
+    ghost use Rattle.pending_list.specs.Entries.{Entry};
 
     ghost Value = { List (Entry T) };
 
-    ghost view = { λ it. it.entries.now };
+    ghost use Rattle.pending_list.specs.Walks.{IsWalking, left_of};
+
+    ghost view = { λ it. left_of it };
+
+    ghost invariant = { λ it. IsWalking it };
 }
 
 impl<'a, T> Iterator for Walk<'a, T> {
@@ -29,8 +36,10 @@ impl<'a, T> Iterator for Walk<'a, T> {
     ghost remaining = { item_count (λ rest. rest) };
 
     fn next(&mut self) -> Option<(PendingId, u64, &'a T)> {
-        let (entry, rest) = self.entries.split_first()?;
-        self.entries = rest;
+        let link = self.next?;
+        let entries = self.entries;
+        let entry = entries.entry(link);
+        self.next = entries.behind(link);
         Some((entry.id, entry.deadline, &entry.item))
     }
 }
