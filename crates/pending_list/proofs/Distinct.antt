@@ -13,7 +13,8 @@ alike false false f g = refl
 
 pub same_address_symm : (p q : Ptr) → same_address p q ≡ same_address q p
 same_address_symm p q = alike (same_address p q) (same_address q p)
-    (λ e. subst (λ r. same_address r p ≡ true) (same_address_eq p q e) (same_address_refl p)) (λ e. subst (λ r. same_address r q ≡ true) (same_address_eq q p e) (same_address_refl q))
+    (λ e. subst (λ r. same_address r p ≡ true) (same_address_eq p q e) (same_address_refl p))
+    (λ e. subst (λ r. same_address r q ≡ true) (same_address_eq q p e) (same_address_refl q))
 
 neither : (b h : Bool) → cond b true h ≡ false → (b ≡ false) × (h ≡ false)
 neither true h e = absurd (true≢false e)
@@ -87,7 +88,8 @@ module _ {N : Type 0} where
   value-none p [] e = refl
   value-none p (c ∷ cs) e = let here = has-cons p c.at (addresses cs) e in rw here.0 (value-none p cs here.1)
 
-  none-step : (p : Ptr) (c : Cell N) (cs : List (Cell N)) (y : Bool) → same_address c.at p ≡ y → cond y (Some c.value) (value_at p cs) ≡ None
+  none-step : (p : Ptr) (c : Cell N) (cs : List (Cell N)) (y : Bool) → same_address c.at p ≡ y
+      → cond y (Some c.value) (value_at p cs) ≡ None
       → (value_at p cs ≡ None → has p (addresses cs) ≡ false) → has p (addresses (c ∷ cs)) ≡ false
   none-step p c cs true e is rest = absurd cc
   none-step p c cs false e is rest = cons-has p c.at (addresses cs) e (rest is)
@@ -104,7 +106,8 @@ module _ {N : Type 0} where
     pub whole : cs ≡ front ++ cell p x ∷ back
     pub before : has p (addresses front) ≡ false
 
-  found-step : (p : Ptr) (x : N) (c : Cell N) (cs : List (Cell N)) (y : Bool) → same_address c.at p ≡ y → cond y (Some c.value) (value_at p cs) ≡ Some x
+  found-step : (p : Ptr) (x : N) (c : Cell N) (cs : List (Cell N)) (y : Bool) → same_address c.at p ≡ y
+      → cond y (Some c.value) (value_at p cs) ≡ Some x
       → (value_at p cs ≡ Some x → Found p x cs) → Found p x (c ∷ cs)
   unfolding has
   found-step p x c cs true e is rest =
@@ -112,7 +115,13 @@ module _ {N : Type 0} where
       record { front = []; back = cs; whole = λ i. cell (at i) (v i) ∷ cs; before = refl }
   found-step p x c cs false e is rest =
       let on = rest is in
-      record { front = c ∷ on.front; back = on.back; whole = ap (λ l. c ∷ l) on.whole; before = cons-has p c.at (addresses on.front) e on.before }
+      record {
+        front = c ∷ on.front;
+        back = on.back;
+        whole = ap (λ l. c ∷ l) on.whole;
+        before =
+            cons-has p c.at (addresses on.front) e on.before;
+      }
 
   pub found : (p : Ptr) (x : N) (cs : List (Cell N)) → value_at p cs ≡ Some x → Found p x cs
   unfolding value_at
@@ -125,7 +134,8 @@ module _ {N : Type 0} where
     value-at [] e = rw (same_address_refl p) refl
     value-at (c ∷ front) e = let here = has-cons p c.at (addresses front) e in rw here.0 (value-at front here.1)
 
-    pub put-at : (d : Cell N) (front : List (Cell N)) → has p (addresses front) ≡ false → put_behind p d (front ++ cell p x ∷ back) ≡ front ++ cell p x ∷ d ∷ back
+    pub put-at : (d : Cell N) (front : List (Cell N)) → has p (addresses front) ≡ false
+        → put_behind p d (front ++ cell p x ∷ back) ≡ front ++ cell p x ∷ d ∷ back
     unfolding put_behind
     put-at d [] e = rw (same_address_refl p) refl
     put-at d (c ∷ front) e = let here = has-cons p c.at (addresses front) e in rw here.0 (ap (λ l. c ∷ l) (put-at d front here.1))
@@ -135,12 +145,14 @@ module _ {N : Type 0} where
     without-at [] e = rw (same_address_refl p) refl
     without-at (c ∷ front) e = let here = has-cons p c.at (addresses front) e in rw here.0 (ap (λ l. c ∷ l) (without-at front here.1))
 
-    pub changed-at : (f : N → N) (front : List (Cell N)) → has p (addresses front) ≡ false → changed_at p f (front ++ cell p x ∷ back) ≡ front ++ cell p (f x) ∷ back
+    pub changed-at : (f : N → N) (front : List (Cell N)) → has p (addresses front) ≡ false
+        → changed_at p f (front ++ cell p x ∷ back) ≡ front ++ cell p (f x) ∷ back
     unfolding changed_at
     changed-at f [] e = rw (same_address_refl p) refl
     changed-at f (c ∷ front) e = let here = has-cons p c.at (addresses front) e in rw here.0 (ap (λ l. c ∷ l) (changed-at f front here.1))
 
-    pub set-at : (w : N) (front : List (Cell N)) → has p (addresses front) ≡ false → set_at p w (front ++ cell p x ∷ back) ≡ front ++ cell p w ∷ back
+    pub set-at : (w : N) (front : List (Cell N)) → has p (addresses front) ≡ false
+        → set_at p w (front ++ cell p x ∷ back) ≡ front ++ cell p w ∷ back
     unfolding set_at
     set-at w [] e = rw (same_address_refl p) refl
     set-at w (c ∷ front) e = let here = has-cons p c.at (addresses front) e in rw here.0 (ap (λ l. c ∷ l) (set-at w front here.1))
@@ -149,7 +161,8 @@ module _ {N : Type 0} where
   pub set-changed : (p : Ptr) (x : N) (f : N → N) (cs : List (Cell N)) → value_at p cs ≡ Some x → set_at p (f x) cs ≡ changed_at p f cs
   set-changed p x f cs is =
       let on = found p x cs is in
-      ap (set_at p (f x)) on.whole ∙ set-at p x on.back (f x) on.front on.before ∙ sym (ap (changed_at p f) on.whole ∙ changed-at p x on.back f on.front on.before)
+      ap (set_at p (f x)) on.whole ∙ set-at p x on.back (f x) on.front on.before
+      ∙ sym (ap (changed_at p f) on.whole ∙ changed-at p x on.back f on.front on.before)
 
   pub last-at : (front : List (Cell N)) (c : Cell N) → last_address (front ++ c ∷ []) ≡ Some c.at
   unfolding last_address
@@ -161,11 +174,14 @@ module _ {N : Type 0} where
   addresses-parts xs ys = map-append (λ c. c.at) xs ys
 
   -- the place of the last of those in front
-  pub at-last : (front : List (Cell N)) (c : Cell N) (back : List (Cell N)) → AreDistinct (addresses ((front ++ c ∷ []) ++ back)) → has c.at (addresses front) ≡ false
+  pub at-last : (front : List (Cell N)) (c : Cell N) (back : List (Cell N)) → AreDistinct (addresses ((front ++ c ∷ []) ++ back))
+      → has c.at (addresses front) ≡ false
   at-last front c back d =
-      (apart-without (addresses front) c.at (addresses back) (subst AreDistinct (ap addresses (append_assoc front (c ∷ []) back) ∙ addresses-parts front (c ∷ back)) d)).before
+      (apart-without (addresses front) c.at (addresses back)
+      (subst AreDistinct (ap addresses (append_assoc front (c ∷ []) back) ∙ addresses-parts front (c ∷ back)) d)).before
 
-  pub put-is : (front back : List (Cell N)) (d : Cell N) → AreDistinct (addresses (front ++ back)) → put_after (last_address front) d (front ++ back) ≡ front ++ d ∷ back
+  pub put-is : (front back : List (Cell N)) (d : Cell N) → AreDistinct (addresses (front ++ back))
+      → put_after (last_address front) d (front ++ back) ≡ front ++ d ∷ back
   unfolding last_address
   put-is front back d apart = elim (ends_of front) [
     | empty e ↦ (λ i. put_after (last_address (e i)) d (e i ++ back)) ∙ sym (λ i. e i ++ d ∷ back)

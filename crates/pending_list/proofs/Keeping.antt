@@ -30,7 +30,7 @@ use Rattle.pending_list.proofs.Standing.{filter-all, filter-none}
 use Rattle.pending_list.proofs.Orders.{more}
 use Rattle.pending_list.proofs.Finding.{found-is, remove-at, removed-is}
 use Rattle.pending_list.proofs.Tables.{stops-there, Led, led, id-place, values-parts, length-values, value-there}
-use Rattle.pending_list.proofs.Slots.{leads-set, leads-other, leads-within, length-none}
+use Rattle.pending_list.proofs.Slots.{leads-set, leads-other, leads-within}
 
 pub same-or : (j i : ℕ) → (j ≡ i) ⊎ (j ≢ i)
 same-or zero zero = inl refl
@@ -69,7 +69,8 @@ module _ {N : Type 0} where
 same-link : {T : Type 0} (l m : Link (Entry T)) → Some l ≡ Some m → l.at ≡ m.at
 same-link l m e = let same : l ≡ m = cc in ap (λ (k : Link (Entry _)). k.at) same
 
-module _ {T : Type 0} (front : List (Cell (Entry T))) (p : Ptr) (e : Entry T) (back : List (Cell (Entry T))) (apart : AreDistinct (addresses (front ++ cell p e ∷ back))) where
+module _ {T : Type 0} (front : List (Cell (Entry T))) (p : Ptr) (e : Entry T) (back : List (Cell (Entry T)))
+    (apart : AreDistinct (addresses (front ++ cell p e ∷ back))) where
   abbrev more' : List (Cell (Entry T))
   more' = front ++ cell p e ∷ back
 
@@ -83,7 +84,9 @@ module _ {T : Type 0} (front : List (Cell (Entry T))) (p : Ptr) (e : Entry T) (b
   apart-fewer = subst AreDistinct (sym (addresses-parts front back)) cut.rest
 
   gone : value_at p fewer' ≡ None
-  gone = value-none p fewer' (subst (λ l. has p l ≡ false) (sym (addresses-parts front back)) (parts-has p (addresses front) (addresses back) cut.before cut.behind))
+  gone = value-none p fewer'
+      (subst (λ l. has p l ≡ false) (sym (addresses-parts front back))
+      (parts-has p (addresses front) (addresses back) cut.before cut.behind))
 
   here : value_at p more' ≡ Some e
   here = value-put p p e back front cut.before ∙ ap (λ b. cond b (Some e) (value_at p fewer')) (same_address_refl p)
@@ -109,11 +112,15 @@ module _ {T : Type 0} (front : List (Cell (Entry T))) (p : Ptr) (e : Entry T) (b
               let there : value_at q more' ≡ Some x = elsewhere q other ∙ found in
               let leads = it.holds q x there in
               leads-other table e.id.place x.id.place None
-              (λ same. true≢false (sym (ap (same_address p) (same-link (record { at = q }) (record { at = p }) (sym leads ∙ ap (leads_at table) same ∙ led)) ∙ same_address_refl p) ∙ other))
+              (λ same. true≢false (sym
+              (ap (same_address p) (same-link (record { at = q }) (record { at = p }) (sym leads ∙ ap (leads_at table) same ∙ led))
+              ∙ same_address_refl p) ∙ other))
               ∙ leads;
           points = λ j l leads. elim (same-or j e.id.place) [
             | inl same ↦
-                let clash : None ≡ Some l = sym (leads-set table e.id.place None within.0) ∙ ap (leads_at (set table e.id.place None)) (sym same) ∙ leads in absurd cc
+                let clash : None ≡ Some l =
+                sym (leads-set table e.id.place None within.0) ∙ ap (leads_at (set table e.id.place None)) (sym same) ∙ leads in
+                absurd cc
             | inr differ ↦
                 let on = it.points j l (sym (leads-other table e.id.place j None differ) ∙ leads) in
                 elim (ptr-or p l.at) [
@@ -127,7 +134,8 @@ module _ {T : Type 0} (front : List (Cell (Entry T))) (p : Ptr) (e : Entry T) (b
         }
 
     -- the table with an entry more, at a free place
-    pub table-more : IsTable table fewer' → leads_at table e.id.place ≡ None → e.id.place < length table → IsTable (set table e.id.place (Some (record { at = p }))) more'
+    pub table-more : IsTable table fewer' → leads_at table e.id.place ≡ None → e.id.place < length table
+        → IsTable (set table e.id.place (Some (record { at = p }))) more'
     table-more it free within = record {
       holds = λ q x found. elim (ptr-or p q) [
         | inl same ↦
@@ -143,7 +151,9 @@ module _ {T : Type 0} (front : List (Cell (Entry T))) (p : Ptr) (e : Entry T) (b
       ];
       points = λ j l leads. elim (same-or j e.id.place) [
         | inl same ↦
-            let both : Some (record { at = p }) ≡ Some l = sym (leads-set table e.id.place (Some (record { at = p })) within) ∙ ap (leads_at (set table e.id.place (Some (record { at = p })))) (sym same) ∙ leads in
+            let both : Some (record { at = p }) ≡ Some l =
+            sym (leads-set table e.id.place (Some (record { at = p })) within)
+            ∙ ap (leads_at (set table e.id.place (Some (record { at = p })))) (sym same) ∙ leads in
             let at : p ≡ l.at = same-link (record { at = p }) l both in
             (e, ap (λ r. value_at r more') (sym at) ∙ here, sym same)
         | inr differ ↦
@@ -170,7 +180,8 @@ module _ {T : Type 0} (front : List (Cell (Entry T))) (p : Ptr) (e : Entry T) (b
       ) refl
 
 -- ---- an entry is taken out by its id
-module _ {T : Type 0} (id : Id) (p : Ptr) (e : Entry T) (cs : List (Cell (Entry T))) (order : AllPairs Precedes (values cs)) (apart : AreDistinct (addresses cs)) (there : value_at p cs ≡ Some e) (is : has_id id e ≡ true) where
+module _ {T : Type 0} (id : Id) (p : Ptr) (e : Entry T) (cs : List (Cell (Entry T))) (order : AllPairs Precedes (values cs))
+    (apart : AreDistinct (addresses cs)) (there : value_at p cs ≡ Some e) (is : has_id id e ≡ true) where
   abbrev pub one : Led id p e cs
   one = led id p e cs order there is
 
@@ -196,7 +207,8 @@ module _ {T : Type 0} (id : Id) (p : Ptr) (e : Entry T) (cs : List (Cell (Entry 
   length-gone = ap length one.whole ∙ length-cut one.front (cell p e) one.back ∙ ap (λ l. suc (length l)) (sym left)
 
   pub read-at : e ≡ get_or (values cs) (length one.front) e
-  read-at = sym (ap (λ l. get_or l (length one.front) e) whole-values ∙ get_or_at (values one.front) e (values one.back) e (length one.front) (length-values one.front))
+  read-at = sym (ap (λ l. get_or l (length one.front) e) whole-values
+      ∙ get_or_at (values one.front) e (values one.back) e (length one.front) (length-values one.front))
 
   pub entry-found : entry_of id (values cs) ≡ Some e
   entry-found = found-is id (values cs) (length one.front) order one.index e read-at
@@ -234,18 +246,25 @@ module _ {T : Type 0} where
   none-table n = record { holds = λ p e found. absurd cc; points = λ i l e. absurd (leads-none n i l e) }
 
   -- ---- the addresses of ids
-  differ-by : (table : List (Option (Link (Entry T)))) (done cs : List (Cell (Entry T))) → IsTable table (done ++ cs) → AreDistinct (addresses (done ++ cs))
-      → (c : Cell (Entry T)) → value_at c.at (done ++ cs) ≡ Some c.value → has c.at (addresses cs) ≡ false → All (DifferInPlace c.value) (values cs)
+  differ-by : (table : List (Option (Link (Entry T)))) (done cs : List (Cell (Entry T))) → IsTable table (done ++ cs)
+      → AreDistinct (addresses (done ++ cs))
+      → (c : Cell (Entry T)) → value_at c.at (done ++ cs) ≡ Some c.value → has c.at (addresses cs) ≡ false
+      → All (DifferInPlace c.value) (values cs)
   differ-by table done [] it apart c there other = All-nil (DifferInPlace c.value)
   differ-by table done (d ∷ cs) it apart c there other =
       let here = has-cons c.at d.at (addresses cs) other in
       let found = value-there (done ++ d ∷ cs) done d cs apart refl in
       let shift = append_assoc done (d ∷ []) cs in
       All-cons (DifferInPlace c.value) d.value (values cs)
-      (λ same. true≢false (sym (ap (same_address d.at) (same-link (record { at = c.at }) (record { at = d.at }) (sym (it.holds c.at c.value there) ∙ ap (leads_at table) same ∙ it.holds d.at d.value found)) ∙ same_address_refl d.at) ∙ here.0))
-      (differ-by table (done ++ d ∷ []) cs (subst (IsTable table) (sym shift) it) (subst (λ l. AreDistinct (addresses l)) (sym shift) apart) c (ap (value_at c.at) shift ∙ there) here.1)
+      (λ same. true≢false (sym
+      (ap (same_address d.at) (same-link (record { at = c.at }) (record { at = d.at })
+      (sym (it.holds c.at c.value there) ∙ ap (leads_at table) same ∙ it.holds d.at d.value found)) ∙ same_address_refl d.at)
+      ∙ here.0))
+      (differ-by table (done ++ d ∷ []) cs (subst (IsTable table) (sym shift) it)
+      (subst (λ l. AreDistinct (addresses l)) (sym shift) apart) c (ap (value_at c.at) shift ∙ there) here.1)
 
-  differ-all : (table : List (Option (Link (Entry T)))) (done cs : List (Cell (Entry T))) → IsTable table (done ++ cs) → AreDistinct (addresses (done ++ cs)) → AllPairs DifferInPlace (values cs)
+  differ-all : (table : List (Option (Link (Entry T)))) (done cs : List (Cell (Entry T))) → IsTable table (done ++ cs)
+      → AreDistinct (addresses (done ++ cs)) → AllPairs DifferInPlace (values cs)
   differ-all table done [] it apart = λ i j d lt small. absurd (omega arith)
   differ-all table done (c ∷ cs) it apart =
       let shift = append_assoc done (c ∷ []) cs in
@@ -253,20 +272,24 @@ module _ {T : Type 0} where
       let it' = subst (IsTable table) (sym shift) it in
       let apart' = subst (λ l. AreDistinct (addresses l)) (sym shift) apart in
       AllPairs-cons DifferInPlace c.value (values cs)
-      (differ-by table (done ++ c ∷ []) cs it' apart' c (ap (value_at c.at) shift ∙ value-there (done ++ c ∷ cs) done c cs apart refl) cut.behind)
+      (differ-by table (done ++ c ∷ []) cs it' apart' c
+      (ap (value_at c.at) shift ∙ value-there (done ++ c ∷ cs) done c cs apart refl) cut.behind)
       (differ-all table (done ++ c ∷ []) cs it' apart')
 
-  pub places-differ : (table : List (Option (Link (Entry T)))) (cs : List (Cell (Entry T))) → IsTable table cs → AreDistinct (addresses cs) → AllPairs DifferInPlace (values cs)
+  pub places-differ : (table : List (Option (Link (Entry T)))) (cs : List (Cell (Entry T))) → IsTable table cs
+      → AreDistinct (addresses cs) → AllPairs DifferInPlace (values cs)
   places-differ table cs it apart = differ-all table [] cs it apart
 
 -- ---- an entry is put where it belongs
 module _ {T : Type 0} where
-  pub there-behind : (deadline : ℕ) (cs : List (Cell (Entry T))) → AreDistinct (addresses cs) → (after : Option (Link (Entry T))) → BelongsBehind deadline (address_of after) cs → IsThere after cs
+  pub there-behind : (deadline : ℕ) (cs : List (Cell (Entry T))) → AreDistinct (addresses cs) → (after : Option (Link (Entry T)))
+      → BelongsBehind deadline (address_of after) cs → IsThere after cs
   there-behind deadline cs apart None b = tt
   there-behind deadline cs apart (Some l) b =
       stops-there deadline cs apart l.at (record { front = b.front; back = b.back; whole = b.whole; is = b.is; behind = b.behind })
 
-  module _ (cs : List (Cell (Entry T))) (apart : AreDistinct (addresses cs)) (o : Option Ptr) (e : Entry T) (b : BelongsBehind e.deadline o cs) (p : Ptr) (fresh : value_at p cs ≡ None) where
+  module _ (cs : List (Cell (Entry T))) (apart : AreDistinct (addresses cs)) (o : Option Ptr) (e : Entry T)
+      (b : BelongsBehind e.deadline o cs) (p : Ptr) (fresh : value_at p cs ≡ None) where
     abbrev pub put : List (Cell (Entry T))
     put = put_after o (cell p e) cs
 
@@ -282,7 +305,8 @@ module _ {T : Type 0} where
     apart₁ : AreDistinct (addresses stands)
     apart₁ =
         subst AreDistinct (sym (addresses-parts b.front (cell p e ∷ b.back)))
-        (apart-with (addresses b.front) p (addresses b.back) (subst (λ l. has p l ≡ false) (ap addresses b.whole ∙ addresses-parts b.front b.back) (none-value p cs fresh))
+        (apart-with (addresses b.front) p (addresses b.back)
+        (subst (λ l. has p l ≡ false) (ap addresses b.whole ∙ addresses-parts b.front b.back) (none-value p cs fresh))
         (subst AreDistinct (addresses-parts b.front b.back) apart₀))
 
     pub apart-put : AreDistinct (addresses put)
@@ -300,18 +324,21 @@ module _ {T : Type 0} where
     pub length-put : length put ≡ suc (length cs)
     length-put = ap length put-cells ∙ length-cut b.front (cell p e) b.back ∙ ap (λ l. suc (length l)) (sym b.whole)
 
-    pub table-put : (table : List (Option (Link (Entry T)))) → IsTable table cs → leads_at table e.id.place ≡ None → e.id.place < length table
+    pub table-put : (table : List (Option (Link (Entry T)))) → IsTable table cs → leads_at table e.id.place ≡ None
+        → e.id.place < length table
         → IsTable (set table e.id.place (Some (record { at = p }))) put
     table-put table it free within =
         subst (λ l. IsTable (set table e.id.place (Some (record { at = p }))) l) (sym put-cells)
         (table-more b.front p e b.back apart₁ table (subst (IsTable table) b.whole it) free within)
 
     pub pending-put : (limit serial : ℕ) → IsPending (record { entries = values cs; limit = limit; serial = serial })
-        → All (λ other. other.id.serial ≢ e.id.serial) (values cs) → (next : ℕ) → serial ≤ next → e.id.serial < next → e.id.place < limit → length (values cs) < limit
+        → All (λ other. other.id.serial ≢ e.id.serial) (values cs) → (next : ℕ) → serial ≤ next → e.id.serial < next → e.id.place < limit
+        → length (values cs) < limit
         → IsPending (record { entries = values put; limit = limit; serial = next })
     pending-put limit serial it others next grows used place room =
         subst (λ l. IsPending (record { entries = l; limit = limit; serial = next })) (sym values-put)
-        (more (record { entries = values cs; limit = limit; serial = serial }) it e next (values b.front) (values b.back) whole-values' b.before
+        (more (record { entries = values cs; limit = limit; serial = serial }) it e next (values b.front)
+        (values b.back) whole-values' b.before
         (λ k d small. let on = b.behind k d small in omega (arith, on)) others grows used place room)
 
 -- ---- the first entry
@@ -341,7 +368,8 @@ module _ {T : Type 0} where
   key it = (it.id, it.deadline)
 
   pub popped : (entries : List (Entry T)) (k : Id × ℕ) (item : T) → Some k ≡ option_map key (slice_get entries 0)
-      → All (λ it. entry_of it.id entries ≡ Some it) entries → ((first : Entry T) (others : List (Entry T)) → entries ≡ first ∷ others → without first.id entries ≡ others)
+      → All (λ it. entry_of it.id entries ≡ Some it) entries
+      → ((first : Entry T) (others : List (Entry T)) → entries ≡ first ∷ others → without first.id entries ≡ others)
       → Some item ≡ option_map (λ (it : Entry T). it.item) (entry_of k.0 entries)
       → entries ≡ record { id = k.0; deadline = k.1; item = item } ∷ without k.0 entries
   popped [] k item is each rest got = absurd cc
@@ -350,7 +378,9 @@ module _ {T : Type 0} where
       let ids : k.0 ≡ x.id = ap (λ (j : Id × ℕ). j.0) keys in
       let deadlines : k.1 ≡ x.deadline = ap (λ (j : Id × ℕ). j.1) keys in
       let one : entry_of x.id (x ∷ xs) ≡ Some x = All-head (λ it. entry_of it.id (x ∷ xs) ≡ Some it) x xs each in
-      let both : Some item ≡ Some x.item = got ∙ ap (λ i. option_map (λ (it : Entry T). it.item) (entry_of i (x ∷ xs))) ids ∙ ap (option_map (λ (it : Entry T). it.item)) one in
+      let both : Some item ≡ Some x.item =
+      got ∙ ap (λ i. option_map (λ (it : Entry T). it.item) (entry_of i (x ∷ xs))) ids
+      ∙ ap (option_map (λ (it : Entry T). it.item)) one in
       let items : item ≡ x.item = cc in
       let others : without k.0 (x ∷ xs) ≡ xs = ap (λ i. without i (x ∷ xs)) ids ∙ rest x xs refl in
       λ i. record { id = sym ids i; deadline = sym deadlines i; item = sym items i } ∷ sym others i
@@ -359,7 +389,8 @@ module _ {N : Type 0} where
   pub length-without : (p : Ptr) (x : N) (cs : List (Cell N)) → value_at p cs ≡ Some x → length cs ≡ suc (length (taken_out p cs))
   length-without p x cs there =
       let at = found p x cs there in
-      ap length at.whole ∙ length-cut at.front (cell p x) at.back ∙ ap (λ l. suc (length l)) (sym (ap (taken_out p) at.whole ∙ without-at p x at.back at.front at.before))
+      ap length at.whole ∙ length-cut at.front (cell p x) at.back
+      ∙ ap (λ l. suc (length l)) (sym (ap (taken_out p) at.whole ∙ without-at p x at.back at.front at.before))
 
 pub entries-none : {E : Type 0} (cs : List (Cell (Node E))) → entries_of cs ≡ [] → cs ≡ []
 entries-none [] e = refl
@@ -376,7 +407,8 @@ set-got (o ∷ os) zero x e = let same : o ≡ x = cc in ap (λ y. y ∷ os) (sy
 set-got (o ∷ os) (suc i) x e = ap (λ l. o ∷ l) (set-got os i x e)
 
 -- ---- an item is changed
-module _ {T : Type 0} (id : Id) (p : Ptr) (e : Entry T) (cs : List (Cell (Entry T))) (order : AllPairs Precedes (values cs)) (apart : AreDistinct (addresses cs)) (there : value_at p cs ≡ Some e) (is : has_id id e ≡ true) (w : T) where
+module _ {T : Type 0} (id : Id) (p : Ptr) (e : Entry T) (cs : List (Cell (Entry T))) (order : AllPairs Precedes (values cs))
+    (apart : AreDistinct (addresses cs)) (there : value_at p cs ≡ Some e) (is : has_id id e ≡ true) (w : T) where
   abbrev at : Led id p e cs
   at = one id p e cs order apart there is
 
@@ -387,7 +419,8 @@ module _ {T : Type 0} (id : Id) (p : Ptr) (e : Entry T) (cs : List (Cell (Entry 
   reitem = changed_at p (λ x. record x { item = w }) cs
 
   reitem-cells : reitem ≡ at.front ++ cell p new ∷ at.back
-  reitem-cells = ap (changed_at p (λ x. record x { item = w })) at.whole ∙ changed-at p e at.back (λ x. record x { item = w }) at.front at.before
+  reitem-cells = ap (changed_at p (λ x. record x { item = w })) at.whole
+      ∙ changed-at p e at.back (λ x. record x { item = w }) at.front at.before
 
   pub values-reitem : values reitem ≡ with_item id w (values cs)
   values-reitem =
@@ -400,13 +433,15 @@ module _ {T : Type 0} (id : Id) (p : Ptr) (e : Entry T) (cs : List (Cell (Entry 
   old-apart = subst (λ l. AreDistinct (addresses l)) at.whole apart
 
   new-apart : AreDistinct (addresses (at.front ++ cell p new ∷ at.back))
-  new-apart = subst AreDistinct (sym (addresses-parts at.front (cell p new ∷ at.back))) (subst AreDistinct (addresses-parts at.front (cell p e ∷ at.back)) old-apart)
+  new-apart = subst AreDistinct (sym (addresses-parts at.front (cell p new ∷ at.back)))
+      (subst AreDistinct (addresses-parts at.front (cell p e ∷ at.back)) old-apart)
 
   pub apart-reitem : AreDistinct (addresses reitem)
   apart-reitem = subst (λ l. AreDistinct (addresses l)) (sym reitem-cells) new-apart
 
   pub length-reitem : length reitem ≡ length cs
-  length-reitem = ap length reitem-cells ∙ length-cut at.front (cell p new) at.back ∙ sym (ap length at.whole ∙ length-cut at.front (cell p e) at.back)
+  length-reitem = ap length reitem-cells ∙ length-cut at.front (cell p new) at.back
+      ∙ sym (ap length at.whole ∙ length-cut at.front (cell p e) at.back)
 
   pub table-reitem : (table : List (Option (Link (Entry T)))) → IsTable table cs → IsTable table reitem
   table-reitem table it =
@@ -415,4 +450,5 @@ module _ {T : Type 0} (id : Id) (p : Ptr) (e : Entry T) (cs : List (Cell (Entry 
       let more = table-more at.front p new at.back new-apart (set table e.id.place None) old (leads-set table e.id.place None on.0)
       (subst (λ n. e.id.place < n) (sym (length-set table e.id.place None)) on.0) in
       subst (λ l. IsTable table l) (sym reitem-cells)
-      (subst (λ t. IsTable t (at.front ++ cell p new ∷ at.back)) (set-twice table e.id.place None (Some (record { at = p })) ∙ set-got table e.id.place (Some (record { at = p })) on.1) more)
+      (subst (λ t. IsTable t (at.front ++ cell p new ∷ at.back))
+      (set-twice table e.id.place None (Some (record { at = p })) ∙ set-got table e.id.place (Some (record { at = p })) on.1) more)

@@ -44,7 +44,8 @@ module _ {E : Type 0} where
   last-place (c ∷ []) = refl
   last-place (c ∷ d ∷ cs) = last-place (d ∷ cs)
 
-  head-renext : (after n : Neighbour E) (c : (Cell (Node E))) (cs : List (Cell (Node E))) → head_or after (renext n (c ∷ cs)) ≡ Some (link_to c)
+  head-renext : (after n : Neighbour E) (c : (Cell (Node E))) (cs : List (Cell (Node E)))
+      → head_or after (renext n (c ∷ cs)) ≡ Some (link_to c)
   unfolding head_or
   head-renext after n c [] = refl
   head-renext after n c (d ∷ cs) = refl
@@ -79,19 +80,23 @@ module _ {E : Type 0} where
   linked-parts before (x ∷ xs) ys after s =
       let on = linked-parts (Some (link_to x)) xs ys after s.2 in ((s.0, s.1 ∙ head-parts after xs ys, on.0), on.1)
 
-  pub parts-linked : (before : Neighbour E) (xs ys : List (Cell (Node E))) (after : Neighbour E) → AreLinked before xs (head_or after ys) → AreLinked (last_or before xs) ys after
+  pub parts-linked : (before : Neighbour E) (xs ys : List (Cell (Node E))) (after : Neighbour E) → AreLinked before xs (head_or after ys)
+      → AreLinked (last_or before xs) ys after
       → AreLinked before (xs ++ ys) after
   unfolding AreLinked last_or
   parts-linked before [] ys after s t = t
   parts-linked before (x ∷ xs) ys after s t = (s.0, s.1 ∙ sym (head-parts after xs ys), parts-linked (Some (link_to x)) xs ys after s.2 t)
 
-  pub renext-linked : (before n : Neighbour E) (cs : List (Cell (Node E))) (after : Neighbour E) → AreLinked before cs after → AreLinked before (renext n cs) n
+  pub renext-linked : (before n : Neighbour E) (cs : List (Cell (Node E))) (after : Neighbour E) → AreLinked before cs after
+      → AreLinked before (renext n cs) n
   unfolding AreLinked head_or
   renext-linked before n [] after s = tt
   renext-linked before n (c ∷ []) after s = (s.0, refl, tt)
-  renext-linked before n (c ∷ d ∷ cs) after s = (s.0, s.1 ∙ sym (head-renext n n d cs), renext-linked (Some (link_to c)) n (d ∷ cs) after s.2)
+  renext-linked before n (c ∷ d ∷ cs) after s =
+      (s.0, s.1 ∙ sym (head-renext n n d cs), renext-linked (Some (link_to c)) n (d ∷ cs) after s.2)
 
-  pub reprev-linked : (before n : Neighbour E) (cs : List (Cell (Node E))) (after : Neighbour E) → AreLinked before cs after → AreLinked n (reprev n cs) after
+  pub reprev-linked : (before n : Neighbour E) (cs : List (Cell (Node E))) (after : Neighbour E) → AreLinked before cs after
+      → AreLinked n (reprev n cs) after
   unfolding AreLinked
   reprev-linked before n [] after s = tt
   reprev-linked before n (c ∷ cs) after s = (refl, s.1, s.2)
@@ -131,7 +136,8 @@ module _ {E : Type 0} where
   entry_in : Option (Node E) → Option E
   entry_in = option_map (λ n. n.entry)
 
-  value-by : (y : Bool) (n : Node E) (o : Option (Node E)) (q : Option E) → q ≡ option_map (λ n. n.entry) o → cond y (Some n.entry) q ≡ option_map (λ n. n.entry) (cond y (Some n) o)
+  value-by : (y : Bool) (n : Node E) (o : Option (Node E)) (q : Option E) → q ≡ option_map (λ n. n.entry) o
+      → cond y (Some n.entry) q ≡ option_map (λ n. n.entry) (cond y (Some n) o)
   value-by true n o q e = refl
   value-by false n o q e = e
 
@@ -148,28 +154,33 @@ module _ {E : Type 0} where
   there-entries p cs h = some-by (value_at p cs) (subst IsSome (value-entries p cs) h)
 
   -- ---- what the writes do
-  renext-ends : (n : Neighbour E) (front : List (Cell (Node E))) (c : (Cell (Node E))) → renext n (front ++ c ∷ []) ≡ front ++ next_to n c ∷ []
+  renext-ends : (n : Neighbour E) (front : List (Cell (Node E))) (c : (Cell (Node E)))
+      → renext n (front ++ c ∷ []) ≡ front ++ next_to n c ∷ []
   renext-ends n [] c = refl
   renext-ends n (d ∷ []) c = refl
   renext-ends n (d ∷ e ∷ front) c = ap (λ l. d ∷ l) (renext-ends n (e ∷ front) c)
 
-  last-ends : (before : Neighbour E) (front : List (Cell (Node E))) (c : (Cell (Node E))) → last_or before (front ++ c ∷ []) ≡ Some (link_to c)
+  last-ends : (before : Neighbour E) (front : List (Cell (Node E))) (c : (Cell (Node E)))
+      → last_or before (front ++ c ∷ []) ≡ Some (link_to c)
   unfolding last_or
   last-ends before [] c = refl
   last-ends before (d ∷ front) c = last-ends (Some (link_to d)) front c
 
-  pub next-is : (n : Neighbour E) (front back : List (Cell (Node E))) → AreDistinct (addresses (front ++ back)) → next_set (last_or None front) n (front ++ back) ≡ renext n front ++ back
+  pub next-is : (n : Neighbour E) (front back : List (Cell (Node E))) → AreDistinct (addresses (front ++ back))
+      → next_set (last_or None front) n (front ++ back) ≡ renext n front ++ back
   unfolding last_or
   next-is n front back apart = elim (ends_of front) [
     | empty e ↦ (λ i. next_set (last_or None (e i)) n (e i ++ back)) ∙ sym (λ i. renext n (e i) ++ back)
     | ends f c e ↦
         (λ i. next_set (last_or None (e i)) n (e i ++ back))
         ∙ (λ i. next_set (last-ends None f c i) n (append_assoc f (c ∷ []) back i))
-        ∙ changed-at c.at c.value back (λ m. record m { next = n }) f (at-last f c back (subst (λ l. AreDistinct (addresses (l ++ back))) e apart))
+        ∙ changed-at c.at c.value back (λ m. record m { next = n }) f
+        (at-last f c back (subst (λ l. AreDistinct (addresses (l ++ back))) e apart))
         ∙ sym ((λ i. renext n (e i) ++ back) ∙ (λ i. renext-ends n f c i ++ back) ∙ append_assoc f (next_to n c ∷ []) back)
   ]
 
-  pub prev-is : (n : Neighbour E) (front back : List (Cell (Node E))) → AreDistinct (addresses (front ++ back)) → prev_set (head_or None back) n (front ++ back) ≡ front ++ reprev n back
+  pub prev-is : (n : Neighbour E) (front back : List (Cell (Node E))) → AreDistinct (addresses (front ++ back))
+      → prev_set (head_or None back) n (front ++ back) ≡ front ++ reprev n back
   unfolding head_or
   prev-is n front [] apart = refl
   prev-is n front (c ∷ back) apart =
@@ -181,21 +192,25 @@ module _ {E : Type 0} where
   head-any after n [] c = refl
   head-any after n (d ∷ f) c = refl
 
-  head-same : (n : Neighbour E) (f : List (Cell (Node E))) (c : Cell (Node E)) (m : Neighbour E) → head_or n (f ++ next_to m c ∷ []) ≡ head_or n (f ++ c ∷ [])
+  head-same : (n : Neighbour E) (f : List (Cell (Node E))) (c : Cell (Node E)) (m : Neighbour E)
+      → head_or n (f ++ next_to m c ∷ []) ≡ head_or n (f ++ c ∷ [])
   unfolding head_or
   head-same n [] c m = refl
   head-same n (d ∷ f) c m = refl
 
-  pub next_first-is : (n : Neighbour E) (front : List (Cell (Node E))) (after : Neighbour E) → next_first (last_or None front) n (head_or after front) ≡ head_or n (renext n front)
+  pub next_first-is : (n : Neighbour E) (front : List (Cell (Node E))) (after : Neighbour E)
+      → next_first (last_or None front) n (head_or after front) ≡ head_or n (renext n front)
   unfolding last_or head_or
   next_first-is n front after = elim (ends_of front) [
     | empty e ↦ (λ i. next_first (last_or None (e i)) n (head_or after (e i))) ∙ sym (λ i. head_or n (renext n (e i)))
     | ends f c e ↦
-        (λ i. next_first (last_or None (e i)) n (head_or after (e i))) ∙ (λ i. next_first (last-ends None f c i) n (head_or after (f ++ c ∷ [])))
+        (λ i. next_first (last_or None (e i)) n (head_or after (e i)))
+        ∙ (λ i. next_first (last-ends None f c i) n (head_or after (f ++ c ∷ [])))
         ∙ head-any after n f c ∙ sym ((λ i. head_or n (renext n (e i))) ∙ (λ i. head_or n (renext-ends n f c i)) ∙ head-same n f c n)
   ]
 
-  pub prev_last-is : (n : Neighbour E) (back : List (Cell (Node E))) (before : Neighbour E) → prev_last (head_or None back) n (last_or before back) ≡ last_or n (reprev n back)
+  pub prev_last-is : (n : Neighbour E) (back : List (Cell (Node E))) (before : Neighbour E)
+      → prev_last (head_or None back) n (last_or before back) ≡ last_or n (reprev n back)
   unfolding last_or head_or
   prev_last-is n [] before = refl
   prev_last-is n (c ∷ back) before = refl
@@ -216,7 +231,8 @@ module _ {E : Type 0} where
     | empty e ↦ subst (λ l. IsThere (last_or None l) (l ++ rest)) (sym e) tt
     | ends f c e ↦
         subst (λ l. IsThere (last_or None l) (l ++ rest)) (sym e)
-        (subst (λ l. IsThere l ((f ++ c ∷ []) ++ rest)) (sym (last-ends None f c)) (subst (λ l. IsSome (value_at c.at l)) (sym (append_assoc f (c ∷ []) rest)) (some-at f c rest)))
+        (subst (λ l. IsThere l ((f ++ c ∷ []) ++ rest)) (sym (last-ends None f c))
+        (subst (λ l. IsSome (value_at c.at l)) (sym (append_assoc f (c ∷ []) rest)) (some-at f c rest)))
   ]
 
   pub there-head : (rest back : List (Cell (Node E))) → IsThere (head_or None back) (rest ++ back)
@@ -232,7 +248,8 @@ module _ {E : Type 0} where
     pub is : after ≡ last_or None front
     pub next : first_after after first cs ≡ head_or None back
 
-  pub where_of : (cs : List (Cell (Node E))) (first after : Neighbour E) → AreLinked None cs None → first ≡ head_or None cs → IsThere after cs → Where cs first after
+  pub where_of : (cs : List (Cell (Node E))) (first after : Neighbour E) → AreLinked None cs None → first ≡ head_or None cs
+      → IsThere after cs → Where cs first after
   unfolding last_or AreLinked
   where_of cs first None s ef there = record { front = []; back = cs; whole = refl; is = refl; next = ef }
   where_of cs first (Some l) s ef there =
@@ -255,7 +272,8 @@ module _ {E : Type 0} where
     pub last_is : last ≡ last_or None cs
     pub apart : AreDistinct (addresses cs)
 
-  apart-parts : (xs ys : List (Cell (Node E))) (us vs : List (Cell (Node E))) → addresses xs ≡ addresses us → addresses ys ≡ addresses vs → AreDistinct (addresses (us ++ vs)) → AreDistinct (addresses (xs ++ ys))
+  apart-parts : (xs ys : List (Cell (Node E))) (us vs : List (Cell (Node E))) → addresses xs ≡ addresses us → addresses ys ≡ addresses vs
+      → AreDistinct (addresses (us ++ vs)) → AreDistinct (addresses (xs ++ ys))
   apart-parts xs ys us vs e f d =
       subst AreDistinct (sym (addresses-parts xs ys ∙ (λ i. e i ++ f i))) (subst AreDistinct (addresses-parts us vs) d)
 
@@ -264,7 +282,8 @@ module _ {E : Type 0} where
     abbrev pub at : Where cs first after
     at = where_of cs first after it.linked it.first_is there
 
-    module _ (d : Cell (Node E)) (fresh : value_at d.at cs ≡ None) (back_to : d.value.prev ≡ after) (on_to : d.value.next ≡ first_after after first cs) where
+    module _ (d : Cell (Node E)) (fresh : value_at d.at cs ≡ None) (back_to : d.value.prev ≡ after)
+        (on_to : d.value.next ≡ first_after after first cs) where
       abbrev k : Neighbour E
       k = Some (link_to d)
 
@@ -281,13 +300,16 @@ module _ {E : Type 0} where
       fresh₀ = subst (λ l. has d.at l ≡ false) (ap addresses at.whole ∙ addresses-parts front back) (none-value d.at cs fresh)
 
       apart₁ : AreDistinct (addresses (front ++ d ∷ back))
-      apart₁ = subst AreDistinct (sym (addresses-parts front (d ∷ back))) (apart-with (addresses front) d.at (addresses back) fresh₀ (subst AreDistinct (addresses-parts front back) apart₀))
+      apart₁ = subst AreDistinct (sym (addresses-parts front (d ∷ back)))
+          (apart-with (addresses front) d.at (addresses back) fresh₀ (subst AreDistinct (addresses-parts front back) apart₀))
 
       pub put-cells : put_after (address_of after) d cs ≡ front ++ d ∷ back
-      put-cells = (λ i. put_after (address_of (at.is i)) d (at.whole i)) ∙ ap (λ p. put_after p d (front ++ back)) (last-place front) ∙ put-is front back d apart₀
+      put-cells = (λ i. put_after (address_of (at.is i)) d (at.whole i)) ∙ ap (λ p. put_after p d (front ++ back)) (last-place front)
+          ∙ put-is front back d apart₀
 
       pub there₁ : IsThere after (put_after (address_of after) d cs)
-      there₁ = subst (λ l. IsThere after l) (sym put-cells) (subst (λ a. IsThere a (front ++ d ∷ back)) (sym at.is) (there-last front (d ∷ back)))
+      there₁ = subst (λ l. IsThere after l) (sym put-cells)
+          (subst (λ a. IsThere a (front ++ d ∷ back)) (sym at.is) (there-last front (d ∷ back)))
 
       pub next-cells : next_set after k (put_after (address_of after) d cs) ≡ renext k front ++ d ∷ back
       next-cells = (λ i. next_set (at.is i) k (put-cells i)) ∙ next-is k front (d ∷ back) apart₁
@@ -304,17 +326,23 @@ module _ {E : Type 0} where
       done = renext k front ++ d ∷ reprev k back
 
       apart₂ : AreDistinct (addresses ((renext k front ++ d ∷ []) ++ back))
-      apart₂ = subst (λ l. AreDistinct (addresses l)) (rejoin back) (apart-parts (renext k front) (d ∷ back) front (d ∷ back) (addresses-renext k front) refl apart₁)
+      apart₂ = subst (λ l. AreDistinct (addresses l)) (rejoin back)
+          (apart-parts (renext k front) (d ∷ back) front (d ∷ back) (addresses-renext k front) refl apart₁)
 
       pub done-cells : prev_set (first_after after first cs) k (next_set after k (put_after (address_of after) d cs)) ≡ done
-      done-cells = (λ i. prev_set (at.next i) k ((next-cells ∙ rejoin back) i)) ∙ prev-is k (renext k front ++ d ∷ []) back apart₂ ∙ sym (rejoin (reprev k back))
+      done-cells = (λ i. prev_set (at.next i) k ((next-cells ∙ rejoin back) i)) ∙ prev-is k (renext k front ++ d ∷ []) back apart₂
+          ∙ sym (rejoin (reprev k back))
 
       links-on : AreLinked None done None
       unfolding AreLinked head_or last_or
       links-on =
           let parts = linked-parts None front back None (subst (λ l. AreLinked None l None) at.whole it.linked) in
-          parts-linked None (renext k front) (d ∷ reprev k back) None (renext-linked None k front (head_or None back) parts.0)
-          (back_to ∙ at.is ∙ sym (last-renext None k front), on_to ∙ at.next ∙ sym (head-reprev None k back), reprev-linked (last_or None front) k back None parts.1)
+          parts-linked None (renext k front) (d ∷ reprev k back) None (renext-linked None k front (head_or None back) parts.0) (
+            back_to ∙ at.is ∙ sym (last-renext None k front),
+            on_to ∙ at.next
+                ∙ sym (head-reprev None k back),
+            reprev-linked (last_or None front) k back None parts.1,
+          )
 
       pub linked : IsLinkedList done (next_first after k first) (prev_last (first_after after first cs) k last)
       unfolding head_or last_or
@@ -326,18 +354,23 @@ module _ {E : Type 0} where
         last_is =
             (λ i. prev_last (at.next i) k ((it.last_is ∙ ap (last_or None) at.whole ∙ last-parts None front back) i))
             ∙ prev_last-is k back (last_or None front) ∙ sym (last-parts None (renext k front) (d ∷ reprev k back));
-        apart = apart-parts (renext k front) (d ∷ reprev k back) front (d ∷ back) (addresses-renext k front) (ap (λ l. d.at ∷ l) (addresses-reprev k back)) apart₁;
+        apart = apart-parts (renext k front) (d ∷ reprev k back) front (d ∷ back) (addresses-renext k front)
+            (ap (λ l. d.at ∷ l) (addresses-reprev k back)) apart₁;
       }
 
       pub entries-linked : entries_of done ≡ put_after (address_of after) (cell d.at d.value.entry) (entries_of cs)
       entries-linked =
           let es = entries_of front in let fs = entries_of back in let e = cell d.at d.value.entry in
-          let apart' : AreDistinct (addresses (es ++ fs)) = subst AreDistinct (sym (addresses-parts es fs ∙ (λ i. addresses-entries front i ++ addresses-entries back i))) (subst AreDistinct (addresses-parts front back) apart₀) in
+          let apart' : AreDistinct (addresses (es ++ fs)) =
+          subst AreDistinct (sym (addresses-parts es fs ∙ (λ i. addresses-entries front i ++ addresses-entries back i)))
+          (subst AreDistinct (addresses-parts front back) apart₀) in
           entries-parts (renext k front) (d ∷ reprev k back) ∙ (λ i. entries-renext k front i ++ e ∷ entries-reprev k back i)
-          ∙ sym ((λ i. put_after (address_of (at.is i)) e (entries_of (at.whole i))) ∙ (λ i. put_after ((last-place front ∙ sym (last-entries front)) i) e (entries-parts front back i)) ∙ put-is es fs e apart')
+          ∙ sym ((λ i. put_after (address_of (at.is i)) e (entries_of (at.whole i)))
+          ∙ (λ i. put_after ((last-place front ∙ sym (last-entries front)) i) e (entries-parts front back i)) ∙ put-is es fs e apart')
 
   -- a node is taken out
-  module _ (cs : List (Cell (Node E))) (first last : Neighbour E) (it : IsLinkedList cs first last) (p : Ptr) (n : Node E) (is : value_at p cs ≡ Some n) where
+  module _ (cs : List (Cell (Node E))) (first last : Neighbour E) (it : IsLinkedList cs first last) (p : Ptr) (n : Node E)
+      (is : value_at p cs ≡ Some n) where
     abbrev pub spot : Found p n cs
     spot = found p n cs is
 
@@ -365,19 +398,22 @@ module _ {E : Type 0} where
     apart-left : AreDistinct (addresses (left ++ right))
     apart-left =
         subst AreDistinct (sym (addresses-parts left right))
-        (apart-without (addresses left) p (addresses right) (subst AreDistinct (ap addresses spot.whole ∙ addresses-parts left (c ∷ right)) it.apart)).rest
+        (apart-without (addresses left) p (addresses right)
+        (subst AreDistinct (ap addresses spot.whole ∙ addresses-parts left (c ∷ right)) it.apart)).rest
 
     pub without-cells : without p cs ≡ left ++ right
     without-cells = ap (without p) spot.whole ∙ without-at p n right left spot.before
 
     pub there-prev : IsThere n.prev (without p cs)
-    there-prev = subst (λ l. IsThere n.prev l) (sym without-cells) (subst (λ a. IsThere a (left ++ right)) (sym prev-was) (there-last left right))
+    there-prev = subst (λ l. IsThere n.prev l) (sym without-cells)
+        (subst (λ a. IsThere a (left ++ right)) (sym prev-was) (there-last left right))
 
     pub closed-next : next_set n.prev n.next (without p cs) ≡ renext n.next left ++ right
     closed-next = (λ i. next_set (prev-was i) n.next (without-cells i)) ∙ next-is n.next left right apart-left
 
     pub there-next : IsThere n.next (next_set n.prev n.next (without p cs))
-    there-next = subst (λ l. IsThere n.next l) (sym closed-next) (subst (λ a. IsThere a (renext n.next left ++ right)) (sym next-was) (there-head (renext n.next left) right))
+    there-next = subst (λ l. IsThere n.next l) (sym closed-next)
+        (subst (λ a. IsThere a (renext n.next left ++ right)) (sym next-was) (there-head (renext n.next left) right))
 
     abbrev pub rest : List (Cell (Node E))
     rest = renext n.next left ++ reprev n.prev right
@@ -385,34 +421,42 @@ module _ {E : Type 0} where
     pub closed-cells : prev_set n.next n.prev (next_set n.prev n.next (without p cs)) ≡ rest
     closed-cells =
         (λ i. prev_set (next-was i) n.prev (closed-next i))
-        ∙ prev-is n.prev (renext n.next left) right (apart-parts (renext n.next left) right left right (addresses-renext n.next left) refl apart-left)
+        ∙ prev-is n.prev (renext n.next left) right
+        (apart-parts (renext n.next left) right left right (addresses-renext n.next left) refl apart-left)
 
     pub unlinked : IsLinkedList rest (next_first n.prev n.next first) (prev_last n.next n.prev last)
     unfolding head_or last_or AreLinked
     unlinked = record {
       linked =
           parts-linked None (renext n.next left) (reprev n.prev right) None
-          (subst (λ a. AreLinked None (renext n.next left) a) (next-was ∙ sym (head-reprev None n.prev right)) (renext-linked None n.next left (Some (link_to c)) split.0))
-          (subst (λ a. AreLinked a (reprev n.prev right) None) (prev-was ∙ sym (last-renext None n.next left)) (reprev-linked (Some (link_to c)) n.prev right None split.1.2));
+          (subst (λ a. AreLinked None (renext n.next left) a) (next-was ∙ sym (head-reprev None n.prev right))
+          (renext-linked None n.next left (Some (link_to c)) split.0))
+          (subst (λ a. AreLinked a (reprev n.prev right) None) (prev-was ∙ sym (last-renext None n.next left))
+          (reprev-linked (Some (link_to c)) n.prev right None split.1.2));
       first_is =
           (λ i. next_first (prev-was i) n.next ((it.first_is ∙ ap (head_or None) spot.whole ∙ head-parts None left (c ∷ right)) i))
-          ∙ next_first-is n.next left (Some (link_to c)) ∙ (λ i. head_or ((next-was ∙ sym (head-reprev None n.prev right)) i) (renext n.next left))
+          ∙ next_first-is n.next left (Some (link_to c))
+          ∙ (λ i. head_or ((next-was ∙ sym (head-reprev None n.prev right)) i) (renext n.next left))
           ∙ sym (head-parts None (renext n.next left) (reprev n.prev right));
       last_is =
           (λ i. prev_last (next-was i) n.prev ((it.last_is ∙ ap (last_or None) spot.whole ∙ last-parts None left (c ∷ right)) i))
-          ∙ prev_last-is n.prev right (Some (link_to c)) ∙ (λ i. last_or ((prev-was ∙ sym (last-renext None n.next left)) i) (reprev n.prev right))
+          ∙ prev_last-is n.prev right (Some (link_to c))
+          ∙ (λ i. last_or ((prev-was ∙ sym (last-renext None n.next left)) i) (reprev n.prev right))
           ∙ sym (last-parts None (renext n.next left) (reprev n.prev right));
-      apart = apart-parts (renext n.next left) (reprev n.prev right) left right (addresses-renext n.next left) (addresses-reprev n.prev right) apart-left;
+      apart = apart-parts (renext n.next left) (reprev n.prev right) left right (addresses-renext n.next left)
+          (addresses-reprev n.prev right) apart-left;
     }
 
     pub entries-unlinked : entries_of rest ≡ without p (entries_of cs)
     entries-unlinked =
         entries-parts (renext n.next left) (reprev n.prev right) ∙ (λ i. entries-renext n.next left i ++ entries-reprev n.prev right i)
         ∙ sym (ap (λ l. without p (entries_of l)) spot.whole ∙ ap (without p) (entries-parts left (c ∷ right))
-        ∙ without-at p n.entry (entries_of right) (entries_of left) (subst (λ l. has p l ≡ false) (sym (addresses-entries left)) spot.before))
+        ∙ without-at p n.entry (entries_of right) (entries_of left)
+        (subst (λ l. has p l ≡ false) (sym (addresses-entries left)) spot.before))
 
   -- what an answer knows of the fields
-  pub is-linked-list : {cs : List (Cell (Node E))} {first last : Neighbour E} → AreLinked None cs None → first ≡ head_or None cs → last ≡ last_or None cs → AreDistinct (addresses cs) → IsLinkedList cs first last
+  pub is-linked-list : {cs : List (Cell (Node E))} {first last : Neighbour E} → AreLinked None cs None → first ≡ head_or None cs
+      → last ≡ last_or None cs → AreDistinct (addresses cs) → IsLinkedList cs first last
   is-linked-list s e f d = record { linked = s; first_is = e; last_is = f; apart = d }
 
   pub there-of : (after : Neighbour E) (cs : List (Cell (Node E))) → IsThere after (entries_of cs) → IsThere after cs
@@ -430,9 +474,11 @@ module _ {E : Type 0} where
   first-entries [] = refl
   first-entries (c ∷ cs) = refl
 
-  module _ (cs : List (Cell (Node E))) (first last : Neighbour E) (it : IsLinkedList cs first last) (p : Ptr) (n : Node E) (is : value_at p cs ≡ Some n) where
+  module _ (cs : List (Cell (Node E))) (first last : Neighbour E) (it : IsLinkedList cs first last) (p : Ptr) (n : Node E)
+      (is : value_at p cs ≡ Some n) where
     whole-entries : entries_of cs ≡ entries_of (left cs first last it p n is) ++ cell p n.entry ∷ entries_of (right cs first last it p n is)
-    whole-entries = ap entries_of (spot cs first last it p n is).whole ∙ entries-parts (left cs first last it p n is) (cell p n ∷ right cs first last it p n is)
+    whole-entries = ap entries_of (spot cs first last it p n is).whole
+        ∙ entries-parts (left cs first last it p n is) (cell p n ∷ right cs first last it p n is)
 
     pub stands-behind : StandsBehind p (address_of n.prev) (entries_of cs)
     stands-behind = record {
@@ -440,7 +486,8 @@ module _ {E : Type 0} where
       value = n.entry;
       back = entries_of (right cs first last it p n is);
       whole = whole-entries;
-      is = ap address_of (prev-was cs first last it p n is) ∙ last-place (left cs first last it p n is) ∙ sym (last-entries (left cs first last it p n is));
+      is = ap address_of (prev-was cs first last it p n is) ∙ last-place (left cs first last it p n is)
+          ∙ sym (last-entries (left cs first last it p n is));
     }
 
     pub stands-before : StandsBefore p (address_of n.next) (entries_of cs)
@@ -449,11 +496,13 @@ module _ {E : Type 0} where
       value = n.entry;
       back = entries_of (right cs first last it p n is);
       whole = whole-entries;
-      is = ap address_of (next-was cs first last it p n is) ∙ head-place (right cs first last it p n is) ∙ sym (first-entries (right cs first last it p n is));
+      is = ap address_of (next-was cs first last it p n is) ∙ head-place (right cs first last it p n is)
+          ∙ sym (first-entries (right cs first last it p n is));
     }
 
   -- ---- an entry is changed
-  module _ (cs : List (Cell (Node E))) (first last : Neighbour E) (it : IsLinkedList cs first last) (p : Ptr) (n : Node E) (is : value_at p cs ≡ Some n) (w : E) where
+  module _ (cs : List (Cell (Node E))) (first last : Neighbour E) (it : IsLinkedList cs first last) (p : Ptr) (n : Node E)
+      (is : value_at p cs ≡ Some n) (w : E) where
     abbrev lf : List (Cell (Node E))
     lf = left cs first last it p n is
 
@@ -475,9 +524,12 @@ module _ {E : Type 0} where
         let parts = split cs first last it p n is in
         record {
           linked = parts-linked None lf (cell p (record n { entry = w }) ∷ rt) None parts.0 (parts.1.0, parts.1.1, parts.1.2);
-          first_is = it.first_is ∙ ap (head_or None) sp.whole ∙ head-parts None lf (cell p n ∷ rt) ∙ sym (head-parts None lf (cell p (record n { entry = w }) ∷ rt));
-          last_is = it.last_is ∙ ap (last_or None) sp.whole ∙ last-parts None lf (cell p n ∷ rt) ∙ sym (last-parts None lf (cell p (record n { entry = w }) ∷ rt));
-          apart = apart-parts lf (cell p (record n { entry = w }) ∷ rt) lf (cell p n ∷ rt) refl refl (subst (λ l. AreDistinct (addresses l)) sp.whole it.apart);
+          first_is = it.first_is ∙ ap (head_or None) sp.whole ∙ head-parts None lf (cell p n ∷ rt)
+              ∙ sym (head-parts None lf (cell p (record n { entry = w }) ∷ rt));
+          last_is = it.last_is ∙ ap (last_or None) sp.whole ∙ last-parts None lf (cell p n ∷ rt)
+              ∙ sym (last-parts None lf (cell p (record n { entry = w }) ∷ rt));
+          apart = apart-parts lf (cell p (record n { entry = w }) ∷ rt) lf (cell p n ∷ rt) refl refl
+              (subst (λ l. AreDistinct (addresses l)) sp.whole it.apart);
         }
 
     pub entries-changed : entries_of changed ≡ set_at p w (entries_of cs)

@@ -89,7 +89,8 @@ module _ (R : RattleType) {M : Type 1} {𝓤 : Ura M} (𝓛 : Logic 𝓤) (p : P
       qed 𝓛 (‵ (One w) ∷ ‵ (cells_own R (c ∷ without p cs)) ∷ []) ∵ move ! (1 ∷ []) $ fsplit ! $ move ! (2 ∷ 1 ∷ []) $
       use2 𝓛 (‵ (cells_own R (set_at p w cs))) (rest is) $ move ! (1 ∷ 0 ∷ []) $ fjoin ! $ done !
 
-  pub glue : (cs : List (Cell R.Denot)) (x w : R.Denot) → value_at p cs ≡ Some x → ent 𝓤 (sep 𝓤 (sem 𝓛 (One w)) (Own (without p cs))) (Own (set_at p w cs))
+  pub glue : (cs : List (Cell R.Denot)) (x w : R.Denot) → value_at p cs ≡ Some x
+      → ent 𝓤 (sep 𝓤 (sem 𝓛 (One w)) (Own (without p cs))) (Own (set_at p w cs))
   unfolding value_at without set_at
   glue [] x w is = absurd cc
   glue (c ∷ cs) x w is = glue_step c cs x w (same_address c.at p) refl (glue cs x w) is
@@ -101,10 +102,12 @@ module _ (R : RattleType) {M : Type 1} {𝓤 : Ura M} (𝓛 : Logic 𝓤) (p : P
   seen_step κ c cs x true e rest is =
       let at : c.at ≡ p = same_address_eq c.at p e in
       let v : c.value ≡ x = cc in
-      subst (λ (d : Ptr × R.Denot). ent 𝓤 (sem 𝓛 (cells_lent R (c ∷ cs) κ)) (sem 𝓛 (lent_at R d.0 d.1 κ))) (λ i. (at i, v i)) (fst∗ 𝓤 _ (sem 𝓛 (cells_lent R cs κ)))
+      subst (λ (d : Ptr × R.Denot). ent 𝓤 (sem 𝓛 (cells_lent R (c ∷ cs) κ)) (sem 𝓛 (lent_at R d.0 d.1 κ))) (λ i. (at i, v i))
+      (fst∗ 𝓤 _ (sem 𝓛 (cells_lent R cs κ)))
   seen_step κ c cs x false e rest is = via 𝓤 _ (snd∗ 𝓤 (sem 𝓛 (lent_at R c.at c.value κ)) _) (rest is)
 
-  pub seen : (κ : Lft) (cs : List (Cell R.Denot)) (x : R.Denot) → value_at p cs ≡ Some x → ent 𝓤 (sem 𝓛 (cells_lent R cs κ)) (sem 𝓛 (lent_at R p x κ))
+  pub seen : (κ : Lft) (cs : List (Cell R.Denot)) (x : R.Denot) → value_at p cs ≡ Some x
+      → ent 𝓤 (sem 𝓛 (cells_lent R cs κ)) (sem 𝓛 (lent_at R p x κ))
   unfolding value_at
   seen κ [] x is = absurd cc
   seen κ (c ∷ cs) x is = seen_step κ c cs x (same_address c.at p) refl (seen κ cs x) is
@@ -112,8 +115,11 @@ module _ (R : RattleType) {M : Type 1} {𝓤 : Ura M} (𝓛 : Logic 𝓤) (p : P
   behind_step : (d c : Cell R.Denot) (cs : List (Cell R.Denot)) (y : Bool)
       → ent 𝓤 (Own (d ∷ cs)) (Own (put_behind p d cs))
       → ent 𝓤 (Own (d ∷ c ∷ cs)) (Own (cond y (c ∷ d ∷ cs) (c ∷ put_behind p d cs)))
-  behind_step d c cs true rest = qed 𝓛 (‵ (cells_own R (d ∷ c ∷ cs)) ∷ []) ∵ fsplit ! $ move ! (1 ∷ []) $ fsplit ! $ move ! (2 ∷ 1 ∷ []) $ fjoin ! $ move ! (1 ∷ 0 ∷ []) $ fjoin ! $ done !
-  behind_step d c cs false rest = qed 𝓛 (‵ (cells_own R (d ∷ c ∷ cs)) ∷ []) ∵ fsplit ! $ move ! (1 ∷ []) $ fsplit ! $ move ! (2 ∷ 1 ∷ []) $ fjoin ! $
+  behind_step d c cs true rest =
+      qed 𝓛 (‵ (cells_own R (d ∷ c ∷ cs)) ∷ []) ∵ fsplit ! $ move ! (1 ∷ []) $ fsplit ! $ move ! (2 ∷ 1 ∷ []) $ fjoin ! $
+      move ! (1 ∷ 0 ∷ []) $ fjoin ! $ done !
+  behind_step d c cs false rest =
+      qed 𝓛 (‵ (cells_own R (d ∷ c ∷ cs)) ∷ []) ∵ fsplit ! $ move ! (1 ∷ []) $ fsplit ! $ move ! (2 ∷ 1 ∷ []) $ fjoin ! $
       use1 𝓛 (‵ (cells_own R (put_behind p d cs))) rest $ move ! (1 ∷ 0 ∷ []) $ fjoin ! $ done !
 
   behind : (d : Cell R.Denot) (cs : List (Cell R.Denot)) → ent 𝓤 (Own (d ∷ cs)) (Own (put_behind p d cs))
@@ -126,31 +132,38 @@ pub put : (R : RattleType) {M : Type 1} {𝓤 : Ura M} (𝓛 : Logic 𝓤) (o : 
 put R {𝓤 = 𝓤} 𝓛 None d cs = id⊢ 𝓤 _
 put R 𝓛 (Some p) d cs = behind R 𝓛 p d cs
 
-module _ (R : RattleType) (one : R.mir ≡ lone R.mir ∷ []) {M : Type 1} {𝓤 : Ura M} (𝓛 : Logic 𝓤) (𝓜 : Model 𝓤 𝓛.H) (big : 0 < size (lone R.mir)) where
+module _ (R : RattleType) (one : R.mir ≡ lone R.mir ∷ []) {M : Type 1} {𝓤 : Ura M} (𝓛 : Logic 𝓤) (𝓜 : Model 𝓤 𝓛.H)
+    (big : 0 < size (lone R.mir)) where
   open 𝓛 use {H}
 
   room_of : (x : R.Denot) (b o : ℕ) → ent 𝓤 (sem 𝓛 (part_at R full_share x b o)) (H.room (lone R.mir) b o)
   room_of x b o = qed 𝓛 (‵ (part_at R full_share x b o) ∷ []) ∵
-      use1 𝓛 (some (λ (v : Val). ‵ (fat full_share (lone R.mir) b o v) ⊛ ‵ (R.own_val x (v ∷ [])))) (part_out 𝓛 R one full_share x b o) $ pick ! (λ v. split ! $ keep ! (0 ∷ []) $ by ! (𝓛.laws.at_room (lone R.mir) b o v))
+      use1 𝓛 (some (λ (v : Val). ‵ (fat full_share (lone R.mir) b o v) ⊛ ‵ (R.own_val x (v ∷ [])))) (part_out 𝓛 R one full_share x b o) $
+      pick ! (λ v. split ! $ keep ! (0 ∷ []) $ by ! (𝓛.laws.at_room (lone R.mir) b o v))
 
   clash : (p : Ptr) (x y : R.Denot) → ent 𝓤 (sep 𝓤 (sem 𝓛 (lies_at R full_share p x)) (sem 𝓛 (lies_at R full_share p y))) (never 𝓤)
   clash (block_ptr b o) x y =
-      qed 𝓛 (‵ (part_at R full_share x b o) ∷ ‵ (part_at R full_share y b o) ∷ []) ∵ use1 𝓛 (‵ (froom (lone R.mir) b o)) (room_of x b o) $ move ! (1 ∷ []) $ use1 𝓛 (‵ (froom (lone R.mir) b o)) (room_of y b o) $
+      qed 𝓛 (‵ (part_at R full_share x b o) ∷ ‵ (part_at R full_share y b o) ∷ []) ∵ use1 𝓛 (‵ (froom (lone R.mir) b o)) (room_of x b o) $
+      move ! (1 ∷ []) $ use1 𝓛 (‵ (froom (lone R.mir) b o)) (room_of y b o) $
       by ! (𝓜.room-room (lone R.mir) (lone R.mir) b o o o (omega arith, omega arith) (omega arith, omega arith))
   clash null_ptr x y = fst∗ 𝓤 (never 𝓤) (never 𝓤)
 
   module _ (p : Ptr) (x : R.Denot) where
     fresh_step : (c : Cell R.Denot) (cs : List (Cell R.Denot)) (y : Bool) → same_address c.at p ≡ y
         → ent 𝓤 (sep 𝓤 (sem 𝓛 (lies_at R full_share p x)) (sem 𝓛 (cells_own R cs))) (fact 𝓤 (value_at p cs ≡ None))
-        → ent 𝓤 (sep 𝓤 (sem 𝓛 (lies_at R full_share p x)) (sem 𝓛 (cells_own R (c ∷ cs)))) (fact 𝓤 (cond y (Some c.value) (value_at p cs) ≡ None))
+        → ent 𝓤 (sep 𝓤 (sem 𝓛 (lies_at R full_share p x)) (sem 𝓛 (cells_own R (c ∷ cs))))
+        (fact 𝓤 (cond y (Some c.value) (value_at p cs) ≡ None))
     fresh_step c cs true e rest =
         let at : c.at ≡ p = same_address_eq c.at p e in
         qed 𝓛 (‵ (lies_at R full_share p x) ∷ ‵ (cells_own R (c ∷ cs)) ∷ []) ∵ move ! (1 ∷ []) $ fsplit ! $ fsplit ! $ keep ! (0 ∷ 3 ∷ []) $
-        by ! (via 𝓤 (never 𝓤) (subst (λ (q : Ptr). ent 𝓤 (sep 𝓤 (sem 𝓛 (lies_at R full_share q c.value)) (sem 𝓛 (lies_at R full_share p x))) (never 𝓤)) (sym at) (clash p c.value x)) (never_e 𝓤 _))
+        by ! (via 𝓤 (never 𝓤) (subst
+        (λ (q : Ptr). ent 𝓤 (sep 𝓤 (sem 𝓛 (lies_at R full_share q c.value)) (sem 𝓛 (lies_at R full_share p x))) (never 𝓤)) (sym at)
+        (clash p c.value x)) (never_e 𝓤 _))
     fresh_step c cs false e rest =
         qed 𝓛 (‵ (lies_at R full_share p x) ∷ ‵ (cells_own R (c ∷ cs)) ∷ []) ∵ move ! (1 ∷ []) $ fsplit ! $ keep ! (2 ∷ 1 ∷ []) $ by ! rest
 
-    pub fresh : (cs : List (Cell R.Denot)) → ent 𝓤 (sep 𝓤 (sem 𝓛 (lies_at R full_share p x)) (sem 𝓛 (cells_own R cs))) (fact 𝓤 (value_at p cs ≡ None))
+    pub fresh : (cs : List (Cell R.Denot))
+        → ent 𝓤 (sep 𝓤 (sem 𝓛 (lies_at R full_share p x)) (sem 𝓛 (cells_own R cs))) (fact 𝓤 (value_at p cs ≡ None))
     unfolding value_at
     fresh [] = fact_i 𝓤 (None ≡ None) _ refl
     fresh (c ∷ cs) = fresh_step c cs (same_address c.at p) refl (fresh cs)
@@ -164,11 +177,14 @@ Word = Struct one_field
 
 module _ {M : Type 1} {𝓤 : Ura M} {𝓛 : Logic 𝓤} {K : Type 0} {Γ : List (Item 𝓤)} {G : Goal 𝓤 𝓛.H} where
   pub word_had : K → (c : Ptr) (vs : List Val) → (vs ≡ word c ∷ [] → Seq K 𝓛 Γ G) → Seq K 𝓛 (‵ (Word.own_val (c, tt) vs) ∷ Γ) G
-  word_had t c vs k = fpick t (λ vss. fsplit t $ feq_l t (λ ev. fsplit t $ feq_l t (λ e. drop t $ k (subst (λ (ws : List Val). vs ≡ vstruct (of_list (ws ++ [])) ∷ []) e ev))))
+  word_had t c vs k = fpick t
+      (λ vss. fsplit t $ feq_l t
+      (λ ev. fsplit t $ feq_l t (λ e. drop t $ k (subst (λ (ws : List Val). vs ≡ vstruct (of_list (ws ++ [])) ∷ []) e ev))))
 
   pub word_made : K → (c : Ptr) → Step K 𝓛 (‵ (Word.own_val (c, tt) (word c ∷ [])) ∷ Γ) G Γ G
   word_made t c = step (λ s.
-      nothing t $ feq_i t (List Val) (ptr_val c ∷ []) (ptr_val c ∷ []) refl $ fjoin t $ feq_i t (List Val) (word c ∷ []) (word c ∷ []) refl $ fjoin t $
+      nothing t $ feq_i t (List Val) (ptr_val c ∷ []) (ptr_val c ∷ []) refl $ fjoin t $
+      feq_i t (List Val) (word c ∷ []) (word c ∷ []) refl $ fjoin t $
       fpack t (Valss (RawPtr ∷ [])) (within one_field (c, tt) (word c ∷ [])) (ptr_val c ∷ [], tt) $ s)
 
 -- the owner's own field, which takes no bytes
@@ -180,16 +196,26 @@ module _ (E : RattleType) where
   Mark = Struct (shape (nodes.the_type E))
 
   pub mark_made : {M : Type 1} {𝓤 : Ura M} (𝓛 : Logic 𝓤) → ent 𝓤 (emp 𝓤) (sem 𝓛 (Mark.own_val (tt, tt) (mark ∷ [])))
-  mark_made 𝓛 = makes_shadow 𝓛 (Mark.own_val (tt, tt) (mark ∷ [])) (λ vss. (tt, ((λ uss. (tt, tt)), tt))) ((vstruct vnil ∷ [], tt), (refl, ((tt, (refl, tt)), tt)))
+  mark_made 𝓛 = makes_shadow 𝓛 (Mark.own_val (tt, tt) (mark ∷ [])) (λ vss. (tt, ((λ uss. (tt, tt)), tt)))
+      ((vstruct vnil ∷ [], tt), (refl, ((tt, (refl, tt)), tt)))
 
 -- a value is one machine value, of its type
 module _ (Z : RattleType) (L : Laws Z) {M : Type 1} {𝓤 : Ura M} {𝓛 : Logic 𝓤} {K : Type 0} {Γ : List (Item 𝓤)} {G : Goal 𝓤 𝓛.H} where
-  pub tells : K → (a : Z.Denot) (vs : List Val) → ((v : Val) → vs ≡ v ∷ [] → Good (layout Z) v → Seq K 𝓛 (‵ (Z.own_val a (v ∷ [])) ∷ Γ) G) → Seq K 𝓛 (‵ (Z.own_val a vs) ∷ Γ) G
-  tells = handle_tells (record { row = Z; laws = L; g = record { dealloc_token = λ a σ p. ftrue }; d = impl [] tnil dnil; drops = impl [] tnil dnil })
+  pub tells : K → (a : Z.Denot) (vs : List Val) → ((v : Val) → vs ≡ v ∷ [] → Good (layout Z) v → Seq K 𝓛 (‵ (Z.own_val a (v ∷ [])) ∷ Γ) G)
+      → Seq K 𝓛 (‵ (Z.own_val a vs) ∷ Γ) G
+  tells = handle_tells (record {
+    row = Z;
+    laws = L;
+    g = record { dealloc_token = λ a σ p. ftrue };
+    d = impl [] tnil dnil;
+    drops =
+        impl [] tnil dnil;
+  })
 
 module _ {M : Type 1} {𝓤 : Ura M} {𝓛 : Logic 𝓤} {K : Type 0} {Γ : List (Item 𝓤)} {G : Goal 𝓤 𝓛.H} where
   -- a fact that two entries show is learned, and they stay
-  pub knows : K → {i j : Item 𝓤} (φ : Type 0) → ent 𝓤 (sep 𝓤 (mean 𝓛 i) (mean 𝓛 j)) (fact 𝓤 φ) → (φ → Seq K 𝓛 (i ∷ j ∷ Γ) G) → Seq K 𝓛 (i ∷ j ∷ Γ) G
+  pub knows : K → {i j : Item 𝓤} (φ : Type 0) → ent 𝓤 (sep 𝓤 (mean 𝓛 i) (mean 𝓛 j)) (fact 𝓤 φ) → (φ → Seq K 𝓛 (i ∷ j ∷ Γ) G)
+      → Seq K 𝓛 (i ∷ j ∷ Γ) G
   knows t {i} {j} φ h k =
       let shown : Seq K 𝓛 (i ∷ j ∷ Γ) (prop (fact 𝓤 φ)) = use2 𝓛 (raw (fact 𝓤 φ)) h $ keep t (0 ∷ []) $ done t in
       record { prf = fact_use 𝓤 φ shown.prf (λ x. (k x).prf) }

@@ -1,6 +1,6 @@
 -- The places of a table: which are free, and how many.
-use Rattle.std.proofs.Common.{◌≡◌, ◌≢◌, ℕ, zero, suc, ◌<◌, ◌≤◌, ◌+◌, ◌-◌, List, [], ◌∷◌, ◌++◌, length, get_or, set, slice_get, Option, Some, None, IsSome, refl, sym, ap, ◌∙◌, subst, arith, rules}
-use Rattle.std.specs.List.{All, AllPairs, range_with_len}
+use Rattle.std.proofs.Common.{◌≡◌, ◌≢◌, ℕ, zero, suc, ◌<◌, ◌+◌, List, [], ◌∷◌, ◌++◌, length, get_or, set, slice_get, Option, Some, None, IsSome, refl, sym, ap, ◌∙◌, arith}
+use Rattle.std.specs.List.{All, range_with_len}
 use Rattle.std.specs.Prelude.{replicate}
 use Rattle.std.proofs.lemmas.List.{length-append, length-set}
 use Rattle.std.proofs.lemmas.List.Elements.{All-head, All-push}
@@ -102,7 +102,8 @@ module _ {X : Type 0} where
   pub free-taken : (slots : List (Option X)) (front : List ℕ) (place : ℕ) (x : X) → AreFree slots (front ++ place ∷ [])
       → AreFree (set slots place (Some x)) front
   free-taken slots front place x it =
-      let here = All-head (λ place. slice_get slots place ≡ Some None) place [] (all-right (λ place. slice_get slots place ≡ Some None) front (place ∷ []) it.vacant) in
+      let here = All-head (λ place. slice_get slots place ≡ Some None) place []
+      (all-right (λ place. slice_get slots place ≡ Some None) front (place ∷ []) it.vacant) in
       let others = front-of (λ place later. place ≢ later) front place [] it.once in
       let left = all-left (λ place. slice_get slots place ≡ Some None) front (place ∷ []) it.vacant in
       record {
@@ -117,7 +118,8 @@ module _ {X : Type 0} where
       }
 
   -- a place of a node is given back
-  pub free-cleared : (slots : List (Option X)) (free : List ℕ) (place : ℕ) (x : X) → AreFree slots free → slice_get slots place ≡ Some (Some x)
+  pub free-cleared : (slots : List (Option X)) (free : List ℕ) (place : ℕ) (x : X) → AreFree slots free
+      → slice_get slots place ≡ Some (Some x)
       → place < length slots → AreFree (set slots place None) (free ++ place ∷ [])
   free-cleared slots free place x it has within =
       let others : All (λ other. other ≢ place) free =
@@ -137,7 +139,8 @@ module _ {X : Type 0} where
       }
 
   -- another node has the place of one
-  pub free-kept : (slots : List (Option X)) (free : List ℕ) (place : ℕ) (x y : X) → AreFree slots free → slice_get slots place ≡ Some (Some y)
+  pub free-kept : (slots : List (Option X)) (free : List ℕ) (place : ℕ) (x y : X) → AreFree slots free
+      → slice_get slots place ≡ Some (Some y)
       → AreFree (set slots place (Some x)) free
   free-kept slots free place x y it has =
       let others : All (λ other. other ≢ place) free =

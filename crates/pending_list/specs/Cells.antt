@@ -1,4 +1,4 @@
--- The values of a list, and where each lies.
+-- Values behind raw pointers, in an order. No public clause cites this module.
 use Rattle.std.specs.Prelude.{Bool, true, false, ◌&&◌, ◌==◌, cond, List, [], ◌∷◌, map, Option, Some, None}
 use Rattle.std.specs.Option.{option_map}
 use Rattle.std.specs.Box.Ownership.{box_owns}
@@ -10,6 +10,7 @@ use denote.Struct.Lending.{lent_at}
 use Rattle.libc.specs.Heap.{chunk}
 use Rattle.pending_list.specs.declared.nodes.Link.{Link}
 
+-- a value, and its address
 pub record Cell (N : Type 0) : Type 0 where
   pub at : Ptr
   pub value : N
@@ -28,22 +29,22 @@ module _ {N : Type 0} where
   abbrev pub cell : Ptr → N → Cell N
   cell p x = record { at = p; value = x }
 
-  -- the value at a place
+  -- the value at an address
   unfoldable pub value_at : Ptr → List (Cell N) → Option N
   value_at p [] = None
   value_at p (c ∷ cs) = cond (same_address c.at p) (Some c.value) (value_at p cs)
 
-  -- the cells with another value at a place
+  -- the cells with another value at an address
   unfoldable pub set_at : Ptr → N → List (Cell N) → List (Cell N)
   set_at p w [] = []
   set_at p w (c ∷ cs) = cond (same_address c.at p) (cell c.at w ∷ cs) (c ∷ set_at p w cs)
 
-  -- the cells but the one at a place
+  -- the cells but the one at an address
   unfoldable pub without : Ptr → List (Cell N) → List (Cell N)
   without p [] = []
   without p (c ∷ cs) = cond (same_address c.at p) cs (c ∷ without p cs)
 
-  -- the cells with one more after the one at a place
+  -- the cells with one more after the one at an address
   unfoldable pub put_behind : Ptr → Cell N → List (Cell N) → List (Cell N)
   put_behind p d [] = d ∷ []
   put_behind p d (c ∷ cs) = cond (same_address c.at p) (c ∷ d ∷ cs) (c ∷ put_behind p d cs)

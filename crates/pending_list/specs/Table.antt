@@ -12,9 +12,12 @@ use Rattle.pending_list.specs.declared.nodes.Link.{Link}
 
 module _ {T : Type 0} where
   -- the place of each entry's id leads to it, and each that leads anywhere leads to such an entry
-  pub record IsTable (table : List (Option (Link (Entry T)))) (cs : List (Cell (Entry T))) : Type 0 where
-    pub holds : (p : Ptr) (e : Entry T) → value_at p cs ≡ Some e → leads_at table e.id.place ≡ Some (record { at = p })
-    pub points : (i : ℕ) (l : Link (Entry T)) → leads_at table i ≡ Some l → (e : Entry T) × (value_at l.at cs ≡ Some e) × (e.id.place ≡ i)
+  pub record IsTable (table : List (Option (Link (Entry T))))
+      (cs : List (Cell (Entry T))) : Type 0 where
+    pub holds : (p : Ptr) (e : Entry T) → value_at p cs ≡ Some e
+        → leads_at table e.id.place ≡ Some (record { at = p })
+    pub points : (i : ℕ) (l : Link (Entry T)) → leads_at table i ≡ Some l
+        → (e : Entry T) × (value_at l.at cs ≡ Some e) × (e.id.place ≡ i)
 
   -- the entry with an id lies there, or there is none
   abbrev pub LeadsTo : Id → Option Ptr → List (Cell (Entry T)) → Type 0
@@ -22,7 +25,8 @@ module _ {T : Type 0} where
   LeadsTo id (Some p) cs = (e : Entry T) × (value_at p cs ≡ Some e) × (has_id id e ≡ true)
 
   -- an entry with the deadline belongs behind the one there, or in front of all
-  pub record BelongsBehind (deadline : ℕ) (at : Option Ptr) (cs : List (Cell (Entry T))) : Type 0 where
+  pub record BelongsBehind (deadline : ℕ) (at : Option Ptr)
+      (cs : List (Cell (Entry T))) : Type 0 where
     pub front : List (Cell (Entry T))
     pub back : List (Cell (Entry T))
     pub whole : cs ≡ front ++ back

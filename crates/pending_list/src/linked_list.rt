@@ -1,4 +1,4 @@
-//! Nodes that are linked both ways.
+//! A doubly linked list.
 ghost use Rattle.std.specs.Prelude.{◌≡◌, ℕ, List, [], ◌∷◌, ◌++◌, None, Some, IsSome};
 ghost use Rattle.std.specs.Borrow.{sem};
 ghost use Rattle.pending_list.specs.Cells.{cell, value_at, put_after, without, address_of};
@@ -10,7 +10,8 @@ use crate::raw_box::RawBox;
 use std::alloc::Global;
 use std::marker::Model;
 
-/// Entries in an order, each with its place.
+/// Entries in an order, each in a node of its own. The contracts see it as the list of its entries,
+/// each with the address of its node.
 pub struct LinkedList<E> {
     nodes: Nodes<E>,
     first: Option<Link<E>>,
@@ -148,7 +149,8 @@ impl<E: Drop> LinkedList<E> {
     /// Puts a node after another, or first.
     pub(crate) fn link_after(&mut self, after: Option<Link<E>>, node: Box<Node<E>>) -> Link<E>
         requires there { IsThere after self.old }
-        ensures put { self.new ≡ put_after (address_of after) (cell result.at node.value.entry) self.old }
+        ensures put { self.new
+            ≡ put_after (address_of after) (cell result.at node.value.entry) self.old }
         ensures fresh { value_at result.at self.old ≡ None }
     {
         let next = next_of(&self.nodes, self.first, after);

@@ -6,5 +6,8 @@ get-requires g c = record { there = there-entries c.args.link.at c.self.inside.n
 
 pub returns : goal.returns
 returns g c =
+    let cells = c.self.inside.nodes.cells in
+    let first = c.self.inside.first in
+    let last = c.self.inside.last in
     let it = is-linked-list c.self.invariant.linked c.self.invariant.first c.self.invariant.last c.self.invariant.apart in
-    rw (← c.self.view_is) (stands-before c.self.inside.nodes.cells c.self.inside.first c.self.inside.last it c.args.link.at c.get.result.now c.get.ensures.value)
+    rw (← c.self.view_is) (stands-before cells first last it c.args.link.at c.get.result.now c.get.ensures.value)

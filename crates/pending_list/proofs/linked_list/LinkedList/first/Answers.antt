@@ -4,4 +4,5 @@ use Rattle.pending_list.proofs.Linking.{head-place, first-entries}
 use Rattle.pending_list.proofs.linked_list.LinkedList.first.Goals as goal
 
 pub returns : goal.returns
-returns g c = rw (← c.self.view_is) (ap address_of c.self.invariant.first ∙ head-place c.self.inside.nodes.cells ∙ sym (first-entries c.self.inside.nodes.cells))
+returns g c = rw (← c.self.view_is)
+    (ap address_of c.self.invariant.first ∙ head-place c.self.inside.nodes.cells ∙ sym (first-entries c.self.inside.nodes.cells))

@@ -4,4 +4,5 @@ use Rattle.pending_list.proofs.Linking.{last-place, last-entries}
 use Rattle.pending_list.proofs.linked_list.LinkedList.last.Goals as goal
 
 pub returns : goal.returns
-returns g c = rw (← c.self.view_is) (ap address_of c.self.invariant.last ∙ last-place c.self.inside.nodes.cells ∙ sym (last-entries c.self.inside.nodes.cells))
+returns g c = rw (← c.self.view_is)
+    (ap address_of c.self.invariant.last ∙ last-place c.self.inside.nodes.cells ∙ sym (last-entries c.self.inside.nodes.cells))

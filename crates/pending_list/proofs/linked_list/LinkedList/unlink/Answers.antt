@@ -12,7 +12,8 @@ take-requires g c = record { there = there-entries c.args.link.at c.self.inside.
 pub set_next-requires : goal.set_next-requires
 set_next-requires g c =
     let cs = c.self.inside.nodes.cells in let first = c.self.inside.first in let last = c.self.inside.last in let p = c.args.link.at in
-    let it : IsLinkedList cs first last = is-linked-list c.self.invariant.linked c.self.invariant.first c.self.invariant.last c.self.invariant.apart in
+    let it : IsLinkedList cs first last =
+    is-linked-list c.self.invariant.linked c.self.invariant.first c.self.invariant.last c.self.invariant.apart in
     let n = c.take.result.value in let is = c.take.ensures.value in
     let prev : c.deref.result.now.prev ≡ n.prev = ap (λ (m : Node g.row.E.Denot). m.prev) (c.deref.ensures ∙ c.into_box-node.ensures) in
     let next : c.deref-2.result.now.next ≡ n.next = ap (λ (m : Node g.row.E.Denot). m.next) (c.deref-2.ensures ∙ c.into_box-node.ensures) in
@@ -21,22 +22,26 @@ set_next-requires g c =
 pub set_prev-requires : goal.set_prev-requires
 set_prev-requires g c =
     let cs = c.self.inside.nodes.cells in let first = c.self.inside.first in let last = c.self.inside.last in let p = c.args.link.at in
-    let it : IsLinkedList cs first last = is-linked-list c.self.invariant.linked c.self.invariant.first c.self.invariant.last c.self.invariant.apart in
+    let it : IsLinkedList cs first last =
+    is-linked-list c.self.invariant.linked c.self.invariant.first c.self.invariant.last c.self.invariant.apart in
     let n = c.take.result.value in let is = c.take.ensures.value in
     let prev : c.deref.result.now.prev ≡ n.prev = ap (λ (m : Node g.row.E.Denot). m.prev) (c.deref.ensures ∙ c.into_box-node.ensures) in
     let next : c.deref-2.result.now.next ≡ n.next = ap (λ (m : Node g.row.E.Denot). m.next) (c.deref-2.ensures ∙ c.into_box-node.ensures) in
-    let cells : c.set_next.new.nodes.cells ≡ next_set n.prev n.next (without p cs) = c.set_next.ensures.cells ∙ (λ j. next_set (prev j) (next j) (c.take.ensures.left j)) in
+    let cells : c.set_next.new.nodes.cells ≡ next_set n.prev n.next (without p cs) =
+    c.set_next.ensures.cells ∙ (λ j. next_set (prev j) (next j) (c.take.ensures.left j)) in
     rw (next, cells) (there-next cs first last it p n is)
 
 pub invariant_of-self : goal.invariant_of-self
 invariant_of-self g c =
     let cs = c.self.inside.nodes.cells in let first = c.self.inside.first in let last = c.self.inside.last in let p = c.args.link.at in
-    let it : IsLinkedList cs first last = is-linked-list c.self.invariant.linked c.self.invariant.first c.self.invariant.last c.self.invariant.apart in
+    let it : IsLinkedList cs first last =
+    is-linked-list c.self.invariant.linked c.self.invariant.first c.self.invariant.last c.self.invariant.apart in
     let n = c.take.result.value in let is = c.take.ensures.value in
     let prev : c.deref.result.now.prev ≡ n.prev = ap (λ (m : Node g.row.E.Denot). m.prev) (c.deref.ensures ∙ c.into_box-node.ensures) in
     let next : c.deref-2.result.now.next ≡ n.next = ap (λ (m : Node g.row.E.Denot). m.next) (c.deref-2.ensures ∙ c.into_box-node.ensures) in
     let e : c.set_prev.new.nodes.cells ≡ rest cs first last it p n is =
-    c.set_prev.ensures.cells ∙ (λ i. prev_set (next i) (prev i) ((c.set_next.ensures.cells ∙ (λ j. next_set (prev j) (next j) (c.take.ensures.left j))) i))
+    c.set_prev.ensures.cells
+    ∙ (λ i. prev_set (next i) (prev i) ((c.set_next.ensures.cells ∙ (λ j. next_set (prev j) (next j) (c.take.ensures.left j))) i))
     ∙ closed-cells cs first last it p n is in
     let on = unlinked cs first last it p n is in
     record {
@@ -54,11 +59,13 @@ returns-clause-value g c =
 pub returns-clause-left : goal.returns-clause-left
 returns-clause-left g c =
     let cs = c.self.inside.nodes.cells in let first = c.self.inside.first in let last = c.self.inside.last in let p = c.args.link.at in
-    let it : IsLinkedList cs first last = is-linked-list c.self.invariant.linked c.self.invariant.first c.self.invariant.last c.self.invariant.apart in
+    let it : IsLinkedList cs first last =
+    is-linked-list c.self.invariant.linked c.self.invariant.first c.self.invariant.last c.self.invariant.apart in
     let n = c.take.result.value in let is = c.take.ensures.value in
     let prev : c.deref.result.now.prev ≡ n.prev = ap (λ (m : Node g.row.E.Denot). m.prev) (c.deref.ensures ∙ c.into_box-node.ensures) in
     let next : c.deref-2.result.now.next ≡ n.next = ap (λ (m : Node g.row.E.Denot). m.next) (c.deref-2.ensures ∙ c.into_box-node.ensures) in
     let e : c.set_prev.new.nodes.cells ≡ rest cs first last it p n is =
-    c.set_prev.ensures.cells ∙ (λ i. prev_set (next i) (prev i) ((c.set_next.ensures.cells ∙ (λ j. next_set (prev j) (next j) (c.take.ensures.left j))) i))
+    c.set_prev.ensures.cells
+    ∙ (λ i. prev_set (next i) (prev i) ((c.set_next.ensures.cells ∙ (λ j. next_set (prev j) (next j) (c.take.ensures.left j))) i))
     ∙ closed-cells cs first last it p n is in
     rw (← c.self.view_is) (ap entries_of e ∙ entries-unlinked cs first last it p n is)
