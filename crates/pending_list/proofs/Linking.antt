@@ -56,21 +56,10 @@ module _ {E : Type 0} where
   last-renext before n (c ∷ []) = refl
   last-renext before n (c ∷ d ∷ cs) = last-renext (Some (link_to c)) n (d ∷ cs)
 
-  pub renext-head : (n : Neighbour E) (cs : List (Cell (Node E))) → head_or n (renext n cs) ≡ head_or n cs
-  unfolding head_or
-  renext-head n [] = refl
-  renext-head n (c ∷ []) = refl
-  renext-head n (c ∷ d ∷ cs) = refl
-
   pub head-reprev : (after n : Neighbour E) (cs : List (Cell (Node E))) → head_or after (reprev n cs) ≡ head_or after cs
   unfolding head_or
   head-reprev after n [] = refl
   head-reprev after n (c ∷ cs) = refl
-
-  pub last-reprev : (before n : Neighbour E) (cs : List (Cell (Node E))) → last_or before (reprev n cs) ≡ last_or before cs
-  unfolding last_or
-  last-reprev before n [] = refl
-  last-reprev before n (c ∷ cs) = refl
 
   -- ---- strings
   pub linked-parts : (before : Neighbour E) (xs ys : List (Cell (Node E))) (after : Neighbour E) → AreLinked before (xs ++ ys) after
@@ -132,9 +121,6 @@ module _ {E : Type 0} where
   last-entries [] = refl
   last-entries (c ∷ []) = refl
   last-entries (c ∷ d ∷ cs) = last-entries (d ∷ cs)
-
-  entry_in : Option (Node E) → Option E
-  entry_in = option_map (λ n. n.entry)
 
   value-by : (y : Bool) (n : Node E) (o : Option (Node E)) (q : Option E) → q ≡ option_map (λ n. n.entry) o
       → cond y (Some n.entry) q ≡ option_map (λ n. n.entry) (cond y (Some n) o)

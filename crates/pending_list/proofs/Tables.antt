@@ -1,5 +1,5 @@
 -- The table leads to the entries, and an entry is found by its id.
-use Rattle.std.proofs.Common.{◌≡◌, ℕ, zero, suc, ◌<◌, ◌≤◌, Bool, true, false, true≢false, cond, nat_lt, List, [], ◌∷◌, ◌++◌, length, Option, Some, None, IsSome, refl, sym, ap, ◌∙◌, subst, append_assoc, append-nil, arith, rules}
+use Rattle.std.proofs.Common.{◌≡◌, ℕ, zero, suc, ◌<◌, ◌≤◌, Bool, true, false, true≢false, cond, nat_lt, List, [], ◌∷◌, ◌++◌, length, Option, Some, None, IsSome, refl, sym, ap, ◌∙◌, subst, append_assoc, arith, rules}
 use Rattle.std.specs.List.{All, AllPairs, position, position_or_len}
 use Rattle.std.proofs.lemmas.List.{length-append, length-map, map-append}
 use Rattle.std.proofs.lemmas.List.Elements.{All-cons, All-head, All-nil, All-tail, All-append}
@@ -190,10 +190,6 @@ module _ {T : Type 0} where
     pub whole : cs ≡ front ++ back
     pub is : at ≡ last_address front
     pub behind : All (λ it. deadline < it.deadline) (values back)
-
-  pub stops-all : (deadline : ℕ) (at : Option Ptr) (cs : List (Cell (Entry T))) → at ≡ last_address cs → Stops deadline at cs
-  stops-all deadline at cs e =
-      record { front = cs; back = []; whole = sym (append-nil cs); is = e; behind = All-nil (λ it. deadline < it.deadline) }
 
   same-some : (x y : Entry T) → Some x ≡ Some y → x ≡ y
   same-some x y e = cc
