@@ -82,6 +82,13 @@ module _ {T : Type 0} (id : Id) where
   false-by e true is clash = absurd (clash is)
   false-by e false is clash = is
 
+  -- an entry with the id's serial, at the id's place, has the id
+  pub same-id : (e f : Entry T) → Some e ≡ Some f → f.id.place ≡ id.place → e.id.serial ≡ id.serial → has_id id e ≡ true
+  same-id e f both place serial =
+      let same : e ≡ f = cc in
+      let here : e.id.place ≡ id.place = ap (λ (x : Entry T). x.id.place) same ∙ place in
+      search rules
+
   pub id-place : (e : Entry T) → has_id id e ≡ true → e.id.place ≡ id.place
   id-place e is = search rules
 
