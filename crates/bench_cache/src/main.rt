@@ -1,0 +1,191 @@
+//! How many look-ups threads make over one cache, alone and beside stores.
+//!
+//! With a word it prints a line for each run: its questions, its threads, how many look-ups come
+//! before each store (0 where nothing is stored), how many look-ups found an answer, and its
+//! microseconds. Without a word it does nothing.
+#![tactic(auto)]
+
+ghost use Rattle.std.specs.List.{All};
+ghost use Rattle.answer_cache.specs.Shared.{Belongs};
+
+mod questions;
+
+use crate::questions::{Known, known_of};
+use answer_cache::{AnswerBook, Seat, SharedCache};
+use dns_answers::Moment;
+use std::env;
+use std::rt::Env;
+use std::sync::Wait;
+use std::thread::{Threads, map_vec};
+use std::time::{Clock, Instant};
+
+/// How many questions there are, and how many of them at most are in one group.
+const QUESTIONS: [(usize, usize); 3] = [(1_000, 64), (4_096, 64), (64, 1)];
+
+/// How many threads there are.
+const THREADS: [usize; 3] = [1, 2, 4];
+
+/// How many look-ups come before each store. 0 says that nothing is stored.
+const PER_STORE: [usize; 2] = [0, 100];
+
+/// How many look-ups a thread makes.
+const LOOKUPS: usize = 64_000;
+
+/// How many times each run is made.
+const ROUNDS: usize = 15;
+
+/// What threads look up and store, at one moment.
+#[derive(Clone, Copy)]
+struct Load<'a> {
+    known: &'a [Known],
+    now: Moment,
+    per_store: usize,
+}
+
+impl<'a> Load<'a> {
+    /// What the look-up or the store of this number is of: one goes over all questions, not in
+    /// their order.
+    fn at(&self, number: usize) -> Option<&'a Known> {
+        let place = number.wrapping_mul(7_919).checked_rem(self.known.len())?;
+        self.known.get(place)
+    }
+}
+
+/// Stores an answer.
+fn store<R: Wait>(rt: &R, cache: &SharedCache, seat: &mut Seat, it: &Known, now: Moment)
+    requires { Belongs cache.now seat.old }
+    ensures { Belongs cache.now seat.new }
+{
+    if it.answer.records().kind() == it.question.kind {
+        let _ = cache.store(rt, seat, &it.question, &it.answer, now);
+    }
+}
+
+/// Stores all answers.
+fn fill<R: Wait>(rt: &R, cache: &SharedCache, seat: &mut Seat, load: Load<'_>)
+    requires { Belongs cache.now seat.old }
+    ensures { Belongs cache.now seat.new }
+{
+    'known: for it in load.known {
+        store(rt, cache, seat, it, load.now);
+    }
+}
+
+/// Whether a look-up finds an answer.
+fn is_found(cache: &SharedCache, seat: &mut Seat, it: &Known, now: Moment) -> bool
+    requires { Belongs cache.now seat.old }
+    ensures { Belongs cache.now seat.new }
+{
+    matches!(cache.lookup(seat, &it.question, now), Ok(Some(_)))
+}
+
+/// The look-ups of a thread, beside its stores: how many found an answer.
+fn work<R: Wait>(rt: &R, cache: &SharedCache, seat: Seat, load: Load<'_>) -> u64
+    requires { Belongs cache.now seat }
+{
+    let mut seat = seat;
+    let mut found = 0_u64;
+    let mut next = seat.number().wrapping_mul(LOOKUPS / 4);
+    let mut ahead = load.per_store;
+    'lookups: for _lookup in 0..LOOKUPS {
+        let Some(it) = load.at(next) else {
+            return found;
+        };
+        if is_found(cache, &mut seat, it, load.now) {
+            found = found.wrapping_add(1);
+        }
+        if ahead == 1 {
+            store(rt, cache, &mut seat, it, load.now);
+            ahead = load.per_store;
+        } else {
+            ahead = ahead.wrapping_sub(1);
+        }
+        next = next.wrapping_add(1);
+    }
+    found
+}
+
+/// What was measured of a run.
+#[derive(Clone, Copy)]
+struct Measured {
+    found: u64,
+    microseconds: u128,
+}
+
+/// Measures a run of so many threads over a new cache that one more seat has filled.
+fn measure<R: Threads + Wait + Clock + AllocGlobal + Sync>(
+    rt: &R,
+    load: Load<'_>,
+    threads: usize,
+) -> Option<Measured> {
+    let (cache, mut seats) = SharedCache::new(rt.alloc(), threads.checked_add(1)?).ok()?;
+    let mut first = seats.pop()?;
+    fill(rt, &cache, &mut first, load);
+    let job = |seat: Seat| -> u64
+        requires { Belongs cache.now seat }
+    { work(rt, &cache, seat, load) };
+    let start = Instant::now(rt).ok()?;
+    let found = map_vec(rt, seats, &job).ok()?;
+    let time = start.elapsed(rt).ok()?;
+    Some(Measured {
+        found: found
+            .iter()
+            .fold(0_u64, |sum: u64, it| sum.wrapping_add(*it)),
+        microseconds: time.as_micros(),
+    })
+}
+
+/// Measures a run again and again, and prints it each time.
+fn print_runs_of<R: Threads + Wait + Clock + Print + AllocGlobal + Sync>(
+    rt: &R,
+    load: Load<'_>,
+    threads: usize,
+) -> Option<()> {
+    for _round in 0..ROUNDS {
+        let Measured {
+            found,
+            microseconds,
+        } = measure(rt, load, threads)?;
+        println!(rt;
+            "{} {threads} {} {found} {microseconds}",
+            load.known.len(),
+            load.per_store
+        )
+        .ok()?;
+    }
+    Some(())
+}
+
+/// Measures all runs over the same questions.
+fn print_load<R: Threads + Wait + Clock + Print + AllocGlobal + Sync>(
+    rt: &R,
+    known: &[Known],
+) -> Option<()> {
+    let now = Moment::new(100)?;
+    for per_store in PER_STORE {
+        for threads in THREADS {
+            let load = Load {
+                known,
+                now,
+                per_store,
+            };
+            print_runs_of(rt, load, threads)?;
+        }
+    }
+    Some(())
+}
+
+/// Measures all runs.
+fn print_runs<R: Threads + Wait + Clock + Print + AllocGlobal + Sync>(rt: &R) -> Option<()> {
+    for (count, in_group) in QUESTIONS {
+        let known = known_of(rt.alloc(), count, in_group)?;
+        print_load(rt, known.as_slice())?;
+    }
+    Some(())
+}
+
+fn main(rt: HostRuntime) {
+    if env::args(&rt).is_ok_and(|words| words.count() > 1) {
+        let _ = print_runs(&rt);
+    }
+}

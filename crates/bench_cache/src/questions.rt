@@ -1,0 +1,50 @@
+//! The questions of a run, and their answers.
+use answer_log::{GROUP_COUNT, group};
+use dns_answers::{Answer, Records, Section};
+use dns_message::{Kind, Question};
+use dns_name::Name;
+use std::alloc::Global;
+use std::sync::Arc;
+
+/// A question for addresses, and its answer.
+#[derive(Drop)]
+pub struct Known {
+    pub question: Question,
+    pub answer: Arc<Answer>,
+}
+
+/// The question for the addresses of the host of this number.
+fn question_of(alloc: Global, number: u64) -> Option<Question> {
+    let text = format!(in alloc; "host{number}.example").ok()?;
+    Some(Question {
+        name: Name::from_text(alloc, text.as_str()).ok()?,
+        kind: Kind::A,
+    })
+}
+
+/// An answer of one address, which lives for an hour.
+fn answer(alloc: Global) -> Option<Arc<Answer>> {
+    let mut addresses = Vec::new(alloc);
+    addresses.push([192, 0, 2, 1]).ok()?;
+    let records = Records::V4(Section::from_vec(addresses));
+    Arc::new(alloc, Answer::new(records, 3_600)?).ok()
+}
+
+/// So many questions, by the numbers of their hosts, of which so many at most are in one group.
+pub fn known_of(alloc: Global, count: usize, in_group: usize) -> Option<Vec<Known>> {
+    let mut all = Vec::new(alloc);
+    let mut counts = [0_usize; GROUP_COUNT as usize];
+    'hosts: for number in 0..1_000_000 {
+        if all.len() == count {
+            break;
+        }
+        let question = question_of(alloc, number)?;
+        let stands = counts.get_mut(usize::from(group(&question)))?;
+        if *stands < in_group {
+            *stands = stands.saturating_add(1);
+            let answer = answer(alloc)?;
+            all.push(Known { question, answer }).ok()?;
+        }
+    }
+    Some(all)
+}
