@@ -1,6 +1,7 @@
 mod Chains
 mod Adding
 pub mod Costing
+mod Indexing
 pub mod Lookups
 pub mod Placing
 pub mod Seating

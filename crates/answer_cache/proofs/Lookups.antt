@@ -28,12 +28,12 @@ last-append : {X : Type 0} (o : Option X) (xs : List X) (x : X) → last_or o (x
 last-append o [] x = refl
 last-append o (y ∷ xs) x = last-append (Some y) xs x
 
-last-here : (question : Question) (rest : List Store) (store : Store) → same_question store.question question ≡ true
+pub last-here : (question : Question) (rest : List Store) (store : Store) → same_question store.question question ≡ true
     → last_or None (stores_of question (rest ++ store ∷ [])) ≡ Some store
 last-here question rest store is =
     rw (filter-append (λ it. same_question it.question question) rest (store ∷ []), is) (last-append None (stores_of question rest) store)
 
-last-before : (question : Question) (rest : List Store) (store : Store) → same_question store.question question ≡ false
+pub last-before : (question : Question) (rest : List Store) (store : Store) → same_question store.question question ≡ false
     → last_or None (stores_of question (rest ++ store ∷ [])) ≡ last_or None (stores_of question rest)
 last-before question rest store not =
     rw (filter-append (λ it. same_question it.question question) rest (store ∷ []), not, append-nil (stores_of question rest)) refl

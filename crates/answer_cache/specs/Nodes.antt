@@ -8,7 +8,7 @@ use Rattle.answer_log.specs.declared.event.Event.{Event}
 use Rattle.logbook.specs.Pages.{Book, Nib, may_write}
 use Rattle.dns_message.specs.declared.question.Question.{Question}
 use Rattle.answer_log.specs.Groups.{hash_of, hashed_of}
-use Rattle.answer_log.specs.Hands.{IsHand, IsNamed}
+use Rattle.answer_log.specs.Hands.{IsHand, IsNamed, IsPlaced}
 use Rattle.answer_log.specs.Histories.{IsFull, stores_of}
 use Rattle.answer_log.specs.Spending.{Spending}
 use Rattle.answer_log.specs.Steps.{store_by}
@@ -46,11 +46,13 @@ pub record IsNode (book : Book) (it : Node) : Type 0 where
 abbrev pub IsShelved : List ℕ → Node → Type 0
 IsShelved tag it = (numbers_of it.seen.book ≡ tag) × IsNode it.seen.book it
 
--- what a walk meets: nothing where nothing is ahead, else the node of the last store ahead
+-- what a walk meets: nothing where nothing is ahead, else the node of the last store ahead, which was
+-- placed for it
 abbrev pub Meets : Book → Walk → List Store → Option Node → Type 0
 Meets book walk left None = left ≡ []
 Meets book walk left (Some node) = (rest : List Store) × (seat : ℕ)
     × (left ≡ rest ++ store_in seat node ∷ []) × Ahead walk rest
+    × IsPlaced walk.seen.log node.node (store_in seat node)
 
 -- the node of the last store of a question
 abbrev pub IsLastOf : Question → List Store → Option Node → Type 0

@@ -33,10 +33,12 @@
 //! `SharedCache` is the book that up to 64 seats share without a lock, each seat in a thread of its
 //! own. All seats see one history: of what two seats have seen, one is the beginning of the other.
 //! Each store in it is of one of the seats, so their own stores together are the history. A seat
-//! sees what another had seen once it has learned that one's notice. A lookup takes no memory, and
-//! looks through the stores of its question's group, the newest first: 128 at most. A store is
-//! tried 16 times at most, and it may lose each try to stores of other seats in the same group. It
-//! asks for memory before its first try, and may be made again where that is refused.
+//! sees what another had seen once it has learned that one's notice. A lookup goes along the stores
+//! of its question's group that its seat has not passed yet, 128 at most. Of the others the seat
+//! has an index in memory of its own; where there is no memory to add to it, the lookup answers all
+//! the same. A store is tried 16 times at most, and it may lose each try to stores of other seats
+//! in the same group. It asks for memory before its first try, and may be made again where that is
+//! refused.
 //!
 //! ```
 //! // in the thread of the second seat
@@ -63,6 +65,7 @@ mod book;
 mod cache_refusal;
 mod carried;
 mod carry;
+mod index;
 mod list_cache;
 mod node;
 mod notes;

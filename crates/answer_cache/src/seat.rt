@@ -3,6 +3,7 @@ ghost use Rattle.std.specs.Prelude.{◌≡◌, ◌<◌, ◌⊎◌};
 ghost use Rattle.std.specs.List.{All};
 ghost use mathlib.Core.List.{IsPrefix};
 
+use crate::index::Index;
 use crate::notes::Notes;
 use answer_log::{Book, Hand, histories_are_one, log_keeps_its_rule};
 use std::marker::Model;
@@ -12,17 +13,19 @@ use std::marker::Model;
 pub struct Seat {
     pub(crate) hand: Hand,
     pub(crate) notes: Notes,
+    pub(crate) indexes: Vec<Index>,
 }
 
 impl Model for Seat {
     ghost use Rattle.answer_log.specs.Hands.{IsHand};
+    ghost use Rattle.answer_cache.specs.Indexes.{AreIndexes};
     ghost use Rattle.answer_cache.specs.Shared.{SharedView, view_of};
 
     ghost Value = { SharedView };
 
     ghost view = { λ it. view_of it.hand it.notes };
 
-    ghost invariant = { λ it. IsHand it.hand };
+    ghost invariant = { λ it. IsHand it.hand × AreIndexes it.hand.book.book it.indexes.items };
 }
 
 impl Seat {

@@ -17,6 +17,7 @@ ghost use Rattle.answer_log.specs.Rules.{node_at};
 ghost use Rattle.answer_log.specs.Steps.{HadRoom, store_by};
 ghost use Rattle.answer_log.specs.declared.store.Store.{Store};
 ghost use Rattle.dns_answers.specs.Records.{kind_of};
+ghost use Rattle.answer_cache.specs.Indexes.{AreIndexes, IsIndex, TellsAll};
 ghost use Rattle.answer_cache.specs.Nodes.{Costs, Holds, IsLastOf, IsNode, IsReady, LeavesPlaces};
 ghost use Rattle.answer_cache.specs.Nodes.{Meets, Says};
 ghost use Rattle.answer_cache.specs.Nodes.{WhyLost, WhyNoRoom, WhyNotPut, numbers_of, store_in};
@@ -29,6 +30,7 @@ ghost use Rattle.answer_log.specs.declared.event.Event.{Event as Noticed};
 
 use crate::book::AnswerBook;
 use crate::cache_refusal::CacheRefusal;
+use crate::index::{Index, IndexEntry};
 use crate::node::{ByBook, Hashed, Node, Shelf, ShelfRefusal, Shelved};
 use crate::notes::Notes;
 use crate::refusal::StoreRefusal;
@@ -36,7 +38,7 @@ use crate::rival::{NoRival, Rival};
 use crate::seat::{Notice, Seat};
 use answer_log::{
     Book, Claimed, Draft, GROUP_LIMIT, Hand, Hands, Log, MOST_SEATS, Pen, Walk, group_of_hash,
-    hash, log_keeps_its_rule, seat_and_place,
+    hash, log_keeps_its_rule, placed_is_named, seat_and_place,
 };
 use boxcar::Pushed;
 use boxcar::tag::Tag;
@@ -109,9 +111,11 @@ fn new_seats(alloc: Global, seats: usize, hands: &mut Hands) -> Result<Vec<Seat>
 {
     let mut made = Vec::new(alloc);
     'seats: for _seat in 0..seats {
+        let indexes = Index::empty_ones(alloc, &hands.seen)?;
         made.push(Seat {
             hand: hands.deal(),
             notes: Notes::none(),
+            indexes,
         })?;
     }
     Ok(made)
@@ -166,6 +170,9 @@ impl SharedCache {
         requires ahead { (left : List Store) × Ahead walk.old left }
         ensures same { IsSame hand.old hand.new }
         ensures book { walk.new.seen.book ≡ self.now.book }
+        ensures later { IsPrefix walk.old.seen.log walk.new.seen.log }
+        ensures number { IfOk result
+            (λ found. IfSome found (λ node. node.now.node ≡ walk.old.next)) }
         ensures met { IfOk result (λ found. (left : List Store) → Ahead walk.old left
             → Meets self.now.book walk.new left (option_map (λ node. node.now) found)) }
         ensures tagged { IfOk result
@@ -185,37 +192,127 @@ impl SharedCache {
         Ok(Some(node))
     }
 
-    /// The node of the last store of a question.
-    fn last_of(
+    /// The node of the last store of a question among those that an index tells.
+    fn last_in(
+        &self,
+        index: &Index,
+        hand: &mut Hand,
+        asked: &Hashed<'_>,
+    ) -> Result<Option<&Node>, AllocError>
+        requires hash { asked.now.hash ≡ hash_of (hashed_of asked.now.question.now) }
+        requires book { index.now.seen.book ≡ self.now.book }
+        requires hand { IsHand hand.old }
+        ensures same { IsSame hand.old hand.new }
+        ensures last { IfOk result (λ found. (stores : List Store)
+            → TellsAll index.now.seen.log index.now.entries.items stores
+            → IsLastOf asked.now.question.now stores (option_map (λ node. node.now) found)) }
+        ensures costs { Costs (spent_of hand.old) (spent_of hand.new) 0 0 }
+        ensures missed { IfErr result
+            (λ _. (spent_of hand.old).missed < (spent_of hand.new).missed) }
+    {
+        same_questions_are_equal();
+        let mut left = index.entries.as_slice();
+        while let [front @ .., last] = left {
+            if last.hash == asked.hash {
+                let Some(node) = self.node(last.node) else {
+                    hand.miss();
+                    return Err(AllocError);
+                };
+                placed_is_named(&index.seen, &node.seen);
+                if node.question == *asked.question {
+                    return Ok(Some(node));
+                }
+            }
+            left = front;
+        }
+        Ok(None)
+    }
+
+    /// The node of the last store of a question among those ahead of a walk. The walk goes to what
+    /// the index tells, and the nodes on its way are added to the index, as far as there is memory.
+    fn last_ahead(
         &self,
         walk: &mut Walk,
         hand: &mut Hand,
+        index: &mut Index,
         asked: &Hashed<'_>,
+        links: usize,
     ) -> Result<Option<&Node>, AllocError>
         requires hash { asked.now.hash ≡ hash_of (hashed_of asked.now.question.now) }
         requires books { (walk.old.seen.book ≡ self.now.book)
             × (hand.old.book.book ≡ self.now.book) }
         requires hand { IsHand hand.old }
-        requires ahead { Ahead walk.old
-            (in_group (group_of asked.now.question.now) (history walk.old.seen.log)) }
+        requires index { IsIndex self.now.book index.old }
+        requires behind { IsPrefix index.old.seen.log walk.old.seen.log }
+        requires ahead { (left : List Store) × Ahead walk.old left × (length left ≤ links) }
         ensures same { IsSame hand.old hand.new }
+        ensures book { walk.new.seen.book ≡ self.now.book }
+        ensures later { IsPrefix walk.old.seen.log walk.new.seen.log }
+        ensures index { IsIndex self.now.book index.new }
+        ensures behind { IsPrefix index.new.seen.log walk.new.seen.log }
+        ensures last { IfOk result (λ found. (left : List Store) → Ahead walk.old left
+            → IsLastOf asked.now.question.now left (option_map (λ node. node.now) found)) }
+        ensures costs { Costs (spent_of hand.old) (spent_of hand.new) links 0 }
+        ensures missed { IfErr result
+            (λ _. (spent_of hand.old).missed < (spent_of hand.new).missed) }
+    {
+        log_keeps_its_rule(&walk.seen);
+        if walk.next == index.top() {
+            return self.last_in(index, hand, asked);
+        }
+        let Some(links) = links.checked_sub(1) else {
+            return Ok(None);
+        };
+        let Some(node) = self.step(walk, hand)? else {
+            return Ok(None);
+        };
+        let before = walk.next;
+        let older = self.last_ahead(walk, hand, index, asked, links)?;
+        let last = if node.is_of(asked.hash, asked.question) {
+            Some(node)
+        } else {
+            older
+        };
+        log_keeps_its_rule(&walk.seen);
+        if index.top() == before {
+            index.seen = walk.seen.again();
+            let _ = index.entries.push(IndexEntry {
+                hash: node.tag,
+                node: node.node,
+            });
+        }
+        Ok(last)
+    }
+
+    /// The node of the last store of a question, as the seat sees the history now: one load of the
+    /// head of its group, and of the link of each node that the seat has not passed yet.
+    fn last_of(
+        &self,
+        hand: &mut Hand,
+        indexes: &mut Vec<Index>,
+        asked: &Hashed<'_>,
+    ) -> Result<Option<&Node>, AllocError>
+        requires hash { asked.now.hash ≡ hash_of (hashed_of asked.now.question.now) }
+        requires book { hand.old.book.book ≡ self.now.book }
+        requires hand { IsHand hand.old }
+        requires indexes { AreIndexes self.now.book indexes.old.items }
+        ensures holds { Holds self.now.book hand.old hand.new }
+        ensures seen { SeesMore hand.old.number hand.old.book.log hand.new.book.log }
+        ensures places { hand.new.places ≡ hand.old.places }
+        ensures indexes { AreIndexes self.now.book indexes.new.items }
         ensures last { IfOk result
-            (λ found. IsLastOf asked.now.question.now (history walk.old.seen.log)
+            (λ found. IsLastOf asked.now.question.now (history hand.new.book.log)
             (option_map (λ node. node.now) found)) }
         ensures costs { Costs (spent_of hand.old) (spent_of hand.new) group_limit 0 }
         ensures missed { IfErr result
             (λ _. (spent_of hand.old).missed < (spent_of hand.new).missed) }
     {
-        log_keeps_its_rule(&walk.seen);
         same_questions_are_equal();
-        'links: for _link in 0..GROUP_LIMIT {
-            match self.step(walk, hand)? {
-                None => return Ok(None),
-                Some(node) if node.is_of(asked.hash, asked.question) => return Ok(Some(node)),
-                Some(_) => {}
-            }
-        }
-        Ok(None)
+        let group = group_of_hash(asked.hash);
+        let index = &mut indexes[usize::from(group)];
+        let mut walk = self.log.walk_after(hand, &index.seen, group);
+        log_keeps_its_rule(&hand.book);
+        self.last_ahead(&mut walk, hand, index, asked, GROUP_LIMIT)
     }
 
     /// Whether as many stores are ahead of a walk as a group can have.
@@ -568,9 +665,9 @@ impl AnswerBook for SharedCache {
             question,
             hash: hash(question),
         };
-        let mut walk = self.log.walk(&mut seat.hand, group_of_hash(asked.hash));
+        let found = self.last_of(&mut seat.hand, &mut seat.indexes, &asked);
         log_keeps_its_rule(&seat.hand.book);
-        match self.last_of(&mut walk, &mut seat.hand, &asked)? {
+        match found? {
             Some(node) if node.lives_at(now) => Ok(Some(Arc::try_clone(&node.answer)?)),
             _ => Ok(None),
         }

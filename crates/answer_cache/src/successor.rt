@@ -10,6 +10,7 @@ ghost use Rattle.answer_cache.specs.Shared.{Belongs, Refuses, cache_view};
 
 use crate::cache_refusal::CacheRefusal;
 use crate::carried::Carried;
+use crate::index::Index;
 use crate::notes::Notes;
 use crate::rival::NoRival;
 use crate::seat::Seat;
@@ -68,16 +69,20 @@ impl SharedCache {
         let told = first.book.again();
         log_keeps_its_rule(&told);
         let mut made = Vec::new(alloc);
+        let indexes = Index::empty_ones(alloc, &told)?;
         made.push(Seat {
             hand: first,
             notes: Notes::none(),
+            indexes,
         })?;
         'seats: for _seat in 1..seats {
+            let indexes = Index::empty_ones(alloc, &told)?;
             let mut hand = hands.deal();
             self.log.meet(&mut hand, &told);
             made.push(Seat {
                 hand,
                 notes: Notes::none(),
+                indexes,
             })?;
         }
         Ok(made)

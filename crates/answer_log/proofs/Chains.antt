@@ -9,7 +9,7 @@ use Rattle.answer_log.specs.Logs.{history, is_in, placed_of, top_from, top, In, 
 use Rattle.answer_log.specs.declared.event.Event.{Event}
 use Rattle.answer_log.specs.declared.event.Event.TheVariants.{Asks, Named, Opened, Placed}
 use Rattle.answer_log.specs.declared.store.Store.{Store}
-use Rattle.answer_log.proofs.Logs.{history-append, in-here, once-right, top-append, unplaced-right}
+use Rattle.answer_log.proofs.Logs.{history-append, in-here, in-left, once-right, top-append, unplaced-right}
 
 pub group-low : (question : Question) → group_of question < 64
 group-low question = low (hash_of (hashed_of question))
@@ -151,4 +151,70 @@ same-top group v r log p once some same =
                 (subst U h.split (unplaced-right (top group v) k.after r o.0)) in
                 absurd (u.0 n))
           ])
+    ]
+
+-- a log without its first event
+once-tail : (e : Event) (log : List Event) → Once (e ∷ log) → Once log
+once-tail e log once = once-right (e ∷ []) log once
+
+-- a node is placed at one place
+one-place : (n : ℕ) (x y : Store) (l k : ℕ) (before after before' after' : List Event)
+    → before ++ Placed n x l ∷ after ≡ before' ++ Placed n y k ∷ after'
+    → Once (before ++ Placed n x l ∷ after) → (before ≡ before') × (x ≡ y)
+one-place n x y l k [] after [] after' same once = (refl, cc (same))
+one-place n x y l k [] after (e ∷ before') after' same once =
+    let U : List Event → Type 0 = λ w. Unplaced n w in
+    let later : after ≡ before' ++ Placed n y k ∷ after' = cc (same) in
+    absurd ((unplaced-right n before' (Placed n y k ∷ after') (subst U later once.0)).0 refl)
+one-place n x y l k (e ∷ before) after [] after' same once =
+    let O : Event → Type 0 = λ w. Once (w ∷ (before ++ Placed n x l ∷ after)) in
+    let first : e ≡ Placed n y k = cc (same) in
+    let o : Once (Placed n y k ∷ (before ++ Placed n x l ∷ after)) = subst O first once in
+    absurd ((unplaced-right n before (Placed n x l ∷ after) o.0).0 refl)
+one-place n x y l k (e ∷ before) after (e' ∷ before') after' same once =
+    let more = one-place n x y l k before after before' after' (cc (same)) (once-tail e (before ++ Placed n x l ∷ after) once) in
+    let first : e ≡ e' = cc (same) in
+    (ap (λ z. z ∷ before) first ∙ ap (λ w. e' ∷ w) more.0, more.1)
+
+-- a node placed last is not 0
+placed-some : (log front more : List Event) (group : ℕ) → front ++ more ≡ log
+    → ((n : ℕ) (x : Store) (l : ℕ) → In (Placed n x l) log → n ≢ 0)
+    → Last group front (top group front) → top group front ≢ 0
+placed-some log front more group p some h =
+    let I : List Event → Type 0 = λ w. In (Placed (top group front) h.store h.link) w in
+    let here : In (Placed (top group front) h.store h.link) front = subst I (sym h.split)
+    (in-here (Placed (top group front) h.store h.link) h.before h.after) in
+    some (top group front) h.store h.link (subst I p (in-left (Placed (top group front) h.store h.link) front more here))
+
+-- the node placed last for a group tells which stores the group had by then
+pub one-top : (log front more other others : List Event) (group group' : ℕ) → front ++ more ≡ log → other ++ others ≡ log → Once log
+    → ((n : ℕ) (x : Store) (l : ℕ) → In (Placed n x l) log → n ≢ 0)
+    → top group front ≡ top group' other → in_group group (history front) ≡ in_group group' (history other)
+one-top log front more other others group group' p q once some same =
+    elim (last_placed group 0 front) [
+      | inl h ↦
+          elim (last_placed group' 0 other) [
+            | inl k ↦ h.1 ∙ sym k.1
+            | inr k ↦ absurd (placed-some log other others group' q some k (sym same ∙ h.0))
+          ]
+      | inr h ↦
+          elim (last_placed group' 0 other) [
+            | inl k ↦ absurd (placed-some log front more group p some h (same ∙ k.0))
+            | inr k ↦
+                (let n : ℕ = top group front in
+                let P : ℕ → Type 0 = λ m. log ≡ k.before ++ Placed m k.store k.link ∷ (k.after ++ others) in
+                let one : log ≡ h.before ++ Placed n h.store h.link ∷ (h.after ++ more) = sym p
+                ∙ (ap (λ w. w ++ more) h.split ∙ append_assoc h.before (Placed n h.store h.link ∷ h.after) more) in
+                let two : log ≡ k.before ++ Placed n k.store k.link ∷ (k.after ++ others) = subst P (sym same) (sym q
+                ∙ (ap (λ w. w ++ others) k.split ∙ append_assoc k.before (Placed (top group' other) k.store k.link ∷ k.after) others)) in
+                let L : List Event → Type 0 = λ w. Once w in
+                let there = one-place n h.store k.store h.link k.link h.before (h.after ++ more) k.before (k.after ++ others)
+                (sym one ∙ two) (subst L one once) in
+                let grouped : group ≡ group' = sym h.its ∙ (ap (λ (z : Store). group_of z.question) there.1 ∙ k.its) in
+                stores-last group front h.before h.after n h.store h.link h.split h.its h.none
+                ∙ (ap (λ w. in_group group (history w) ++ h.store ∷ []) there.0
+                ∙ (ap (λ g. in_group g (history k.before) ++ h.store ∷ []) grouped
+                ∙ (ap (λ z. in_group group' (history k.before) ++ z ∷ []) there.1
+                ∙ sym (stores-last group' other k.before k.after (top group' other) k.store k.link k.split k.its k.none)))))
+          ]
     ]

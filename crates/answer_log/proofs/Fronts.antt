@@ -14,7 +14,8 @@ use Rattle.answer_log.specs.Rules.{IsKept}
 use Rattle.answer_log.specs.declared.event.Event.{Event}
 use Rattle.answer_log.specs.declared.event.Event.TheVariants.{Asks, Named, Opened, Placed}
 use Rattle.answer_log.specs.declared.store.Store.{Store}
-use Rattle.answer_log.proofs.Logs.{history-append, in-here, in-left}
+use Rattle.answer_log.proofs.Chains.{one-top}
+use Rattle.answer_log.proofs.Logs.{history-append, in-here, in-left, prefix_trans}
 use Rattle.answer_log.proofs.Moving.{some-name}
 
 front-history : (stores more : List Store) → IsHistory (stores ++ more) → IsHistory stores
@@ -58,5 +59,8 @@ front-log cells log whole pre kept =
           let E : List Event → Type 0 = λ events. In (Placed node store link) events in
           let there : In (Placed node store link) log = subst E (sym split) (in-here (Placed node store link) before after) in
           some-name cells whole kept node store link (subst E pre.1 (in-left (Placed node store link) log pre.0 there));
+      tops = λ front other group group' one two same.
+          one-top whole front (one.0 ++ pre.0) other (two.0 ++ pre.0) group group' (prefix_trans front log whole one pre).1
+          (prefix_trans other log whole two pre).1 kept.once (some-name cells whole kept) same;
       history = stores;
     }

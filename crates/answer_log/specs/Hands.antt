@@ -4,8 +4,8 @@ use Rattle.std.specs.List.{All}
 use mathlib.Core.List.{IsPrefix}
 use Rattle.logbook.specs.Pages.{Book, Named as Word}
 use Rattle.answer_log.specs.Counts.{count}
-use Rattle.answer_log.specs.Histories.{IsHistory, mine}
-use Rattle.answer_log.specs.Logs.{history, In, seats_in}
+use Rattle.answer_log.specs.Histories.{IsHistory, in_group, mine}
+use Rattle.answer_log.specs.Logs.{history, In, seats_in, top}
 use Rattle.answer_log.specs.Rules.{word_at}
 use Rattle.answer_log.specs.Spending.{Spending, nothing}
 use Rattle.answer_log.specs.Steps.{Fits, NamesBelow}
@@ -60,6 +60,10 @@ pub record IsNamed (book : Book) (log : List Event) (node : ℕ) (store : Store)
   pub link : word ≡ word_at book word.key
   pub named : In (Named node store word.key) log
 
+-- the node was placed for the store
+abbrev pub IsPlaced : List Event → ℕ → Store → Type 0
+IsPlaced log node store = (link : ℕ) × In (Placed node store link) log
+
 -- more was seen, and no store of the seat's own
 pub record SeesMore (seat : ℕ) (before after : List Event) : Type 0 where
   pub later : IsPrefix before after
@@ -82,4 +86,8 @@ pub record IsLog (log : List Event) : Type 0 where
   -- 0 is the number of no node
   pub nodes : (before after : List Event) (node : ℕ) (store : Store) (link : ℕ)
       → log ≡ before ++ Placed node store link ∷ after → node ≢ 0
+  -- the node of a group placed last tells which stores the group had by then
+  pub tops : (front other : List Event) (group group' : ℕ) → IsPrefix front log
+      → IsPrefix other log → top group front ≡ top group' other
+      → in_group group (history front) ≡ in_group group' (history other)
   pub history : IsHistory (history log)

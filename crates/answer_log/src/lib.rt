@@ -83,7 +83,7 @@ mod walk;
 pub use event::{Counted, Event};
 pub use groups::{GROUP_COUNT, GROUP_LIMIT, group, group_of_hash, hash};
 pub use hand::{Hand, Hands};
-pub use log::{Claimed, Log, histories_are_one, log_keeps_its_rule};
+pub use log::{Claimed, Log, histories_are_one, log_keeps_its_rule, placed_is_named};
 pub use nodes::{MOST_SEATS, node_at, seat_and_place};
 pub use spent::Spent;
 pub use steps::{Book, Pen, Word};

@@ -1,10 +1,10 @@
 //! The log that seats share.
-ghost use Rattle.std.specs.Prelude.{◌≡◌, ◌+◌, ◌-◌, ◌<◌, ◌≤◌, ◌^◌, ◌⊎◌, IfOk, List, MatchBool, length};
+ghost use Rattle.std.specs.Prelude.{◌≡◌, ℕ, ◌+◌, ◌-◌, ◌<◌, ◌≤◌, ◌^◌, ◌⊎◌, IfOk, List, MatchBool, length};
 ghost use mathlib.Core.List.{IsPrefix};
 ghost use Rattle.std.specs.Arc.{arc_value};
-ghost use Rattle.logbook.specs.Pages.{may_write};
-ghost use Rattle.answer_log.specs.Hands.{AreHands, EndsWith, IsHand, IsLog, IsNamed, SeesMore};
-ghost use Rattle.answer_log.specs.Hands.{spent_of};
+ghost use Rattle.logbook.specs.Pages.{Named as Link, may_write};
+ghost use Rattle.answer_log.specs.Hands.{AreHands, EndsWith, IsHand, IsLog, IsNamed, IsPlaced};
+ghost use Rattle.answer_log.specs.Hands.{SeesMore, spent_of};
 ghost use Rattle.answer_log.specs.Spending.{one_try};
 ghost use Rattle.answer_log.specs.Groups.{group_of};
 ghost use Rattle.answer_log.specs.Histories.{IsSound, in_group};
@@ -13,6 +13,7 @@ ghost use Rattle.answer_log.specs.Rules.{heads_of, node_at, word_at};
 ghost use Rattle.answer_log.specs.Steps.{HadRoom, store_by, store_of};
 ghost use Rattle.answer_log.specs.Walks.{Ahead};
 ghost use Rattle.answer_log.specs.declared.event.Event.{Event as Noted};
+ghost use Rattle.answer_log.specs.declared.store.Store.{Store};
 
 use crate::event::Event;
 use crate::groups::GROUP_COUNT;
@@ -114,9 +115,11 @@ impl Log {
         &self.heads[group as usize]
     }
 
-    /// A walk from the node of a group placed last: one load of its head.
-    pub fn walk(&self, hand: &mut Hand, group: u8) -> Walk
+    /// Sees what was told, and what came since: a walk from the node of a group placed last, by one
+    /// load of its head.
+    pub fn walk_after(&self, hand: &mut Hand, told: &Book, group: u8) -> Walk
         requires book { hand.old.book.book ≡ self.now }
+        requires told { told.now.book ≡ self.now }
         requires hand { IsHand hand.old }
         requires group { group < 64 }
         ensures hand { IsHand hand.new }
@@ -124,18 +127,39 @@ impl Log {
         ensures book { (hand.new.book.book ≡ self.now)
             × (hand.new.book.names ≡ hand.old.book.names) }
         ensures seen { SeesMore hand.old.number hand.old.book.log hand.new.book.log }
+        ensures told { IsPrefix told.now.log hand.new.book.log }
         ensures places { hand.new.places ≡ hand.old.places }
         ensures spent { spent_of hand.new ≡ spent_of hand.old }
         ensures walk { (result.seen.book ≡ self.now) × (result.seen.log ≡ hand.new.book.log)
             × (result.next ≡ top group hand.new.book.log) }
         ensures ahead { Ahead result (in_group group (history hand.new.book.log)) }
     {
+        hand.book.learn(told);
         let head = self.head(group);
         let next = top_node(head, group, &mut hand.book, &mut hand.tally, hand.number);
         Walk {
             seen: hand.book.again(),
             next,
         }
+    }
+
+    /// A walk from the node of a group placed last: one load of its head.
+    pub fn walk(&self, hand: &mut Hand, group: u8) -> Walk
+        requires book { hand.old.book.book ≡ self.now }
+        requires hand { IsHand hand.old }
+        requires group { group < 64 }
+        ensures hand { IsHand hand.new }
+        ensures number { (hand.new.number ≡ hand.old.number) × (hand.new.seats ≡ hand.old.seats) }
+        ensures book { hand.new.book.book ≡ self.now }
+        ensures seen { SeesMore hand.old.number hand.old.book.log hand.new.book.log }
+        ensures places { hand.new.places ≡ hand.old.places }
+        ensures spent { spent_of hand.new ≡ spent_of hand.old }
+        ensures walk { (result.seen.book ≡ self.now) × (result.seen.log ≡ hand.new.book.log)
+            × (result.next ≡ top group hand.new.book.log) }
+        ensures ahead { Ahead result (in_group group (history hand.new.book.log)) }
+    {
+        let told = hand.book.again();
+        self.walk_after(hand, &told, group)
     }
 
     /// Sees what was told, and what came since: one load of a head.
@@ -150,9 +174,7 @@ impl Log {
         ensures spent { spent_of hand.new ≡ spent_of hand.old }
         ensures told { IsPrefix (history told.now.log) (history hand.new.book.log) }
     {
-        hand.book.learn(told);
-        let head = self.head(0);
-        let _node = top_node(head, 0, &mut hand.book, &mut hand.tally, hand.number);
+        let _walk = self.walk_after(hand, told, 0);
     }
 
     /// Sees just what was told: one load of a head. What was told goes on from what the seat has
@@ -277,6 +299,16 @@ pub fn log_keeps_its_rule(book: &Book)
 {
     let mut probe = book.again();
     probe.learn(book);
+}
+
+/// A law: a node was placed for the store that it was named for.
+pub fn placed_is_named(seen: &Book, named: &Book)
+    requires { seen.now.book ≡ named.now.book }
+    ensures { (node : ℕ) (store other : Store) (link : Link) → IsPlaced seen.now.log node store
+        → IsNamed named.now.book named.now.log node other link → store ≡ other }
+{
+    let mut probe = seen.again();
+    probe.learn(named);
 }
 
 /// A law: of two histories that were seen of one book, one goes on with the other.

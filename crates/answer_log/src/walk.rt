@@ -1,6 +1,7 @@
 //! A walk along the placed nodes of a group.
 ghost use Rattle.std.specs.Prelude.{◌≡◌, ◌≢◌, ◌∷◌, ◌++◌, [], IfNone, IfSome, List};
-ghost use Rattle.answer_log.specs.Hands.{IsHand, IsNamed, IsSame, spent_of};
+ghost use mathlib.Core.List.{IsPrefix};
+ghost use Rattle.answer_log.specs.Hands.{IsHand, IsNamed, IsPlaced, IsSame, spent_of};
 ghost use Rattle.answer_log.specs.Spending.{one_link};
 ghost use Rattle.answer_log.specs.Walks.{Ahead};
 ghost use Rattle.answer_log.specs.declared.store.Store.{Store};
@@ -44,10 +45,14 @@ impl Walk {
         ensures same { IsSame hand.old hand.new }
         ensures spent { spent_of hand.new ≡ one_link (spent_of hand.old) }
         ensures book { self.new.seen.book ≡ self.old.seen.book }
+        ensures later { IsPrefix self.old.seen.log self.new.seen.log }
         ensures passed { (store : Store) (left : List Store)
             → IsNamed named.now.book named.now.log self.old.next store link.now
             → Ahead self.old left → (rest : List Store) × (left ≡ rest ++ store ∷ [])
             × Ahead self.new rest }
+        ensures placed { (store : Store) (left : List Store)
+            → IsNamed named.now.book named.now.log self.old.next store link.now
+            → Ahead self.old left → IsPlaced self.new.seen.log self.old.next store }
     {
         hand.spent = hand.spent.with_link();
         self.next = node_before(link, named, self.next, &mut self.seen);

@@ -1,5 +1,5 @@
 use Rattle.std.proofs.Common.{ℕ, sym, subst, ◌∙◌}
-use Rattle.answer_log.specs.Hands.{IsNamed}
+use Rattle.answer_log.specs.Hands.{IsNamed, IsPlaced}
 use Rattle.answer_cache.specs.Nodes.{store_in}
 use Rattle.logbook.specs.Pages.{Book}
 use Rattle.answer_cache.proofs.shared_cache.SharedCache.step.Goals as goal
@@ -13,4 +13,6 @@ returns-clause-met c left ahead =
     let named : IsNamed node.seen.book node.seen.log c.args.walk.now.next store node.link =
     subst N (λ i. (sym it.1.same i, (it.0 ∙ c.in-Some.ensures.node.0) i)) it.1.named in
     let passed = c.pass.ensures.passed store left named ahead in
-    (passed.0, it.1.seat, passed.1, passed.2)
+    let P : ℕ → Type 0 = λ number. IsPlaced c.pass.new.self.seen.log number store in
+    let placed = c.pass.ensures.placed store left named ahead in
+    (passed.0, it.1.seat, passed.1, passed.2, subst P (sym (it.0 ∙ c.in-Some.ensures.node.0)) placed)

@@ -1,0 +1,95 @@
+use Rattle.std.proofs.Common.{◌≡◌, ◌∷◌, [], List, None, Some, ap, arith, is_ok, refl, subst, sym, ◌∙◌}
+use Rattle.std.specs.List.{last_or}
+use Rattle.answer_log.specs.Histories.{stores_of}
+use Rattle.answer_log.specs.declared.store.Store.{Store}
+use mathlib.Core.List.{IsPrefix}
+use Rattle.answer_log.specs.declared.event.Event.{Event}
+use Rattle.answer_cache.specs.Indexes.{IsIndex, Tells, TellsAll}
+use Rattle.answer_cache.specs.Nodes.{IsLastOf, store_in}
+use Rattle.answer_cache.specs.declared.index.Index.{Index}
+use Rattle.answer_cache.specs.declared.index.IndexEntry.{IndexEntry}
+use Rattle.answer_cache.proofs.Indexing.{ahead-told, front_trans, index-pushed, last-on, shorter, tells-later}
+use Rattle.answer_cache.proofs.Lookups.{last-before, last-here}
+use Rattle.answer_cache.proofs.shared_cache.SharedCache.+last_ahead.Goals.{else-is_of, else-top-before, then-is_of, then-top-before}
+use Rattle.answer_cache.proofs.shared_cache.SharedCache.+last_ahead.Goals as goal
+
+pub returns-in_default-2-clause-last : goal.returns-in_default-2-clause-last
+returns-in_default-2-clause-last t c left ahead =
+    let met = rw c.in_default-2.is at c.in_ok-node.ensures.met in
+    ap (λ stores. last_or None (stores_of c.args.asked.now.question.now stores)) (met left ahead)
+
+pub last_ahead-requires : goal.last_ahead-requires
+last_ahead-requires t c =
+    let here = c.requires.ahead in
+    let step = c.in_ok-node.ensures in
+    let met = (rw c.in-Some-2.is at step.met) here.0 here.1 in
+    let size = c.decreases in
+    let less = c.in-Some.ensures in (
+      omega arith,
+      (
+        c.requires.hash,
+        (
+          (step.book, ap (λ b. b.book) step.same.book ∙ c.requires.books.1),
+          (
+            step.same.hand,
+            (
+              c.requires.index,
+              (
+                front_trans c.args.index.now.seen.log c.args.walk.now.seen.log c.step.new.walk.seen.log c.requires.behind step.later,
+                (met.0, met.3, shorter here.0 met.0 (store_in met.1 c.in-Some-2.node.now) c.args.links c.in-Some.links met.2 here.2 (omega arith)),
+              ),
+            ),
+          ),
+        ),
+      ),
+    )
+
+pub returns-clause-index : goal.returns-clause-index
+returns-clause-index t c =
+    let book = c.args.self.now.book in
+    let now = c.last_ahead.new in
+    let older = c.in_ok-older.ensures in
+    let here = c.requires.ahead in
+    let node = c.in-Some-2.node.now in
+    let step = c.in_ok-node.ensures in
+    let met = (rw c.in-Some-2.is at step.met) here.0 here.1 in
+    let store = store_in met.1 node in
+    let I : Index → Type 0 = λ it. IsIndex book it in
+    elim c.if-top-before.branch [
+      | then-top-before w ↦
+          (let entry : IndexEntry = record { hash = node.tag; node = node.node } in
+          let tells : TellsAll now.index.seen.log now.index.entries.items met.0 =
+          ahead-told book c.step.new.walk now.index now.walk.seen.log met.0 c.log_keeps_its_rule-2.ensures older.later older.behind
+          older.index met.3 (sym w.if-top-before.true ∙ c.top-2.ensures) in
+          let grown : Index = record { seen = w.again.result; entries = w.push.new.self } in
+          let same = ap (λ b. b.log) w.again.ensures in
+          let L : List Event → Type 0 = λ log. IsPrefix now.index.seen.log log in
+          let K : List Event → Type 0 = λ log. IsPrefix c.args.walk.now.seen.log log in
+          let T : List Event → Type 0 = λ log. Tells log entry store in
+          let there : Tells now.walk.seen.log entry store = tells-later c.step.new.walk.seen.log now.walk.seen.log entry store older.later
+          (record { placed = met.4; hash = rw c.in-Some-2.is at step.tagged }) in
+          subst I (sym w.index-is) (index-pushed book now.index grown c.args.walk.now met.0 here.0 entry store (is_ok w.push.result)
+          w.push.ensures.items older.index (ap (λ b. b.book) w.again.ensures ∙ older.book) (subst L (sym same) older.behind)
+          (subst K (sym same) (front_trans c.args.walk.now.seen.log c.step.new.walk.seen.log now.walk.seen.log step.later older.later))
+          tells (subst T (sym same) there) met.2 here.1 (sym (rw c.in-Some-2.is at step.number))))
+      | else-top-before w ↦ subst I (sym w.index-is) older.index
+    ]
+
+pub returns-clause-last : goal.returns-clause-last
+returns-clause-last t c left ahead =
+    let q = c.args.asked.now.question.now in
+    let node = c.in-Some-2.node.now in
+    let met = (rw c.in-Some-2.is at c.in_ok-node.ensures.met) left ahead in
+    let store = store_in met.1 node in
+    elim c.if-is_of.branch [
+      | then-is_of w ↦
+          rw w.last-is (
+            met.1,
+            ap (λ stores. last_or None (stores_of q stores)) met.2
+                ∙ last-here q met.0 store (sym c.is_of.ensures ∙ w.if-is_of.true),
+          )
+      | else-is_of w ↦
+          rw w.last-is (last-on q left met.0 _
+          (ap (λ stores. last_or None (stores_of q stores)) met.2 ∙ last-before q met.0 store (sym c.is_of.ensures ∙ w.if-is_of.false))
+          (c.in_ok-older.ensures.last met.0 met.3))
+    ]
