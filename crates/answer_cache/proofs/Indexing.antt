@@ -37,7 +37,8 @@ placed-on old new node store p it =
     let P : List Event → Type 0 = λ log. In (Placed node store it.0) log in
     (it.0, subst P p.1 (in-front (Placed node store it.0) old p.0 it.1))
 
-pub tells-later : (old new : List Event) (entry : IndexEntry) (store : Store) → IsPrefix old new → Tells old entry store → Tells new entry store
+pub tells-later : (old new : List Event) (entry : IndexEntry) (store : Store) → IsPrefix old new → Tells old entry store
+    → Tells new entry store
 tells-later old new entry store p it = record { placed = placed-on old new entry.node store p it.placed; hash = it.hash }
 
 pub tells-on : (old new : List Event) (entries : List IndexEntry) (stores : List Store) → IsPrefix old new → TellsAll old entries stores
@@ -97,14 +98,16 @@ index-on book old new it same later kept =
       back = whole.0;
       split = sym whole.1;
       at = ap top_of kept ∙ it.at;
-      tells = subst T (sym kept) (tells-on old.seen.log new.seen.log old.entries.items (in_group it.group (history it.front)) later it.tells);
+      tells = subst T (sym kept) (tells-on old.seen.log new.seen.log old.entries.items (in_group it.group (history it.front)) later
+          it.tells);
     }
 
 -- what is ahead of a walk is one list
 pub ahead-one : (walk : Walk) (left other : List Store) → IsLog walk.seen.log → Ahead walk left → Ahead walk other → left ≡ other
 ahead-one walk left other log it its =
     it.stores
-    ∙ (log.tops it.front its.front it.group its.group (it.back, sym it.split) (its.back, sym its.split) (sym it.at ∙ its.at) ∙ sym its.stores)
+    ∙ (log.tops it.front its.front it.group its.group (it.back, sym it.split) (its.back, sym its.split) (sym it.at ∙ its.at)
+    ∙ sym its.stores)
 
 -- where a walk has come to what an index tells
 pub ahead-told : (book : Book) (walk : Walk) (index : Index) (log : List Event) (left : List Store) → IsLog log
@@ -113,7 +116,8 @@ pub ahead-told : (book : Book) (walk : Walk) (index : Index) (log : List Event) 
 ahead-told book walk index log left rule p q it ahead same =
     let T : List Store → Type 0 = λ stores. TellsAll index.seen.log index.entries.items stores in
     let one = rule.tops it.front ahead.front it.group ahead.group
-    (front_trans it.front index.seen.log log (it.back, sym it.split) q) (front_trans ahead.front walk.seen.log log (ahead.back, sym ahead.split) p)
+    (front_trans it.front index.seen.log log (it.back, sym it.split) q)
+    (front_trans ahead.front walk.seen.log log (ahead.back, sym ahead.split) p)
     (sym it.at ∙ (sym same ∙ ahead.at)) in
     subst T (one ∙ sym ahead.stores) it.tells
 
@@ -126,7 +130,8 @@ index-more book old new walk rest left entry store same later p tells here split
     let T : List IndexEntry × List Store → Type 0 = λ it. TellsAll new.seen.log it.0 it.1 in
     let whole = front_trans ahead.front walk.seen.log new.seen.log (ahead.back, sym ahead.split) p in
     let all : TellsAll new.seen.log (old.entries.items ++ entry ∷ []) (rest ++ store ∷ []) =
-    tells-more new.seen.log old.entries.items rest entry store (tells-on old.seen.log new.seen.log old.entries.items rest later tells) here in
+    tells-more new.seen.log old.entries.items rest entry store
+    (tells-on old.seen.log new.seen.log old.entries.items rest later tells) here in
     record {
       same = same;
       group = ahead.group;

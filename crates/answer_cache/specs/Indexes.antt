@@ -21,7 +21,8 @@ abbrev pub TellsAll : List Event → List IndexEntry → List Store → Type 0
 TellsAll log [] [] = Unit {0}
 TellsAll log [] (store ∷ stores) = ⊥
 TellsAll log (entry ∷ entries) [] = ⊥
-TellsAll log (entry ∷ entries) (store ∷ stores) = Tells log entry store × TellsAll log entries stores
+TellsAll log (entry ∷ entries) (store ∷ stores) =
+    Tells log entry store × TellsAll log entries stores
 
 -- the node of the last entry; the one given where there is none
 abbrev pub top_from : ℕ → List IndexEntry → ℕ

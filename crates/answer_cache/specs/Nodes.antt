@@ -46,8 +46,8 @@ pub record IsNode (book : Book) (it : Node) : Type 0 where
 abbrev pub IsShelved : List ℕ → Node → Type 0
 IsShelved tag it = (numbers_of it.seen.book ≡ tag) × IsNode it.seen.book it
 
--- what a walk meets: nothing where nothing is ahead, else the node of the last store ahead, which was
--- placed for it
+-- what a walk meets: nothing where nothing is ahead, else the node of the last store ahead, which
+-- was placed for it
 abbrev pub Meets : Book → Walk → List Store → Option Node → Type 0
 Meets book walk left None = left ≡ []
 Meets book walk left (Some node) = (rest : List Store) × (seat : ℕ)

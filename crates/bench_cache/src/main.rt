@@ -5,6 +5,7 @@
 //! microseconds. Without a word it does nothing.
 #![tactic(auto)]
 
+ghost use Rattle.std.specs.Prelude.{IfSome};
 ghost use Rattle.std.specs.List.{All};
 ghost use Rattle.answer_cache.specs.Shared.{Belongs};
 
@@ -62,7 +63,7 @@ fn store<R: Wait>(rt: &R, cache: &SharedCache, seat: &mut Seat, it: &Known, now:
 }
 
 /// Stores all answers.
-fn fill<R: Wait>(rt: &R, cache: &SharedCache, seat: &mut Seat, load: Load<'_>)
+fn fill<R: Wait>(rt: &R, cache: &SharedCache, seat: &mut Seat, load: &Load<'_>)
     requires { Belongs cache.now seat.old }
     ensures { Belongs cache.now seat.new }
 {
@@ -80,25 +81,25 @@ fn is_found(cache: &SharedCache, seat: &mut Seat, it: &Known, now: Moment) -> bo
 }
 
 /// The look-ups of a thread, beside its stores: how many found an answer.
-fn work<R: Wait>(rt: &R, cache: &SharedCache, seat: Seat, load: Load<'_>) -> u64
-    requires { Belongs cache.now seat }
+fn work<R: Wait>(rt: &R, cache: &SharedCache, seat: &mut Seat, load: &Load<'_>) -> u64
+    requires { Belongs cache.now seat.old }
+    ensures { Belongs cache.now seat.new }
 {
-    let mut seat = seat;
+    let now = load.now;
     let mut found = 0_u64;
     let mut next = seat.number().wrapping_mul(LOOKUPS / 4);
     let mut ahead = load.per_store;
     'lookups: for _lookup in 0..LOOKUPS {
-        let Some(it) = load.at(next) else {
-            return found;
-        };
-        if is_found(cache, &mut seat, it, load.now) {
-            found = found.wrapping_add(1);
-        }
-        if ahead == 1 {
-            store(rt, cache, &mut seat, it, load.now);
-            ahead = load.per_store;
-        } else {
-            ahead = ahead.wrapping_sub(1);
+        if let Some(it) = load.at(next) {
+            if is_found(cache, seat, it, now) {
+                found = found.wrapping_add(1);
+            }
+            if ahead == 1 {
+                store(rt, cache, seat, it, now);
+                ahead = load.per_store;
+            } else {
+                ahead = ahead.wrapping_sub(1);
+            }
         }
         next = next.wrapping_add(1);
     }
@@ -112,18 +113,38 @@ struct Measured {
     microseconds: u128,
 }
 
-/// Measures a run of so many threads over a new cache that one more seat has filled.
+/// A cache with so many seats, which one more has filled.
+fn filled<R: Wait + AllocGlobal>(
+    rt: &R,
+    load: &Load<'_>,
+    threads: usize,
+) -> Option<(SharedCache, Vec<Seat>)>
+    ensures { IfSome result (λ made. All (Belongs made.0) made.1.items) }
+{
+    let Ok((cache, mut seats)) = SharedCache::new(rt.alloc(), threads.saturating_add(1)) else {
+        return None;
+    };
+    if let Some(mut first) = seats.pop() {
+        fill(rt, &cache, &mut first, load);
+    }
+    Some((cache, seats))
+}
+
+/// Measures a run of so many threads.
 fn measure<R: Threads + Wait + Clock + AllocGlobal + Sync>(
     rt: &R,
-    load: Load<'_>,
+    load: &Load<'_>,
     threads: usize,
 ) -> Option<Measured> {
-    let (cache, mut seats) = SharedCache::new(rt.alloc(), threads.checked_add(1)?).ok()?;
-    let mut first = seats.pop()?;
-    fill(rt, &cache, &mut first, load);
+    let Some((cache, seats)) = filled(rt, load, threads) else {
+        return None;
+    };
     let job = |seat: Seat| -> u64
-        requires { Belongs cache.now seat }
-    { work(rt, &cache, seat, load) };
+        requires { Belongs cache seat }
+    {
+        let mut seat = seat;
+        work(rt, &cache, &mut seat, load)
+    };
     let start = Instant::now(rt).ok()?;
     let found = map_vec(rt, seats, &job).ok()?;
     let time = start.elapsed(rt).ok()?;
@@ -135,23 +156,31 @@ fn measure<R: Threads + Wait + Clock + AllocGlobal + Sync>(
     })
 }
 
-/// Measures a run again and again, and prints it each time.
-fn print_runs_of<R: Threads + Wait + Clock + Print + AllocGlobal + Sync>(
+/// Measures a run, and prints it.
+fn print_run<R: Threads + Wait + Clock + Print + AllocGlobal + Sync>(
     rt: &R,
-    load: Load<'_>,
+    load: &Load<'_>,
+    threads: usize,
+) -> Option<()> {
+    let it = measure(rt, load, threads)?;
+    println!(rt;
+        "{} {threads} {} {} {}",
+        load.known.len(),
+        load.per_store,
+        it.found,
+        it.microseconds
+    )
+    .ok()
+}
+
+/// Measures a run again and again.
+fn print_rounds<R: Threads + Wait + Clock + Print + AllocGlobal + Sync>(
+    rt: &R,
+    load: &Load<'_>,
     threads: usize,
 ) -> Option<()> {
     for _round in 0..ROUNDS {
-        let Measured {
-            found,
-            microseconds,
-        } = measure(rt, load, threads)?;
-        println!(rt;
-            "{} {threads} {} {found} {microseconds}",
-            load.known.len(),
-            load.per_store
-        )
-        .ok()?;
+        print_run(rt, load, threads)?;
     }
     Some(())
 }
@@ -169,7 +198,7 @@ fn print_load<R: Threads + Wait + Clock + Print + AllocGlobal + Sync>(
                 now,
                 per_store,
             };
-            print_runs_of(rt, load, threads)?;
+            print_rounds(rt, &load, threads)?;
         }
     }
     Some(())

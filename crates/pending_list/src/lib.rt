@@ -5,9 +5,9 @@
 //! is known by its id, which no other entry of the list ever has. A deadline is a number, and a
 //! list knows no clock: who has it says what time it is.
 //!
-//! A list has a limit. When it is made it makes a table of so many places, and `insert` makes a node
-//! for its entry, which has one of these places and is linked to its neighbours. An id finds its node
-//! by the place. No other call takes memory, and all others always answer.
+//! A list has a limit. When it is made it makes a table of so many places, and `insert` makes a
+//! node for its entry, which has one of these places and is linked to its neighbours. An id finds
+//! its node by the place. No other call takes memory, and all others always answer.
 //!
 //! ```
 //! let mut list = PendingList::new(alloc, 3, 0)?;

@@ -23,6 +23,7 @@ last_ahead-requires t c =
     let here = c.requires.ahead in
     let step = c.in_ok-node.ensures in
     let met = (rw c.in-Some-2.is at step.met) here.0 here.1 in
+    let store = store_in met.1 c.in-Some-2.node.now in
     let size = c.decreases in
     let less = c.in-Some.ensures in (
       omega arith,
@@ -36,7 +37,7 @@ last_ahead-requires t c =
               c.requires.index,
               (
                 front_trans c.args.index.now.seen.log c.args.walk.now.seen.log c.step.new.walk.seen.log c.requires.behind step.later,
-                (met.0, met.3, shorter here.0 met.0 (store_in met.1 c.in-Some-2.node.now) c.args.links c.in-Some.links met.2 here.2 (omega arith)),
+                (met.0, met.3, shorter here.0 met.0 store c.args.links c.in-Some.links met.2 here.2 (omega arith)),
               ),
             ),
           ),

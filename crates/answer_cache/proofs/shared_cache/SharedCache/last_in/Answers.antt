@@ -29,7 +29,8 @@ returns-then-eq-clause-last c stores tells =
     let named = subst N c.in-Some.ensures.0 (subst B (sym c.in-Some.ensures.1.same) c.in-Some.ensures.1.named) in (
       seat,
       found q log (take (length left - 1) left) (get_or left (length left - 1) d) stores it (store_in seat node)
-          (λ store placed. c.placed_is_named.ensures (get_or left (length left - 1) d).node store (store_in seat node) node.link placed named)
+          (λ store placed. c.placed_is_named.ensures (get_or left (length left - 1) d).node store (store_in seat node) node.link placed
+          named)
           (sym c.eq.ensures.value ∙ c.if-eq.true),
     )
 
