@@ -11,7 +11,7 @@ use Rattle.sip_uri.specs.declared.address.Address.TheVariants as address
 use Rattle.sip_uri.specs.declared.transport.Transport.{Transport}
 use Rattle.sip_uri.specs.declared.transport.Transport.TheVariants.{Tls}
 use Rattle.sip_uri.specs.Same.{same_transport}
-use Rattle.sip_selection.specs.Callers.{families_of, kinds_of, offers, transports_of}
+use Rattle.sip_selection.specs.Callers.{kinds_of, offers}
 use Rattle.sip_selection.specs.Choice.{targets, need, resolved, offered, is_tried, to_address, locate}
 use Rattle.sip_selection.specs.Known.{Given, find_answer}
 use Rattle.sip_selection.specs.Requests.{target_of, port_of, spoken_of, is_secure, meant_by, transport_of, usual_transport}
@@ -51,7 +51,7 @@ module _ (request : Request) (caps : Caps) (words : List ℕ) (given : List Give
   offered-over : AllOver request caps words given (λ transport. offers caps transport ≡ true)
   offered-over = record {
     by_rule = λ transport is. (and_parts (offers caps transport) _ is).0;
-    own = All-filter (is_tried (is_secure request)) (λ transport. offers caps transport ≡ true) (transports_of caps)
+    own = All-filter (is_tried (is_secure request)) (λ transport. offers caps transport ≡ true) caps.transports
         (own_offered caps);
     meant = λ transport is. (offered-is (transport_of request) transport is).1;
     usually = λ transport is. (offered-is (Ok (usual_transport (is_secure request))) transport is).1;
@@ -85,7 +85,7 @@ module _ (request : Request) (caps : Caps) (words : List ℕ) (given : List Give
     tls-over : AllOver request caps words given (λ transport. transport ≡ Tls)
     tls-over = record {
       by_rule = ruled-tls;
-      own = filter-all (λ transport. transport ≡ Tls) (is_tried (is_secure request)) tried-tls (transports_of caps);
+      own = filter-all (λ transport. transport ≡ Tls) (is_tried (is_secure request)) tried-tls caps.transports;
       meant = λ transport is. meant-tls transport (offered-is (transport_of request) transport is).0;
       usually = λ transport is. usual-tls transport (offered-is (Ok (usual_transport (is_secure request))) transport is).0;
     }
@@ -107,15 +107,15 @@ module _ (request : Request) (caps : Caps) (words : List ℕ) (given : List Give
 
   pub answered_all : (name : List (List ℕ)) → target_of request ≡ host.Domain name → (found : List Target)
       → locate request caps words given ≡ targets found
-      → All (λ it. IsAnswered given (kinds_of (families_of caps)) it.address) found
+      → All (λ it. IsAnswered given (kinds_of caps.families) it.address) found
   answered_all name named found is =
-      All-weaker (Sound request caps words given (λ transport. ⊤)) (λ it. IsAnswered given (kinds_of (families_of caps)) it.address)
+      All-weaker (Sound request caps words given (λ transport. ⊤)) (λ it. IsAnswered given (kinds_of caps.families) it.address)
       (λ it sound. sound.1) found
       (targets-of (All (Sound request caps words given (λ transport. ⊤))) (Missing request caps words given (λ transport. ⊤)) found is
       (all_sound request caps words given (λ transport. ⊤) any-over name named))
 
   pub missing_is : (question : Question) → locate request caps words given ≡ need question
-      → (find_answer given question ≡ None) × Contains (kind.Naptr ∷ kind.Srv ∷ kinds_of (families_of caps)) question.kind
+      → (find_answer given question ≡ None) × Contains (kind.Naptr ∷ kind.Srv ∷ kinds_of caps.families) question.kind
   missing_is question is =
       question-of (All (λ it. ⊤)) (Missing request caps words given (λ transport. ⊤)) question is
       (all_over request caps words given (λ transport. ⊤) any-over)

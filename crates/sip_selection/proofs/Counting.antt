@@ -24,7 +24,7 @@ use Rattle.sip_uri.specs.declared.transport.Transport.{Transport}
 use Rattle.srv_choice.specs.Outcomes.{order_from, is_root}
 use Rattle.srv_choice.specs.declared.outcome.SrvOutcome.{SrvOutcome}
 use Rattle.srv_choice.specs.declared.outcome.SrvOutcome.TheVariants.{Absent, Denied, Listed}
-use Rattle.sip_selection.specs.Callers.{families_of, kinds_of, transports_of}
+use Rattle.sip_selection.specs.Callers.{kinds_of}
 use Rattle.sip_selection.specs.Choice.{targets, Settled, offered, usual, own_ways, is_tried, to_name, to_domain, by_offers, along, led, by_rules, by_naptr, to_address, to_port, to_service, discovered, to_host, locate}
 use Rattle.sip_selection.specs.Known.{Given, Needing, made, joined, find_answer, answer_to, addresses_in, servers_in, rules_in}
 use Rattle.sip_selection.specs.Requests.{target_of, port_of, spoken_of, is_secure, transport_of, default_port}
@@ -205,16 +205,16 @@ kinds-few families.V6ThenV4 = omega arith
 -- ---- the choice
 
 module _ (request : Request) (caps : Caps) (words : List ℕ) (given : List Given) (small : All IsSmall given)
-    (four : length (transports_of caps) ≤ 4) (count : Counts) where
+    (four : length caps.transports ≤ 4) (count : Counts) where
   abbrev Few : Needing Settled → Type 0
   Few = Meets (Settles (AtMost 16384)) Any-question
 
   name-few : (name : List (List ℕ)) (port : ℕ) (transport : Transport) → Few (to_name caps given name port transport)
   name-few name port transport =
-      let kinds : List Kind = kinds_of (families_of caps) in
+      let kinds : List Kind = kinds_of caps.families in
       made-meets Any-question (Settles (AtMost 16384)) Ok (targets_of given kinds transport port name)
       (meets-more Any-question (AtMost 64) (AtMost 16384) (targets_of given kinds transport port name) (λ found le. omega (arith, le))
-      (targets-few given small kinds (kinds-few (families_of caps)) transport port name))
+      (targets-few given small kinds (kinds-few caps.families) transport port name))
 
   domain-few : (name : List (List ℕ)) (fallback : Result Transport Reason) → Few (to_domain caps given name fallback)
   domain-few name (Ok transport) = name-few name (default_port transport) transport
@@ -230,20 +230,20 @@ module _ (request : Request) (caps : Caps) (words : List ℕ) (given : List Give
   along-few : (name : List (List ℕ)) (fallback : Result Transport Reason) (ways : List Way) → length ways ≤ 8
       → Few (along caps words given name fallback ways)
   along-few name fallback ways eight =
-      let kinds : List Kind = kinds_of (families_of caps) in
+      let kinds : List Kind = kinds_of caps.families in
       after-meets Any-question (Settles (AtMost 16384)) (by_offers caps given name fallback)
       (offers_along given kinds words ways 0)
       (meets-more Any-question (λ offers. length (flat_map offered_targets offers) ≤ length ways * 2048)
       (λ offers. Few (by_offers caps given name fallback offers)) (offers_along given kinds words ways 0)
       (λ offers le. offers-by name fallback offers (list_any is_listed offers) (list_any is_denied offers) refl refl
       (omega (arith, le, eight)))
-      (offers-few given small kinds (kinds-few (families_of caps)) count words ways 0))
+      (offers-few given small kinds (kinds-few caps.families) count words ways 0))
 
   led-few : (name : List (List ℕ)) (ways : List Way) → length ways ≤ 8 → Few (led (is_secure request) caps words given name ways)
   led-few name [] eight =
-      let tried : List Transport = filter (is_tried (is_secure request)) (transports_of caps) in
+      let tried : List Transport = filter (is_tried (is_secure request)) caps.transports in
       along-few name (usual (is_secure request) caps) (own_ways (is_secure request) caps name)
-      (omega (arith, four, filter-few (is_tried (is_secure request)) (transports_of caps), length-map tried (way_to name)))
+      (omega (arith, four, filter-few (is_tried (is_secure request)) caps.transports, length-map tried (way_to name)))
   led-few name (first ∷ others) eight = along-few name (Ok first.transport) (first ∷ others) eight
 
   naptr-few : (name : List (List ℕ)) → Few (by_naptr (is_secure request) caps words given name)

@@ -7,7 +7,7 @@ use Rattle.sip_uri.specs.declared.host.Host.{Host}
 use Rattle.sip_uri.specs.declared.host.Host.TheVariants as host
 use Rattle.sip_uri.specs.declared.transport.Spoken.{Spoken}
 use Rattle.sip_uri.specs.declared.transport.Transport.{Transport}
-use Rattle.sip_selection.specs.Callers.{families_of, kinds_of}
+use Rattle.sip_selection.specs.Callers.{kinds_of}
 use Rattle.sip_selection.specs.Choice.{need, Settled, resolved, offered, usual, own_ways, to_name, to_domain, by_offers, along, led, by_naptr, to_port, to_service, discovered, to_host, locate}
 use Rattle.sip_selection.specs.Known.{Given, Needing, rules_in}
 use Rattle.sip_selection.specs.Requests.{target_of, port_of, spoken_of, is_secure, transport_of, default_port}
@@ -25,7 +25,7 @@ module _ (caps : Caps) (words : List ℕ) (given more : List Given) where
 
   name-grows : (name : List (List ℕ)) (port : ℕ) (transport : Transport)
       → Grows (to_name caps given name port transport) (to_name caps all name port transport)
-  name-grows name port transport = made-grows Ok _ _ (targets-grow given more (kinds_of (families_of caps)) transport port name)
+  name-grows name port transport = made-grows Ok _ _ (targets-grow given more (kinds_of caps.families) transport port name)
 
   domain-grows : (name : List (List ℕ)) (fallback : Result Transport Reason)
       → Grows (to_domain caps given name fallback) (to_domain caps all name fallback)
@@ -42,7 +42,7 @@ module _ (caps : Caps) (words : List ℕ) (given more : List Given) where
   along-grows : (name : List (List ℕ)) (fallback : Result Transport Reason) (ways : List Way)
       → Grows (along caps words given name fallback ways) (along caps words all name fallback ways)
   along-grows name fallback ways =
-      after-grows _ _ _ _ (offers-grow given more (kinds_of (families_of caps)) words ways 0)
+      after-grows _ _ _ _ (offers-grow given more (kinds_of caps.families) words ways 0)
       (λ offers. offers-by name fallback offers (list_any is_listed offers) (list_any is_denied offers) refl refl)
 
   port-grows : (name : List (List ℕ)) (port : ℕ) (transport : Result Transport Reason)

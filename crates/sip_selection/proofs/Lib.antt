@@ -9,8 +9,8 @@ mod Outcomes
 mod ChoiceLaws
 mod Counting
 mod Asking
+mod Beginning
 mod Runs
-mod Room
 mod Needings
 mod Reaching
 mod Answered

@@ -11,7 +11,7 @@ use Rattle.sip_uri.specs.declared.address.Address.{Address}
 use Rattle.sip_uri.specs.declared.address.Address.TheVariants as address
 use Rattle.sip_uri.specs.declared.transport.Spoken.{Spoken}
 use Rattle.sip_uri.specs.declared.transport.Transport.{Transport}
-use Rattle.sip_selection.specs.Callers.{families_of, kinds_of, offers, transports_of}
+use Rattle.sip_selection.specs.Callers.{kinds_of, offers}
 use Rattle.sip_selection.specs.Choice.{Resolution, targets, refused, need, Settled, settled, resolved, offered, usual, own_ways, is_tried, to_name, to_domain, by_offers, along, led, by_rules, by_naptr, to_address, to_port, to_service, discovered, to_host, locate}
 use Rattle.sip_selection.specs.Known.{Given, Needing, find_answer, answer_to, rules_in}
 use Rattle.sip_selection.specs.Requests.{target_of, port_of, spoken_of, is_secure, transport_of, default_port}
@@ -55,15 +55,15 @@ module _ (request : Request) (caps : Caps) (words : List ℕ) (given : List Give
   -- the transports that come into question are such
   pub record AllOver : Type 0 where
     pub by_rule : (transport : Transport) → is_usable (is_secure request) caps transport ≡ true → T transport
-    pub own : All T (filter (is_tried (is_secure request)) (transports_of caps))
+    pub own : All T (filter (is_tried (is_secure request)) caps.transports)
     pub meant : (transport : Transport) → offered caps (transport_of request) ≡ Ok transport → T transport
     pub usually : (transport : Transport) → usual (is_secure request) caps ≡ Ok transport → T transport
 
   abbrev pub Sound : Target → Type 0
-  Sound = IsSound given (kinds_of (families_of caps)) T
+  Sound = IsSound given (kinds_of caps.families) T
 
   abbrev pub Missing : Question → Type 0
-  Missing = IsMissing given (kinds_of (families_of caps))
+  Missing = IsMissing given (kinds_of caps.families)
 
   abbrev Sounds : Needing Settled → Type 0
   Sounds = Meets (Settles (All Sound)) Missing
@@ -71,8 +71,8 @@ module _ (request : Request) (caps : Caps) (words : List ℕ) (given : List Give
   name-meets : (name : List (List ℕ)) (port : ℕ) (transport : Transport) → T transport
       → Sounds (to_name caps given name port transport)
   name-meets name port transport is =
-      made-meets Missing (Settles (All Sound)) Ok (targets_of given (kinds_of (families_of caps)) transport port name)
-      (targets-meet given (kinds_of (families_of caps)) T transport is port name)
+      made-meets Missing (Settles (All Sound)) Ok (targets_of given (kinds_of caps.families) transport port name)
+      (targets-meet given (kinds_of caps.families) T transport is port name)
 
   domain-meets : (name : List (List ℕ)) (fallback : Result Transport Reason)
       → ((transport : Transport) → fallback ≡ Ok transport → T transport) → Sounds (to_domain caps given name fallback)
@@ -92,19 +92,19 @@ module _ (request : Request) (caps : Caps) (words : List ℕ) (given : List Give
       → Sounds (along caps words given name fallback ways)
   along-meets name fallback ways over each =
       after-meets Missing (Settles (All Sound)) (by_offers caps given name fallback)
-      (offers_along given (kinds_of (families_of caps)) words ways 0)
+      (offers_along given (kinds_of caps.families) words ways 0)
       (meets-more Missing (λ offers. All Sound (flat_map offered_targets offers))
       (λ offers. Sounds (by_offers caps given name fallback offers))
-      (offers_along given (kinds_of (families_of caps)) words ways 0)
+      (offers_along given (kinds_of caps.families) words ways 0)
       (λ offers are. offers-by name fallback offers (list_any is_listed offers) (list_any is_denied offers) refl refl over are)
-      (offers-meet given (kinds_of (families_of caps)) T words ways 0 each))
+      (offers-meet given (kinds_of caps.families) T words ways 0 each))
 
   module _ (over : AllOver) where
     led-meets : (name : List (List ℕ)) (ways : List Way) → All (λ way. T way.transport) ways
         → Sounds (led (is_secure request) caps words given name ways)
     led-meets name [] each =
         along-meets name (usual (is_secure request) caps) (own_ways (is_secure request) caps name) over.usually
-        (All-map (λ way. T way.transport) (way_to name) (filter (is_tried (is_secure request)) (transports_of caps)) over.own)
+        (All-map (λ way. T way.transport) (way_to name) (filter (is_tried (is_secure request)) caps.transports) over.own)
     led-meets name (first ∷ others) each =
         along-meets name (Ok first.transport) (first ∷ others)
         (λ transport is. let same : first.transport ≡ transport = cc in subst T same
@@ -119,7 +119,7 @@ module _ (request : Request) (caps : Caps) (words : List ℕ) (given : List Give
         (λ answer. Sounds (by_rules (is_secure request) caps words given name (rules_in answer.records))) (answer_to given question)
         (λ answer found. led-meets name (kept (is_secure request) caps (rules_in answer.records))
         (kept-over (is_secure request) caps T over.by_rule (rules_in answer.records)))
-        (answer-meets given (kinds_of (families_of caps)) question (0, omega arith, refl)))
+        (answer-meets given (kinds_of caps.families) question (0, omega arith, refl)))
 
     port-meets : (name : List (List ℕ)) (port : ℕ) (transport : Result Transport Reason)
         → offered caps (transport_of request) ≡ transport

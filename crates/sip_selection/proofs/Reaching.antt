@@ -9,7 +9,7 @@ use Rattle.dns_message.specs.declared.question.Question.{Question}
 use Rattle.dns_message.specs.declared.srv.SrvRecord.{SrvRecord}
 use Rattle.sip_uri.specs.declared.transport.Transport.{Transport}
 use Rattle.srv_choice.specs.Outcomes.{is_root}
-use Rattle.sip_selection.specs.Callers.{families_of, kinds_of}
+use Rattle.sip_selection.specs.Callers.{kinds_of}
 use Rattle.sip_selection.specs.Known.{Given, Needing, after, made, joined, answer_to, addresses_in}
 use Rattle.sip_selection.specs.Services.{place_targets, target_at}
 use Rattle.sip_selection.specs.Stages.{Extends, Reaches, kinds_left, server_left, place_left, places_left, servers_left}
@@ -50,8 +50,8 @@ module _ (caps : Caps) (transport : Transport) (port : ℕ) (name : List (List �
   abbrev asked : Kind
   asked = get_or kinds at A
 
-  module _ (are : kinds ≡ kinds_of (families_of caps)) (within : at < length kinds) where
-    kinds-are : drop at (kinds_of (families_of caps)) ≡ asked ∷ drop (at + 1) (kinds_of (families_of caps))
+  module _ (are : kinds ≡ kinds_of caps.families) (within : at < length kinds) where
+    kinds-are : drop at (kinds_of caps.families) ≡ asked ∷ drop (at + 1) (kinds_of caps.families)
     kinds-are = subst (λ (k : List Kind). drop at k ≡ asked ∷ drop (at + 1) k) are (drop_more kinds at A within)
 
     pub kind-more : (given : List Given) (answer : AnswerValue) → answer_to given (record { name = name; kind = asked }) ≡ Ok answer
@@ -94,7 +94,7 @@ place-server caps transport servers place server there = λ j all from. same all
 
 module _ (caps : Caps) (transport : Transport) (servers : List SrvRecord) where
   abbrev targets_at : List Given → ℕ → Needing (List Target)
-  targets_at all = place_targets all (kinds_of (families_of caps)) transport servers
+  targets_at all = place_targets all (kinds_of caps.families) transport servers
 
   -- before its first kind, a server is whole
   pub all-left : (all : List Given) (places : List ℕ) → places_left caps all transport servers places 0 ≡ joined (targets_at all) places

@@ -24,7 +24,7 @@ use Rattle.sip_uri.specs.declared.address.Address.{Address}
 use Rattle.sip_uri.specs.declared.address.Address.TheVariants as address
 use Rattle.sip_uri.specs.declared.transport.Spoken.{Spoken}
 use Rattle.sip_uri.specs.declared.transport.Transport.{Transport}
-use Rattle.sip_selection.specs.Callers.{families_of, kinds_of, transports_of}
+use Rattle.sip_selection.specs.Callers.{kinds_of}
 use Rattle.sip_selection.specs.Choice.{need, Settled, offered, usual, own_ways, is_tried, to_name, to_domain, by_offers, along, led, by_rules, by_naptr, to_address, to_port, to_service, discovered, to_host, locate}
 use Rattle.sip_selection.specs.Known.{Given, Needing, find_answer, answer_to, rules_in}
 use Rattle.sip_selection.specs.Requests.{target_of, port_of, spoken_of, is_secure, transport_of, default_port}
@@ -61,7 +61,7 @@ module _ (all : List Given) (kinds : List Kind) where
 
 module _ (request : Request) (caps : Caps) (words : List ℕ) (all : List Given) where
   abbrev kinds : List Kind
-  kinds = kinds_of (families_of caps)
+  kinds = kinds_of caps.families
 
   -- the ways that are tried by these rules
   abbrev tried : List (List ℕ) → List Way → List Way
@@ -110,7 +110,7 @@ all-more P Q more (x ∷ xs) each = All-cons Q x xs (more x (All-head P x xs eac
 
 module _ (request : Request) (caps : Caps) (words : List ℕ) (R : Question → Type 0) (given more : List Given) where
   abbrev asked_kinds : List Kind
-  asked_kinds = kinds_of (families_of caps)
+  asked_kinds = kinds_of caps.families
 
   abbrev all : List Given
   all = given ++ more
@@ -284,18 +284,18 @@ module _ (all : List Given) (small : All IsSmall all) (kinds : List Kind) (two :
   ways-few : (name : List (List ℕ)) (ways : List Way) → length ways ≤ 8 → length (of_ways all kinds name ways) ≤ 520
   ways-few name ways eight = ways-by name ways (list_any (has_servers all) ways) refl eight
 
-module _ (request : Request) (caps : Caps) (words : List ℕ) (four : length (transports_of caps) ≤ 4) (all : List Given)
+module _ (request : Request) (caps : Caps) (words : List ℕ) (four : length caps.transports ≤ 4) (all : List Given)
     (small : All IsSmall all) where
   tried-few : (name : List (List ℕ)) (ways : List Way) → length ways ≤ 8 → length (tried request caps words all name ways) ≤ 8
   tried-few name [] eight =
-      let own : List Transport = filter (is_tried (is_secure request)) (transports_of caps) in
-      omega (arith, four, filter-few (is_tried (is_secure request)) (transports_of caps), length-map own (way_to name))
+      let own : List Transport = filter (is_tried (is_secure request)) caps.transports in
+      omega (arith, four, filter-few (is_tried (is_secure request)) caps.transports, length-map own (way_to name))
   tried-few name (first ∷ others) eight = eight
 
   service-few : (name : List (List ℕ)) (transport : Result Transport Reason)
       → length (of_service request caps words all name transport) ≤ 521
   service-few name (Ok transport) =
-      let le = ways-few all small (kinds_of (families_of caps)) (kinds-few (families_of caps)) name (way_to name transport ∷ [])
+      let le = ways-few all small (kinds_of caps.families) (kinds-few caps.families) name (way_to name transport ∷ [])
       (omega arith) in
       omega (arith, le)
   service-few name (Err reason) = omega arith
@@ -304,13 +304,13 @@ module _ (request : Request) (caps : Caps) (words : List ℕ) (four : length (tr
   host-few (host.V4 octets) port named = omega arith
   host-few (host.V6 octets) port named = omega arith
   host-few (host.Domain name) (Some port) named =
-      let le = addresses-two all small (kinds_of (families_of caps)) (kinds-few (families_of caps)) name in
+      let le = addresses-two all small (kinds_of caps.families) (kinds-few caps.families) name in
       omega (arith, le)
   host-few (host.Domain name) None (Some named) = service-few name (offered caps (transport_of request))
   host-few (host.Domain name) None None =
       let ways : List Way = kept (is_secure request) caps (rules_at (answer_to all (rules name))) in
       let eight = tried-few name ways (kept-few (is_secure request) caps (rules_at (answer_to all (rules name)))) in
-      let le = ways-few all small (kinds_of (families_of caps)) (kinds-few (families_of caps)) name
+      let le = ways-few all small (kinds_of caps.families) (kinds-few caps.families) name
       (tried request caps words all name ways) eight in
       omega (arith, le)
 
@@ -338,7 +338,7 @@ none-same (it ∷ others) question none = by (same_question it.question question
     by false e rest is = All-cons (λ (it : Given). same_question it.question question ≡ false) it others e (rest is)
 
 module _ (request : Request) (caps : Caps) (words : List ℕ) (given : List Given) (small : All IsSmall given)
-    (four : length (transports_of caps) ≤ 4)
+    (four : length caps.transports ≤ 4)
     (asked : (k : ℕ) (it : Given) → k < length given → locate request caps words (take k given) ≡ need (get_or given k it).question) where
   abbrev every : List Question
   every = of_host request caps words given (target_of request) (port_of request) (spoken_of request)

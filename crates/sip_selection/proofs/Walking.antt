@@ -10,7 +10,7 @@ use Rattle.sip_uri.specs.declared.transport.Transport.{Transport}
 use Rattle.srv_choice.specs.Outcomes.{order_from}
 use Rattle.srv_choice.specs.declared.outcome.SrvOutcome.{SrvOutcome}
 use Rattle.srv_choice.specs.declared.outcome.SrvOutcome.TheVariants.{Absent, Denied, Listed}
-use Rattle.sip_selection.specs.Callers.{families_of, kinds_of}
+use Rattle.sip_selection.specs.Callers.{kinds_of}
 use Rattle.sip_selection.specs.Choice.{Settled}
 use Rattle.sip_selection.specs.Known.{Given, Needing, after, made, joined, answer_to, servers_in}
 use Rattle.sip_selection.specs.Services.{Offer, absent, denied, listed, offered_targets, next_word, place_targets, offer_by, offer_along, offers_along}
@@ -42,7 +42,7 @@ module _ (caps : Caps) (words : List ℕ) (name : List (List ℕ)) (all : List G
 
   module _ (walk : Walk) (found : List Target) where
     abbrev rest : ℕ → Needing (List Offer)
-    rest word = offers_along all (kinds_of (families_of caps)) words (drop (walk.way + 1) ways) word
+    rest word = offers_along all (kinds_of caps.families) words (drop (walk.way + 1) ways) word
 
     listed-left : (places : List ℕ) (next : ℕ) (targets : List Target)
         → offer_left caps words name all ways fallback walk found (Ok (listed targets next))
@@ -60,11 +60,11 @@ module _ (caps : Caps) (words : List ℕ) (name : List (List ℕ)) (all : List G
       servers = servers_in answer.records
 
       abbrev targets-of : List ℕ → Needing (List Target)
-      targets-of places = joined (place_targets all (kinds_of (families_of caps)) transport servers) places
+      targets-of places = joined (place_targets all (kinds_of caps.families) transport servers) places
 
       pub answer-listed : (places : List ℕ) (next : ℕ) → order_from servers words walk.word ≡ Listed places next
           → offer_left caps words name all ways fallback walk found
-          (offer_by all (kinds_of (families_of caps)) words transport walk.word answer)
+          (offer_by all (kinds_of caps.families) words transport walk.word answer)
           ≡ after (λ more. walk_left caps words name all ways fallback (behind walk (Listed places next)) (found ++ more))
           (servers_left caps all transport servers places (record { server = 0; kind = 0 }))
       answer-listed places next is = rw (is, all-left caps transport servers all places)
@@ -84,7 +84,7 @@ module _ (caps : Caps) (words : List ℕ) (name : List (List ℕ)) (all : List G
 
     module _ (transport : Transport) (answer : AnswerValue) where
       abbrev offered : Needing Offer
-      offered = offer_by all (kinds_of (families_of caps)) words transport walk.word answer
+      offered = offer_by all (kinds_of caps.families) words transport walk.word answer
 
       absent-left : order_from (servers_in answer.records) words walk.word ≡ Absent
           → offer_left caps words name all ways fallback walk found offered
@@ -113,16 +113,16 @@ module _ (caps : Caps) (words : List ℕ) (name : List (List ℕ)) (all : List G
 
     pub way-left : (way : Way) → drop walk.way ways ≡ way ∷ drop (walk.way + 1) ways
         → walk_left caps words name all ways fallback walk found
-        ≡ offer_left caps words name all ways fallback walk found (offer_along all (kinds_of (families_of caps)) words way walk.word)
+        ≡ offer_left caps words name all ways fallback walk found (offer_along all (kinds_of caps.families) words way walk.word)
     way-left way there = rw there (after-after (ended caps name all fallback walk found)
         (λ offer. made (λ others. offer ∷ others) (rest (next_word walk.word offer)))
-        (offer_along all (kinds_of (families_of caps)) words way walk.word))
+        (offer_along all (kinds_of caps.families) words way walk.word))
 
     pub named-left : (way : Way) (owner : List (List ℕ)) → way.name ≡ Some owner → drop walk.way ways ≡ way ∷ drop (walk.way + 1) ways
         → (answer : AnswerValue) → answer_to all (record { name = owner; kind = kind.Srv }) ≡ Ok answer
         → walk_left caps words name all ways fallback walk found
         ≡ offer_left caps words name all ways fallback walk found
-        (offer_by all (kinds_of (families_of caps)) words way.transport walk.word answer)
+        (offer_by all (kinds_of caps.families) words way.transport walk.word answer)
     named-left way owner named there answer known = way-left way there ∙ rw (named, known) refl
 
 -- ---- the servers of a service, and then the walk

@@ -8,7 +8,7 @@ use Rattle.sip_uri.specs.declared.transport.Spoken.TheVariants as spoken
 use Rattle.sip_uri.specs.declared.transport.Transport.{Transport}
 use Rattle.sip_uri.specs.declared.transport.Transport.TheVariants.{Udp, Tcp, Sctp, Tls}
 use Rattle.sip_uri.specs.Same.{same_transport}
-use Rattle.sip_selection.specs.Callers.{offers, transports_of}
+use Rattle.sip_selection.specs.Callers.{offers}
 use Rattle.sip_selection.specs.Requests.{meant_by}
 use Rattle.sip_selection.specs.Rules.{is_usable, kept}
 use Rattle.sip_selection.specs.declared.way.Way.{Way}
@@ -38,12 +38,12 @@ secure_means_tls (Some (spoken.Known Sctp)) transport is = absurd cc
 secure_means_tls (Some (spoken.Known Tls)) transport is = cc
 secure_means_tls (Some spoken.Other) transport is = absurd cc
 
-pub own_offered : (caps : Caps) → All (λ transport. offers caps transport ≡ true) (transports_of caps)
+pub own_offered : (caps : Caps) → All (λ transport. offers caps transport ≡ true) caps.transports
 own_offered caps =
-    All-weaker (Contains (transports_of caps)) (λ transport. offers caps transport ≡ true)
-    (λ transport at. list_any-from_Any (λ offered. same_transport offered transport) (transports_of caps)
+    All-weaker (Contains caps.transports) (λ transport. offers caps transport ≡ true)
+    (λ transport at. list_any-from_Any (λ offered. same_transport offered transport) caps.transports
     (at.0, transport, at.1, at.2, same_as_itself transport))
-    (transports_of caps) (All-contains_itself (transports_of caps))
+    caps.transports (All-contains_itself caps.transports)
 
 -- ---- rules
 

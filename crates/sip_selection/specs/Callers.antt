@@ -1,11 +1,10 @@
 -- What the caller can do: its transports, in order of preference, and its families of addresses.
-use Rattle.std.specs.Prelude.{◌<◌, ◌≤◌, Bool, true, false, not, ◌&&◌, IsTrue, List, [], ◌∷◌, ◌++◌, length, map, take, Option, Some, None}
+use Rattle.std.specs.Prelude.{◌≡◌, ◌<◌, ◌≤◌, Bool, true, false, not, ◌&&◌, IsTrue, List, [], ◌∷◌, ◌++◌, length, map, take, Option, Some, None}
 use Rattle.std.specs.List.{list_any, filter_map}
 use Rattle.dns_message.specs.declared.kind.Kind.{Kind}
 use Rattle.dns_message.specs.declared.kind.Kind.TheVariants as kind
 use Rattle.sip_uri.specs.Same.{same_transport}
 use Rattle.sip_uri.specs.declared.transport.Transport.{Transport}
-use Rattle.sip_selection.specs.declared.caps.Caps.{Caps}
 use Rattle.sip_selection.specs.declared.caps.Families.{Families}
 use Rattle.sip_selection.specs.declared.caps.Families.TheVariants.{V4, V6, V4ThenV6, V6ThenV4}
 
@@ -21,21 +20,23 @@ pub record AreOffered (transports : List Transport) : Type 0 where
   pub few : length transports ≤ 4
   pub distinct : IsTrue (are_distinct transports)
 
--- the transports of a caller, in order of preference
-abbrev pub transports_of : Caps → List Transport
-transports_of caps = filter_map (λ slot. slot) caps.slots
+-- what a caller can do: its transports, in order of preference, and its families of addresses
+pub record CapsValue : Type 0 where
+  pub transports : List Transport
+  pub families : Families
 
-abbrev pub families_of : Caps → Families
-families_of caps = caps.families
+-- four slots, the first of which hold these transports
+abbrev pub slots_of : List Transport → List (Option Transport)
+slots_of transports = take 4 (map Some transports ++ None ∷ None ∷ None ∷ None ∷ [])
 
--- the caps with these transports and families
-abbrev pub caps_of : List Transport → Families → Caps
-caps_of transports families =
-    record {
-      slots = take 4 (map Some transports ++ None ∷ None ∷ None ∷ None ∷ []);
-      families =
-          families;
-    }
+-- the transports that slots hold
+abbrev pub held_in : List (Option Transport) → List Transport
+held_in slots = filter_map (λ slot. slot) slots
+
+-- the slots of transports that a caller may have, the empty ones last
+pub record AreSlots (slots : List (Option Transport)) : Type 0 where
+  pub offered : AreOffered (held_in slots)
+  pub packed : slots_of (held_in slots) ≡ slots
 
 -- whether a slot holds this transport
 abbrev pub holds : Option Transport → Transport → Bool
@@ -43,8 +44,8 @@ holds None transport = false
 holds (Some offered) transport = same_transport offered transport
 
 -- whether a transport is among the caller's
-abbrev pub offers : Caps → Transport → Bool
-offers caps transport = list_any (λ offered. same_transport offered transport) (transports_of caps)
+abbrev pub offers : CapsValue → Transport → Bool
+offers caps transport = list_any (λ offered. same_transport offered transport) caps.transports
 
 -- the kinds of address question, in the order in which they are asked
 abbrev pub kinds_of : Families → List Kind

@@ -1,5 +1,5 @@
 -- Where a request goes: RFC 3263 4.1, 4.2 and 5 over the answers given, as one value.
-use Rattle.std.specs.Prelude.{ℕ, Bool, not, List, [], ◌∷◌, map, filter, Option, Some, None, unwrap_or, Result, Ok, Err, if◌then◌else◌}
+use Rattle.std.specs.Prelude.{⊤, ℕ, Bool, not, List, [], ◌∷◌, map, filter, Option, Some, None, unwrap_or, Result, Ok, Err, if◌then◌else◌}
 use Rattle.std.specs.List.{filter_map, flat_map, list_any}
 use Rattle.dns_message.specs.declared.kind.Kind.TheVariants as kind
 use Rattle.dns_message.specs.declared.naptr.NaptrRecord.{NaptrRecord}
@@ -13,7 +13,7 @@ use Rattle.sip_uri.specs.declared.transport.Transport.{Transport}
 use Rattle.sip_uri.specs.declared.transport.Transport.TheVariants.{Tls}
 use Rattle.sip_selection.specs.declared.caps.Caps.{Caps}
 use Rattle.sip_uri.specs.Same.{same_transport}
-use Rattle.sip_selection.specs.Callers.{offers, families_of, transports_of, kinds_of}
+use Rattle.sip_selection.specs.Callers.{offers, kinds_of}
 use Rattle.sip_selection.specs.Known.{Given, Needing, after, made, answer_to, rules_in}
 use Rattle.sip_selection.specs.Requests.{target_of, port_of, spoken_of, is_secure, transport_of, usual_transport, default_port}
 use Rattle.sip_selection.specs.Rules.{kept}
@@ -38,6 +38,12 @@ abbrev pub settled : Settled → Resolution
 settled (Ok []) = refused NoAddress
 settled (Ok (first ∷ others)) = targets (first ∷ others)
 settled (Err reason) = refused reason
+
+-- it is not known, so far, that the request goes nowhere
+abbrev pub IsNotRefused : Resolution → Type 0
+IsNotRefused (targets list) = ⊤
+IsNotRefused (refused reason) = ⊥
+IsNotRefused (need question) = ⊤
 
 abbrev pub resolved : Needing Settled → Resolution
 resolved (Ok it) = settled it
@@ -65,7 +71,7 @@ module _ (caps : Caps) (given : List Given) where
   -- the addresses of a name at a port
   abbrev pub to_name : List (List ℕ) → ℕ → Transport → Needing Settled
   to_name name port transport =
-      made Ok (targets_of given (kinds_of (families_of caps)) transport port name)
+      made Ok (targets_of given (kinds_of caps.families) transport port name)
 
   abbrev pub to_port : List (List ℕ) → ℕ → Result Transport Reason → Needing Settled
   to_port name port (Ok transport) = to_name name port transport
@@ -89,7 +95,7 @@ module _ (caps : Caps) (words : List ℕ) (given : List Given) where
   abbrev pub along : List (List ℕ) → Result Transport Reason → List Way → Needing Settled
   along name fallback ways =
       after (by_offers caps given name fallback)
-      (offers_along given (kinds_of (families_of caps)) words ways 0)
+      (offers_along given (kinds_of caps.families) words ways 0)
 
   -- the service of the transport that is named
   abbrev pub to_service : List (List ℕ) → Result Transport Reason → Needing Settled
@@ -107,7 +113,7 @@ tried_ways secure name slots =
     map (way_to name) (filter (is_tried secure) (filter_map (λ slot. slot) slots))
 
 abbrev pub own_ways : Bool → Caps → List (List ℕ) → List Way
-own_ways secure caps name = map (way_to name) (filter (is_tried secure) (transports_of caps))
+own_ways secure caps name = map (way_to name) (filter (is_tried secure) caps.transports)
 
 module _ (secure : Bool) (caps : Caps) (words : List ℕ) (given : List Given) where
   -- the rules that are kept; without one, the services of the domain

@@ -14,7 +14,7 @@ use Rattle.sip_uri.specs.declared.transport.Transport.{Transport}
 use Rattle.srv_choice.specs.Outcomes.{is_root}
 use Rattle.srv_choice.specs.declared.outcome.SrvOutcome.{SrvOutcome}
 use Rattle.srv_choice.specs.declared.outcome.SrvOutcome.TheVariants.{Absent, Denied, Listed}
-use Rattle.sip_selection.specs.Callers.{families_of, kinds_of}
+use Rattle.sip_selection.specs.Callers.{kinds_of}
 use Rattle.sip_selection.specs.Choice.{Settled, to_domain, to_port, to_service, usual, by_naptr, discovered}
 use Rattle.sip_selection.specs.Known.{Given, Needing, after, made, joined, answer_to, servers_in}
 use Rattle.sip_selection.specs.Services.{Offer, is_listed, is_denied, offered_targets, next_word, kind_targets, place_targets, offers_along}
@@ -82,8 +82,8 @@ module _ (caps : Caps) (all : List Given) where
   -- those of a name, from a kind on
   abbrev pub kinds_left : Transport → ℕ → List (List ℕ) → ℕ → Needing (List Target)
   kinds_left transport port name from =
-      joined (kind_targets all (kinds_of (families_of caps)) transport port name)
-      (drop from (kinds_of (families_of caps)))
+      joined (kind_targets all (kinds_of caps.families) transport port name)
+      (drop from (kinds_of caps.families))
 
   -- those of a server, from a kind on
   abbrev pub server_left : Transport → SrvRecord → ℕ → Needing (List Target)
@@ -100,7 +100,7 @@ module _ (caps : Caps) (all : List Given) where
   places_left transport servers (place ∷ places) from =
       after (λ here. made
       (λ others. here ++ others)
-      (joined (place_targets all (kinds_of (families_of caps)) transport servers) places))
+      (joined (place_targets all (kinds_of caps.families) transport servers) places))
       (place_left transport servers place from)
 
   -- those of the servers in an order, from a cursor on
@@ -128,7 +128,7 @@ module _ (caps : Caps) (words : List ℕ) (name : List (List ℕ)) (all : List G
   abbrev pub walk_left : List Way → Result Transport Reason → Walk → List Target → Needing Settled
   walk_left ways fallback walk found =
       after (ended caps name all fallback walk found)
-      (offers_along all (kinds_of (families_of caps)) words (drop walk.way ways) walk.word)
+      (offers_along all (kinds_of caps.families) words (drop walk.way ways) walk.word)
 
   -- where the next way offers this
   abbrev pub offer_left : List Way → Result Transport Reason → Walk → List Target → Needing Offer
@@ -136,7 +136,7 @@ module _ (caps : Caps) (words : List ℕ) (name : List (List ℕ)) (all : List G
   offer_left ways fallback walk found offer =
       after (λ offer. after (ended caps name all fallback walk found)
       (made (λ others. offer ∷ others)
-      (offers_along all (kinds_of (families_of caps)) words (drop (walk.way + 1) ways)
+      (offers_along all (kinds_of caps.families) words (drop (walk.way + 1) ways)
       (next_word walk.word offer)))) offer
 
   -- where the addresses of the servers of a service come first

@@ -1,11 +1,12 @@
 //! What the caller can do.
-ghost use Rattle.std.specs.Prelude.{◌≡◌, ◌↔◌, ◌≤◌, length, IsSome, IfSome};
+ghost use Rattle.std.specs.Prelude.{◌≡◌, ◌↔◌, ◌<◌, ◌≤◌, length, IsSome, IfSome};
 ghost use Rattle.std.specs.List.{list_any};
 ghost use Rattle.sip_uri.specs.Same.{same_transport};
-ghost use Rattle.sip_selection.specs.Callers.{AreOffered, are_distinct, caps_of, families_of, holds, kinds_of, offers, transports_of};
+ghost use Rattle.sip_selection.specs.Callers.{AreOffered, are_distinct, held_in, holds, kinds_of, offers, slots_of};
 
 use dns_message::Kind;
 use sip_uri::Transport;
+use std::marker::Model;
 
 /// The families of addresses that are asked for, in this order.
 #[derive(Clone, Copy, Debug, PartialEq, Eq)]
@@ -26,6 +27,22 @@ pub enum Families {
 pub struct Caps {
     slots: [Option<Transport>; 4],
     families: Families,
+}
+
+impl Model for Caps {
+    ghost use Rattle.std.proofs.Common.{ap};
+    ghost use Rattle.sip_selection.specs.Callers.{AreSlots, CapsValue, held_in, slots_of};
+
+    ghost Value = { CapsValue };
+
+    ghost view = { λ it. record { transports = held_in it.slots; families = it.families } };
+
+    ghost invariant = { λ it. AreSlots it.slots };
+
+    ghost inverse = { λ it. record { slots = slots_of it.transports; families = it.families } };
+
+    ghost inverse_ok = { λ it are.
+        ap (λ slots. record { slots = slots; families = it.families }) are.packed };
 }
 
 /// Whether a transport is among these.
@@ -62,24 +79,33 @@ fn are_distinct(transports: &[Transport]) -> bool
     }
 }
 
+/// Slots that hold these transports, unless there are none or more than four.
+fn slots_of(transports: &[Transport]) -> Option<[Option<Transport>; 4]>
+    ensures made { IsSome result
+        ↔ ((0 < length transports.now) × (length transports.now ≤ 4)) }
+    ensures are { IfSome result (λ slots. slots ≡ slots_of transports.now) }
+    ensures hold { IfSome result (λ slots. held_in slots ≡ transports.now) }
+{
+    match transports {
+        [a] => Some([Some(*a), None, None, None]),
+        [a, b] => Some([Some(*a), Some(*b), None, None]),
+        [a, b, c] => Some([Some(*a), Some(*b), Some(*c), None]),
+        [a, b, c, d] => Some([Some(*a), Some(*b), Some(*c), Some(*d)]),
+        _ => None,
+    }
+}
+
 impl Caps {
     /// These transports and families, unless there are none or more than four, or one stands twice.
     pub fn new(transports: &[Transport], families: Families) -> Option<Caps>
         ensures made { IsSome result ↔ AreOffered transports.now }
-        ensures is { IfSome result (λ caps. caps ≡ caps_of transports.now families) }
-        ensures transports { IfSome result (λ caps. transports_of caps ≡ transports.now) }
-        ensures families { IfSome result (λ caps. families_of caps ≡ families) }
+        ensures is { IfSome result
+            (λ caps. caps ≡ record { transports = transports.now; families = families }) }
     {
         if !are_distinct(transports) {
             return None;
         }
-        let slots = match transports {
-            [a] => [Some(*a), None, None, None],
-            [a, b] => [Some(*a), Some(*b), None, None],
-            [a, b, c] => [Some(*a), Some(*b), Some(*c), None],
-            [a, b, c, d] => [Some(*a), Some(*b), Some(*c), Some(*d)],
-            _ => return None,
-        };
+        let slots = slots_of(transports)?;
         Some(Caps { slots, families })
     }
 
@@ -92,21 +118,22 @@ impl Caps {
 
     /// The families of addresses.
     pub fn families(&self) -> Families
-        ensures { result ≡ families_of self.now }
+        ensures { result ≡ self.now.families }
     {
         self.families
     }
 
-    /// The caller has at most four transports. A call does nothing; its contract states this.
+    /// The caller has one to four transports, none of them twice. A call does nothing; its contract
+    /// states this.
     pub fn transports_are_few(&self)
-        ensures { length (transports_of self.now) ≤ 4 }
+        ensures { AreOffered self.now.transports }
     {
-        let [_first, _second, _third, _fourth] = self.slots;
+        let _slots = &self.slots;
     }
 
     /// The slots of its transports, in order of preference.
     pub(crate) fn slots(&self) -> &[Option<Transport>]
-        ensures slots { result.now ≡ self.now.slots }
+        ensures hold { held_in result.now ≡ self.now.transports }
         ensures four { length result.now ≡ 4 }
     {
         &self.slots

@@ -1,5 +1,5 @@
 //! Where a request goes, as far as its questions are answered (RFC 3263 4.1, 4.2, 5).
-ghost use Rattle.std.specs.Prelude.{◌≡◌, ◌*◌, ◌≤◌, ◌∷◌, ◌++◌, [], List, IfOk, OnOk, length, Ok};
+ghost use Rattle.std.specs.Prelude.{◌≡◌, ◌*◌, ◌≤◌, ◌∷◌, ◌++◌, [], List, IfOk, OnErr, OnOk, length, Ok};
 ghost use Rattle.std.specs.Arc.{arc_value};
 ghost use Rattle.sip_selection.specs.Choice as spec;
 ghost use Rattle.sip_selection.specs.Known as known_as;
@@ -221,8 +221,10 @@ fn to_address(
     transport: Result<Transport, Reason>,
 ) -> Result<Turn, AllocError>
     requires { targets.old.items ≡ [] }
-    ensures { IfOk result
+    ensures settles { IfOk result
         (λ turn. left_of.Settles turn targets.new.items (spec.to_address address port transport)) }
+    ensures memory { OnErr result
+        (spec.IsNotRefused (spec.resolved (spec.to_address address port transport))) }
 {
     let transport = match transport {
         Ok(transport) => transport,
@@ -240,12 +242,16 @@ fn to_address(
 /// Where the domain leads without a transport that is named. For SIPS, TLS has to be one of the
 /// caller's.
 fn discovered(targets: &mut Vec<Target>, basis: &Basis<'_>) -> Result<Turn, AllocError>
-    ensures { IfOk result (λ turn. left_of.Goes basis.now
+    ensures goes { IfOk result (λ turn. left_of.Goes basis.now
         (λ found all. made (left_of.in_front found)
         (spec.discovered basis.now.secure basis.now.caps.now basis.now.words.now.0 all
         basis.now.name.now
         (spec.usual basis.now.secure basis.now.caps.now)))
         turn targets.old.items targets.new.items) }
+    ensures memory { OnErr result (spec.IsNotRefused (spec.resolved
+        (spec.discovered basis.now.secure basis.now.caps.now basis.now.words.now.0 []
+        basis.now.name.now
+        (spec.usual basis.now.secure basis.now.caps.now)))) }
 {
     match usual(basis.secure, basis.caps) {
         Ok(_) => by_naptr(targets, basis),
@@ -263,10 +269,13 @@ fn for_domain(
     transport: Result<Transport, Reason>,
 ) -> Result<Turn, AllocError>
     requires { targets.old.items ≡ [] }
-    ensures { IfOk result (λ turn. left_of.Comes basis.now
+    ensures comes { IfOk result (λ turn. left_of.Comes basis.now
         (λ all. left_of.domain_choice basis.now.secure basis.now.caps.now basis.now.words.now.0
         basis.now.name.now all port spoken transport)
         turn targets.new.items) }
+    ensures memory { OnErr result (spec.IsNotRefused (spec.resolved
+        (left_of.domain_choice basis.now.secure basis.now.caps.now basis.now.words.now.0
+        basis.now.name.now [] port spoken transport))) }
 {
     match (port, spoken, transport) {
         (Some(_), _, Err(reason)) => Ok(Turn::Refused(reason)),
@@ -287,10 +296,12 @@ pub(crate) fn begin<'a>(
     known: &'a Known,
 ) -> Result<Turn, AllocError>
     requires { targets.old.items ≡ [] }
-    ensures { IfOk result
+    ensures comes { IfOk result
         (λ turn. left_of.ComesTo (is_secure request.now) caps.now words.now.0
         (left_of.name_of (target_of request.now)) known.now
         (spec.chosen request.now caps.now words.now.0) turn targets.new.items) }
+    ensures memory { OnErr result
+        (spec.IsNotRefused (spec.locate request.now caps.now words.now.0 [])) }
 {
     let port = request.port();
     let transport = transport_offered(request, caps);

@@ -9,7 +9,7 @@ ghost use Rattle.dns_message.specs.declared.question.Question.{Question};
 ghost use Rattle.sip_uri.specs.declared.host.Host.TheVariants as host;
 ghost use Rattle.sip_uri.specs.declared.address.Address.TheVariants as address;
 ghost use Rattle.sip_uri.specs.declared.transport.Transport.TheVariants.{Tls};
-ghost use Rattle.sip_selection.specs.Callers.{families_of, kinds_of, offers, transports_of};
+ghost use Rattle.sip_selection.specs.Callers.{kinds_of, offers};
 ghost use Rattle.sip_selection.specs.Choice.{locate, need, targets};
 ghost use Rattle.sip_selection.specs.Known.{Given, addresses_in, find_answer};
 ghost use Rattle.sip_selection.specs.Requests.{is_secure, target_of};
@@ -57,7 +57,7 @@ pub fn targets_are_answered()
         → (name : List (List ℕ)) → target_of request ≡ host.Domain name
         → (found : List Target) → locate request caps words given ≡ targets found
         → All (λ it. (question : Question) × (answer : AnswerValue)
-        × Contains (kinds_of (families_of caps)) question.kind
+        × Contains (kinds_of caps.families) question.kind
         × (find_answer given question ≡ Some answer)
         × Contains (addresses_in answer.records) it.address) found }
 {}
@@ -70,14 +70,14 @@ pub fn questions_are_missing()
         → find_answer given question ≡ None }
     ensures kind { (request : Request) (caps : Caps) (words : List ℕ) (given : List Given)
         → (question : Question) → locate request caps words given ≡ need question
-        → Contains (kind.Naptr ∷ kind.Srv ∷ kinds_of (families_of caps)) question.kind }
+        → Contains (kind.Naptr ∷ kind.Srv ∷ kinds_of caps.families) question.kind }
 {}
 
 /// There are at most 16,384 targets: of 8 services at most, each of 32 servers with 64 addresses.
 /// (`Caps::new` takes at most four transports, and an answer has at most 32 records.)
 pub fn targets_are_few()
     ensures { (request : Request) (caps : Caps) (words : List ℕ) (given : List Given)
-        → length (transports_of caps) ≤ 4
+        → length caps.transports ≤ 4
         → All (λ it. count_of it.answer.records ≤ 32) given
         → (found : List Target) → locate request caps words given ≡ targets found
         → length found ≤ 16384 }
@@ -90,7 +90,7 @@ pub fn targets_are_few()
 /// each of 32 servers. Where the addresses of TARGET itself are needed, no service has servers.
 pub fn questions_are_few()
     ensures { (request : Request) (caps : Caps) (words : List ℕ) (given : List Given)
-        → length (transports_of caps) ≤ 4
+        → length caps.transports ≤ 4
         → All (λ it. count_of it.answer.records ≤ 32) given
         → ((k : ℕ) (it : Given) → k < length given
         → locate request caps words (take k given) ≡ need (slice_index_or given k it).question)

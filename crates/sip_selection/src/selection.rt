@@ -2,7 +2,7 @@
 ghost use Rattle.std.specs.Prelude.{◌≡◌, ◌≢◌, ◌↔◌, ◌≤◌, List, length, IfErr, IfOk, IsTrue, OnErr, OnOk};
 ghost use Rattle.std.specs.Arc.{arc_value};
 ghost use Rattle.dns_answers.specs.Records.{count_of, kind_of};
-ghost use Rattle.sip_selection.specs.Choice.{need, targets};
+ghost use Rattle.sip_selection.specs.Choice.{IsNotRefused, need, targets};
 ghost use Rattle.sip_selection.specs.Nexts.{next_of};
 ghost use Rattle.sip_selection.specs.Selections.{begun, given_too, now_of};
 ghost use Rattle.sip_selection.specs.Stages.{Comes, StageFits, stage_left};
@@ -116,14 +116,16 @@ fn go_on(targets: &mut Vec<Target>, basis: &Basis<'_>, stage: &Stage) -> Result<
 }
 
 impl Selection {
-    /// The choice of a request, to which no answer was given.
+    /// The choice of a request, to which no answer was given. No memory is taken for a request that
+    /// is refused at once.
     pub fn new(
         alloc: Global,
         request: Request,
         caps: Caps,
         words: Words,
     ) -> Result<Selection, AllocError>
-        ensures { IfOk result (λ it. it ≡ begun request caps words.0) }
+        ensures is { IfOk result (λ it. it ≡ begun request caps words.0) }
+        ensures memory { OnErr result (IsNotRefused (now_of (begun request caps words.0))) }
     {
         let known = Known::new(alloc);
         let mut targets = Vec::new(alloc);

@@ -114,11 +114,16 @@ fn records_of(alloc: Global, kind: Kind, says: Says) -> Option<Records> {
     })
 }
 
+/// An answer to a question of this kind, which may be kept for so many seconds.
+pub(crate) fn answer_for(alloc: Global, kind: Kind, says: Says, life: u32) -> Option<Arc<Answer>> {
+    let answer = Answer::new(records_of(alloc, kind, says)?, life)?;
+    Arc::new(alloc, answer).ok()
+}
+
 /// An answer to a question of this kind. Records may be kept for a minute, and absence not at all.
 pub(crate) fn answer_of(alloc: Global, kind: Kind, says: Says) -> Option<Arc<Answer>> {
     let life = if matches!(says, Says::Absent) { 0 } else { 60 };
-    let answer = Answer::new(records_of(alloc, kind, says)?, life)?;
-    Arc::new(alloc, answer).ok()
+    answer_for(alloc, kind, says, life)
 }
 
 /// Whether this question is asked.

@@ -1,7 +1,7 @@
 //! What services offer, one after the other (RFC 3263 4.1, 4.2, RFC 2782).
 ghost use Rattle.std.specs.Prelude.{◌≡◌, ◌+◌, ◌*◌, ◌<◌, ◌≤◌, ◌∷◌, drop, length, List, IfOk};
 ghost use Rattle.std.specs.Arc.{arc_value};
-ghost use Rattle.sip_selection.specs.Callers.{families_of, kinds_of};
+ghost use Rattle.sip_selection.specs.Callers.{kinds_of};
 ghost use Rattle.sip_selection.specs.Known.{servers_in};
 ghost use Rattle.sip_selection.specs.Services.{offer_by};
 ghost use Rattle.sip_selection.specs.Stages as spec;
@@ -73,7 +73,7 @@ fn push_answer(
         (λ all fallback found. spec.offer_left basis.now.caps.now basis.now.words.now.0
         basis.now.name.now all ways fallback walk found
         (offer_by all
-        (kinds_of (families_of basis.now.caps.now)) basis.now.words.now.0 transport walk.word
+        (kinds_of basis.now.caps.now.families) basis.now.words.now.0 transport walk.word
         (arc_value answer.now)))
         reached targets.old.items targets.new.items) }
     ensures fits { IfOk result spec.ReachedFits }

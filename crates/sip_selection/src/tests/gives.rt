@@ -1,6 +1,6 @@
-//! Answers that are not taken.
-use super::{Says, answer_of, asks, begun, question_of};
-use crate::{Families, GiveRefusal, Selection};
+//! Answers that are not taken, and answers that are, however long they may be kept.
+use super::{Says, answer_for, answer_of, asks, begun, question_of};
+use crate::{Families, GiveRefusal, Next, Reason, Selection};
 use dns_message::Kind;
 use sip_uri::Transport::{Tcp, Udp};
 use srv_choice::{WORD_COUNT, Words};
@@ -41,6 +41,36 @@ fn is_refused(alloc: Global, row: &Row) -> bool {
                 && asks(alloc, selection.next(), Kind::A, "a.example.")
         }
         None => false,
+    }
+}
+
+/// What the question says, and how long its answer may be kept, in seconds.
+const TAKEN: [(Says, u32); 4] = [
+    (Says::A(&[[192, 0, 2, 5]]), 0),
+    (Says::A(&[[192, 0, 2, 5]]), 604_800),
+    (Says::Absent, 0),
+    (Says::Absent, 10_800),
+];
+
+/// How many targets there are when the answer to the one question was given; none where there is no
+/// address.
+fn targets_by(alloc: Global, says: Says, life: u32) -> Option<usize> {
+    let mut selection = begun(alloc, "sip:a.example:5070", &[Udp], Families::V4, WORDS)?;
+    let question = question_of(alloc, Kind::A, "a.example.")?;
+    let answer = answer_for(alloc, Kind::A, says, life)?;
+    selection.give(alloc, &question, answer).ok()?;
+    match selection.next() {
+        Next::Targets(list) => Some(list.len()),
+        Next::Refused(Reason::NoAddress) => Some(0),
+        _ => None,
+    }
+}
+
+#[test]
+fn answers_of_each_life(rt: HostRuntime) {
+    for (says, life) in TAKEN {
+        let count = if matches!(says, Says::Absent) { 0 } else { 1 };
+        assert_eq!(rt; targets_by(rt.alloc(), says, life), Some(count), "{life}");
     }
 }
 

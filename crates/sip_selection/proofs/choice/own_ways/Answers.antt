@@ -1,7 +1,9 @@
-use Rattle.std.proofs.Common.{◌++◌, List, [], ◌∷◌, get_or, None, ap, sym, ◌∙◌, length, arith}
+use Rattle.std.proofs.Common.{◌++◌, List, [], ◌∷◌, get_or, None, ap, sym, ◌∙◌, filter, length, map, arith}
 use Rattle.std.proofs.lemmas.List.{get_or_default, take_all}
-use Rattle.sip_selection.specs.Choice.{tried_ways}
+use Rattle.sip_selection.specs.Choice.{is_tried, tried_ways}
+use Rattle.sip_selection.specs.Services.{way_to}
 use Rattle.sip_selection.specs.declared.way.Way.{Way}
+use Rattle.sip_uri.specs.declared.transport.Transport.{Transport}
 use Rattle.sip_selection.proofs.TriedWays.{tried-more, few-more}
 use Rattle.sip_selection.proofs.choice.own_ways.Goals as goal
 
@@ -26,4 +28,6 @@ pub returns-clause-ways : goal.returns-clause-ways
 returns-clause-ways c =
     let l = c.loop-slot in
     l.invariant.are ∙ ap (tried_ways c.args.secure c.args.name.now)
-    (take_all l.slot-index c.slots-slot-items.result.now c.loop-slot-test.false ∙ c.slots-slot-items.ensures.slots)
+    (take_all l.slot-index c.slots-slot-items.result.now c.loop-slot-test.false)
+    ∙ ap (λ (transports : List Transport). map (way_to c.args.name.now) (filter (is_tried c.args.secure) transports))
+    c.slots-slot-items.ensures.hold
