@@ -3,7 +3,7 @@ ghost use Rattle.std.specs.Prelude.{◌≡◌, ◌≤◌, IfErr, IfOk, OnErr, On
 ghost use Rattle.std.specs.Arc.{arc_value};
 ghost use Rattle.dns_answers.specs.Records.{kind_of};
 ghost use Rattle.answer_cache.specs.Seats.{GoesOn, StoresNothing};
-ghost use Rattle.sip_selection.specs.Choice.{need};
+ghost use Rattle.sip_selection.specs.Choice.{IsNotRefused, need};
 ghost use Rattle.sip_selection.specs.Nexts.{next_of};
 ghost use Rattle.sip_selection.specs.Selections.{begun, given_too, now_of};
 ghost use Rattle.sip_locator.specs.Gains.{Gains, IsAsking, Lacks, LookedUp, Steps};
@@ -46,14 +46,16 @@ impl<B: AnswerBook> Locator<B> {
     ghost use Rattle.std.specs.Io.BufRead.{Rests};
     ghost use Rattle.sip_locator.specs.contracts.locator.Locator.{the_row};
 
-    /// The choice of a request, which has used no answer.
+    /// The choice of a request, which has used no answer. No memory is taken for a request that is
+    /// refused at once.
     pub fn new(
         alloc: Global,
         request: Request,
         caps: Caps,
         words: Words,
     ) -> Result<Locator<B>, AllocError>
-        ensures { IfOk result (λ it. it ≡ begun request caps words.0) }
+        ensures is { IfOk result (λ it. it ≡ begun request caps words.0) }
+        ensures memory { OnErr result (IsNotRefused (now_of (begun request caps words.0))) }
     {
         Ok(Locator {
             alloc,
