@@ -41,8 +41,10 @@ fn carried_of(rt: &(impl Wait + AllocGlobal), rows: &[Row], now: u64) -> Option<
 
 /// The store at a place.
 fn row_at(carried: &Carried, place: usize) -> Option<Row> {
-    let (question, answer, moment) = carried.get(place)?;
-    Some((question.kind, answer.life(), moment.get()))
+    match carried.get(place) {
+        None => None,
+        Some((question, answer, moment)) => Some((question.kind, answer.life(), moment.get())),
+    }
 }
 
 /// How many stores are carried, and the first two.
