@@ -5,15 +5,15 @@ use Rattle.std.specs.declared.io.ErrorKind.TheVariants.{WouldBlock, TimedOut}
 use Rattle.std.specs.declared.net.SocketAddr.{SocketAddr}
 use Rattle.dns_asker.specs.Wires.{Event, fault, nothing, received}
 use Rattle.dns_asker.specs.declared.wire.WireFault.{WireFault}
-use Rattle.siplocate.specs.declared.udp.UdpWire.{UdpWire}
 
 -- so the system says that nothing came in the time that a socket waits
 abbrev pub IsWait : ErrorKind → Type 0
 IsWait kind = (kind ≡ WouldBlock) ⊎ (kind ≡ TimedOut)
 
--- the one peer of a wire
-abbrev pub server_of : UdpWire → SocketAddr
-server_of wire = wire.server
+-- a wire to one server: that server, and how often the wire has failed
+pub record UdpWireValue : Type 0 where
+  pub server : SocketAddr
+  pub failures : ℕ
 
 -- What a wire to many peers did while one peer was listened to: a datagram that is given is one
 -- that this peer sent, and none is given only where none came, or one of another peer.

@@ -4,10 +4,11 @@ ghost use Rattle.std.specs.IoError.{error_kind};
 ghost use Rattle.std.specs.Net.Addr.{is_ipv4};
 ghost use Rattle.std.specs.Net.Socket.{socket_ip, socket_port};
 ghost use Rattle.dns_asker.specs.Wires.{IsGiven};
-ghost use Rattle.siplocate.specs.Datagrams.{HearsFrom, IsWait, server_of};
+ghost use Rattle.siplocate.specs.Datagrams.{HearsFrom, IsWait};
 
 use dns_asker::{DATAGRAM_LIMIT, PeerWire, Wire, WireFault};
 use std::io::{self, ErrorKind};
+use std::marker::Model;
 use std::net::{IpAddr, Ipv4Addr, Ipv6Addr, Net, SocketAddr, UdpSocket};
 use std::time::Duration;
 
@@ -30,6 +31,15 @@ fn is_wait(kind: ErrorKind) -> bool
 pub struct UdpServerWire {
     socket: UdpSocket,
     failures: u64,
+}
+
+// It is seen as how often it has failed.
+impl Model for UdpServerWire {
+    ghost use Rattle.std.specs.Prelude.{ℕ};
+
+    ghost Value = { ℕ };
+
+    ghost view = { λ wire. wire.failures };
 }
 
 impl UdpServerWire {
@@ -60,8 +70,8 @@ impl UdpServerWire {
 
     /// Counts a fault.
     fn fault(&mut self) -> WireFault
-        requires { self.old.failures < 2 ^ 64 - 1 }
-        ensures { self.new.failures ≡ self.old.failures + 1 }
+        requires { self.old < 2 ^ 64 - 1 }
+        ensures { self.new ≡ self.old + 1 }
     {
         self.failures += 1;
         WireFault
@@ -69,9 +79,9 @@ impl UdpServerWire {
 
     /// What a send did: a fault where it failed, or sent another number of octets.
     fn sent(&mut self, sent: io::Result<usize>, count: usize) -> Result<(), WireFault>
-        requires { self.old.failures < 2 ^ 64 - 1 }
-        ensures fault { OnErr result (self.new.failures ≡ self.old.failures + 1) }
-        ensures no_fault { OnOk result (self.new.failures ≡ self.old.failures) }
+        requires { self.old < 2 ^ 64 - 1 }
+        ensures fault { OnErr result (self.new ≡ self.old + 1) }
+        ensures no_fault { OnOk result (self.new ≡ self.old) }
         ensures whole { IsOk result ↔ (sent ≡ Ok count) }
     {
         match sent {
@@ -86,9 +96,9 @@ impl UdpServerWire {
         &mut self,
         datagram: io::Result<(usize, SocketAddr)>,
     ) -> Result<Option<(usize, SocketAddr)>, WireFault>
-        requires { self.old.failures < 2 ^ 64 - 1 }
-        ensures fault { OnErr result (self.new.failures ≡ self.old.failures + 1) }
-        ensures no_fault { OnOk result (self.new.failures ≡ self.old.failures) }
+        requires { self.old < 2 ^ 64 - 1 }
+        ensures fault { OnErr result (self.new ≡ self.old + 1) }
+        ensures no_fault { OnOk result (self.new ≡ self.old) }
         ensures came { IfOk datagram (λ it. result ≡ Ok (Some it)) }
         ensures waited { IfErr datagram (λ error. IsOk result ↔ IsWait (error_kind error)) }
         ensures none { IfErr datagram (λ error. IfOk result (λ it. it ≡ None)) }
@@ -108,7 +118,7 @@ impl PeerWire for UdpServerWire {
 
     ghost gives = { λ _. ⊤ };
 
-    ghost failed = { λ wire. wire.failures };
+    ghost failed = { λ wire. wire };
 
     // Nothing is known of what the network does.
     ghost does = { λ _ _ _. ⊤ };
@@ -141,6 +151,14 @@ impl PeerWire for UdpServerWire {
 pub struct UdpWire {
     pub(crate) wire: UdpServerWire,
     server: SocketAddr,
+}
+
+impl Model for UdpWire {
+    ghost use Rattle.siplocate.specs.Datagrams.{UdpWireValue};
+
+    ghost Value = { UdpWireValue };
+
+    ghost view = { λ it. record { server = it.server; failures = it.wire } };
 }
 
 /// The count of a datagram that the server sent; of another's, none.
@@ -193,7 +211,7 @@ impl UdpWire {
     /// Those of the system, where no port is left or the server's network cannot be reached.
     pub fn connect<R: Net>(rt: &R, server: SocketAddr) -> io::Result<UdpWire>
         ensures no_failure { IfOk result (λ wire. ⟦<UdpWire as Wire>⟧.failed wire ≡ 0) }
-        ensures server { IfOk result (λ wire. server_of wire ≡ server) }
+        ensures server { IfOk result (λ wire. wire.server ≡ server) }
     {
         let wire = UdpServerWire::bind(rt, any_port_for(server))?;
         wire.socket.connect(server)?;
@@ -206,11 +224,12 @@ impl Wire for UdpWire {
 
     ghost gives = { λ _. ⊤ };
 
-    ghost failed = { λ wire. wire.wire.failures };
+    ghost failed = { λ wire. wire.failures };
 
     fn send(&mut self, octets: &[u8]) -> Result<(), WireFault> {
-        let sent = self.wire.socket.send(octets);
-        self.wire.sent(sent, octets.len())
+        let wire = &mut self.wire;
+        let sent = wire.socket.send(octets);
+        wire.sent(sent, octets.len())
     }
 
     fn receive(&mut self, buffer: &mut [u8; DATAGRAM_LIMIT]) -> Result<Option<usize>, WireFault> {
@@ -218,6 +237,6 @@ impl Wire for UdpWire {
     }
 
     fn failures(&self) -> u64 {
-        self.wire.failures
+        self.wire.failures()
     }
 }

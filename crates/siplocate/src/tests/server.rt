@@ -1,9 +1,15 @@
-//! A run to the server that the environment names.
+//! Runs to the server that the environment names, and to one to which the first query is lost.
 use super::run::{LINES, TEXT};
 use super::udp::named_server;
 use crate::requests::parts;
-use crate::server::run_to_server;
+use crate::server::{local_wire, run_to_server};
+use crate::udp::UdpServerWire;
+use dns_asker::{DATAGRAM_LIMIT, PeerWire, Zone, serve};
+use std::alloc::Global;
+use std::sync::atomic::{AtomicBool, Ordering};
+use std::sync::{Arc, Wait};
 use std::test::Fail;
+use std::thread;
 
 #[test]
 fn requests_to_a_named_server(rt: HostRuntime) -> Result<(), Fail> {
@@ -14,5 +20,60 @@ fn requests_to_a_named_server(rt: HostRuntime) -> Result<(), Fail> {
             "{server}"
         );
     }
+    Ok(())
+}
+
+/// How often a server waits for the datagram that it loses, at most.
+const WAITS: u64 = 100;
+
+/// Receives one datagram and loses it; whether one came.
+fn loses_one(wire: &mut UdpServerWire) -> bool {
+    let mut buffer = [0; DATAGRAM_LIMIT];
+    for _ in 0..WAITS {
+        if wire.failures() > WAITS {
+            break;
+        }
+        if let Ok(Some(_)) = wire.receive(&mut buffer) {
+            return true;
+        }
+    }
+    false
+}
+
+/// Loses the first datagram, and answers the others from a zone; how many it answered, if one was
+/// lost.
+fn serve_from_the_second<R: Wait>(
+    rt: &R,
+    alloc: Global,
+    wire: &mut UdpServerWire,
+    zone: &Zone,
+    stop: &AtomicBool,
+) -> Option<u64> {
+    if loses_one(wire) {
+        Some(serve(rt, alloc, wire, zone, stop))
+    } else {
+        None
+    }
+}
+
+/// What is lost is sent again, and answered then.
+#[test]
+fn first_query_lost(rt: HostRuntime) -> Result<(), Fail> {
+    let (zone, requests) = parts(TEXT);
+    let mut wire = local_wire(&rt)?;
+    let Ok(zone) = Zone::read(rt.alloc(), zone) else {
+        return Err(Fail::new(format_args!("the zone was not read")));
+    };
+    let address = wire.address()?;
+    let stop = Arc::new(rt.alloc(), AtomicBool::new(false))?;
+    let seen = Arc::try_clone(&stop)?;
+    let server = thread::spawn(&rt, move || {
+        serve_from_the_second(&rt, rt.alloc(), &mut wire, &zone, &seen)
+    })?;
+    let ran = run_to_server(&rt, rt.alloc(), address, 1, requests);
+    stop.store(true, Ordering::SeqCst);
+    // two names are asked for, of which one was asked for twice
+    assert!(rt; server.join(&rt).is_some_and(|count| count >= 2));
+    assert!(rt; matches!(&ran, Ok((lines, 2)) if lines.as_str() == LINES));
     Ok(())
 }

@@ -18,6 +18,12 @@ use std::{io, thread};
 const QUERY: &[u8; 27] =
     b"\x12\x34\x01\x00\x00\x01\x00\x00\x00\x00\x00\x00\x01a\x07example\x00\x00\x01\x00\x01";
 
+/// The reply of a zone where that address lives for 300 seconds (RFC 1035 4.1): its owner is
+/// written out.
+const REPLY: &[u8; 52] = b"\x12\x34\x85\x00\x00\x01\x00\x01\x00\x00\x00\x00\
+    \x01a\x07example\x00\x00\x01\x00\x01\
+    \x01a\x07example\x00\x00\x01\x00\x01\x00\x00\x01\x2c\x00\x04\xc0\x00\x02\x07";
+
 /// How often it is sent, at most, until a reply comes.
 const TRIES: u64 = 50;
 
@@ -46,8 +52,8 @@ fn is_right(alloc: Global, octets: &[u8]) -> Option<bool> {
     )
 }
 
-/// Asks a server until a reply comes, and tells whether that is right.
-fn is_answered<R: Net + AllocGlobal>(rt: &R, server: SocketAddr) -> io::Result<bool> {
+/// Asks a server until a reply comes, and gives that; of no reply no octets.
+fn reply_of<R: Net + AllocGlobal>(rt: &R, server: SocketAddr) -> io::Result<Vec<u8>> {
     let mut wire = UdpWire::connect(rt, server)?;
     let mut buffer = [0; DATAGRAM_LIMIT];
     for _ in 0..TRIES {
@@ -56,10 +62,10 @@ fn is_answered<R: Net + AllocGlobal>(rt: &R, server: SocketAddr) -> io::Result<b
         }
         let _ = wire.send(QUERY);
         if let Ok(Some(count)) = wire.receive(&mut buffer) {
-            return Ok(is_right(rt.alloc(), &buffer[..count]) == Some(true));
+            return Ok(Vec::from_slice(rt.alloc(), &buffer[..count])?);
         }
     }
-    Ok(false)
+    Ok(Vec::new(rt.alloc()))
 }
 
 /// The server that the environment names, if it does.
@@ -89,13 +95,16 @@ fn answer_over_udp(rt: HostRuntime) -> Result<(), Fail> {
         let stop = Arc::new(rt.alloc(), AtomicBool::new(false))?;
         let seen = Arc::try_clone(&stop)?;
         let server = thread::spawn(&rt, move || serve(&rt, rt.alloc(), &mut wire, &zone, &seen))?;
-        let is_right = is_answered(&rt, own);
+        let reply = reply_of(&rt, own);
         stop.store(true, Ordering::SeqCst);
         assert!(rt; server.join(&rt) >= 1);
-        assert!(rt; is_right?, "{own}");
+        let reply = reply?;
+        assert_eq!(rt; reply.as_slice(), REPLY.as_slice(), "{own}");
+        assert_eq!(rt; is_right(rt.alloc(), &reply), Some(true));
     }
     if let Some(server) = named_server(&rt)? {
-        assert!(rt; is_answered(&rt, server)?, "{server}");
+        let reply = reply_of(&rt, server)?;
+        assert_eq!(rt; is_right(rt.alloc(), &reply), Some(true), "{server}");
     }
     Ok(())
 }
