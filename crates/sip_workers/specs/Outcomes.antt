@@ -1,5 +1,5 @@
 -- What becomes of a request, and what that rests on: what a cache answered, and what a wire gave.
-use Rattle.std.specs.Prelude.{◌≡◌, ◌⊎◌, ℕ, List, Some, None}
+use Rattle.std.specs.Prelude.{⊤, ◌≡◌, ◌⊎◌, ℕ, List, Some, None}
 use Rattle.std.specs.List.{All}
 use mathlib.Core.List.{IsPrefix}
 use Rattle.dns_answers.specs.Replies.{reply_refusal}
@@ -62,6 +62,14 @@ pub record IsFaulty (gives : List ℕ → Type 0) (question : Question) (refusal
   pub ends : EndsWait refusal
 
 -- ---- what becomes of a job
+
+-- an outcome with targets or with a question
+abbrev pub HasParts : Outcome → Type 0
+HasParts (Targets list) = ⊤
+HasParts (Refused reason) = ⊥
+HasParts (NoAnswer question) = ⊤
+HasParts (BadReply question refusal) = ⊤
+HasParts Memory = ⊥
 
 -- a job, what became of it, and what its worker had seen then
 pub record ResultView : Type 0 where

@@ -1,6 +1,6 @@
 //! What becomes of a job.
-ghost use Rattle.std.specs.Prelude.{◌≡◌, IfOk};
-ghost use Rattle.sip_workers.specs.Outcomes.{IsOutcome};
+ghost use Rattle.std.specs.Prelude.{◌≡◌, IfOk, OnErr};
+ghost use Rattle.sip_workers.specs.Outcomes.{HasParts, IsOutcome};
 
 use crate::job::Job;
 use answer_cache::Notice;
@@ -81,9 +81,10 @@ pub enum Outcome {
 }
 
 impl Outcome {
-    /// A copy.
+    /// A copy. Memory is taken for targets and for a question alone.
     pub fn try_clone(&self, alloc: Global) -> Result<Outcome, AllocError>
-        ensures { IfOk result (λ copy. copy ≡ self.now) }
+        ensures copy { IfOk result (λ copy. copy ≡ self.now) }
+        ensures memory { OnErr result (HasParts self.now) }
     {
         Ok(match self {
             Outcome::Targets(list) => Outcome::Targets(TargetList::of(alloc, list.as_slice())?),
@@ -169,9 +170,10 @@ impl<'a, W: Wire, C: Clock> JobResult<'a, W, C> {
         (outcome, notice)
     }
 
-    /// A copy.
+    /// A copy. Memory is taken for targets and for a question alone.
     pub fn try_clone(&self, alloc: Global) -> Result<JobResult<'a, W, C>, AllocError>
-        ensures { IfOk result (λ copy. copy ≡ self.now) }
+        ensures copy { IfOk result (λ copy. copy ≡ self.now) }
+        ensures memory { OnErr result (HasParts self.now.outcome) }
     {
         let outcome = self.outcome.try_clone(alloc)?;
         Ok(JobResult::new(self.job, outcome, self.notice.again()))

@@ -22,12 +22,14 @@ const TO_NAME: &str = "sip:a.example:5070";
 
 const TO_ADDRESS: &str = "sip:192.0.2.7:5070";
 
-/// Where both go.
-const TARGET: Target = Target {
-    transport: Udp,
-    address: Address::V4([192, 0, 2, 7]),
-    port: 5070,
-};
+/// Where they go, at this port.
+fn target_at(port: u16) -> Target {
+    Target {
+        transport: Udp,
+        address: Address::V4([192, 0, 2, 7]),
+        port,
+    }
+}
 
 /// How many turns a request waits for another one.
 const TURNS: u32 = 100_000_000;
@@ -84,9 +86,9 @@ fn two_jobs(alloc: Global, first: &str, second: &str) -> Option<Vec<Job>> {
     Some(jobs)
 }
 
-/// Whether a request goes to the one target.
-fn goes(outcome: &Outcome) -> bool {
-    matches!(outcome, Outcome::Targets(list) if list.as_slice() == [TARGET].as_slice())
+/// Whether a request goes to the one target, at this port.
+fn goes_to(outcome: &Outcome, port: u16) -> bool {
+    matches!(outcome, Outcome::Targets(list) if list.as_slice() == [target_at(port)].as_slice())
 }
 
 /// A clock that stands at the moment 100.
@@ -109,7 +111,7 @@ fn all_go<R: Threads + Wait + AllocGlobal + Sync>(
     };
     let clock = clock_at_100();
     let made = run_workers(rt, alloc, &cache, seats, wires, jobs, 1, &clock, gate).ok()?;
-    Some(made.iter().all(|it| goes(&it.0)))
+    Some(made.iter().all(|it| goes_to(&it.0, 5070)))
 }
 
 /// Whether two jobs, in batches of one, go to the target, and how many datagrams were sent.

@@ -1,8 +1,9 @@
-//! The example of the crate's page, line by line: two jobs in one batch, over a wire in memory.
+//! The example of the crate's page, line by line: the first two requests of the README's run in one
+//! batch, over a wire in memory.
 ghost use Rattle.std.specs.Prelude.{IfSome};
 ghost use Rattle.answer_cache.specs.Shared.{Belongs};
 
-use super::{TO_ADDRESS, TO_NAME, ZONE, clock_at_100, goes, two_jobs};
+use super::{ZONE, clock_at_100, goes_to, two_jobs};
 use crate::*;
 use answer_cache::SharedCache;
 use dns_asker::{StandingClock, Zone, ZoneWire};
@@ -21,12 +22,26 @@ fn one_worker<'a>(alloc: Global, wire: ZoneWire<'a>) -> Option<(SharedCache, Wor
     Some((cache, worker))
 }
 
-/// Whether the copy of a result goes to the target.
-fn copy_goes(alloc: Global, it: &JobResult<'_, ZoneWire<'_>, StandingClock>) -> bool {
-    it.try_clone(alloc).is_ok_and(|copy| goes(copy.outcome()))
+/// The requests, numbered from 1.
+const REQUESTS: [&str; 2] = ["sip:a.example:5070", "sip:192.0.2.7"];
+
+/// Whether the request of this number goes where the README says.
+fn is_right(number: u64, outcome: &Outcome) -> bool {
+    match number {
+        1 => goes_to(outcome, 5070),
+        2 => goes_to(outcome, 5060),
+        _ => false,
+    }
 }
 
-/// Whether these jobs go to the target in one batch of this worker, by a copy of each result.
+/// Whether the job of the copy of a result goes where the README says, by its outcome.
+fn copy_goes(alloc: Global, it: &JobResult<'_, ZoneWire<'_>, StandingClock>) -> bool {
+    it.try_clone(alloc)
+        .is_ok_and(|copy| is_right(copy.job().number, copy.outcome()))
+}
+
+/// Whether these jobs go where the README says in one batch of this worker, by a copy of each
+/// result.
 fn batch_goes<R: Wait + AllocGlobal>(
     rt: &R,
     cache: &SharedCache,
@@ -41,19 +56,19 @@ fn batch_goes<R: Wait + AllocGlobal>(
     Some(made.iter().all(|it| copy_goes(rt.alloc(), it)))
 }
 
-/// Whether these jobs go to the target in one batch over this wire.
+/// Whether these jobs go where the README says in one batch over this wire.
 fn all_go_at_once<R: Wait + AllocGlobal>(rt: &R, wire: ZoneWire<'_>, jobs: &[Job]) -> Option<bool> {
     let (cache, mut worker) = one_worker(rt.alloc(), wire)?;
     batch_goes(rt, &cache, &mut worker, jobs)
 }
 
-/// Whether two jobs in one batch go to the target.
+/// Whether the two requests in one batch go where the README says.
 fn batch_of_two<R: Wait + AllocGlobal>(rt: &R) -> Option<bool> {
     let alloc = rt.alloc();
     let zone = Zone::read(alloc, ZONE).ok()?;
     let sent = AtomicU64::new(0);
     let wire = ZoneWire::new(alloc, &zone, &sent);
-    all_go_at_once(rt, wire, &two_jobs(alloc, TO_NAME, TO_ADDRESS)?)
+    all_go_at_once(rt, wire, &two_jobs(alloc, REQUESTS[0], REQUESTS[1])?)
 }
 
 #[test]
