@@ -24,4 +24,4 @@ returns-in-Err-clause-goes_on g c =
     let steps = rw c.in-Err.is at c.step.follows.holds-at-none in
     rw (← c.self.view_is)
     (λ job it. on-want _ _ c.self.inside.seat.seat c.step.new.seat.seat _ c.now-now.ensures c.step.ensures.goes_on
-    c.step.ensures.stores_nothing _ _ job it steps)
+    c.step.ensures.stores_nothing _ _ job it steps.gains)
