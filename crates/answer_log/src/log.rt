@@ -150,7 +150,8 @@ impl Log {
         requires group { group < 64 }
         ensures hand { IsHand hand.new }
         ensures number { (hand.new.number ≡ hand.old.number) × (hand.new.seats ≡ hand.old.seats) }
-        ensures book { hand.new.book.book ≡ self.now }
+        ensures book { (hand.new.book.book ≡ self.now)
+            × (hand.new.book.names ≡ hand.old.book.names) }
         ensures seen { SeesMore hand.old.number hand.old.book.log hand.new.book.log }
         ensures places { hand.new.places ≡ hand.old.places }
         ensures spent { spent_of hand.new ≡ spent_of hand.old }
