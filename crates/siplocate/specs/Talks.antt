@@ -3,19 +3,18 @@ use Rattle.std.specs.Prelude.{ℕ, List, [], ◌∷◌, ◌++◌, is_none, Optio
 use Rattle.dns_answers.specs.Answers.{answer}
 use Rattle.dns_answers.specs.Replies.{reply_refusal}
 use Rattle.dns_message.specs.declared.message.Message.{Message}
-use Rattle.sip_selection.specs.Callers.{caps_of}
+use Rattle.sip_selection.specs.Callers.{CapsValue}
 use Rattle.sip_selection.specs.Choice.{Resolution, targets, refused, need, locate}
 use Rattle.sip_selection.specs.Known.{Given}
 use Rattle.sip_selection.specs.Selections.{SelectionValue}
-use Rattle.sip_selection.specs.declared.caps.Caps.{Caps}
 use Rattle.sip_selection.specs.declared.caps.Families.{Families}
 use Rattle.sip_selection.specs.declared.request.Request.{Request}
 use Rattle.sip_uri.specs.declared.transport.Transport.TheVariants.{Udp, Tcp, Tls, Sctp}
 use Rattle.siplocate.specs.Draws.{drawn}
 
 -- the transports of the program, in order of preference
-abbrev pub own_caps : Families → Caps
-own_caps families = caps_of (Udp ∷ Tcp ∷ Tls ∷ Sctp ∷ []) families
+abbrev pub own_caps : Families → CapsValue
+own_caps families = record { transports = Udp ∷ Tcp ∷ Tls ∷ Sctp ∷ []; families = families }
 
 -- its random words: those of a key of zeros, by the number 1
 abbrev pub own_words : List ℕ

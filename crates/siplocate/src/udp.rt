@@ -1,5 +1,5 @@
 //! Wires over UDP.
-ghost use Rattle.std.specs.Prelude.{◌≡◌, ◌↔◌, ◌+◌, ◌-◌, ◌^◌, ◌<◌, IfErr, IfOk, IsOk, IsTrue, None, Ok, OnErr, OnOk, Some, if◌then◌else◌, option_and_then};
+ghost use Rattle.std.specs.Prelude.{◌≡◌, ◌↔◌, ◌+◌, ◌-◌, ◌^◌, ◌<◌, IfErr, IfOk, IfSome, IsOk, IsTrue, None, Ok, OnErr, OnOk, Some, if◌then◌else◌, option_and_then};
 ghost use Rattle.std.specs.IoError.{error_kind};
 ghost use Rattle.std.specs.Net.Addr.{is_ipv4};
 ghost use Rattle.std.specs.Net.Socket.{socket_ip, socket_port};
