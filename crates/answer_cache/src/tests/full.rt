@@ -1,7 +1,6 @@
-//! A cache whose groups are all full.
+//! Books whose groups are all full.
 ghost use Rattle.std.specs.Prelude.{◌≡◌, IfSome};
 ghost use Rattle.dns_message.specs.declared.kind.Kind.TheVariants as kinds;
-ghost use Rattle.answer_cache.specs.Shared.{Belongs};
 
 use super::{answer_of, two_seats};
 use crate::*;
@@ -39,64 +38,68 @@ fn question_for(alloc: Global, name: &str) -> Option<Question>
 }
 
 /// Whether an answer of this life is taken for a name, or refused so.
-fn says(
+fn says<B: AnswerBook>(
     rt: &(impl Wait + AllocGlobal),
-    cache: &SharedCache,
-    seat: &mut Seat,
+    book: &B,
+    seat: &mut B::Seat,
     name: &str,
     life: u32,
     wanted: Result<(), StoreRefusal>,
 ) -> Option<bool>
-    requires { Belongs cache.now seat.old }
-    ensures { Belongs cache.now seat.new }
+    requires { B.belongs book.now seat.old }
+    ensures { B.belongs book.now seat.new }
 {
     let question = question_for(rt.alloc(), name)?;
     let answer = answer_of(rt.alloc(), Kind::A, life)?;
-    Some(cache.store(rt, seat, &question, &answer, Moment::new(100)?) == wanted)
+    Some(book.store(rt, seat, &question, &answer, Moment::new(100)?) == wanted)
 }
 
 /// Whether a group takes one store of the first name and 127 of the other one, and no more.
-fn fills_group(
+fn fills_group<B: AnswerBook>(
     rt: &(impl Wait + AllocGlobal),
-    cache: &SharedCache,
-    seat: &mut Seat,
+    book: &B,
+    seat: &mut B::Seat,
     first: &str,
     second: &str,
 ) -> Option<bool>
-    requires { Belongs cache.now seat.old }
-    ensures { Belongs cache.now seat.new }
+    requires { B.belongs book.now seat.old }
+    ensures { B.belongs book.now seat.new }
 {
-    let mut taken = says(rt, cache, seat, first, 200, Ok(()))?;
+    let mut taken = says(rt, book, seat, first, 200, Ok(()))?;
     'lives: for life in 1..128 {
-        taken = taken && says(rt, cache, seat, second, life, Ok(()))?;
+        taken = taken && says(rt, book, seat, second, life, Ok(()))?;
     }
     let full = Err(StoreRefusal::GenerationFull);
-    Some(taken && says(rt, cache, seat, second, 128, full)?)
+    Some(taken && says(rt, book, seat, second, 128, full)?)
 }
 
 /// The life that is found for a name.
-fn life_for(alloc: Global, cache: &SharedCache, seat: &mut Seat, name: &str) -> Option<u32>
-    requires { Belongs cache.now seat.old }
-    ensures { Belongs cache.now seat.new }
+fn life_for<B: AnswerBook>(alloc: Global, book: &B, seat: &mut B::Seat, name: &str) -> Option<u32>
+    requires { B.belongs book.now seat.old }
+    ensures { B.belongs book.now seat.new }
 {
     let question = question_for(alloc, name)?;
-    let found = cache.lookup(seat, &question, Moment::new(100)?);
+    let found = book.lookup(seat, &question, Moment::new(100)?);
     Some(found.ok()??.life())
 }
 
 /// Whether all groups are filled so, and each look-up finds its own last store: for the first names
 /// at the end of its walk, and for the others at its begin.
-fn fills_all(rt: &(impl Wait + AllocGlobal), cache: &SharedCache, mut seat: Seat) -> Option<bool>
-    requires { Belongs cache.now seat }
+fn fills_all<B: AnswerBook>(
+    rt: &(impl Wait + AllocGlobal),
+    book: &B,
+    seat: &mut B::Seat,
+) -> Option<bool>
+    requires { B.belongs book.now seat.old }
 {
     'filled: for group in 0..64 {
-        if !fills_group(rt, cache, &mut seat, FIRSTS[group], SECONDS[group])? {
+        if !fills_group(rt, book, seat, FIRSTS[group], SECONDS[group])? {
             return Some(false);
         }
     }
     'found: for group in 0..64 {
-        let first = life_for(rt.alloc(), cache, &mut seat, FIRSTS[group])?;
-        let second = life_for(rt.alloc(), cache, &mut seat, SECONDS[group])?;
+        let first = life_for(rt.alloc(), book, seat, FIRSTS[group])?;
+        let second = life_for(rt.alloc(), book, seat, SECONDS[group])?;
         if first != 200 || second != 127 {
             return Some(false);
         }
@@ -104,13 +107,21 @@ fn fills_all(rt: &(impl Wait + AllocGlobal), cache: &SharedCache, mut seat: Seat
     Some(true)
 }
 
-/// The same for a new cache.
-fn new_fills_all(rt: &(impl Wait + AllocGlobal)) -> Option<bool> {
-    let (cache, seat, _) = two_seats(rt.alloc())?;
-    fills_all(rt, &cache, seat)
+/// The same for the first seat of a new cache.
+fn shared_fills_all(rt: &(impl Wait + AllocGlobal)) -> Option<bool> {
+    let (cache, mut seat, _) = two_seats(rt.alloc())?;
+    fills_all(rt, &cache, &mut seat)
 }
 
+/// The same for a new book of one thread.
+fn list_fills_all(rt: &(impl Wait + AllocGlobal)) -> Option<bool> {
+    let (book, mut seat) = ListCache::new(rt.alloc());
+    fills_all(rt, &book, &mut seat)
+}
+
+/// Each takes 64 times 64 stores.
 #[test]
 fn all_groups_full(rt: HostRuntime) {
-    assert_eq!(rt; new_fills_all(&rt), Some(true));
+    assert_eq!(rt; shared_fills_all(&rt), Some(true));
+    assert_eq!(rt; list_fills_all(&rt), Some(true));
 }

@@ -1,5 +1,4 @@
-use Rattle.answer_cache.specs.Shared.{Belongs}
 use Rattle.answer_cache.proofs.tests.full.fills_group.Given as goal
 
 abbrev pub invariant-lives : goal.invariant-lives
-invariant-lives g l = Belongs l.cache l.seat
+invariant-lives g l = g.B.AnswerBook.belongs l.book l.seat
