@@ -12,7 +12,7 @@ use std::sync::Wait;
 
 /// For each group the name of a question for addresses that is in it.
 const FIRSTS: [&str; 64] = [
-    "o", "ab", "ai", "cb", "k", "bw", "ae", "x", "g", "az", "aa", "t", "c", "av", "bt", "p", "ca",
+    "o", "ab", "ee", "cb", "k", "bw", "ae", "x", "g", "az", "aa", "t", "c", "av", "bt", "p", "ca",
     "ar", "ay", "al", "ce", "n", "au", "ah", "w", "j", "aq", "ad", "s", "f", "m", "bi", "ao", "b",
     "i", "bu", "ak", "fk", "e", "ax", "ag", "z", "a", "at", "ac", "v", "cc", "ap", "bv", "r", "y",
     "l", "br", "an", "u", "h", "aw", "aj", "q", "d", "as", "af", "am", "fu",
@@ -119,7 +119,7 @@ fn list_fills_all(rt: &(impl Wait + AllocGlobal)) -> Option<bool> {
     fills_all(rt, &book, &mut seat)
 }
 
-/// Each takes 64 times 64 stores.
+/// Each takes 64 times 128 stores.
 #[test]
 fn all_groups_full(rt: HostRuntime) {
     assert_eq!(rt; shared_fills_all(&rt), Some(true));
