@@ -4,4 +4,6 @@ pub mod Dues
 pub mod Reading
 pub mod Orders
 pub mod Keeping
+pub mod Places
 pub mod Rounds
+pub mod Out

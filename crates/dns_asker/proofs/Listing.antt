@@ -118,7 +118,7 @@ mapped-placed entry entries =
     ) refl)
 
 -- as many of an id
-counted-in : (id : ℕ) (entries : List (Entry Sent))
+pub counted-in : (id : ℕ) (entries : List (Entry Sent))
     → length (filter (has_id id) (map ticket_in entries)) ≡ length (filter (is_of id) entries)
 counted-in id entries = rw (filter-map ticket_in (has_id id) entries, length-map (filter (is_of id) entries) ticket_in) refl
 

@@ -1,12 +1,13 @@
 -- The tickets in an asker's list. No public clause cites this module.
 use Rattle.std.specs.Prelude.{◌≡◌, ℕ, ◌+◌, ◌-◌, ◌^◌, ◌==◌, ◌<◌, ◌≤◌, Bool, List, ◌∷◌, Option, Some, None, IsSome, Result, Ok, Err, length, map}
 use Rattle.std.specs.List.{All, find}
+use Rattle.std.specs.Option.{option_map}
 use Rattle.pending_list.specs.Ids.{Id}
 use Rattle.pending_list.specs.Pending.{Pending, entry_of, placed}
 use Rattle.pending_list.specs.declared.entry.Entry.{Entry}
 use Rattle.dns_asker.specs.Events.{sent_again, sent_octets}
 use Rattle.dns_asker.specs.TicketLists.{TicketList}
-use Rattle.dns_asker.specs.Tickets.{Asking, Sent, Ticket}
+use Rattle.dns_asker.specs.Tickets.{Asking, IsAsking, Sent, Ticket}
 use Rattle.dns_asker.specs.declared.due.Due.{Due}
 use Rattle.dns_asker.specs.declared.due.Due.TheVariants.{Resend, GaveUp}
 use Rattle.dns_asker.specs.declared.refusal.AskRefusal.{AskRefusal}
@@ -32,6 +33,15 @@ pub record Finds (entries : List (Entry Sent)) (id : ℕ) (at : Id) : Type 0 whe
   pub entry : Entry Sent
   pub first : find (is_of id) entries ≡ Some entry
   pub there : entry_of at entries ≡ Some entry
+
+-- where the entry of an id stands
+abbrev pub place_of : List (Entry Sent) → ℕ → Option Id
+place_of entries id = option_map (λ it. it.id) (find (is_of id) entries)
+
+-- The tickets are as they always are, and a table of places leads from each id to its entry alone.
+pub record IsKept (list : Pending Sent) (place : ℕ → Option Id) : Type 0 where
+  pub asking : IsAsking (asking_of list)
+  pub places : (id : ℕ) → place id ≡ place_of list.entries id
 
 -- it was sent once more, and has another deadline
 abbrev pub resent : ℕ → Entry Sent → Entry Sent

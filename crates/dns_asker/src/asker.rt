@@ -1,7 +1,10 @@
 //! The questions that were sent, from the first time until the wait for a reply ends.
-ghost use Rattle.std.specs.Prelude.{◌≡◌, ◌≤◌, ◌↔◌, [], None, IfErr, IfOk, IsSome, IsTrue, OnErr};
+ghost use Rattle.std.specs.Prelude.{◌≡◌, ◌≤◌, ◌↔◌, [], None, slice_get, IfErr, IfOk, IfSome, IsSome, IsTrue, MatchOption, OnErr, length};
+ghost use Rattle.std.specs.List.{All};
+ghost use Rattle.std.specs.Option.{option_map};
 ghost use Rattle.dns_answers.specs.Replies.{reply_refusal};
 ghost use Rattle.dns_asker.specs.Events.{Asks, Dues, EndsBy, IsNoReply, MayWant, Means, left_by};
+ghost use Rattle.dns_asker.specs.Out.{HasQuestion, IsOctetsOf, LacksQuestion};
 ghost use Rattle.dns_asker.specs.Tickets.{IsAsking, ticket_of};
 
 use crate::due::Due;
@@ -61,6 +64,46 @@ impl Asker {
         ensures { IsTrue result ↔ IsSome (ticket_of id self.now.tickets) }
     {
         self.tickets.place_of(id).is_some()
+    }
+
+    /// Whether as many questions wait as the limit allows.
+    #[must_use]
+    pub fn is_full(&self) -> bool
+        ensures { IsTrue result ↔ (length self.now.tickets ≡ self.now.limit) }
+    {
+        self.tickets.is_full()
+    }
+
+    /// The id under which this question waits for its reply, if it does.
+    #[must_use]
+    pub fn id_of(&self, question: &Question) -> Option<u16>
+        ensures { MatchOption result (LacksQuestion question.now self.now.tickets)
+            (λ id. HasQuestion question.now id self.now.tickets) }
+    {
+        self.tickets.id_of(question)
+    }
+
+    /// The octets of the question that waits for its reply under this id.
+    #[must_use]
+    pub fn octets_of(&self, id: u16) -> Option<&[u8]>
+        ensures { MatchOption result (ticket_of id self.now.tickets ≡ None)
+            (λ octets. IsOctetsOf octets.now id self.now.tickets) }
+    {
+        match self.tickets.place_of(id) {
+            Some(at) => Some(self.tickets.octets_at(at)),
+            None => None,
+        }
+    }
+
+    /// The least deadline of the questions that wait: the second at which `due` next has something
+    /// to say, counted as moments are. It may be 2^48, which is no moment.
+    #[must_use]
+    pub fn next_due(&self) -> Option<u64>
+        ensures first { result ≡ option_map (λ it. it.deadline) (slice_get self.now.tickets 0) }
+        ensures least { IfSome result
+            (λ it. All (λ ticket. it ≤ ticket.deadline) self.now.tickets) }
+    {
+        self.tickets.first_deadline()
     }
 
     /// Asks a question under an id that is not open, and gives the octets to send for it.

@@ -37,6 +37,7 @@ mod asker;
 mod asker_laws;
 mod clock;
 mod due;
+mod id_table;
 mod incoming;
 mod refusal;
 mod server;

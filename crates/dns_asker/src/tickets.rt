@@ -1,17 +1,20 @@
 //! The tickets of an asker in their list.
-ghost use Rattle.std.specs.Prelude.{◌≡◌, ◌↔◌, ◌<◌, ◌≤◌, [], Some, None, IsSome, IfOk, IsTrue, MatchOption};
-ghost use Rattle.std.specs.List.{find};
+ghost use Rattle.std.specs.Prelude.{◌≡◌, ◌↔◌, ◌<◌, ◌≤◌, [], Some, None, slice_get, IsSome, IfOk, IfSome, IsTrue, MatchOption, length};
+ghost use Rattle.std.specs.List.{All, find};
+ghost use Rattle.std.specs.Option.{option_map};
 ghost use Rattle.pending_list.specs.Pending.{entry_of, placed, without};
 ghost use Rattle.pending_list.specs.declared.entry.Entry.{Entry};
 ghost use Rattle.dns_asker.specs.Events.{closed, sent_octets};
 ghost use Rattle.dns_asker.specs.Listed.{Finds, IsOverdue, IsThere, Opens, ToldBy, asking_of, is_of, resent};
+ghost use Rattle.dns_asker.specs.Out.{HasQuestion, LacksQuestion};
 ghost use Rattle.dns_asker.specs.Tickets.{IsAsking, Sent};
 
 use crate::due::Due;
+use crate::id_table::IdTable;
 use crate::refusal::AskRefusal;
 use crate::ticket::Ticket;
 use dns_answers::Moment;
-use dns_message::Question;
+use dns_message::{Question, same_questions_are_equal};
 use pending_list::{InsertRefusal, PendingId, PendingList};
 use std::alloc::{AllocError, Global};
 use std::marker::Model;
@@ -28,11 +31,12 @@ pub(crate) enum Overdue {
     Over,
 }
 
-/// The tickets by their deadlines, at most one of each id, and the last one that was given up, for
-/// who is told of it.
+/// The tickets by their deadlines, at most one of each id, the table of their places, and the last
+/// one that was given up, for who is told of it.
 #[derive(Drop)]
 pub(crate) struct Tickets {
     list: PendingList<Ticket>,
+    table: IdTable,
     given_up: Option<Ticket>,
 }
 
@@ -41,12 +45,12 @@ impl Model for Tickets {
 
     ghost Value = { TicketList };
 
-    ghost use Rattle.dns_asker.specs.Listed.{asking_of};
-    ghost use Rattle.dns_asker.specs.Tickets.{IsAsking};
+    ghost use Rattle.dns_asker.specs.IdTables.{place_in};
+    ghost use Rattle.dns_asker.specs.Listed.{IsKept};
 
     ghost view = { λ it. record { list = it.list; given_up = it.given_up } };
 
-    ghost invariant = { λ it. IsAsking (asking_of it.list) };
+    ghost invariant = { λ it. IsKept it.list (place_in it.table) };
 }
 
 impl Tickets {
@@ -59,6 +63,7 @@ impl Tickets {
     {
         Ok(Tickets {
             list: PendingList::new(alloc, limit, serial)?,
+            table: IdTable::new(alloc, limit)?,
             given_up: None,
         })
     }
@@ -76,9 +81,26 @@ impl Tickets {
             (Finds self.now.list.entries id) }
     {
         self.list.stands_in_order();
-        for (at, _, ticket) in self.list.walk() {
-            if ticket.id() == id {
-                return Some(at);
+        self.table.get(id)
+    }
+
+    /// Whether there are as many as can be.
+    pub(crate) fn is_full(&self) -> bool
+        ensures { IsTrue result ↔ (length self.now.list.entries ≡ self.now.list.limit) }
+    {
+        self.list.stands_in_order();
+        matches!(self.list.can_insert(), Err(InsertRefusal::Full))
+    }
+
+    /// The id of the ticket of a question.
+    pub(crate) fn id_of(&self, question: &Question) -> Option<u16>
+        ensures { MatchOption result (LacksQuestion question.now (asking_of self.now.list).tickets)
+            (λ id. HasQuestion question.now id (asking_of self.now.list).tickets) }
+    {
+        same_questions_are_equal();
+        for (_, _, ticket) in self.list.walk() {
+            if ticket.question() == question {
+                return Some(ticket.id());
             }
         }
         None
@@ -119,10 +141,25 @@ impl Tickets {
         let Ok(ticket) = Ticket::new(alloc, id, question) else {
             return Err(AskRefusal::Memory);
         };
+        let Ok(()) = self.table.reserve() else {
+            return Err(AskRefusal::Memory);
+        };
         let Ok(at) = self.list.insert(now.get() + WAIT, ticket) else {
             return Err(AskRefusal::Memory);
         };
+        self.table.insert(id, at);
         Ok(at)
+    }
+
+    /// The deadline of the first ticket.
+    pub(crate) fn first_deadline(&self) -> Option<u64>
+        ensures first { result
+            ≡ option_map (λ it. it.deadline) (slice_get self.now.list.entries 0) }
+        ensures least { IfSome result
+            (λ it. All (λ entry. it ≤ entry.deadline) self.now.list.entries) }
+    {
+        let (_, deadline) = self.list.first()?;
+        Some(deadline)
     }
 
     /// The octets of the ticket at a place.
@@ -145,7 +182,11 @@ impl Tickets {
             × (asking_of self.new.list ≡ closed entry.item.id (asking_of self.old.list)) }
     {
         match self.list.remove(at) {
-            Some(ticket) => ticket.into_parts(),
+            Some(ticket) => {
+                let (id, question) = ticket.into_parts();
+                self.table.remove(id);
+                (id, question)
+            }
             None => unreachable!(),
         }
     }
@@ -164,6 +205,7 @@ impl Tickets {
             return Some(Overdue::Again(at));
         }
         let (_, _, ticket) = self.list.pop_due(now.get())?;
+        self.table.remove(ticket.id());
         self.given_up = Some(ticket);
         Some(Overdue::Over)
     }

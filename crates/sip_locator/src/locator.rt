@@ -1,5 +1,5 @@
 //! The choice of one request, over answers that a book shares.
-ghost use Rattle.std.specs.Prelude.{◌≡◌, ◌≤◌, IfErr, IfOk, OnErr, OnOk, length};
+ghost use Rattle.std.specs.Prelude.{◌≡◌, ◌≢◌, ◌↔◌, ◌≤◌, Err, IfErr, IfOk, OnErr, OnOk, length};
 ghost use Rattle.std.specs.Arc.{arc_value};
 ghost use Rattle.dns_answers.specs.Records.{kind_of};
 ghost use Rattle.answer_cache.specs.Seats.{GoesOn, StoresNothing};
@@ -98,19 +98,34 @@ impl<B: AnswerBook> Locator<B> {
         };
         let question = question.try_clone()?;
         same_questions_are_equal();
-        self.give(&question, answer)?;
+        self.use_answer(&question, answer)?;
         Ok(true)
     }
 
-    /// Gives the answer to the question that is asked. Where memory was refused all is as before.
-    fn give(&mut self, question: &Question, answer: Arc<Answer>) -> Result<(), AllocError>
+    /// Takes the answer to the question that is asked, without a look at the book: for who has read
+    /// it from a reply. After a refusal all is as before.
+    pub fn give(&mut self, question: &Question, answer: Arc<Answer>) -> Result<(), GiveRefusal>
+        ensures given { OnOk result
+            (self.new ≡ given_too self.old question.now (arc_value answer)) }
+        ensures unchanged { OnErr result (self.new ≡ self.old) }
+        ensures not_asked { (result ≡ Err GiveRefusal.NotAsked)
+            ↔ (now_of self.old ≢ need question.now) }
+        ensures wrong_kind { (result ≡ Err GiveRefusal.WrongKind)
+            ↔ ((now_of self.old ≡ need question.now)
+            × (kind_of (arc_value answer).records ≢ question.now.kind)) }
+    {
+        self.selection.give(self.alloc, question, answer)
+    }
+
+    /// Uses the answer to the question that is asked. Where memory was refused all is as before.
+    fn use_answer(&mut self, question: &Question, answer: Arc<Answer>) -> Result<(), AllocError>
         requires asked { now_of self.old ≡ need question.now }
         requires kind { kind_of (arc_value answer).records ≡ question.now.kind }
         ensures given { OnOk result
             (self.new ≡ given_too self.old question.now (arc_value answer)) }
         ensures unchanged { OnErr result (self.new ≡ self.old) }
     {
-        match self.selection.give(self.alloc, question, answer) {
+        match self.give(question, answer) {
             Ok(()) => Ok(()),
             Err(GiveRefusal::Memory) => Err(AllocError),
             Err(GiveRefusal::NotAsked | GiveRefusal::WrongKind) => unreachable!(),
@@ -199,7 +214,7 @@ impl<B: AnswerBook> Locator<B> {
         let answer = Arc::new(self.alloc, answer)?;
         let given = Arc::try_clone(&answer)?;
         let question = question.try_clone()?;
-        self.give(&question, given)?;
+        self.use_answer(&question, given)?;
         Ok((question, answer))
     }
 }

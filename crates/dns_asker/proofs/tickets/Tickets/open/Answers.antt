@@ -1,10 +1,12 @@
-use Rattle.std.proofs.Common.{◌≡◌, ◌+◌, None, ap, ◌∙◌, arith}
+use Rattle.std.proofs.Common.{◌≡◌, ◌+◌, None, ap, sym, ◌∙◌, arith}
 use Rattle.std.specs.List.{find}
 use Rattle.pending_list.specs.Ids.{Id}
 use Rattle.pending_list.specs.declared.entry.Entry.{Entry}
 use Rattle.dns_asker.proofs.Keeping.{kept-more}
 use Rattle.dns_asker.proofs.Listing.{none-told}
-use Rattle.dns_asker.specs.Listed.{is_of}
+use Rattle.dns_asker.proofs.Places.{still-put}
+use Rattle.dns_asker.specs.IdTables.{place_in}
+use Rattle.dns_asker.specs.Listed.{IsKept, is_of}
 use Rattle.dns_asker.specs.TicketLists.{TicketList}
 use Rattle.dns_asker.specs.Tickets.{IsSent, Sent}
 use Rattle.dns_asker.proofs.tickets.Tickets.open.Goals as goal
@@ -18,5 +20,14 @@ invariant_of-self-2 c =
     ap (λ (it : TicketList). find (is_of c.args.id) it.list.entries) c.self.view_is ∙ none in
     let sent : IsSent c.in-Ok-new.ticket = rw c.in-Ok-new.ensures record { some = omega arith; few = omega arith } in
     let free' : find (is_of c.in-Ok-new.ticket.id) c.self.inside.list.entries ≡ None = rw c.in-Ok-new.ensures free in
+    let kept : IsKept c.self.inside.list (place_in c.reserve.new.self) = record {
+      asking = c.self.invariant.asking;
+      places = λ other. c.in-Ok-reserve.ensures.same other ∙ c.self.invariant.places other;
+    } in
+    let id = sym (ap (λ (sent : Sent). sent.id) c.in-Ok-new.ensures) in
     rw c.in-Ok-insert.ensures.inserted
-    (kept-more c.self.inside.list c.self.invariant entry (c.self.inside.list.serial + 1) sent free' c.in-Ok.ensures.can.0)
+    record {
+      asking = kept-more c.self.inside.list c.self.invariant.asking entry (c.self.inside.list.serial + 1) sent free' c.in-Ok.ensures.can.0;
+      places = still-put c.self.inside.list (place_in c.reserve.new.self) kept (place_in c.insert-2.new.self) entry _ id free'
+          c.insert-2.ensures;
+    }

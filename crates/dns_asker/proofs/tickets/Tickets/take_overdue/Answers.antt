@@ -1,8 +1,10 @@
-use Rattle.std.proofs.Common.{◌≡◌, refl, ap, ◌∙◌, arith}
+use Rattle.std.proofs.Common.{◌≡◌, refl, ap, sym, ◌∙◌, arith}
 use Rattle.pending_list.specs.Pending.{without}
 use Rattle.pending_list.specs.declared.entry.Entry.{Entry}
 use Rattle.dns_asker.proofs.Keeping.{kept-resent, kept-rest}
 use Rattle.dns_asker.proofs.Listing.{leader-found, leads, not-more, same-first}
+use Rattle.dns_asker.proofs.Places.{place_of-resent, still-rest}
+use Rattle.dns_asker.specs.IdTables.{place_in}
 use Rattle.dns_asker.specs.Tickets.{Sent}
 use Rattle.dns_asker.proofs.tickets.Tickets.take_overdue.Goals as goal
 
@@ -21,7 +23,12 @@ invariant_of-self c =
     let rest : without it.entry.id c.self.inside.list.entries ≡ it.others = c.stands_in_order.ensures.first it.entry it.others it.whole in
     let others : without c.in_ok-at.at c.self.inside.list.entries ≡ it.others =
     ap (λ id. without id c.self.inside.list.entries) it.at_is ∙ rest in
-    rw (sent, others) (kept-resent c.self.inside.list c.self.invariant it.entry it.others it.whole _ more)
+    rw (sent, others) record {
+      asking = kept-resent c.self.inside.list c.self.invariant.asking it.entry it.others it.whole _ more;
+      places = λ other.
+          c.self.invariant.places other
+          ∙ sym (place_of-resent c.self.inside.list c.self.invariant.asking it.entry it.others it.whole _ other);
+    }
 
 pub returns-then-may_be_sent_again : goal.returns-then-may_be_sent_again
 returns-then-may_be_sent_again c =
@@ -45,10 +52,13 @@ returns-then-may_be_sent_again c =
 
 pub invariant_of-self-2 : goal.invariant_of-self-2
 invariant_of-self-2 c =
-    rw c.in_ok-ticket.ensures.left
-    (kept-rest c.self.inside.list c.self.invariant
-    (record { id = c.in_ok-ticket.field-0-0; deadline = c.in_ok-ticket.field-0-1; item = c.in_ok-ticket.ticket })
-    c.pop_due.new.self.entries c.in_ok-ticket.ensures.taken)
+    let first : Entry Sent = record { id = c.in_ok-ticket.field-0-0; deadline = c.in_ok-ticket.field-0-1; item = c.in_ok-ticket.ticket } in
+    let others = c.pop_due.new.self.entries in
+    rw c.in_ok-ticket.ensures.left record {
+      asking = kept-rest c.self.inside.list c.self.invariant.asking first others c.in_ok-ticket.ensures.taken;
+      places = still-rest c.self.inside.list (place_in c.self.inside.table) c.self.invariant (place_in c.remove.new.self) first others
+          c.in_ok-ticket.ensures.taken _ c.id.ensures c.remove.ensures;
+    }
 
 pub returns : goal.returns
 returns c =

@@ -1,0 +1,26 @@
+-- Which questions are out.
+use Rattle.std.specs.Prelude.{◌≡◌, ◌≢◌, ℕ, List, Some}
+use Rattle.std.specs.List.{All, AllPairs}
+use Rattle.dns_message.specs.declared.question.Question.{Question}
+use Rattle.dns_asker.specs.Events.{sent_octets}
+use Rattle.dns_asker.specs.Tickets.{Ticket, ticket_of}
+
+-- no ticket is of this question
+abbrev pub LacksQuestion : Question → List Ticket → Type 0
+LacksQuestion question tickets = All (λ it. it.sent.question ≢ question) tickets
+
+-- the ticket of this id is of this question
+pub record HasQuestion (question : Question) (id : ℕ) (tickets : List Ticket) : Type 0 where
+  pub ticket : Ticket
+  pub there : ticket_of id tickets ≡ Some ticket
+  pub of_it : ticket.sent.question ≡ question
+
+-- these are the octets that are sent for the question of the ticket of this id
+pub record IsOctetsOf (octets : List ℕ) (id : ℕ) (tickets : List Ticket) : Type 0 where
+  pub ticket : Ticket
+  pub there : ticket_of id tickets ≡ Some ticket
+  pub are : octets ≡ sent_octets id ticket.sent.question
+
+-- no two tickets are of one question
+abbrev pub AreApart : List Ticket → Type 0
+AreApart tickets = AllPairs (λ one other. one.sent.question ≢ other.sent.question) tickets
