@@ -13,6 +13,7 @@ use std::sync::atomic::{AtomicU64, Ordering};
 use std::thread::Threads;
 
 mod page;
+mod successor;
 
 /// A zone with one address.
 const ZONE: &str = "a.example. 300 A 192.0.2.7";
