@@ -1,8 +1,10 @@
-//! How long the calls of a `PendingList` of 256 entries take.
+//! How long the calls of a `PendingList` of 256 entries take, and an asker to hear a reply.
 //!
 //! With a word it prints a line for each call: its name, and how many picoseconds one takes, over
 //! the fastest round. Without a word it does nothing.
 #![tactic(auto)]
+
+mod askers;
 
 use pending_list::{PendingId, PendingList};
 use std::env;
@@ -123,13 +125,24 @@ fn print_time<R: Print>(rt: &R, name: &str, nanoseconds: u128) -> Option<()> {
     println!(rt; "{name} {picoseconds}").ok()
 }
 
+/// Prints how long an asker takes to hear a reply, with as many questions open as are measured.
+fn print_hearing<R: Clock + Print + AllocGlobal>(rt: &R) -> Option<()> {
+    for open in askers::OPEN {
+        let nanoseconds = askers::measured(rt, open)?;
+        let picoseconds = nanoseconds.saturating_mul(1_000) / open.max(1) as u128;
+        println!(rt; "hear_{open} {picoseconds}").ok()?;
+    }
+    Some(())
+}
+
 /// Measures, and prints all times.
 fn print_times<R: Clock + Print + AllocGlobal>(rt: &R) -> Option<()> {
     let times = measured(rt)?;
     print_time(rt, "insert", times.insert)?;
     print_time(rt, "remove", times.remove)?;
     print_time(rt, "move_to", times.move_to)?;
-    print_time(rt, "pop_due", times.pop_due)
+    print_time(rt, "pop_due", times.pop_due)?;
+    print_hearing(rt)
 }
 
 fn main(rt: HostRuntime) {

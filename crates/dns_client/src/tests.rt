@@ -1,0 +1,4 @@
+//! Resolver files.
+mod allocations;
+mod files;
+mod page;

@@ -1,0 +1,3 @@
+pub mod Eras
+pub mod Lineages
+pub mod Rolling

@@ -1,0 +1,219 @@
+//! A generation, and the one that is present.
+ghost use Rattle.std.specs.Prelude.{◌≡◌, ◌<◌, ◌≤◌, ℕ, [], IfErr, IfOk, IfSome, OnOk};
+ghost use Rattle.std.specs.List.{All};
+ghost use Rattle.answer_cache.specs.Shared.{Refuses};
+ghost use Rattle.rolling_cache.specs.Eras.{Descends};
+ghost use Rattle.rolling_cache.specs.Rolling.{Changes, HandsOver, IsAt, IsFresh, Waits};
+ghost use Rattle.rolling_cache.specs.Rolling.{generation_of, rolling_of};
+
+use crate::change::Change;
+use crate::lineage::Lineage;
+use crate::seat::RollingSeat;
+use answer_cache::{CacheRefusal, Seat, SharedCache, StoreRefusal, group};
+use dns_answers::Moment;
+use dns_message::Question;
+use std::alloc::{AllocError, Global};
+use std::marker::Model;
+use std::sync::atomic::{AtomicBool, AtomicU64, Ordering};
+use std::sync::{Arc, Wait};
+
+/// How many groups there are.
+const GROUP_COUNT: usize = 64;
+
+/// How many stores a generation makes in a group before it is to end: half of what a group takes.
+const STORES_TO_END: u64 = 64;
+
+/// A generation: a cache, which begins with what the one before it handed on.
+#[derive(Drop)]
+pub struct Generation {
+    pub(crate) cache: SharedCache,
+    pub(crate) number: u64,
+    pub(crate) lineage: Lineage,
+    began: Moment,
+    stored: Vec<AtomicU64>,
+    ending: AtomicBool,
+}
+
+impl Model for Generation {
+    ghost use Rattle.rolling_cache.specs.Eras.{Descends};
+    ghost use Rattle.rolling_cache.specs.Rolling.{GenerationView, generation_of};
+
+    ghost Value = { GenerationView };
+
+    ghost view = { λ it. generation_of it.cache it.lineage };
+
+    ghost invariant = { λ it. Descends it.lineage };
+}
+
+/// A count of stores for each group.
+fn no_counts(alloc: Global) -> Result<Vec<AtomicU64>, AllocError> {
+    let mut counts = Vec::with_capacity(alloc, GROUP_COUNT)?;
+    'groups: for _group in 0..GROUP_COUNT {
+        counts.push(AtomicU64::new(0))?;
+    }
+    Ok(counts)
+}
+
+impl Generation {
+    /// Its number, from 0: generations follow one another.
+    #[must_use]
+    pub fn number(&self) -> u64 {
+        self.number
+    }
+
+    /// Its cache.
+    #[must_use]
+    pub fn cache(&self) -> &SharedCache
+        ensures { result.now ≡ self.now.cache }
+    {
+        &self.cache
+    }
+
+    /// A law: each generation before it began with what the one before that handed on.
+    pub fn descends(&self)
+        ensures { Descends self.now.past }
+    {
+        let _ = &self.lineage;
+    }
+
+    /// Whether it is to end: a group has half of the stores that it takes, not counting those that
+    /// it began with, or a group was full after the moment at which it began.
+    #[must_use]
+    pub fn is_ending(&self) -> bool {
+        self.ending.load(Ordering::SeqCst)
+    }
+
+    /// Counts a store of this question.
+    fn count(&self, question: &Question) {
+        let Some(stored) = self.stored.get(usize::from(group(question))) else {
+            return;
+        };
+        if stored.fetch_add(1, Ordering::SeqCst) >= STORES_TO_END - 1 {
+            self.ending.store(true, Ordering::SeqCst);
+        }
+    }
+
+    /// Notes what became of a store of this question.
+    pub(crate) fn note(&self, question: &Question, stored: Result<(), StoreRefusal>, now: Moment) {
+        match stored {
+            Ok(()) => self.count(question),
+            Err(StoreRefusal::GenerationFull) => {
+                if self.began < now {
+                    self.ending.store(true, Ordering::SeqCst);
+                }
+            }
+            Err(_) => {}
+        }
+    }
+
+    /// The first generation.
+    pub(crate) fn first(alloc: Global, seats: usize, now: Moment) -> Result<Present, CacheRefusal>
+        ensures past { IfOk result (λ made. made.past ≡ []) }
+        ensures count { OnOk result ((0 < seats) × (seats ≤ 64)) }
+        ensures refused { IfErr result (Refuses seats) }
+    {
+        let (cache, seats) = SharedCache::new(alloc, seats)?;
+        let Ok(made) = Present::open(alloc, cache, seats, 0, now, Lineage::none()) else {
+            return Err(CacheRefusal::Memory);
+        };
+        Ok(made)
+    }
+
+    /// The next generation, to which it hands on what lives at this moment.
+    pub(crate) fn hand_on<R: Wait>(
+        &self,
+        rt: &R,
+        alloc: Global,
+        seat: &mut Seat,
+        seats: usize,
+        now: Moment,
+    ) -> Result<Present, AllocError>
+        requires at { IsAt (rolling_of self.now seat.old) }
+        ensures waits { Waits (rolling_of self.now seat.old) (rolling_of self.now seat.new) }
+        ensures at { IsAt (rolling_of self.now seat.new) }
+        ensures over { IfOk result (λ made. HandsOver now (rolling_of self.now seat.old)
+            (rolling_of made seat.new)) }
+    {
+        let carried = self.cache.carry(alloc, seat, now)?;
+        let lineage = self.lineage.with(&seat.notice(), &carried);
+        let Ok((cache, seats)) = SharedCache::successor(rt, alloc, &carried, seats) else {
+            return Err(AllocError);
+        };
+        let number = self.number.wrapping_add(1);
+        let made = Present::open(alloc, cache, seats, number, now, lineage)?;
+        Ok(made)
+    }
+}
+
+/// The present generation, and its seats that are still to be taken.
+#[derive(Drop)]
+pub(crate) struct Present {
+    pub generation: Arc<Generation>,
+    pub seats: Vec<Seat>,
+}
+
+impl Model for Present {
+    ghost use Rattle.std.specs.Arc.{arc_value};
+    ghost use Rattle.std.specs.List.{All};
+    ghost use Rattle.rolling_cache.specs.Rolling.{GenerationView, IsFresh, rolling_of};
+
+    ghost Value = { GenerationView };
+
+    ghost view = { λ it. arc_value it.generation };
+
+    ghost invariant = { λ it.
+        All (λ seat. IsFresh (rolling_of (arc_value it.generation) seat)) it.seats.items };
+}
+
+impl Present {
+    /// A generation that begins, with all of its seats.
+    fn open(
+        alloc: Global,
+        cache: SharedCache,
+        seats: Vec<Seat>,
+        number: u64,
+        began: Moment,
+        lineage: Lineage,
+    ) -> Result<Present, AllocError>
+        requires descends { Descends lineage }
+        requires fresh { All (λ seat. IsFresh (rolling_of (generation_of cache lineage) seat))
+            seats.items }
+        ensures { IfOk result (λ made. made ≡ generation_of cache lineage) }
+    {
+        let generation = Generation {
+            cache,
+            number,
+            lineage,
+            began,
+            stored: no_counts(alloc)?,
+            ending: AtomicBool::new(false),
+        };
+        let generation = Arc::new(alloc, generation)?;
+        Ok(Present { generation, seats })
+    }
+
+    /// One of its seats, where one is left.
+    pub(crate) fn take(&mut self) -> Option<RollingSeat>
+        ensures fresh { IfSome result IsFresh }
+        ensures here { IfSome result (λ made. made.generation ≡ self.old) }
+        ensures same { self.new ≡ self.old }
+    {
+        let generation = Arc::try_clone(&self.generation).ok()?;
+        let seat = self.seats.pop()?;
+        Some(RollingSeat { generation, seat })
+    }
+
+    /// Lets a seat go over to this generation, where one of its seats is left.
+    pub(crate) fn welcome(&mut self, seat: &mut RollingSeat) -> Change
+        requires { IsAt seat.old }
+        ensures at { IsAt seat.new }
+        ensures changed { (now : ℕ) → Changes now seat.old seat.new result }
+        ensures same { self.new ≡ self.old }
+    {
+        let Some(next) = self.take() else {
+            return Change::Stays;
+        };
+        *seat = next;
+        Change::Moved
+    }
+}

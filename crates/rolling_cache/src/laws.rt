@@ -1,0 +1,40 @@
+//! Laws of a rolling cache. A call of one does nothing: its contract tells its caller the law.
+ghost use Rattle.std.specs.Prelude.{◌≡◌, ◌≤◌, ℕ, List, Some};
+ghost use Rattle.std.specs.List.{Any};
+ghost use Rattle.dns_answers.specs.Values.{AnswerValue};
+ghost use Rattle.dns_message.specs.declared.question.Question.{Question as Asked};
+ghost use Rattle.answer_log.specs.Groups.{group_of};
+ghost use Rattle.answer_log.specs.Histories.{cached};
+ghost use Rattle.answer_log.specs.declared.store.Store.{Store};
+ghost use Rattle.answer_cache.specs.Carried.{IsCarried, carried_stores};
+ghost use Rattle.rolling_cache.specs.Eras.{Gives, begun_with, handed_in};
+ghost use Rattle.rolling_cache.specs.Rolling.{IsAt};
+
+use crate::seat::RollingSeat;
+use dns_message::same_questions_are_equal;
+
+/// A law: an answer that a look-up finds was handed in to be stored for that question, in the
+/// generation of its seat or in one before it, and its life is not over.
+pub fn answers_were_handed_in(seat: &RollingSeat)
+    requires { IsAt seat.now }
+    ensures { (question : Asked) (now : ℕ) (answer : AnswerValue)
+        → cached seat.now.seat.seat.seen question now ≡ Some answer
+        → Any (Gives question now answer)
+        (handed_in seat.now.generation.past seat.now.seat.seat.seen) }
+{
+    seat.generation().descends();
+}
+
+/// A law: at the moment of a carrying and at each later one, what a generation began with answers a
+/// question as the history did from which its group was carried: no store of the question was
+/// later.
+pub fn renewed_answers_as_before(seat: &RollingSeat)
+    ensures { (before after : List Store) (now later : ℕ) → now ≤ later
+        → (it : IsCarried before after now (begun_with seat.now.generation.past))
+        → (question : Asked)
+        → cached (carried_stores (begun_with seat.now.generation.past)) question later
+        ≡ cached (it.history (group_of question)) question later }
+{
+    let _ = seat;
+    same_questions_are_equal();
+}

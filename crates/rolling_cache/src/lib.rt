@@ -1,0 +1,70 @@
+//! A cache of DNS answers for an element that runs for months.
+//!
+//! A `SharedCache` of `answer_cache` drops no store, so its groups fill up. A `RollingCache` goes
+//! over from one to the next: each is a generation, and begins with what lived of the one before
+//! it. Threads have a seat each, from 1 to 64, and no look-up waits while generations change.
+//! That threads may share its value (`Sync`) is not proved yet.
+//!
+//! ```
+//! // before a request: go over to the present generation, or begin the next one
+//! cache.catch_up(rt, seat, now).ok()?;
+//! // then the cache is a book of answers like any other
+//! if let Some(found) = cache.lookup(seat, question, now).ok()? {
+//!     return Some(found.life());
+//! }
+//! cache.store(rt, seat, question, answer, now).ok()?;
+//! ```
+//!
+//! A seat is at one generation, and that changes in `catch_up` and in `renew` alone. Between these
+//! calls the cache is an `AnswerBook` whose one history is that of the seat's generation. So a
+//! locator runs over it, and may also go on with a seat that has gone over. What owns its seat, as
+//! a worker does, takes the seat out (`RollingSeat::into_parts`), looks from time to time for one
+//! at a later generation (`RollingCache::seat_after`), and leaves `renew` to another seat.
+//!
+//! `catch_up` goes over to the present generation, where that is another one. Where the present one
+//! is to end, one thread carries what lives, and begins the next one with that. A generation is to
+//! end once half of what a group takes, 64 stores, was stored in a group beside what it began with.
+//! So it is before the group is full, as long as at most 63 questions of a group have answers that
+//! live. It is also to end once a group was full after the moment at which the generation began:
+//! where more than that live, there is a new generation each second at most. `renew` begins the
+//! next one in any case. The others take a lock only where they take their seat of another
+//! generation, and where it is not free they go on at theirs until the next call.
+//!
+//! What a thread stores at its generation while another one carries may not be carried: it is lost,
+//! and is asked for again. A thread that goes over may then find an older answer to the question,
+//! if that was carried and lives. An answer is never found when its life has ended.
+//!
+//! A generation is freed when its last seat has left it and a later one is present. So a thread
+//! that calls nothing for long keeps one old generation, and no other one.
+//!
+//! # How large it is
+//!
+//! A generation takes at most 128 stores in each of 64 groups: 8,192. It is to end after 64 stores
+//! in one group at the least, where all are of one group. Where the questions are many, groups fill
+//! evenly, and that is after some 2,500 to 3,500 stores. A million names a day, each stored once,
+//! are 12 stores a second, and a new generation every four or five minutes. As many answers as live
+//! at once have to fit: 63 in a group, some 2,500 in all, are never refused.
+//!
+//! Each generation that a seat is at is in memory: the present one, and while generations change
+//! the ones before it, one for each seat at most. Beside its stores it has an index of each seat:
+//! with 64 seats that all look everything up, 16 octets a store and seat.
+//!
+//! Read `specs/Rolling.antt` first: it says what a seat sees, and what becomes of it. Then read
+//! `specs/Eras.antt`: it says what generations hand on, and what was handed in to them.
+#![tactic(auto)]
+
+mod change;
+mod generation;
+mod laws;
+mod lineage;
+mod rolling;
+mod seat;
+
+pub use change::Change;
+pub use generation::Generation;
+pub use laws::{answers_were_handed_in, renewed_answers_as_before};
+pub use rolling::RollingCache;
+pub use seat::RollingSeat;
+
+#[cfg(test)]
+mod tests;

@@ -1,0 +1,233 @@
+//! The cache that goes over from one generation to the next.
+ghost use Rattle.std.specs.Prelude.{◌≡◌, ◌<◌, ◌++◌, ◌∷◌, [], IfErr, IfOk, IfSome, OnErr};
+ghost use Rattle.std.specs.Prelude.{OnOk, length};
+ghost use Rattle.std.specs.Arc.{arc_value};
+ghost use Rattle.std.specs.List.{All};
+ghost use Rattle.std.specs.Option.{option_map};
+ghost use Rattle.dns_answers.specs.Records.{kind_of};
+ghost use Rattle.answer_log.specs.Histories.{cached};
+ghost use Rattle.answer_cache.specs.Seats.{GoesOn, IsRefused, IsStored, StoresNothing, offer_of};
+ghost use Rattle.answer_cache.specs.Shared.{Refuses};
+ghost use Rattle.rolling_cache.specs.Rolling.{Changes, IsAt, IsFirst, IsFresh, IsFreshAt, Waits};
+
+use crate::change::Change;
+use crate::generation::{Generation, Present};
+use crate::seat::RollingSeat;
+use answer_cache::{AnswerBook, CacheRefusal, StoreRefusal};
+use dns_answers::{Answer, Moment};
+use dns_message::Question;
+use std::alloc::{AllocError, Global};
+use std::sync::atomic::{AtomicU64, Ordering};
+use std::sync::{Arc, Mutex, Wait};
+
+/// A cache for an element that runs for long: one `SharedCache` after the other, each of which
+/// begins with what lives of the one before it.
+#[derive(Drop)]
+pub struct RollingCache {
+    alloc: Global,
+    seats: usize,
+    number: AtomicU64,
+    present: Mutex<Present>,
+}
+
+/// Takes so many seats of the present generation.
+fn take_seats(
+    alloc: Global,
+    present: &mut Present,
+    seats: usize,
+) -> Result<Vec<RollingSeat>, AllocError>
+    ensures fresh { IfOk result (λ made. All (IsFreshAt present.old) made.items) }
+    ensures count { IfOk result (λ made. length made.items ≡ seats) }
+    ensures same { present.new ≡ present.old }
+{
+    let mut made = Vec::new(alloc);
+    'seats: for _seat in 0..seats {
+        let Some(seat) = present.take() else {
+            return Err(AllocError);
+        };
+        made.push(seat)?;
+    }
+    Ok(made)
+}
+
+impl RollingCache {
+    /// A cache in which nothing is stored, and its seats.
+    ///
+    /// # Errors
+    /// `BadCount` outside 1 to 64 seats, and then `Memory`.
+    pub fn new(
+        alloc: Global,
+        seats: usize,
+        now: Moment,
+    ) -> Result<(RollingCache, Vec<RollingSeat>), CacheRefusal>
+        ensures first { IfOk result (λ made. All IsFirst made.1.items) }
+        ensures count { IfOk result (λ made. length made.1.items ≡ seats) }
+        ensures refused { IfErr result (Refuses seats) }
+    {
+        let mut present = Generation::first(alloc, seats, now)?;
+        let Ok(made) = take_seats(alloc, &mut present, seats) else {
+            return Err(CacheRefusal::Memory);
+        };
+        let cache = RollingCache {
+            alloc,
+            seats,
+            number: AtomicU64::new(0),
+            present: Mutex::new(present),
+        };
+        Ok((cache, made))
+    }
+
+    /// A seat at the present generation, where that is another one than this, no thread changes it
+    /// just now, and a seat is left. Each seat that the cache was made with may take one in each
+    /// generation.
+    #[must_use]
+    pub fn seat_after(&self, generation: &Generation) -> Option<RollingSeat>
+        ensures { IfSome result IsFresh }
+    {
+        if self.number.load(Ordering::SeqCst) == generation.number {
+            return None;
+        }
+        let mut present = self.present.try_lock()?;
+        if present.generation.number == generation.number {
+            return None;
+        }
+        present.take()
+    }
+
+    /// Goes over to the present generation, where that is another one, and begins the next one
+    /// where it is to end. Call it between requests: before each, or before each batch.
+    ///
+    /// It waits for no other thread: where one changes the generation just now, the seat stays.
+    ///
+    /// # Errors
+    /// Where memory is refused. The seat stays at its generation.
+    pub fn catch_up<R: Wait>(
+        &self,
+        rt: &R,
+        seat: &mut RollingSeat,
+        now: Moment,
+    ) -> Result<Change, AllocError>
+        requires { IsAt seat.old }
+        ensures at { IsAt seat.new }
+        ensures changed { IfOk result (Changes now seat.old seat.new) }
+        ensures waits { OnErr result (Waits seat.old seat.new) }
+    {
+        if let Some(next) = self.seat_after(&seat.generation) {
+            *seat = next;
+            return Ok(Change::Moved);
+        }
+        if !seat.generation.is_ending() {
+            return Ok(Change::Stays);
+        }
+        self.renew(rt, seat, now)
+    }
+
+    /// Begins the next generation with what lives at this moment, whether or not the present one is
+    /// to end. Where another thread has begun one, the seat goes over to that.
+    ///
+    /// # Errors
+    /// Where memory is refused. The seat stays at its generation.
+    pub fn renew<R: Wait>(
+        &self,
+        rt: &R,
+        seat: &mut RollingSeat,
+        now: Moment,
+    ) -> Result<Change, AllocError>
+        requires { IsAt seat.old }
+        ensures at { IsAt seat.new }
+        ensures changed { IfOk result (Changes now seat.old seat.new) }
+        ensures waits { OnErr result (Waits seat.old seat.new) }
+    {
+        let Some(mut present) = self.present.try_lock() else {
+            return Ok(Change::Stays);
+        };
+        if present.generation.number != seat.generation.number {
+            return Ok(present.welcome(seat));
+        }
+        let (made, next) = seat.next(rt, self.alloc, self.seats, now)?;
+        self.number.store(made.generation.number, Ordering::SeqCst);
+        *present = made;
+        *seat = next;
+        Ok(Change::Renewed)
+    }
+}
+
+impl RollingSeat {
+    /// The generation after its own, and a seat there.
+    fn next<R: Wait>(
+        &mut self,
+        rt: &R,
+        alloc: Global,
+        seats: usize,
+        now: Moment,
+    ) -> Result<(Present, RollingSeat), AllocError>
+        requires { IsAt self.old }
+        ensures at { IsAt self.new }
+        ensures waits { Waits self.old self.new }
+        ensures next { IfOk result (λ made. Changes now self.old made.1 Change.Renewed) }
+    {
+        let mut made = self
+            .generation
+            .hand_on(rt, alloc, &mut self.seat, seats, now)?;
+        match made.take() {
+            None => Err(AllocError),
+            Some(next) => Ok((made, next)),
+        }
+    }
+}
+
+impl AnswerBook for RollingCache {
+    type Seat = RollingSeat;
+
+    ghost use Rattle.rolling_cache.specs.Rolling.{IsAt};
+
+    ghost belongs = { λ cache seat. IsAt seat };
+
+    ghost shown = { λ seat. seat.seat.seat };
+
+    ghost holds = { λ cache seat at. at.here.is };
+
+    fn lookup(
+        &self,
+        seat: &mut RollingSeat,
+        question: &Question,
+        now: Moment,
+    ) -> Result<Option<Arc<Answer>>, AllocError>
+        requires { IsAt seat.old }
+        ensures stays { IsAt seat.new }
+        ensures generation { seat.new.generation ≡ seat.old.generation }
+        ensures goes_on { GoesOn seat.old.seat.seat seat.new.seat.seat }
+        ensures stores_nothing { StoresNothing seat.old.seat.seat seat.new.seat.seat }
+        ensures found { IfOk result (λ found. option_map arc_value found
+            ≡ cached seat.new.seat.seat.seen question.now now) }
+    {
+        let cache = &seat.generation.cache;
+        cache.lookup(&mut seat.seat, question, now)
+    }
+
+    fn store<R: Wait>(
+        &self,
+        rt: &R,
+        seat: &mut RollingSeat,
+        question: &Question,
+        answer: &Arc<Answer>,
+        now: Moment,
+    ) -> Result<(), StoreRefusal>
+        requires made_here { IsAt seat.old }
+        requires kind { kind_of (arc_value answer.now).records ≡ question.now.kind }
+        ensures stays { IsAt seat.new }
+        ensures generation { seat.new.generation ≡ seat.old.generation }
+        ensures goes_on { GoesOn seat.old.seat.seat seat.new.seat.seat }
+        ensures offered { seat.new.seat.seat.offered ≡ seat.old.seat.seat.offered
+            ++ offer_of question.now (arc_value answer.now) now ∷ [] }
+        ensures stored { OnOk result (IsStored seat.old.seat.seat seat.new.seat.seat
+            (offer_of question.now (arc_value answer.now) now)) }
+        ensures refused { IfErr result (IsRefused seat.old.seat.seat seat.new.seat.seat
+            (offer_of question.now (arc_value answer.now) now)) }
+    {
+        let cache = &seat.generation.cache;
+        let stored = cache.store(rt, &mut seat.seat, question, answer, now);
+        seat.generation.note(question, stored, now);
+        stored
+    }
+}

@@ -1,0 +1,19 @@
+use Rattle.sip_resolver.proofs.Standing.{works-not}
+use Rattle.sip_resolver.specs.Outcomes.{IsFaulty}
+use Rattle.sip_resolver.proofs.resolver.Resolver.hear.Goals as goal
+
+pub returns-in-Faulty-clause-works : goal.returns-in-Faulty-clause-works
+returns-in-Faulty-clause-works g c = works-not _ _ (g.B.AnswerBook.shown c.args.seat.now)
+
+pub returns-in-Faulty-clause-stand : goal.returns-in-Faulty-clause-stand
+returns-in-Faulty-clause-stand g c =
+    let ends = rw c.in-Faulty.is at c.requires.ends.ends in
+    let faulty : IsFaulty g.F.Origin.gives c.args.question.now c.in-Faulty.refusal = record {
+      octets = c.args.octets.now;
+      given = c.requires.given;
+      it = c.requires.ends.it;
+      begins = c.requires.ends.begins;
+      fault = ends.0;
+      ends = ends.1;
+    } in
+    c.settle_all.ensures.stand (g.B.AnswerBook.shown c.args.seat.now) faulty (rw (← c.self.view_is) at c.requires.stand)

@@ -1,0 +1,38 @@
+use Rattle.std.specs.Arc.{arc_value}
+use Rattle.sip_locator.specs.Replies.{Answers}
+use Rattle.sip_resolver.proofs.Standing.{stand-later, works-not}
+use Rattle.sip_resolver.proofs.Storing.{counts, works-store}
+use Rattle.sip_resolver.proofs.resolver.Resolver.take.Goals as goal
+
+pub returns-in_default-clause-works : goal.returns-in_default-clause-works
+returns-in_default-clause-works g c = works-not _ _ (g.B.AnswerBook.shown c.args.seat.now)
+
+pub returns-in_default-clause-stand : goal.returns-in_default-clause-stand
+returns-in_default-clause-stand g c =
+    c.settle_all.ensures.stand (g.B.AnswerBook.shown c.args.seat.now) tt (rw (← c.self.view_is) at c.requires.stand)
+
+pub returns-clause-works : goal.returns-clause-works
+returns-clause-works g c =
+    let before = g.B.AnswerBook.shown c.args.seat.now in
+    let after = g.B.AnswerBook.shown c.store-kept.new.seat in
+    let store = c.store-kept.ensures in
+    let answer = arc_value c.in-Ok.answer in
+    let answers : Answers c.args.question.now c.args.octets.now answer = rw c.in-Ok.ensures.ok c.requires.answers in
+    works-store g.F.Origin.gives g.F.Origin.shows before after store.goes_on c.args.octets.now c.requires.given _ c.requires.shown
+    c.args.question.now answer answers store.offered c.store-kept.result store.stored store.refused
+
+pub returns-clause-stand : goal.returns-clause-stand
+returns-clause-stand g c =
+    let before = g.B.AnswerBook.shown c.args.seat.now in
+    let after = g.B.AnswerBook.shown c.store-kept.new.seat in
+    let store = c.store-kept.ensures in
+    let answer = arc_value c.in-Ok.answer in
+    let answers : Answers c.args.question.now c.args.octets.now answer = rw c.in-Ok.ensures.ok c.requires.answers in
+    let works =
+    works-store g.F.Origin.gives g.F.Origin.shows before after store.goes_on c.args.octets.now c.requires.given _ c.requires.shown
+    c.args.question.now answer answers store.offered c.store-kept.result store.stored store.refused in
+    let known =
+    counts g.F.Origin.gives g.F.Origin.shows before after store.goes_on c.args.octets.now c.requires.given _ c.requires.shown
+    c.args.question.now answer answers store.offered in
+    let stand = rw (← c.self.view_is) at c.requires.stand in
+    c.settle_all-2.ensures.stand after known (stand-later _ _ before after works c.self.inside.requests stand)

@@ -1,0 +1,13 @@
+use Rattle.answer_cache.specs.Seats.{SeatView}
+use Rattle.sip_resolver.proofs.Turning.{Turned}
+use Rattle.sip_resolver.specs.Requests.{AreSame, Stand}
+use Rattle.sip_resolver.specs.Waits.{IsKnown}
+use Rattle.sip_resolver.proofs.waits.settle_all.Given as goal
+
+abbrev pub invariant-waits : goal.invariant-waits
+invariant-waits g l = record {
+  stand : (seat : SeatView) → IsKnown g.F.Origin.gives g.F.Origin.shows seat l.end
+      → Stand g.F.Origin.gives g.F.Origin.shows seat l.fn.requests → Stand g.F.Origin.gives g.F.Origin.shows seat l.requests;
+  same : AreSame l.fn.requests l.requests;
+  turned : Turned l.id l.fn.requests.waiting l.requests.waiting l._wait;
+}

@@ -1,0 +1,105 @@
+-- The requests inside a resolver.
+use Rattle.std.specs.Prelude.{◌≡◌, ◌==◌, ℕ, ◌+◌, ◌<◌, ◌≤◌, Bool, not, List, ◌∷◌, ◌++◌, length, map}
+use Rattle.std.specs.List.{All, filter, sum_by}
+use Rattle.answer_cache.specs.Seats.{SeatView}
+use Rattle.sip_resolver.specs.Outcomes.{Ended, IsOutcome, Sought}
+use Rattle.sip_resolver.specs.Queues.{Queued}
+use Rattle.sip_resolver.specs.Tasks.{IsCounted, Lacks, TaskView, WaitingView, sought_of}
+
+-- Those that can go on, those whose questions found as many others out as can be, those that wait
+-- for replies, and those that ended and were not taken; and how many there can be.
+pub record RequestsView : Type 0 where
+  pub ready : List TaskView
+  pub held : List TaskView
+  pub waiting : List WaitingView
+  pub ended : List Ended
+  pub limit : ℕ
+
+abbrev pub requests_of : List TaskView → List TaskView → List WaitingView → List Ended → ℕ
+    → RequestsView
+requests_of ready held waiting ended limit =
+    record { ready = ready; held = held; waiting = waiting; ended = ended; limit = limit }
+
+-- how many there are
+abbrev pub count_of : RequestsView → ℕ
+count_of it = length it.ready + length it.held + length it.waiting + length it.ended
+
+abbrev pub number_of_waiting : WaitingView → ℕ
+number_of_waiting it = it.task.number
+
+abbrev pub number_of_ended : Ended → ℕ
+number_of_ended it = it.sought.number
+
+-- their numbers
+abbrev pub numbers_of : RequestsView → List ℕ
+numbers_of it =
+    map (λ task. task.number) it.ready ++ map (λ task. task.number) it.held
+    ++ map number_of_waiting it.waiting ++ map number_of_ended it.ended
+
+-- what they weigh, by a weight of each
+abbrev pub weight : (Sought → ℕ) → RequestsView → ℕ
+weight h it =
+    sum_by (λ task. h (sought_of task)) it.ready + sum_by (λ task. h (sought_of task)) it.held
+    + sum_by (λ waiting. h (sought_of waiting.task)) it.waiting
+    + sum_by (λ ended. h ended.sought) it.ended
+
+-- the same requests, each as often as before
+abbrev pub AreSame : RequestsView → RequestsView → Type 0
+AreSame old new = (new.limit ≡ old.limit) × ((h : Sought → ℕ) → weight h new ≡ weight h old)
+
+-- one request more, wherever it is
+pub record IsBack (sought : Sought) (old new : RequestsView) : Type 0 where
+  pub limit : new.limit ≡ old.limit
+  pub weighs : (h : Sought → ℕ) → weight h new ≡ weight h old + h sought
+
+-- those that wait for the reply to the message of this id are no longer among them
+abbrev pub waits_for_other : ℕ → WaitingView → Bool
+waits_for_other id waiting = not (waiting.id == id)
+
+abbrev pub waiting_without : ℕ → List WaitingView → List WaitingView
+waiting_without id waiting = filter (waits_for_other id) waiting
+
+-- ---- one is taken out
+
+pub record IsWithoutReady (task : TaskView) (old new : RequestsView) : Type 0 where
+  pub first : old.ready ≡ task ∷ new.ready
+  pub others : new ≡ record old { ready = new.ready }
+  pub room : count_of new < new.limit
+
+pub record IsWithoutHeld (task : TaskView) (old new : RequestsView) : Type 0 where
+  pub first : old.held ≡ task ∷ new.held
+  pub others : new ≡ record old { held = new.held }
+  pub room : count_of new < new.limit
+
+pub record IsWithoutWaiting (waiting : WaitingView) (old new : RequestsView) : Type 0 where
+  pub first : old.waiting ≡ waiting ∷ new.waiting
+  pub others : new ≡ record old { waiting = new.waiting }
+  pub room : count_of new < new.limit
+
+pub record IsWithoutEnded (ended : Ended) (old new : RequestsView) : Type 0 where
+  pub first : old.ended ≡ ended ∷ new.ended
+  pub others : new ≡ record old { ended = new.ended }
+
+-- ---- room
+
+-- each queue has room for all
+pub record HaveRoom (ready held : Queued TaskView) (waiting : Queued WaitingView)
+    (ended : Queued Ended) (limit : ℕ) : Type 0 where
+  pub ready_room : ready.room ≡ limit
+  pub held_room : held.room ≡ limit
+  pub waiting_room : waiting.room ≡ limit
+  pub ended_room : ended.room ≡ limit
+  pub few : length ready.items + length held.items + length waiting.items + length ended.items
+      ≤ limit
+
+-- ---- what is so of them, at a seat
+
+-- Each answer that a request was given counts; what a waiting one needs was lacking; and what
+-- became of each that ended is so.
+pub record Stand (gives : List ℕ → Type 0) (shows : ℕ → Type 0) (seat : SeatView)
+    (it : RequestsView) : Type 0 where
+  pub ready : All (IsCounted gives shows seat) it.ready
+  pub held : All (IsCounted gives shows seat) it.held
+  pub waiting : All (λ waiting. IsCounted gives shows seat waiting.task
+      × Lacks shows seat waiting.task) it.waiting
+  pub ended : All (λ ended. IsOutcome gives shows seat ended.sought ended.outcome) it.ended

@@ -1,0 +1,57 @@
+-- What is so of a request on its way.
+use Rattle.std.specs.Prelude.{◌≡◌, ℕ, List}
+use Rattle.std.specs.List.{All}
+use Rattle.dns_message.specs.declared.question.Question.{Question}
+use Rattle.answer_cache.specs.Seats.{SeatView}
+use Rattle.sip_selection.specs.Choice.{Resolution, targets, refused, need}
+use Rattle.sip_selection.specs.Selections.{SelectionValue, now_of}
+use Rattle.sip_resolver.specs.Outcomes.{Counts, IsLacking, IsOutcome, Sought}
+use Rattle.sip_resolver.specs.declared.outcome.Outcome.TheVariants.{Targets, Refused, NoAnswer, BadReply, Memory}
+use Rattle.sip_resolver.specs.declared.task.Progress.{Progress}
+use Rattle.sip_resolver.specs.declared.task.Progress.TheVariants.{Asks, Ended}
+
+-- its number, and its choice over the answers that it was given
+pub record TaskView : Type 0 where
+  pub number : ℕ
+  pub selection : SelectionValue
+
+-- a request that waits for the reply to the message of this id
+pub record WaitingView : Type 0 where
+  pub id : ℕ
+  pub task : TaskView
+
+-- the request, as it was submitted
+abbrev pub sought_of : TaskView → Sought
+sought_of task = record {
+  number = task.number;
+  request = task.selection.request;
+  caps = task.selection.caps;
+  words = task.selection.words;
+}
+
+-- each answer that it was given counts
+abbrev pub IsCounted : (List ℕ → Type 0) → (ℕ → Type 0) → SeatView → TaskView → Type 0
+IsCounted gives shows seat task = All (Counts gives shows seat) task.selection.given
+
+-- what it needs was lacking
+abbrev pub Lacks : (ℕ → Type 0) → SeatView → TaskView → Type 0
+Lacks shows seat task =
+    (question : Question) → now_of task.selection ≡ need question
+    → IsLacking shows seat.seen question
+
+-- how far a step leads after which this is known
+abbrev pub Leaves : Resolution → Progress → Type 0
+Leaves resolution Asks = (question : Question) × (resolution ≡ need question)
+Leaves resolution (Ended (Targets list)) = resolution ≡ targets list
+Leaves resolution (Ended (Refused reason)) = resolution ≡ refused reason
+Leaves resolution (Ended (NoAnswer question)) = ⊥
+Leaves resolution (Ended (BadReply question refusal)) = ⊥
+Leaves resolution (Ended Memory) = Unit {0}
+
+-- how far it is after a step
+abbrev pub Progresses : (List ℕ → Type 0) → (ℕ → Type 0) → SeatView → TaskView → Progress → Type 0
+Progresses gives shows seat task Asks =
+    IsCounted gives shows seat task × Lacks shows seat task
+    × ((question : Question) × (now_of task.selection ≡ need question))
+Progresses gives shows seat task (Ended outcome) =
+    IsOutcome gives shows seat (sought_of task) outcome

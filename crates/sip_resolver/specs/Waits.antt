@@ -1,0 +1,49 @@
+-- How the wait for a reply ends, and what becomes of a request that waited. No public clause cites
+-- this module.
+use Rattle.std.specs.Prelude.{◌≡◌, ⊤, ℕ, List}
+use Rattle.std.specs.Arc.{arc_value}
+use Rattle.dns_answers.specs.declared.refusal.ReplyRefusal.{ReplyRefusal}
+use Rattle.dns_message.specs.declared.question.Question.{Question}
+use Rattle.answer_cache.specs.Seats.{SeatView}
+use Rattle.sip_selection.specs.Choice.{need}
+use Rattle.sip_selection.specs.Selections.{now_of}
+use Rattle.sip_resolver.specs.Outcomes.{Counts, IsFaulty, IsOutcome}
+use Rattle.sip_resolver.specs.Tasks.{IsCounted, TaskView, sought_of}
+use Rattle.sip_resolver.specs.declared.outcome.Outcome.TheVariants.{Targets, Refused, NoAnswer, BadReply, Memory}
+use Rattle.sip_resolver.specs.declared.waits.Fate.{Fate}
+use Rattle.sip_resolver.specs.declared.waits.Fate.TheVariants.{Ready, Ended}
+use Rattle.sip_resolver.specs.declared.waits.WaitEnd.{WaitEnd}
+use Rattle.sip_resolver.specs.declared.waits.WaitEnd.TheVariants.{Answered, Faulty, GivenUp, NoMemory}
+
+-- the answer counts, or the fault is one of octets that came in
+abbrev pub IsKnown : (List ℕ → Type 0) → (ℕ → Type 0) → SeatView → WaitEnd → Type 0
+IsKnown gives shows seat (Answered question answer) =
+    Counts gives shows seat (record { question = question.now; answer = arc_value answer.now })
+IsKnown gives shows seat (Faulty question refusal) = IsFaulty gives question.now refusal
+IsKnown gives shows seat GivenUp = ⊤
+IsKnown gives shows seat NoMemory = ⊤
+
+-- each answer of a request that can go on counts, and the outcome of one that ended is so
+abbrev pub Fits : (List ℕ → Type 0) → (ℕ → Type 0) → SeatView → TaskView → Fate → Type 0
+Fits gives shows seat task Ready = IsCounted gives shows seat task
+Fits gives shows seat task (Ended outcome) = IsOutcome gives shows seat (sought_of task) outcome
+
+-- it ended by this fault of the reply to the question that it needed, or for want of memory; or it
+-- needed no such question
+abbrev pub IsFailed : TaskView → Question → ReplyRefusal → Fate → Type 0
+IsFailed task question refusal Ready = ⊤
+IsFailed task question refusal (Ended (Targets list)) = ⊥
+IsFailed task question refusal (Ended (Refused reason)) = ⊥
+IsFailed task question refusal (Ended (NoAnswer other)) = ⊥
+IsFailed task question refusal (Ended (BadReply other fault)) =
+    (now_of task.selection ≡ need question) × (other ≡ question) × (fault ≡ refusal)
+IsFailed task question refusal (Ended Memory) = ⊤
+
+-- it ended for want of the answer that it needed, or for want of memory; or it needed none
+abbrev pub IsGivenUp : TaskView → Fate → Type 0
+IsGivenUp task Ready = ⊤
+IsGivenUp task (Ended (Targets list)) = ⊥
+IsGivenUp task (Ended (Refused reason)) = ⊥
+IsGivenUp task (Ended (NoAnswer question)) = now_of task.selection ≡ need question
+IsGivenUp task (Ended (BadReply question fault)) = ⊥
+IsGivenUp task (Ended Memory) = ⊤

@@ -1,0 +1,30 @@
+-- What a resolver does at a seat.
+use Rattle.std.specs.Prelude.{◌≡◌, ◌⊎◌, ℕ, List, [], ◌∷◌, ◌++◌}
+use Rattle.std.specs.List.{All}
+use Rattle.answer_log.specs.declared.store.Store.{Store}
+use Rattle.answer_cache.specs.Seats.{GoesOn, Offer, SeatView, offer_of}
+use Rattle.sip_resolver.specs.Outcomes.{IsReplied}
+
+-- what a reply had, at a moment that was shown
+abbrev pub IsHeard : (List ℕ → Type 0) → (ℕ → Type 0) → Offer → Type 0
+IsHeard gives shows offer = IsReplied gives offer.question offer.answer × shows offer.moment
+
+abbrev pub offer_in : Store → Offer
+offer_in store = offer_of store.question store.answer store.moment
+
+-- It goes on with the history, and hands to the book what replies had and nothing else. So what it
+-- stores is of them.
+pub record Works (gives : List ℕ → Type 0) (shows : ℕ → Type 0) (old new : SeatView)
+    : Type 0 where
+  pub goes_on : GoesOn old new
+  pub offers : List Offer
+  pub offered : new.offered ≡ old.offered ++ offers
+  pub heard : All (IsHeard gives shows) offers
+  pub stores : List Store
+  pub own : new.own ≡ old.own ++ stores
+  pub kept : All (λ store. IsHeard gives shows (offer_in store)) stores
+
+-- at most one thing is handed to the book
+abbrev pub IsAtMostOne : SeatView → SeatView → Type 0
+IsAtMostOne old new =
+    (new.offered ≡ old.offered) ⊎ ((offer : Offer) × (new.offered ≡ old.offered ++ offer ∷ []))

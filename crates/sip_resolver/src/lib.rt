@@ -1,0 +1,35 @@
+//! A resolver core without I/O (RFC 3263 4 and 5): many requests at once, over DNS messages that
+//! its caller sends and receives.
+//!
+//! A `Resolver` takes requests, octets that came in, and moments. It gives the octets to send, the
+//! moment at which to come again if nothing else happens, and what became of each request. It opens
+//! no socket, reads no clock and starts no thread, so an event loop or a thread can drive it. The
+//! book of answers (`answer_cache`) and the caller's seat at it are lent to each call.
+//!
+//! A loop over it goes on so: `submit` what is to be resolved; call `poll_transmit` until it gives
+//! nothing, and send what it gives; take what `poll_outcome` gives; wait for a datagram until the
+//! moment that `next_timeout` names, and hand it to `handle`.
+//!
+//! A question that many requests ask at once is sent once. Its reply is read once and stored once,
+//! and all that wait for it get its answer, in the order in which they came to wait.
+//!
+//! Read `specs/Outcomes.antt` first: what an outcome says. Then `specs/Resolvers.antt`: what a
+//! resolver holds, and `specs/Works.antt`: what it does at a seat.
+#![tactic(auto)]
+
+mod asks;
+mod ids;
+mod origin;
+mod outcome;
+mod queue;
+mod refusal;
+mod requests;
+mod resolver;
+mod task;
+mod waits;
+
+pub use ids::{CountingIds, Ids};
+pub use origin::{Anything, Origin};
+pub use outcome::{Outcome, Resolved, TargetList};
+pub use refusal::SubmitRefusal;
+pub use resolver::{Heard, Limits, Resolver};

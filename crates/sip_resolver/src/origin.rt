@@ -1,0 +1,24 @@
+//! What may be known of what a resolver is handed.
+ghost use Rattle.std.specs.Prelude.{ℕ, List};
+
+/// What may be known of the octets that come in, and of the moments that a clock shows. An outcome
+/// tells it of the replies and of the moments that it rests on.
+pub trait Origin {
+    // What octets may come in.
+    ghost gives: { List ℕ → Type 0 };
+
+    // What moments may be shown.
+    ghost shows: { ℕ → Type 0 };
+}
+
+/// Nothing is known of them: any octets may come in, and any moment may be shown.
+#[derive(Clone, Copy, Debug)]
+pub struct Anything;
+
+impl Origin for Anything {
+    ghost use Rattle.std.specs.Prelude.{⊤};
+
+    ghost gives = { λ _. ⊤ };
+
+    ghost shows = { λ _. ⊤ };
+}

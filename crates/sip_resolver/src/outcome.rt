@@ -1,0 +1,134 @@
+//! What becomes of a request.
+ghost use Rattle.std.specs.Prelude.{◌≡◌, IfOk};
+ghost use Rattle.sip_resolver.specs.Outcomes.{Ended, Sought};
+
+use crate::queue::Numbered;
+use crate::task::Task;
+use dns_answers::ReplyRefusal;
+use dns_message::Question;
+use sip_selection::{Reason, Target};
+use std::alloc::{AllocError, Global};
+use std::marker::Model;
+
+/// Where a request can be sent, in the order in which the targets are to be tried.
+///
+/// It gives its `Vec` back, and takes no memory for that.
+#[derive(Debug, Drop)]
+pub struct TargetList {
+    items: Vec<Target>,
+}
+
+impl Model for TargetList {
+    ghost use Rattle.std.specs.Prelude.{List};
+    ghost use Rattle.sip_selection.specs.declared.target.Target.{Target as target};
+
+    ghost Value = { List target };
+
+    ghost view = { λ list. list.items.items };
+}
+
+impl TargetList {
+    /// A copy of these targets.
+    pub(crate) fn of(alloc: Global, targets: &[Target]) -> Result<TargetList, AllocError>
+        ensures { IfOk result (λ list. list ≡ targets.now) }
+    {
+        let mut items = Vec::with_capacity(alloc, targets.len())?;
+        items.extend_from_slice(targets)?;
+        Ok(TargetList { items })
+    }
+
+    /// The targets.
+    #[must_use]
+    pub fn into_vec(self) -> Vec<Target>
+        ensures { result.items ≡ self }
+    {
+        let TargetList { items } = self;
+        items
+    }
+
+    /// The targets.
+    #[must_use]
+    pub fn as_slice(&self) -> &[Target]
+        ensures { result.now ≡ self.now }
+    {
+        self.items.as_slice()
+    }
+}
+
+/// What becomes of a request.
+#[derive(Debug, Drop)]
+pub enum Outcome {
+    /// It can be sent to these targets.
+    Targets(TargetList),
+    /// It goes nowhere.
+    Refused(Reason),
+    /// This question has no answer: it was sent three times.
+    NoAnswer(Question),
+    /// The reply to this question was cut (`Truncated`), or tells a fault of the server
+    /// (`ServerFault`).
+    BadReply(Question, ReplyRefusal),
+    /// Memory was refused, or the resolver has sent 2^64 - 1 questions.
+    Memory,
+}
+
+/// A request that ended, and what became of it.
+#[derive(Drop)]
+pub struct Resolved<B> {
+    task: Task<B>,
+    outcome: Outcome,
+}
+
+impl<B> Model for Resolved<B> {
+    ghost use Rattle.sip_resolver.specs.Outcomes.{Ended};
+    ghost use Rattle.sip_resolver.specs.Tasks.{sought_of};
+
+    ghost Value = { Ended };
+
+    ghost view = { λ it. record { sought = sought_of it.task; outcome = it.outcome } };
+}
+
+impl<B> Resolved<B> {
+    ghost use Rattle.sip_resolver.specs.Tasks.{sought_of};
+
+    /// This became of a request.
+    pub(crate) fn new(task: Task<B>, outcome: Outcome) -> Resolved<B>
+        ensures { result ≡ record { sought = sought_of task; outcome = outcome } }
+    {
+        Resolved { task, outcome }
+    }
+
+    /// The number of the request.
+    #[must_use]
+    pub fn number(&self) -> u64
+        ensures { result ≡ self.now.sought.number }
+    {
+        self.task.number()
+    }
+
+    /// What became of it.
+    #[must_use]
+    pub fn outcome(&self) -> &Outcome
+        ensures { result.now ≡ self.now.outcome }
+    {
+        &self.outcome
+    }
+}
+
+impl<B> Numbered for Resolved<B> {
+    ghost numbered = { λ it. it.sought.number };
+
+    fn its_number(&self) -> u64 {
+        self.task.number()
+    }
+}
+
+impl<B: Drop> Resolved<B> {
+    /// What became of it.
+    #[must_use]
+    pub fn into_outcome(self) -> Outcome
+        ensures { result ≡ self.outcome }
+    {
+        let Resolved { outcome, .. } = self;
+        outcome
+    }
+}

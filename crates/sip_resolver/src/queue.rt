@@ -1,0 +1,82 @@
+//! A queue whose room is taken once.
+ghost use Rattle.std.specs.Prelude.{◌≡◌, ◌↔◌, ◌<◌, ◌≤◌, ℕ, [], ◌∷◌, ◌++◌, IfOk, IsTrue, MatchOption, length, map};
+ghost use Rattle.std.specs.List.{Contains};
+
+use std::alloc::{AllocError, Global};
+use std::collections::VecDeque;
+use std::marker::Model;
+
+/// Items in the order in which they came, in memory that `new` takes: a push takes none.
+#[derive(Drop)]
+pub(crate) struct Queue<T> {
+    items: VecDeque<T>,
+}
+
+impl<T> Model for Queue<T> {
+    ghost use Rattle.std.specs.VecDeque.{deque_capacity};
+    ghost use Rattle.sip_resolver.specs.Queues.{Queued};
+
+    ghost Value = { Queued T };
+
+    ghost view = { λ it. record { items = it.items.items; room = deque_capacity it.items } };
+}
+
+impl<T> Queue<T> {
+    /// None, with room for so many.
+    pub(crate) fn new(alloc: Global, room: usize) -> Result<Queue<T>, AllocError>
+        ensures { IfOk result (λ it. it ≡ record { items = []; room = room }) }
+    {
+        Ok(Queue {
+            items: VecDeque::with_capacity(alloc, room)?,
+        })
+    }
+
+    /// How many there are.
+    pub(crate) fn len(&self) -> usize
+        ensures { result ≡ length self.now.items }
+    {
+        self.items.len()
+    }
+
+    /// One more, which comes last.
+    pub(crate) fn push(&mut self, item: T)
+        requires { length self.old.items < self.old.room }
+        ensures { self.new ≡ record self.old { items = self.old.items ++ item ∷ [] } }
+    {
+        self.items.push_back_reserved(item);
+    }
+
+    /// Takes the first one out.
+    pub(crate) fn pop(&mut self) -> Option<T>
+        ensures { MatchOption result ((self.old.items ≡ []) × (self.new ≡ self.old))
+            (λ first. (self.old.items ≡ first ∷ self.new.items)
+            × (self.new.room ≡ self.old.room)) }
+    {
+        self.items.pop_front()
+    }
+}
+
+/// What has a number.
+pub(crate) trait Numbered {
+    // Its number.
+    ghost numbered: { Self → ℕ };
+
+    /// Its number.
+    fn its_number(&self) -> u64
+        ensures { result ≡ numbered self.now };
+}
+
+impl<T: Numbered> Queue<T> {
+    /// Whether one of them has this number.
+    pub(crate) fn has(&self, number: u64) -> bool
+        ensures { IsTrue result ↔ Contains (map T.numbered self.now.items) number }
+    {
+        'items: for at in 0..self.items.len() {
+            let item = &self.items[at];
+            if item.its_number() == number {
+                return true;
+            }
+        }
+        false
+    }
+}

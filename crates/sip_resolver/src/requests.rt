@@ -1,0 +1,182 @@
+//! The requests inside a resolver, by how far they are.
+ghost use Rattle.std.specs.Prelude.{◌≡◌, ◌↔◌, ◌<◌, ◌≤◌, [], ◌∷◌, ◌++◌, IfOk, IfSome, IsTrue, MatchOption, length, map};
+ghost use Rattle.std.specs.List.{Contains};
+ghost use Rattle.sip_resolver.specs.Outcomes.{Ended};
+ghost use Rattle.sip_resolver.specs.Requests.{IsWithoutEnded, IsWithoutHeld, IsWithoutReady, IsWithoutWaiting, count_of, numbers_of, requests_of};
+ghost use Rattle.sip_resolver.specs.Tasks.{sought_of};
+
+use crate::outcome::{Outcome, Resolved};
+use crate::queue::{Numbered, Queue};
+use crate::task::Task;
+use std::alloc::{AllocError, Global};
+use std::marker::Model;
+
+/// A request that waits for the reply to the message of this id.
+#[derive(Drop)]
+pub(crate) struct Waiting<B> {
+    pub(crate) id: u16,
+    pub(crate) task: Task<B>,
+}
+
+impl<B> Model for Waiting<B> {
+    ghost use Rattle.sip_resolver.specs.Tasks.{WaitingView};
+
+    ghost Value = { WaitingView };
+
+    ghost view = { λ it. record { id = it.id; task = it.task } };
+}
+
+impl<B> Numbered for Waiting<B> {
+    ghost numbered = { λ it. it.task.number };
+
+    fn its_number(&self) -> u64 {
+        self.task.number()
+    }
+}
+
+/// The requests inside, and those that ended and were not taken.
+#[derive(Drop)]
+pub(crate) struct Requests<B> {
+    /// They can go on.
+    ready: Queue<Task<B>>,
+    /// Their questions found as many others out as can be.
+    held: Queue<Task<B>>,
+    /// They wait for replies.
+    waiting: Queue<Waiting<B>>,
+    /// They ended.
+    ended: Queue<Resolved<B>>,
+    /// How many there can be.
+    limit: usize,
+}
+
+impl<B> Model for Requests<B> {
+    ghost use Rattle.sip_resolver.specs.Requests.{RequestsView, HaveRoom, requests_of};
+
+    ghost Value = { RequestsView };
+
+    ghost view = { λ it. requests_of it.ready.items it.held.items it.waiting.items
+        it.ended.items it.limit };
+
+    ghost invariant = { λ it. HaveRoom it.ready it.held it.waiting it.ended it.limit };
+}
+
+impl<B> Requests<B> {
+    /// None, with room for so many.
+    pub(crate) fn new(alloc: Global, limit: usize) -> Result<Requests<B>, AllocError>
+        ensures { IfOk result (λ it. it ≡ requests_of [] [] [] [] limit) }
+    {
+        Ok(Requests {
+            ready: Queue::new(alloc, limit)?,
+            held: Queue::new(alloc, limit)?,
+            waiting: Queue::new(alloc, limit)?,
+            ended: Queue::new(alloc, limit)?,
+            limit,
+        })
+    }
+
+    /// Whether there is room for one more.
+    pub(crate) fn has_room(&self) -> bool
+        ensures { IsTrue result ↔ (count_of self.now < self.now.limit) }
+    {
+        let others = self.limit - self.ready.len() - self.held.len() - self.waiting.len();
+        self.ended.len() < others
+    }
+
+    /// Whether one of this number is among them.
+    pub(crate) fn has(&self, number: u64) -> bool
+        ensures { IsTrue result ↔ Contains (numbers_of self.now) number }
+    {
+        if self.ready.has(number) {
+            return true;
+        }
+        if self.held.has(number) {
+            return true;
+        }
+        if self.waiting.has(number) {
+            return true;
+        }
+        self.ended.has(number)
+    }
+
+    /// How many are held.
+    pub(crate) fn held_len(&self) -> usize
+        ensures { result ≡ length self.now.held }
+    {
+        self.held.len()
+    }
+
+    /// How many wait.
+    pub(crate) fn waiting_len(&self) -> usize
+        ensures { result ≡ length self.now.waiting }
+    {
+        self.waiting.len()
+    }
+
+    /// One more that can go on.
+    pub(crate) fn add(&mut self, task: Task<B>)
+        requires { count_of self.old < self.old.limit }
+        ensures { self.new ≡ record self.old { ready = self.old.ready ++ task ∷ [] } }
+    {
+        self.ready.push(task);
+    }
+
+    /// One more that is held.
+    pub(crate) fn hold(&mut self, task: Task<B>)
+        requires { count_of self.old < self.old.limit }
+        ensures { self.new ≡ record self.old { held = self.old.held ++ task ∷ [] } }
+    {
+        self.held.push(task);
+    }
+
+    /// One more that waits for the reply to the message of this id.
+    pub(crate) fn wait(&mut self, id: u16, task: Task<B>)
+        requires { count_of self.old < self.old.limit }
+        ensures { self.new ≡ record self.old {
+          waiting = self.old.waiting ++ record { id = id; task = task } ∷ [];
+        } }
+    {
+        self.waiting.push(Waiting { id, task });
+    }
+
+    /// One more that ended.
+    pub(crate) fn end(&mut self, task: Task<B>, outcome: Outcome)
+        requires { count_of self.old < self.old.limit }
+        ensures { self.new ≡ record self.old {
+          ended = self.old.ended ++ record { sought = sought_of task; outcome = outcome } ∷ [];
+        } }
+    {
+        self.ended.push(Resolved::new(task, outcome));
+    }
+
+    /// Takes the first one out that can go on.
+    pub(crate) fn next_ready(&mut self) -> Option<Task<B>>
+        ensures { MatchOption result ((self.old.ready ≡ []) × (self.new ≡ self.old))
+            (λ task. IsWithoutReady task self.old self.new) }
+    {
+        self.ready.pop()
+    }
+
+    /// Takes the first one out that is held.
+    pub(crate) fn next_held(&mut self) -> Option<Task<B>>
+        ensures { MatchOption result ((self.old.held ≡ []) × (self.new ≡ self.old))
+            (λ task. IsWithoutHeld task self.old self.new) }
+    {
+        self.held.pop()
+    }
+
+    /// Takes the first one out that waits.
+    pub(crate) fn next_waiting(&mut self) -> Option<Waiting<B>>
+        ensures { MatchOption result ((self.old.waiting ≡ []) × (self.new ≡ self.old))
+            (λ waiting. IsWithoutWaiting waiting self.old self.new) }
+    {
+        self.waiting.pop()
+    }
+
+    /// Takes the first one out that ended.
+    pub(crate) fn next_ended(&mut self) -> Option<Resolved<B>>
+        ensures { MatchOption result ((self.old.ended ≡ []) × (self.new ≡ self.old))
+            (λ ended. IsWithoutEnded ended self.old self.new) }
+    {
+        self.ended.pop()
+    }
+}

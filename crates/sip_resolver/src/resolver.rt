@@ -1,0 +1,391 @@
+//! The machine: what comes in, and what it leads to.
+ghost use Rattle.std.specs.Prelude.{◌≡◌, ◌<◌, ◌≤◌, [], slice_get, IfErr, IfOk, IfSome, MatchOption, OnErr, OnOk};
+ghost use Rattle.std.specs.List.{All};
+ghost use Rattle.std.specs.Option.{option_map};
+ghost use Rattle.answer_cache.specs.Seats.{GoesOn, SeatView, StoresNothing};
+ghost use Rattle.dns_answers.specs.Records.{kind_of};
+ghost use Rattle.sip_locator.specs.Replies.{Answers};
+ghost use Rattle.sip_resolver.specs.Outcomes.{IsOutcome};
+ghost use Rattle.sip_resolver.specs.Requests.{AreSame, IsBack, Stand, count_of, waiting_without};
+ghost use Rattle.sip_resolver.specs.Resolvers.{HasRoomFor, Hears, IsEnded, IsTaken, Polls, RefusesSubmit, begun_of, with_request};
+ghost use Rattle.sip_resolver.specs.Tasks.{IsCounted, sought_of};
+ghost use Rattle.sip_resolver.specs.Works.{IsAtMostOne, Works};
+
+use crate::asks::wait_for_answer;
+use crate::ids::Ids;
+use crate::origin::Origin;
+use crate::outcome::Resolved;
+use crate::refusal::SubmitRefusal;
+use crate::requests::Requests;
+use crate::task::{Progress, Task};
+use crate::waits::{WaitEnd, settle_all};
+use answer_cache::AnswerBook;
+use dns_answers::{Answer, Moment, answers_are_bounded};
+use dns_asker::{Asker, Due, Ending, Incoming, Why};
+use dns_message::Question;
+use sip_selection::{Caps, Request};
+use srv_choice::Words;
+use std::alloc::{AllocError, Global};
+use std::marker::{Model, PhantomData};
+use std::sync::{Arc, Wait};
+
+/// The most questions that can be out at once.
+const QUESTION_LIMIT: usize = 256;
+
+/// How many requests and questions a resolver has at once.
+#[derive(Clone, Copy, Debug)]
+pub struct Limits {
+    /// How many requests are inside at most, from 1 to 1,024. One that ended counts until its
+    /// outcome is taken.
+    pub requests: usize,
+    /// How many questions are out at most, from 1 to 256.
+    pub questions: usize,
+}
+
+/// What octets that came in meant.
+#[derive(Clone, Copy, Debug, PartialEq, Eq)]
+pub enum Heard {
+    /// They ended the wait for the reply to a question.
+    Reply,
+    /// They are no reply to a question that is out, and all stays as it was.
+    Ignored(Why),
+}
+
+/// Gives up the questions that were sent three times and whose replies did not come in time, until
+/// one is to be sent once more, and gives its id.
+fn next_resend<B: AnswerBook, F: Origin>(
+    asker: &mut Asker,
+    requests: &mut Requests<B>,
+    now: Moment,
+) -> Option<u16>
+    ensures stand { (seat : SeatView) → Stand F.gives F.shows seat requests.old
+        → Stand F.gives F.shows seat requests.new }
+    ensures same { AreSame requests.old requests.new }
+{
+    'dues: for _due in 0..QUESTION_LIMIT {
+        match asker.due(now) {
+            None => return None,
+            Some(Due::Resend(id, _)) => return Some(id),
+            Some(Due::GaveUp(id, _)) => settle_all::<B, F>(requests, id, &WaitEnd::GivenUp),
+        }
+    }
+    None
+}
+
+/// Many requests at once, each on its way to its targets.
+#[derive(Drop)]
+pub struct Resolver<B, F, I> {
+    alloc: Global,
+    asker: Asker,
+    ids: I,
+    requests: Requests<B>,
+    over: PhantomData<F>,
+}
+
+impl<B, F, I> Model for Resolver<B, F, I> {
+    ghost use Rattle.sip_resolver.specs.Resolvers.{ResolverView};
+
+    ghost Value = { ResolverView };
+
+    ghost view = { λ it. record { requests = it.requests; asking = it.asker } };
+}
+
+impl<B: AnswerBook, F: Origin, I: Ids + Drop> Resolver<B, F, I> {
+    ghost use Rattle.std.specs.Borrow.{sem};
+    ghost use Rattle.std.specs.Io.BufRead.{Rests};
+    ghost use Rattle.sip_resolver.specs.contracts.resolver.Resolver.{the_row};
+
+    /// No request is inside, and no question is out.
+    pub fn new(alloc: Global, limits: Limits, ids: I) -> Result<Resolver<B, F, I>, AllocError>
+        requires requests { (1 ≤ limits.requests) × (limits.requests ≤ 1024) }
+        requires questions { (1 ≤ limits.questions) × (limits.questions ≤ 256) }
+        ensures { IfOk result (λ it. it ≡ begun_of limits.requests limits.questions) }
+    {
+        Ok(Resolver {
+            alloc,
+            asker: Asker::new(alloc, limits.questions, 0)?,
+            ids,
+            requests: Requests::new(alloc, limits.requests)?,
+            over: PhantomData,
+        })
+    }
+
+    /// Takes a request in, under a number by which its outcome is told.
+    pub fn submit(
+        &mut self,
+        number: u64,
+        request: Request,
+        caps: Caps,
+        words: Words,
+    ) -> Result<(), SubmitRefusal>
+        ensures submitted { OnOk result
+            (self.new ≡ with_request number request caps words.0 self.old) }
+        ensures room { OnOk result (HasRoomFor self.old number) }
+        ensures refused { IfErr result (RefusesSubmit self.old number) }
+        ensures stand { (seat : SeatView) → Stand F.gives F.shows seat self.old.requests
+            → Stand F.gives F.shows seat self.new.requests }
+        ensures unchanged { OnErr result (self.new ≡ self.old) }
+    {
+        if !self.requests.has_room() {
+            return Err(SubmitRefusal::Full);
+        }
+        if self.requests.has(number) {
+            return Err(SubmitRefusal::NumberTaken);
+        }
+        let task = Task::new(self.alloc, number, request, caps, words)?;
+        self.requests.add(task);
+        Ok(())
+    }
+
+    /// The octets to send next, if there are any now. It is called again until it gives none.
+    ///
+    /// Questions whose replies did not come in time are given up after three sends, or sent once
+    /// more; then each request that can goes on, by what the book has.
+    pub fn poll_transmit(&mut self, book: &B, seat: &mut B::Seat, now: Moment) -> Option<&[u8]>
+        requires made_here { B.belongs book.now seat.old }
+        requires shown { F.shows now }
+        requires stand { Stand F.gives F.shows (B.shown seat.old) self.old.requests }
+        ensures stays { B.belongs book.now seat.new }
+        ensures goes_on { GoesOn (B.shown seat.old) (B.shown seat.new) }
+        ensures stores_nothing { StoresNothing (B.shown seat.old) (B.shown seat.new) }
+        ensures* polls { sem 𝓛 (Rests (the_row B.row F.row I.row) self.entry (λ ended.
+            Polls F.gives F.shows (B.shown seat.new) self.old ended result)) }
+    {
+        let id = self.next_transmit(book, seat, now)?;
+        self.asker.octets_of(id)
+    }
+
+    /// Takes octets that came in. The answer of a reply is stored once, and all requests that wait
+    /// for it get it, in the order in which they came to wait; they go on when
+    /// `poll_transmit` is called. Where memory is refused all is as before.
+    pub fn handle<R: Wait>(
+        &mut self,
+        rt: &R,
+        book: &B,
+        seat: &mut B::Seat,
+        now: Moment,
+        octets: &[u8],
+    ) -> Result<Heard, AllocError>
+        requires made_here { B.belongs book.now seat.old }
+        requires given { F.gives octets.now }
+        requires shown { F.shows now }
+        requires stand { Stand F.gives F.shows (B.shown seat.old) self.old.requests }
+        ensures stays { B.belongs book.now seat.new }
+        ensures works { Works F.gives F.shows (B.shown seat.old) (B.shown seat.new) }
+        ensures stand { Stand F.gives F.shows (B.shown seat.new) self.new.requests }
+        ensures once { IsAtMostOne (B.shown seat.old) (B.shown seat.new) }
+        ensures same { AreSame self.old.requests self.new.requests }
+        ensures hears { IfOk result (Hears self.old self.new octets.now) }
+        ensures unchanged { OnErr result ((self.new ≡ self.old) × (seat.new ≡ seat.old)) }
+    {
+        match self.asker.incoming(octets)? {
+            Incoming::Ignored(why) => Ok(Heard::Ignored(why)),
+            Incoming::Ended(id, question, ending) => {
+                self.hear(rt, book, seat, now, octets, id, &question, ending);
+                Ok(Heard::Reply)
+            }
+        }
+    }
+
+    /// A request that ended, with what became of it, if there is one: each once, in the order in
+    /// which they ended.
+    pub fn poll_outcome(&mut self) -> Option<Resolved<B>>
+        ensures taken { MatchOption result ((self.old.requests.ended ≡ []) × (self.new ≡ self.old))
+            (λ ended. IsTaken ended self.old self.new) }
+        ensures outcome { (seat : SeatView) → Stand F.gives F.shows seat self.old.requests
+            → IfSome result
+            (λ ended. IsOutcome F.gives F.shows seat ended.sought ended.outcome) }
+        ensures stand { (seat : SeatView) → Stand F.gives F.shows seat self.old.requests
+            → Stand F.gives F.shows seat self.new.requests }
+    {
+        self.requests.next_ended()
+    }
+
+    /// The second at which `poll_transmit` next has something to send or to give up, if nothing
+    /// else happens, counted as moments are: the least deadline of the questions that are out. None
+    /// where no question is out.
+    #[must_use]
+    pub fn next_timeout(&self) -> Option<u64>
+        ensures first { result
+            ≡ option_map (λ it. it.deadline) (slice_get self.now.asking.tickets 0) }
+        ensures least { IfSome result
+            (λ it. All (λ ticket. it ≤ ticket.deadline) self.now.asking.tickets) }
+    {
+        self.asker.next_due()
+    }
+
+    /// The id of the question to send next.
+    fn next_transmit(&mut self, book: &B, seat: &mut B::Seat, now: Moment) -> Option<u16>
+        requires made_here { B.belongs book.now seat.old }
+        requires shown { F.shows now }
+        requires stand { Stand F.gives F.shows (B.shown seat.old) self.old.requests }
+        ensures stays { B.belongs book.now seat.new }
+        ensures goes_on { GoesOn (B.shown seat.old) (B.shown seat.new) }
+        ensures stores_nothing { StoresNothing (B.shown seat.old) (B.shown seat.new) }
+        ensures stand { Stand F.gives F.shows (B.shown seat.new) self.new.requests }
+        ensures same { AreSame self.old.requests self.new.requests }
+    {
+        if let Some(id) = next_resend::<B, F>(&mut self.asker, &mut self.requests, now) {
+            return Some(id);
+        }
+        if let Some(id) = self.run_ready(book, seat, now) {
+            return Some(id);
+        }
+        self.run_held(book, seat, now)
+    }
+
+    /// Lets each request go on that is ready, until a question is sent for one, and gives its id.
+    fn run_ready(&mut self, book: &B, seat: &mut B::Seat, now: Moment) -> Option<u16>
+        requires made_here { B.belongs book.now seat.old }
+        requires shown { F.shows now }
+        requires stand { Stand F.gives F.shows (B.shown seat.old) self.old.requests }
+        ensures stays { B.belongs book.now seat.new }
+        ensures goes_on { GoesOn (B.shown seat.old) (B.shown seat.new) }
+        ensures stores_nothing { StoresNothing (B.shown seat.old) (B.shown seat.new) }
+        ensures stand { Stand F.gives F.shows (B.shown seat.new) self.new.requests }
+        ensures same { AreSame self.old.requests self.new.requests }
+    {
+        'tasks: while let Some(task) = self.requests.next_ready() {
+            if let Some(id) = self.advance(book, seat, now, task) {
+                return Some(id);
+            }
+        }
+        None
+    }
+
+    /// Lets each request go on that is held, while there is room for another question, until one is
+    /// sent, and gives its id.
+    fn run_held(&mut self, book: &B, seat: &mut B::Seat, now: Moment) -> Option<u16>
+        requires made_here { B.belongs book.now seat.old }
+        requires shown { F.shows now }
+        requires stand { Stand F.gives F.shows (B.shown seat.old) self.old.requests }
+        ensures stays { B.belongs book.now seat.new }
+        ensures goes_on { GoesOn (B.shown seat.old) (B.shown seat.new) }
+        ensures stores_nothing { StoresNothing (B.shown seat.old) (B.shown seat.new) }
+        ensures stand { Stand F.gives F.shows (B.shown seat.new) self.new.requests }
+        ensures same { AreSame self.old.requests self.new.requests }
+    {
+        'tasks: for _held in 0..self.requests.held_len() {
+            if self.asker.is_full() {
+                return None;
+            }
+            let Some(task) = self.requests.next_held() else {
+                return None;
+            };
+            if let Some(id) = self.advance(book, seat, now, task) {
+                return Some(id);
+            }
+        }
+        None
+    }
+
+    /// Lets a request go on that was taken out. Then it is inside again, and where its question is
+    /// sent for the first time, the result is the id.
+    fn advance(
+        &mut self,
+        book: &B,
+        seat: &mut B::Seat,
+        now: Moment,
+        mut task: Task<B>,
+    ) -> Option<u16>
+        requires made_here { B.belongs book.now seat.old }
+        requires shown { F.shows now }
+        requires stand { Stand F.gives F.shows (B.shown seat.old) self.old.requests }
+        requires counted { IsCounted F.gives F.shows (B.shown seat.old) task }
+        requires room { count_of self.old.requests < self.old.requests.limit }
+        ensures stays { B.belongs book.now seat.new }
+        ensures goes_on { GoesOn (B.shown seat.old) (B.shown seat.new) }
+        ensures stores_nothing { StoresNothing (B.shown seat.old) (B.shown seat.new) }
+        ensures stand { Stand F.gives F.shows (B.shown seat.new) self.new.requests }
+        ensures back { IsBack (sought_of task) self.old.requests self.new.requests }
+        ensures ready { self.new.requests.ready ≡ self.old.requests.ready }
+    {
+        match task.step::<F>(self.alloc, book, seat, now) {
+            Progress::Ended(outcome) => {
+                self.requests.end(task, outcome);
+                None
+            }
+            Progress::Asks => wait_for_answer::<B, F, I>(
+                &mut self.requests,
+                &mut self.asker,
+                &mut self.ids,
+                task,
+                now,
+            ),
+        }
+    }
+
+    /// Takes the end of the wait for the reply to a question.
+    fn hear<R: Wait>(
+        &mut self,
+        rt: &R,
+        book: &B,
+        seat: &mut B::Seat,
+        now: Moment,
+        octets: &[u8],
+        id: u16,
+        question: &Question,
+        ending: Ending,
+    )
+        requires made_here { B.belongs book.now seat.old }
+        requires given { F.gives octets.now }
+        requires shown { F.shows now }
+        requires stand { Stand F.gives F.shows (B.shown seat.old) self.old.requests }
+        requires ends { IsEnded question.now octets.now ending }
+        ensures stays { B.belongs book.now seat.new }
+        ensures works { Works F.gives F.shows (B.shown seat.old) (B.shown seat.new) }
+        ensures stand { Stand F.gives F.shows (B.shown seat.new) self.new.requests }
+        ensures once { IsAtMostOne (B.shown seat.old) (B.shown seat.new) }
+        ensures asking { self.new.asking ≡ self.old.asking }
+        ensures others { self.new.requests.waiting
+            ≡ waiting_without id self.old.requests.waiting }
+        ensures same { AreSame self.old.requests self.new.requests }
+    {
+        match ending {
+            Ending::Answered(answer) => {
+                answers_are_bounded();
+                self.take(rt, book, seat, now, octets, id, question, answer);
+            }
+            Ending::Faulty(refusal) => {
+                let end = WaitEnd::Faulty(question, refusal);
+                settle_all::<B, F>(&mut self.requests, id, &end);
+            }
+        }
+    }
+
+    /// Takes the answer that a reply has: it is stored, and given to all that wait for it.
+    fn take<R: Wait>(
+        &mut self,
+        rt: &R,
+        book: &B,
+        seat: &mut B::Seat,
+        now: Moment,
+        octets: &[u8],
+        id: u16,
+        question: &Question,
+        answer: Answer,
+    )
+        requires made_here { B.belongs book.now seat.old }
+        requires given { F.gives octets.now }
+        requires shown { F.shows now }
+        requires stand { Stand F.gives F.shows (B.shown seat.old) self.old.requests }
+        requires answers { Answers question.now octets.now answer }
+        requires kind { kind_of answer.records ≡ question.now.kind }
+        ensures stays { B.belongs book.now seat.new }
+        ensures works { Works F.gives F.shows (B.shown seat.old) (B.shown seat.new) }
+        ensures stand { Stand F.gives F.shows (B.shown seat.new) self.new.requests }
+        ensures once { IsAtMostOne (B.shown seat.old) (B.shown seat.new) }
+        ensures asking { self.new.asking ≡ self.old.asking }
+        ensures others { self.new.requests.waiting
+            ≡ waiting_without id self.old.requests.waiting }
+        ensures same { AreSame self.old.requests self.new.requests }
+    {
+        let Ok(answer) = Arc::new(self.alloc, answer) else {
+            settle_all::<B, F>(&mut self.requests, id, &WaitEnd::NoMemory);
+            return;
+        };
+        let _kept = book.store(rt, seat, question, &answer, now);
+        let end = WaitEnd::Answered(question, &answer);
+        settle_all::<B, F>(&mut self.requests, id, &end);
+    }
+}

@@ -1,0 +1,150 @@
+//! A request on its way.
+ghost use Rattle.std.specs.Prelude.{◌≡◌, ◌≢◌, IfOk, MatchOption, OnErr, OnOk};
+ghost use Rattle.std.specs.Arc.{arc_value};
+ghost use Rattle.answer_cache.specs.Seats.{GoesOn, StoresNothing};
+ghost use Rattle.dns_message.specs.declared.question.Question.{Question as question};
+ghost use Rattle.sip_selection.specs.Choice.{IsNotRefused, need};
+ghost use Rattle.sip_selection.specs.Nexts.{next_of};
+ghost use Rattle.sip_selection.specs.Selections.{begun, given_too, now_of};
+ghost use Rattle.sip_resolver.specs.Tasks.{IsCounted, Leaves, Progresses, sought_of};
+
+use crate::origin::Origin;
+use crate::outcome::{Outcome, TargetList};
+use crate::queue::Numbered;
+use answer_cache::AnswerBook;
+use dns_answers::{Answer, Moment};
+use dns_message::Question;
+use sip_locator::Locator;
+use sip_selection::{Caps, GiveRefusal, Next, Request};
+use srv_choice::Words;
+use std::alloc::{AllocError, AllocFailed, Global};
+use std::marker::Model;
+use std::sync::Arc;
+
+/// How far a step leads.
+#[derive(Drop)]
+pub(crate) enum Progress {
+    /// A question has to be answered that the book has no answer to.
+    Asks,
+    /// The request ended so.
+    Ended(Outcome),
+}
+
+/// A request on its way.
+#[derive(Drop)]
+pub(crate) struct Task<B> {
+    number: u64,
+    locator: Box<Locator<B>>,
+}
+
+impl<B> Model for Task<B> {
+    ghost use Rattle.sip_resolver.specs.Tasks.{TaskView};
+
+    ghost Value = { TaskView };
+
+    ghost view = { λ it. record { number = it.number; selection = it.locator.value } };
+}
+
+impl<B> Task<B> {
+    /// Its number.
+    pub(crate) fn number(&self) -> u64
+        ensures { result ≡ self.now.number }
+    {
+        self.number
+    }
+}
+
+impl<B> Numbered for Task<B> {
+    ghost numbered = { λ it. it.number };
+
+    fn its_number(&self) -> u64 {
+        self.number
+    }
+}
+
+impl<B: AnswerBook> Task<B> {
+    /// A request of which nothing is known yet.
+    pub(crate) fn new(
+        alloc: Global,
+        number: u64,
+        request: Request,
+        caps: Caps,
+        words: Words,
+    ) -> Result<Task<B>, AllocError>
+        ensures { IfOk result (λ it. it
+            ≡ record { number = number; selection = begun request caps words.0 }) }
+    {
+        let locator = Locator::new(alloc, request, caps, words)?;
+        match Box::new(alloc, locator) {
+            Ok(locator) => Ok(Task { number, locator }),
+            Err(AllocFailed { .. }) => Err(AllocError),
+        }
+    }
+
+    /// The question that it needs the answer to.
+    pub(crate) fn question(&self) -> Option<&Question>
+        ensures { MatchOption result
+            ((asked : question) → now_of self.now.selection ≢ need asked)
+            (λ asked. now_of self.now.selection ≡ need asked.now) }
+    {
+        match self.locator.next() {
+            Next::Ask(question) => Some(question),
+            Next::Targets(_) | Next::Refused(_) => None,
+        }
+    }
+
+    /// Lets its choice go on by what the book has.
+    pub(crate) fn step<F: Origin>(
+        &mut self,
+        alloc: Global,
+        book: &B,
+        seat: &mut B::Seat,
+        now: Moment,
+    ) -> Progress
+        requires made_here { B.belongs book.now seat.old }
+        requires shown { F.shows now }
+        ensures stays { B.belongs book.now seat.new }
+        ensures goes_on { GoesOn (B.shown seat.old) (B.shown seat.new) }
+        ensures stores_nothing { StoresNothing (B.shown seat.old) (B.shown seat.new) }
+        ensures request { sought_of self.new ≡ sought_of self.old }
+        ensures progresses { IsCounted F.gives F.shows (B.shown seat.old) self.old
+            → Progresses F.gives F.shows (B.shown seat.new) self.new result }
+    {
+        let locator = &mut *self.locator;
+        match locator.step(book, seat, now) {
+            Ok(next) => progress_of(alloc, next),
+            Err(AllocError) => Progress::Ended(Outcome::Memory),
+        }
+    }
+
+    /// Takes the answer to the question that it needs. After a refusal it is as before.
+    pub(crate) fn give(
+        &mut self,
+        question: &Question,
+        answer: &Arc<Answer>,
+    ) -> Result<(), GiveRefusal>
+        ensures given { OnOk result (self.new ≡ record self.old {
+          selection = given_too self.old.selection question.now (arc_value answer.now);
+        }) }
+        ensures unchanged { OnErr result (self.new ≡ self.old) }
+    {
+        let Ok(answer) = Arc::try_clone(answer) else {
+            return Err(GiveRefusal::Memory);
+        };
+        self.locator.give(question, answer)
+    }
+}
+
+/// How far it leads that this is next.
+fn progress_of(alloc: Global, next: Next<'_>) -> Progress
+    ensures { Leaves (next_of next.entry) result }
+{
+    match next {
+        Next::Ask(_) => Progress::Asks,
+        Next::Refused(reason) => Progress::Ended(Outcome::Refused(reason)),
+        Next::Targets(targets) => Progress::Ended(match TargetList::of(alloc, targets) {
+            Ok(targets) => Outcome::Targets(targets),
+            Err(AllocError) => Outcome::Memory,
+        }),
+    }
+}

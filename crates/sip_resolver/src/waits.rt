@@ -1,0 +1,135 @@
+//! How the wait for a reply ends, for the requests that share it.
+ghost use Rattle.std.specs.Prelude.{◌≡◌, ◌<◌, [], ◌∷◌, ◌++◌};
+ghost use Rattle.std.specs.Arc.{arc_value};
+ghost use Rattle.answer_cache.specs.Seats.{SeatView};
+ghost use Rattle.sip_selection.specs.Choice.{need};
+ghost use Rattle.sip_selection.specs.Selections.{now_of};
+ghost use Rattle.sip_resolver.specs.Requests.{AreSame, IsBack, Stand, count_of, waiting_without};
+ghost use Rattle.sip_resolver.specs.Tasks.{IsCounted, Lacks, sought_of};
+ghost use Rattle.sip_resolver.specs.Waits.{Fits, IsFailed, IsGivenUp, IsKnown};
+
+use crate::origin::Origin;
+use crate::outcome::Outcome;
+use crate::requests::{Requests, Waiting};
+use crate::task::Task;
+use answer_cache::AnswerBook;
+use dns_answers::{Answer, ReplyRefusal};
+use dns_message::{Question, same_questions_are_equal};
+use sip_selection::GiveRefusal;
+use std::alloc::AllocError;
+use std::sync::Arc;
+
+/// How the wait for the reply to a question ended.
+#[derive(Drop)]
+pub(crate) enum WaitEnd<'a> {
+    /// This question has this answer.
+    Answered(&'a Question, &'a Arc<Answer>),
+    /// The reply to this question has this fault.
+    Faulty(&'a Question, ReplyRefusal),
+    /// The question was sent three times.
+    GivenUp,
+    /// Memory was refused for the answer.
+    NoMemory,
+}
+
+/// What becomes of a request that waited.
+#[derive(Drop)]
+pub(crate) enum Fate {
+    /// It can go on.
+    Ready,
+    /// It ended.
+    Ended(Outcome),
+}
+
+/// Lets all requests go on or end that wait for the reply to the message of this id.
+pub(crate) fn settle_all<B: AnswerBook, F: Origin>(
+    requests: &mut Requests<B>,
+    id: u16,
+    end: &WaitEnd<'_>,
+)
+    ensures stand { (seat : SeatView) → IsKnown F.gives F.shows seat end.now
+        → Stand F.gives F.shows seat requests.old → Stand F.gives F.shows seat requests.new }
+    ensures same { AreSame requests.old requests.new }
+    ensures others { requests.new.waiting ≡ waiting_without id requests.old.waiting }
+{
+    'waits: for _wait in 0..requests.waiting_len() {
+        match requests.next_waiting() {
+            None => return,
+            Some(waiting) => settle::<B, F>(requests, waiting, id, end),
+        }
+    }
+}
+
+/// Puts a request back that was taken out of those that wait, as the wait for the reply to the
+/// message of this id ended so.
+fn settle<B: AnswerBook, F: Origin>(
+    requests: &mut Requests<B>,
+    waiting: Waiting<B>,
+    id: u16,
+    end: &WaitEnd<'_>,
+)
+    requires room { count_of requests.old < requests.old.limit }
+    ensures stand { (seat : SeatView) → IsKnown F.gives F.shows seat end.now
+        → IsCounted F.gives F.shows seat waiting.task
+        → Lacks F.shows seat waiting.task
+        → Stand F.gives F.shows seat requests.old → Stand F.gives F.shows seat requests.new }
+    ensures back { IsBack (sought_of waiting.task) requests.old requests.new }
+    ensures others { requests.new.waiting
+        ≡ requests.old.waiting ++ waiting_without id (waiting ∷ []) }
+{
+    let Waiting { id: own, mut task } = waiting;
+    if own != id {
+        requests.wait(own, task);
+        return;
+    }
+    match fate_of::<B, F>(&mut task, end) {
+        Fate::Ready => requests.add(task),
+        Fate::Ended(outcome) => requests.end(task, outcome),
+    }
+}
+
+/// What becomes of a request whose wait ended so.
+fn fate_of<B: AnswerBook, F: Origin>(task: &mut Task<B>, end: &WaitEnd<'_>) -> Fate
+    ensures request { sought_of task.new ≡ sought_of task.old }
+    ensures fits { (seat : SeatView) → IsKnown F.gives F.shows seat end.now
+        → IsCounted F.gives F.shows seat task.old → Lacks F.shows seat task.old
+        → Fits F.gives F.shows seat task.new result }
+{
+    match end {
+        WaitEnd::Answered(question, answer) => match task.give(question, answer) {
+            Ok(()) => Fate::Ready,
+            Err(GiveRefusal::NotAsked | GiveRefusal::WrongKind) => Fate::Ready,
+            Err(GiveRefusal::Memory) => Fate::Ended(Outcome::Memory),
+        },
+        WaitEnd::Faulty(question, refusal) => faulty(task, question, *refusal),
+        WaitEnd::GivenUp => given_up(task),
+        WaitEnd::NoMemory => Fate::Ended(Outcome::Memory),
+    }
+}
+
+/// What becomes of a request, as the reply to this question has this fault.
+fn faulty<B: AnswerBook>(task: &Task<B>, question: &Question, refusal: ReplyRefusal) -> Fate
+    ensures { IsFailed task.now question.now refusal result }
+{
+    same_questions_are_equal();
+    if task.question() != Some(question) {
+        return Fate::Ready;
+    }
+    match question.try_clone() {
+        Ok(question) => Fate::Ended(Outcome::BadReply(question, refusal)),
+        Err(AllocError) => Fate::Ended(Outcome::Memory),
+    }
+}
+
+/// What becomes of a request whose question was sent three times.
+fn given_up<B: AnswerBook>(task: &Task<B>) -> Fate
+    ensures { IsGivenUp task.now result }
+{
+    let Some(question) = task.question() else {
+        return Fate::Ready;
+    };
+    match question.try_clone() {
+        Ok(question) => Fate::Ended(Outcome::NoAnswer(question)),
+        Err(AllocError) => Fate::Ended(Outcome::Memory),
+    }
+}
