@@ -7,12 +7,11 @@ use Rattle.std.proofs.lemmas.Bool.Decides.{nat_tests}
 use Rattle.std.proofs.lemmas.Option.{same_Some}
 use Rattle.std.proofs.lemmas.List.{append-nil}
 use Rattle.dns_name.specs.Labels.{small_letters}
-use Rattle.sip_uri.specs.Numbers.{decimal}
+use Rattle.sip_uri.specs.Numbers.{decimal, decimal_within}
 use Rattle.sip_uri.specs.Readers.Parts.{before, behind}
 use Rattle.sip_uri.specs.Classes.{is_user_octet, is_password_octet}
 use Rattle.sip_uri.specs.Hosts.{HostText}
 use Rattle.sip_uri.specs.Readers.Runs.{is_some_run}
-use Rattle.sip_uri.specs.Readers.Texts.{decimal_within}
 use Rattle.sip_uri.specs.Uris.{IsSomeRun, SchemeText, UserText, nobody, alone, with_password, PortNumber, PortText}
 use Rattle.sip_uri.specs.Readers.Hosts.{host_in_front}
 use Rattle.sip_uri.specs.Readers.Params.{is_same}

@@ -1,6 +1,7 @@
 -- Numbers that digits spell.
-use Rattle.std.specs.Prelude.{ℕ, ◌+◌, ◌-◌, ◌*◌, List, [], ◌∷◌}
-use Rattle.std.specs.Char.{digit_value}
+use Rattle.std.specs.Prelude.{ℕ, ◌+◌, ◌-◌, ◌*◌, ◌==◌, nat_lt, not, ◌||◌, List, [], ◌∷◌, length, Option, Some, None, if◌then◌else◌}
+use Rattle.std.specs.List.{list_all}
+use Rattle.std.specs.Char.{digit_value, is_ascii_digit}
 
 -- after a number, further decimal digits
 abbrev pub decimal_from : ℕ → List ℕ → ℕ
@@ -9,6 +10,12 @@ decimal_from number (digit ∷ digits) = decimal_from (10 * number + (digit - 48
 
 abbrev pub decimal : List ℕ → ℕ
 decimal digits = decimal_from 0 digits
+
+-- the number that one or more decimal digits spell, where it is at most this limit
+abbrev pub decimal_within : ℕ → List ℕ → Option ℕ
+decimal_within limit text =
+    if length text == 0 || not (list_all is_ascii_digit text) || nat_lt limit (decimal text)
+    then None else Some (decimal text)
 
 -- after a number, further hexadecimal digits, in letters of either case
 abbrev pub hexadecimal_from : ℕ → List ℕ → ℕ

@@ -1,10 +1,11 @@
 //! Numbers in texts.
 ghost use Rattle.std.specs.Prelude.{◌≡◌, ◌≤◌};
+ghost use Rattle.sip_uri.specs.Numbers.{decimal_within};
 ghost use Rattle.sip_uri.specs.Readers.Texts as spec;
 
 /// The number that decimal digits spell, one at least, where it is at most `limit`.
 pub fn decimal(text: &[u8], limit: u32) -> Option<u32>
-    ensures { result ≡ spec.decimal_within limit text.now }
+    ensures { result ≡ decimal_within limit text.now }
 {
     if text.is_empty() {
         return None;

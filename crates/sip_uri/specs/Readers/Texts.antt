@@ -3,7 +3,7 @@ use Rattle.std.specs.Prelude.{ℕ, ◌+◌, ◌-◌, ◌/◌, ◌%◌, ◌==◌,
 use Rattle.std.specs.List.{list_all}
 use Rattle.std.specs.Option.{option_map, option_and_then, option_or}
 use Rattle.std.specs.Char.{digit_value, is_ascii_digit, is_ascii_hexdigit, is_ascii_alphanumeric, is_ascii_alphabetic}
-use Rattle.sip_uri.specs.Numbers.{decimal, hexadecimal}
+use Rattle.sip_uri.specs.Numbers.{decimal_within, hexadecimal}
 use Rattle.sip_uri.specs.Hosts.{is_label_octet}
 use Rattle.dns_name.specs.Texts.{without_closing_dot}
 use Rattle.sip_uri.specs.Readers.Parts.{before, behind, parted}
@@ -11,11 +11,6 @@ use Rattle.sip_uri.specs.Readers.Parts.{before, behind, parted}
 infixl 10 ◌>>=◌
 abbrev pub ◌>>=◌ : {A B : Type 0} → Option A → (A → Option B) → Option B
 o >>= f = option_and_then f o
-
-abbrev pub decimal_within : ℕ → List ℕ → Option ℕ
-decimal_within limit text =
-    if length text == 0 || not (list_all is_ascii_digit text) || nat_lt limit (decimal text)
-    then None else Some (decimal text)
 
 abbrev pub hexadecimal_digit : ℕ → Option ℕ
 hexadecimal_digit octet = if is_ascii_hexdigit octet then Some (digit_value octet) else None
