@@ -1,4 +1,5 @@
 //! Laws of a rolling cache. A call of one does nothing: its contract tells its caller the law.
+ghost use denote.Param.Send.{IsSync};
 ghost use Rattle.std.specs.Prelude.{◌≡◌, ◌≤◌, ℕ, List, Some};
 ghost use Rattle.std.specs.List.{Any};
 ghost use Rattle.dns_answers.specs.Values.{AnswerValue};
@@ -9,6 +10,7 @@ ghost use Rattle.answer_log.specs.declared.store.Store.{Store};
 ghost use Rattle.answer_cache.specs.Carried.{IsCarried, carried_stores};
 ghost use Rattle.rolling_cache.specs.Eras.{Gives, begun_with, handed_in};
 ghost use Rattle.rolling_cache.specs.Rolling.{IsAt};
+ghost use Rattle.rolling_cache.specs.contracts.rolling.RollingCache.{the_row};
 
 use crate::seat::RollingSeat;
 use dns_message::same_questions_are_equal;
@@ -38,3 +40,11 @@ pub fn renewed_answers_as_before(seat: &RollingSeat)
     let _ = seat;
     same_questions_are_equal();
 }
+
+/// A law: threads may share a cache (`Sync`).
+///
+/// The prover does not find this by itself where threads borrow a cache: who hands one to threads
+/// answers that goal with the lemma `rolling_sync`, as `load_met` of the tests does.
+pub fn threads_may_share()
+    ensures { IsSync the_row }
+{}

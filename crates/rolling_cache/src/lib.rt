@@ -3,7 +3,6 @@
 //! A `SharedCache` of `answer_cache` drops no store, so its groups fill up. A `RollingCache` goes
 //! over from one to the next: each is a generation, and begins with what lived of the one before
 //! it. Threads have a seat each, from 1 to 64, and no look-up waits while generations change.
-//! That threads may share its value (`Sync`) is not proved yet.
 //!
 //! ```
 //! // before a request: go over to the present generation, or begin the next one
@@ -62,7 +61,7 @@ mod seat;
 
 pub use change::Change;
 pub use generation::Generation;
-pub use laws::{answers_were_handed_in, renewed_answers_as_before};
+pub use laws::{answers_were_handed_in, renewed_answers_as_before, threads_may_share};
 pub use rolling::RollingCache;
 pub use seat::RollingSeat;
 

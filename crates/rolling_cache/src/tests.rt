@@ -15,6 +15,7 @@ use std::sync::{Arc, Wait};
 
 mod page;
 mod parts;
+mod threads;
 
 /// The question for the addresses of a name.
 pub(crate) fn question_of(alloc: Global, name: &str) -> Option<Question>

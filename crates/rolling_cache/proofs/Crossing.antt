@@ -1,0 +1,54 @@
+-- That threads may share a cache: nothing that it has is of one thread alone. The steps are those of its fields, since one
+-- search through all of them ends at its bounds.
+use denote.Param.Send.{IsSend, IsSync, sendable}
+use Rattle.std.proofs.Crossing.{crosses}
+use Rattle.logbook.proofs.word.Word.TheSendSync as word
+use Rattle.logbook.proofs.tokens.Seen.TheSendSync as seen
+use Rattle.boxcar.proofs.slot.OnceSlot.TheSendSync as slot
+use Rattle.boxcar.proofs.slot.Written.TheSendSync as written
+use Rattle.boxcar.proofs.tag.Tag.TheSendSync as tag
+use Rattle.answer_log.proofs.tally.Tally.TheSendSync as tally
+use Rattle.answer_log.proofs.spent.Spent.TheLaws.TheKnot.{send-Spent}
+use Rattle.answer_cache.proofs.notes.Notes.TheLaws.TheKnot.{send-Notes}
+use Rattle.answer_cache.specs.contracts.seat.Seat as Seat
+use Rattle.answer_cache.specs.contracts.shared_cache.SharedCache as SharedCache
+use Rattle.rolling_cache.proofs.lineage.Lineage.TheLaws.TheKnot.{send-Lineage, sync-Lineage}
+use Rattle.rolling_cache.specs.contracts.generation.Generation as Generation
+use Rattle.rolling_cache.specs.contracts.generation.Present as Present
+use Rattle.rolling_cache.specs.contracts.rolling.RollingCache as RollingCache
+
+ruleset parts = (
+  sendable,
+  crosses,
+  word.the_send,
+  word.the_sync,
+  seen.the_send,
+  seen.the_sync,
+  slot.the_send,
+  slot.the_sync,
+  written.the_send,
+  written.the_sync,
+  tag.the_send,
+  tag.the_sync,
+)
+
+cache_send : IsSend SharedCache.the_row
+cache_send = search parts depth 100 fits 100000
+
+cache_sync : IsSync SharedCache.the_row
+cache_sync = search parts depth 100 fits 100000
+
+seat_send : IsSend Seat.the_row
+seat_send = search (parts, tally.the_send, send-Spent, send-Notes) depth 100 fits 100000
+
+generation_send : IsSend Generation.the_row
+generation_send = search (sendable, crosses, cache_send, send-Lineage) depth 100 fits 100000
+
+generation_sync : IsSync Generation.the_row
+generation_sync = search (sendable, crosses, cache_sync, sync-Lineage) depth 100 fits 100000
+
+present_send : IsSend Present.the_row
+present_send = search (sendable, crosses, generation_send, generation_sync, seat_send) depth 100 fits 100000
+
+pub rolling_sync : IsSync RollingCache.the_row
+rolling_sync = search (sendable, crosses, present_send) depth 20
