@@ -23,8 +23,8 @@
 //! let warned = file.warnings().len() == 1;
 //! ```
 //!
-//! Read `specs/Driven.antt` first: what the loop gives. Of resolver files `specs/ResolverLines.antt`
-//! says what a line says, and `specs/ResolverFiles.antt` what a file says in all.
+//! Read `specs/Driven.antt` first: what the loop gives. `specs/ResolverLines.antt` says what a line
+//! of a resolver file says, and `specs/ResolverFiles.antt` what a file says in all.
 #![tactic(auto)]
 
 mod deadline;
