@@ -1,2 +1,4 @@
 pub mod WordParts
 pub mod Taken
+mod Colons
+mod NoTickets

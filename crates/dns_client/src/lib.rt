@@ -1,5 +1,12 @@
 //! What a DNS client on this host needs from outside.
 //!
+//! `next_outcome` drives a resolver (`sip_resolver`) over a wire to DNS servers until a request
+//! ends: it sends what the resolver has to send, and hands it what comes back. It works over any
+//! `MessageWire` and any `Clock`. `ServerWire` is a wire over the system's sockets: UDP, TCP for
+//! replies that were cut, and several servers in turn. `RunClock` is a clock that counts from its
+//! start. `RandomIds` and `draw_words` make ids of queries and random words of a key, which
+//! `random_key` takes from the system's entropy. `read_request` reads the request of a line.
+//!
 //! `ResolverFile` is what the system's resolver file (resolv.conf(5)) says: the name servers, how
 //! long and how often each is asked, and whether over TCP alone. Its octets are handed in: nothing
 //! here opens a file.
@@ -16,17 +23,39 @@
 //! let warned = file.warnings().len() == 1;
 //! ```
 //!
-//! Read `specs/ResolverLines.antt` first: what a line says. Then `specs/ResolverFiles.antt`: what a
-//! file says in all.
+//! Read `specs/Driven.antt` first: what the loop gives. `specs/ResolverLines.antt` says what a line
+//! of a resolver file says, and `specs/ResolverFiles.antt` what a file says in all.
 #![tactic(auto)]
 
+mod deadline;
+mod draw;
+mod drive;
+mod key;
+mod message_wire;
+mod over;
+mod random_ids;
+mod request_line;
 mod resolver_fact;
 mod resolver_file;
 mod resolver_line;
+mod run_clock;
+mod sent_queries;
+mod server_wire;
+mod tcp;
+mod udp;
 mod warning;
 mod words;
 
+pub use draw::draw_words;
+pub use drive::next_outcome;
+pub use key::random_key;
+pub use message_wire::MessageWire;
+pub use over::Over;
+pub use random_ids::RandomIds;
+pub use request_line::read_request;
 pub use resolver_file::{ResolverFile, SERVER_LIMIT, SERVER_PORT};
+pub use run_clock::RunClock;
+pub use server_wire::ServerWire;
 pub use warning::{LineFault, LineWarning};
 
 #[cfg(test)]

@@ -1,0 +1,118 @@
+//! The loop that drives a resolver over a wire.
+ghost use Rattle.std.specs.Prelude.{◌≡◌, ◌⊎◌, [], None, IfOk, IfSome, MatchOption};
+ghost use Rattle.std.specs.Option.{option_map};
+ghost use Rattle.dns_client.specs.Driven.{GivesOut};
+ghost use Rattle.sip_resolver.specs.Outcomes.{IsOutcome};
+ghost use Rattle.sip_resolver.specs.Requests.{AreSame, Stand};
+
+use crate::message_wire::MessageWire;
+use crate::over::Over;
+use answer_cache::AnswerBook;
+use dns_asker::Clock;
+use sip_resolver::{Ids, Resolved, Resolver};
+use std::sync::Wait;
+
+/// How many queries are sent in one round at most, before something is received.
+const SEND_LIMIT: usize = 1_024;
+
+/// Sends the query that is to be sent next, and tells whether there was one.
+fn send_next<B: AnswerBook, W: MessageWire, C: Clock, I: Ids + Drop>(
+    resolver: &mut Resolver<B, Over<W, C>, I>,
+    book: &B,
+    seat: &mut B::Seat,
+    wire: &mut W,
+    clock: &C,
+) -> bool
+    requires made_here { B.belongs book.now seat.old }
+    requires stand { Stand W.gives C.shows (B.shown seat.old) resolver.old.requests }
+    ensures stays { B.belongs book.now seat.new }
+    ensures stand { Stand W.gives C.shows (B.shown seat.new) resolver.new.requests }
+    ensures same { AreSame resolver.old.requests resolver.new.requests }
+{
+    match resolver.poll_transmit(book, seat, clock.now()) {
+        Some(query) => {
+            wire.send(query);
+            true
+        }
+        None => false,
+    }
+}
+
+/// Sends what there is to send.
+fn send_all<B: AnswerBook, W: MessageWire, C: Clock, I: Ids + Drop>(
+    resolver: &mut Resolver<B, Over<W, C>, I>,
+    book: &B,
+    seat: &mut B::Seat,
+    wire: &mut W,
+    clock: &C,
+)
+    requires made_here { B.belongs book.now seat.old }
+    requires stand { Stand W.gives C.shows (B.shown seat.old) resolver.old.requests }
+    ensures stays { B.belongs book.now seat.new }
+    ensures stand { Stand W.gives C.shows (B.shown seat.new) resolver.new.requests }
+    ensures same { AreSame resolver.old.requests resolver.new.requests }
+{
+    'sends: for _send in 0..SEND_LIMIT {
+        if !send_next(resolver, book, seat, wire, clock) {
+            break;
+        }
+    }
+}
+
+/// Receives once, and hands on what came. Where memory is refused for it, it is lost.
+fn receive_once<R: Wait, B: AnswerBook, W: MessageWire, C: Clock, I: Ids + Drop>(
+    rt: &R,
+    resolver: &mut Resolver<B, Over<W, C>, I>,
+    book: &B,
+    seat: &mut B::Seat,
+    wire: &mut W,
+    clock: &C,
+)
+    requires made_here { B.belongs book.now seat.old }
+    requires stand { Stand W.gives C.shows (B.shown seat.old) resolver.old.requests }
+    ensures stays { B.belongs book.now seat.new }
+    ensures stand { Stand W.gives C.shows (B.shown seat.new) resolver.new.requests }
+    ensures same { AreSame resolver.old.requests resolver.new.requests }
+{
+    if let Some(message) = wire.receive() {
+        let _heard = resolver.handle(rt, book, seat, clock.now(), message.as_slice());
+    }
+}
+
+/// Drives a resolver over a wire until a request ends, and gives it with what became of it.
+///
+/// None: no question is out that could end another request, or the time of the wire is over. Then
+/// all that ended came out.
+pub fn next_outcome<R: Wait, B: AnswerBook, W: MessageWire, C: Clock, I: Ids + Drop>(
+    rt: &R,
+    resolver: &mut Resolver<B, Over<W, C>, I>,
+    book: &B,
+    seat: &mut B::Seat,
+    wire: &mut W,
+    clock: &C,
+) -> Option<Resolved<B>>
+    requires made_here { B.belongs book.now seat.old }
+    requires stand { Stand W.gives C.shows (B.shown seat.old) resolver.old.requests }
+    ensures stays { B.belongs book.now seat.new }
+    ensures stand { Stand W.gives C.shows (B.shown seat.new) resolver.new.requests }
+    // What became of it is the choice of RFC 3263 over the book's history and what the wire gave,
+    // or the question whose answer is missing.
+    ensures outcome { IfSome result (λ ended.
+        IsOutcome W.gives C.shows (B.shown seat.new) ended.sought ended.outcome) }
+    // Each request that was inside comes out once, or is inside still.
+    ensures once { GivesOut result resolver.old.requests resolver.new.requests }
+    ensures none { result ≡ None → (resolver.new.requests.ended ≡ [])
+        × ((resolver.new.asking.tickets ≡ []) ⊎ W.over wire.new) }
+{
+    'rounds: for _ in rt.forever() {
+        send_all(resolver, book, seat, wire, clock);
+        if let Some(ended) = resolver.poll_outcome() {
+            return Some(ended);
+        }
+        if resolver.next_timeout().is_none() || wire.is_over() {
+            return None;
+        }
+        receive_once(rt, resolver, book, seat, wire, clock);
+    }
+    unreachable!()
+}

@@ -1,0 +1,27 @@
+//! What DNS messages are sent and received through.
+ghost use Rattle.std.specs.Prelude.{◌≡◌, ℕ, false, IfSome, IsTrue, List};
+
+/// A wire to DNS servers. It gives whole messages, of up to 65,535 octets (RFC 1035 4.2.2).
+///
+/// A message may be lost, and may come twice or late.
+pub trait MessageWire {
+    // What it may give.
+    ghost gives: { List ℕ → Type 0 };
+
+    // Its time is over.
+    ghost over: { Self → Type 0 };
+
+    /// Begins its time anew.
+    fn begin(&mut self);
+
+    /// Sends the octets of a query. What can't be sent is lost.
+    fn send(&mut self, query: &[u8]);
+
+    /// The octets of a message, if one came in the time that the wire waits.
+    fn receive(&mut self) -> Option<Vec<u8>>
+        ensures { IfSome result (λ message. gives message.items) };
+
+    /// Whether its time is over, so that nothing more is to be waited for.
+    fn is_over(&self) -> bool
+        ensures { IsTrue result → over self.now };
+}

@@ -1,0 +1,104 @@
+//! The queries that were sent last.
+ghost use Rattle.std.specs.Prelude.{◌≡◌, IfOk, IfSome, IsTrue, take};
+ghost use Rattle.std.specs.List.{position};
+ghost use Rattle.dns_client.specs.SentQueries.{HasIdOf, has_octets, sends_of};
+
+use std::alloc::{AllocError, Global};
+use std::marker::Model;
+
+/// How many queries are kept: the last ones.
+const QUERY_LIMIT: usize = 256;
+
+/// A query, and how often it was sent.
+#[derive(Drop)]
+struct SentQuery {
+    octets: Vec<u8>,
+    sends: usize,
+}
+
+impl Model for SentQuery {
+    ghost use Rattle.dns_client.specs.SentQueries.{SentValue};
+
+    ghost Value = { SentValue };
+
+    ghost view = { λ it. record { octets = it.octets.items; sends = it.sends } };
+}
+
+impl SentQuery {
+    /// Whether it has these octets.
+    fn is(&self, query: &[u8]) -> bool
+        ensures { result ≡ has_octets query.now self.now }
+    {
+        self.octets.as_slice() == query
+    }
+
+    /// Whether a message has its id, and it was sent more often than so many times.
+    fn fits(&self, message: &[u8], sends: usize) -> bool
+        ensures { IsTrue result → HasIdOf message.now sends self.now }
+    {
+        sends < self.sends && message.len() >= 2 && self.octets.starts_with(&message[..2])
+    }
+}
+
+/// The queries that were sent last, so that a reply is known by its id, and one that was cut can be
+/// asked for again.
+#[derive(Drop)]
+pub(crate) struct SentQueries {
+    alloc: Global,
+    items: Vec<SentQuery>,
+}
+
+impl Model for SentQueries {
+    ghost use Rattle.std.specs.Prelude.{List};
+    ghost use Rattle.dns_client.specs.SentQueries.{SentValue};
+
+    ghost Value = { List SentValue };
+
+    ghost view = { λ it. it.items.items };
+}
+
+impl SentQueries {
+    /// None was sent.
+    pub(crate) fn new(alloc: Global) -> SentQueries {
+        SentQueries {
+            alloc,
+            items: Vec::new(alloc),
+        }
+    }
+
+    /// The place of a query.
+    fn place_of(&self, query: &[u8]) -> Option<usize>
+        ensures { result ≡ position (has_octets query.now) self.now }
+    {
+        self.items.iter().position(|sent| sent.is(query))
+    }
+
+    /// Keeps a query that is sent, and tells how often it was sent before.
+    pub(crate) fn keep(&mut self, query: &[u8]) -> Result<usize, AllocError>
+        ensures { IfOk result (λ before. before ≡ sends_of query.now self.old) }
+    {
+        if let Some(at) = self.place_of(query) {
+            let sends = self.items[at].sends;
+            self.items[at].sends = sends.saturating_add(1);
+            return Ok(sends);
+        }
+        if self.items.len() >= QUERY_LIMIT {
+            self.items.remove(0);
+        }
+        let octets = Vec::from_slice(self.alloc, query)?;
+        self.items.push(SentQuery { octets, sends: 1 })?;
+        Ok(0)
+    }
+
+    /// The last query of a message's id that was sent more often than so many times.
+    pub(crate) fn query_of(&self, message: &[u8], sends: usize) -> Option<&[u8]>
+        ensures { IfSome result (λ query. take 2 query.now ≡ take 2 message.now) }
+    {
+        for sent in self.items.iter().rev() {
+            if sent.fits(message, sends) {
+                return Some(sent.octets.as_slice());
+            }
+        }
+        None
+    }
+}

@@ -1,0 +1,4 @@
+pub mod Servers
+pub mod Lines
+pub mod Fates
+pub mod Runs

@@ -1,0 +1,70 @@
+//! The program `sipwhere`: where SIP requests are sent (RFC 3263), asked of DNS servers.
+#![tactic(auto)]
+
+ghost use Rattle.std.specs.Prelude.{◌≡◌, ◌≤◌, IfOk};
+
+mod fate;
+mod locate;
+mod options;
+mod output;
+mod plan;
+mod run;
+mod seed;
+mod server_text;
+#[cfg(test)]
+mod tests;
+
+use clap::Error;
+use options::{Options, command, read_options};
+use run::{FAULT_STATUS, run};
+use std::net::Net;
+use std::process::ExitCode;
+use std::random::RandomSource;
+use std::rt::{Env, Files};
+use std::sync::Wait;
+use std::time::Clock;
+use std::{env, io};
+
+/// The status where the words are none that the program knows.
+const USAGE_STATUS: u8 = 4;
+
+/// Tells how the program is used, or its version, or what is wrong with its words.
+fn tell_usage<R: Print + Eprint>(rt: &R, error: &Error) -> u8
+    ensures { result ≤ 5 }
+{
+    if error.print(rt).is_err() {
+        return FAULT_STATUS;
+    }
+    if error.use_stderr() { USAGE_STATUS } else { 0 }
+}
+
+/// Does what the program is asked to do, and gives its status.
+fn perform<
+    R: Wait + Env + Input + Print + Eprint + Files + Net + RandomSource + Clock + AllocGlobal,
+>(rt: &R) -> io::Result<u8>
+    ensures { IfOk result (λ status. status ≤ 5) }
+{
+    let alloc = rt.alloc();
+    let words = env::args(rt)?.collect::<Vec<String>>(alloc)?;
+    let matches = match command(alloc)?.try_get_matches_from(words.as_slice()) {
+        Ok(matches) => matches,
+        Err(error) => return Ok(tell_usage(rt, &error)),
+    };
+    match read_options(alloc, &matches) {
+        Ok(options) => run(rt, &options),
+        Err(fault) => {
+            let _ = eprintln!(rt; "sipwhere: {fault}");
+            Ok(USAGE_STATUS)
+        }
+    }
+}
+
+fn main(rt: HostRuntime) -> ExitCode {
+    match perform(&rt) {
+        Ok(status) => ExitCode::from(status),
+        Err(error) => {
+            let _ = eprintln!(rt; "sipwhere: {error}");
+            ExitCode::from(FAULT_STATUS)
+        }
+    }
+}

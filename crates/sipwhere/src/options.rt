@@ -1,0 +1,238 @@
+//! The words after the program's name.
+ghost use Rattle.std.specs.Prelude.{◌≡◌, ◌≤◌, IfOk};
+
+use crate::seed::key_from_text;
+use crate::server_text::server_from_text;
+use clap::{Arg, ArgAction, ArgMatches, Command, value_parser};
+use sip_selection::{Caps, Families};
+use sip_uri::Transport;
+use std::alloc::{AllocError, AllocFailed, Global};
+use std::net::SocketAddr;
+use thiserror::Error;
+
+/// What is asked for.
+#[derive(Debug, Drop)]
+pub struct Options<'a> {
+    /// The name servers, where they are named.
+    pub servers: Vec<SocketAddr>,
+    /// The resolver file, for where they are not.
+    pub resolver_file: &'a str,
+    /// Whether servers are asked over TCP alone.
+    pub over_tcp: bool,
+    /// What can be sent.
+    pub caps: Caps,
+    /// How long one text may take, in milliseconds.
+    pub total: u32,
+    /// The key of the random words and ids, where it is named.
+    pub seed: Option<[u8; 32]>,
+    /// The texts, or `-` for the lines of the standard input.
+    pub texts: Vec<&'a str>,
+}
+
+/// What is wrong with the options.
+#[derive(Clone, Copy, Debug, PartialEq, Eq, Error)]
+pub enum OptionFault {
+    /// A server that is none.
+    #[error("a server is ADDRESS, ADDRESS:PORT or [ADDRESS]:PORT")]
+    Server,
+    /// A transport stands twice.
+    #[error("transports are different ones of udp, tcp, tls and sctp")]
+    Transports,
+    /// A seed that is none.
+    #[error("a seed has 1 to 64 hexadecimal digits")]
+    Seed,
+    /// Memory was refused.
+    #[error("out of memory")]
+    Memory,
+}
+
+impl From<AllocError> for OptionFault {
+    ghost use Rattle.sipwhere.specs.declared.options.OptionFault.TheVariants.{Memory};
+
+    ghost from_gives = { λ _ fault. fault ≡ Memory };
+
+    fn from(_: AllocError) -> OptionFault {
+        OptionFault::Memory
+    }
+}
+
+impl<T: Drop> From<AllocFailed<T>> for OptionFault {
+    ghost use Rattle.sipwhere.specs.declared.options.OptionFault.TheVariants.{Memory};
+
+    ghost from_gives = { λ _ fault. fault ≡ Memory };
+
+    fn from(_: AllocFailed<T>) -> OptionFault {
+        OptionFault::Memory
+    }
+}
+
+/// An option with one value.
+fn value<'a>(alloc: Global, name: &'a str, word: &'a str, help: &'a str) -> Arg<'a> {
+    Arg::new(alloc, name).long(name).value_name(word).help(help)
+}
+
+/// With the options of whom to ask.
+fn with_servers<'a>(alloc: Global, command: Command<'a>) -> Result<Command<'a>, AllocError> {
+    command
+        .arg(
+            value(
+                alloc,
+                "server",
+                "ADDRESS[:PORT]",
+                "A name server; may be repeated",
+            )
+            .short('s')
+            .action(ArgAction::Append),
+        )?
+        .arg(value(
+            alloc,
+            "resolver-file",
+            "FILE",
+            "The file that names servers where none is named",
+        )
+        .default_value("/etc/resolv.conf"))?
+        .arg(
+            Arg::new(alloc, "tcp")
+                .long("tcp")
+                .action(ArgAction::SetTrue)
+                .help("Ask over TCP alone"),
+        )
+}
+
+/// With the options of what can be sent.
+fn with_sender<'a>(alloc: Global, command: Command<'a>) -> Result<Command<'a>, AllocError> {
+    command
+        .arg(
+            value(
+                alloc,
+                "families",
+                "FAMILIES",
+                "The families of addresses, in their order",
+            )
+            .value_parser(["4", "6", "46", "64"].as_slice())
+            .default_value("46"),
+        )?
+        .arg(
+            value(
+                alloc,
+                "transports",
+                "LIST",
+                "What can be sent, the preferred one first",
+            )
+            .short('t')
+            .value_delimiter(',')
+            .value_parser(["udp", "tcp", "tls", "sctp"].as_slice())
+            .default_value("udp,tcp,tls,sctp"),
+        )
+}
+
+/// With the options of how long, and of the random words.
+fn with_limits<'a>(alloc: Global, command: Command<'a>) -> Result<Command<'a>, AllocError> {
+    command
+        .arg(
+            value(
+                alloc,
+                "total",
+                "MS",
+                "How long one URI may take, in milliseconds",
+            )
+            .value_parser(value_parser!(u32).range(1..=600_000))
+            .default_value("10000"),
+        )?
+        .arg(value(alloc, "seed", "HEX", "The key of the random words and ids"))
+}
+
+/// The command line.
+pub fn command<'a>(alloc: Global) -> Result<Command<'a>, AllocError> {
+    let command = Command::new(alloc, "sipwhere")
+        .bin_name("sipwhere")?
+        .version("0.1.0")
+        .about("Where SIP requests are sent (RFC 3263), asked of DNS servers")
+        .after_help(
+            "Exit status: 0 targets for all; 1 no server answered for one; 2 a refusal;\n\
+             3 a bad URI; 4 usage; 5 a fault; the greatest of many",
+        );
+    let command = with_servers(alloc, command)?;
+    let command = with_sender(alloc, command)?;
+    with_limits(alloc, command)?.arg(
+        Arg::new(alloc, "uri")
+            .value_name("URI")
+            .required(true)
+            .num_args(1..)
+            .help("SIP or SIPS URIs, or `Via: ..`; `-` for one on each line of standard input"),
+    )
+}
+
+/// The servers that are named.
+fn servers_of(alloc: Global, words: &[&str]) -> Result<Vec<SocketAddr>, OptionFault> {
+    let mut servers = Vec::new(alloc);
+    'words: for word in words {
+        match server_from_text(word) {
+            Some(server) => servers.push(server)?,
+            None => return Err(OptionFault::Server),
+        }
+    }
+    Ok(servers)
+}
+
+/// The families of a word.
+fn families_of(word: &str) -> Families {
+    match word {
+        "4" => Families::V4,
+        "6" => Families::V6,
+        "64" => Families::V6ThenV4,
+        _ => Families::V4ThenV6,
+    }
+}
+
+/// The transport of a word.
+fn transport_of(word: &str) -> Option<Transport> {
+    match word {
+        "udp" => Some(Transport::Udp),
+        "tcp" => Some(Transport::Tcp),
+        "tls" => Some(Transport::Tls),
+        "sctp" => Some(Transport::Sctp),
+        _ => None,
+    }
+}
+
+/// What can be sent.
+fn caps_of(alloc: Global, words: &[&str], families: Families) -> Result<Caps, OptionFault> {
+    let mut transports = Vec::new(alloc);
+    'words: for word in words {
+        match transport_of(word) {
+            Some(transport) => transports.push(transport)?,
+            None => return Err(OptionFault::Transports),
+        }
+    }
+    Caps::new(transports.as_slice(), families).ok_or(OptionFault::Transports)
+}
+
+/// The key of a word, where there is one.
+fn seed_of(word: Option<&str>) -> Result<Option<[u8; 32]>, OptionFault> {
+    match word {
+        None => Ok(None),
+        Some(word) => match key_from_text(word) {
+            Some(key) => Ok(Some(key)),
+            None => Err(OptionFault::Seed),
+        },
+    }
+}
+
+/// What is asked for.
+pub fn read_options<'a>(
+    alloc: Global,
+    matches: &ArgMatches<'a>,
+) -> Result<Options<'a>, OptionFault> {
+    let families = families_of(matches.get_str("families").unwrap_or("46"));
+    let transports = matches.get_strs("transports").unwrap_or(&[]);
+    Ok(Options {
+        servers: servers_of(alloc, matches.get_strs("server").unwrap_or(&[]))?,
+        resolver_file: matches.get_str("resolver-file").unwrap_or(""),
+        over_tcp: matches.get_flag("tcp"),
+        caps: caps_of(alloc, transports, families)?,
+        total: matches.get_one::<u32>("total").unwrap_or(10_000),
+        seed: seed_of(matches.get_str("seed"))?,
+        texts: Vec::from_slice(alloc, matches.get_strs("uri").unwrap_or(&[]))?,
+    })
+}

@@ -1,0 +1,170 @@
+//! What the program prints.
+ghost use Rattle.std.specs.Prelude.{◌≡◌, IfOk};
+ghost use Rattle.std.specs.List.{flat_map};
+ghost use Rattle.std.specs.String.{string_bytes};
+ghost use Rattle.sipwhere.specs.Lines as spec;
+
+use crate::fate::Fate;
+use dns_answers::ReplyRefusal;
+use dns_message::{Kind, Question};
+use sip_resolver::Outcome;
+use sip_selection::{Reason, Target};
+use sip_uri::{Transport, UriRefusal, address_text};
+use std::alloc::{AllocError, Global};
+
+fn transport_word(transport: Transport) -> &'static str
+    ensures { result.now ≡ spec.transport_word transport }
+{
+    match transport {
+        Transport::Udp => "udp",
+        Transport::Tcp => "tcp",
+        Transport::Sctp => "sctp",
+        Transport::Tls => "tls",
+    }
+}
+
+fn reason_word(reason: Reason) -> &'static str
+    ensures { result.now ≡ spec.reason_word reason }
+{
+    match reason {
+        Reason::TransportUnsupported => "TransportUnsupported",
+        Reason::TransportNotSecure => "TransportNotSecure",
+        Reason::NotOffered => "NotOffered",
+        Reason::NoAddress => "NoAddress",
+    }
+}
+
+fn kind_word(kind: Kind) -> &'static str
+    ensures { result.now ≡ spec.kind_word kind }
+{
+    match kind {
+        Kind::A => "A",
+        Kind::Aaaa => "AAAA",
+        Kind::Srv => "SRV",
+        Kind::Naptr => "NAPTR",
+    }
+}
+
+fn request_word(refusal: UriRefusal) -> &'static str
+    ensures { result.now ≡ spec.request_word refusal }
+{
+    match refusal {
+        UriRefusal::TooLong => "TooLong",
+        UriRefusal::BadScheme => "BadScheme",
+        UriRefusal::BadUser => "BadUser",
+        UriRefusal::BadHost => "BadHost",
+        UriRefusal::BadPort => "BadPort",
+        UriRefusal::BadParam => "BadParam",
+        UriRefusal::RepeatedParam => "RepeatedParam",
+        UriRefusal::BadHeader => "BadHeader",
+        UriRefusal::BadVia => "BadVia",
+        UriRefusal::Memory => "Memory",
+    }
+}
+
+/// Why a reply has no answer.
+fn why_word(alloc: Global, refusal: ReplyRefusal) -> Result<String, AllocError>
+    ensures { IfOk result (λ word. string_bytes word ≡ spec.why_word refusal) }
+{
+    match refusal {
+        ReplyRefusal::NotReply => String::from_str(alloc, "NotReply"),
+        ReplyRefusal::OtherQuestion => String::from_str(alloc, "OtherQuestion"),
+        ReplyRefusal::Truncated => String::from_str(alloc, "Truncated"),
+        ReplyRefusal::ServerFault(rcode) => format!(in alloc; "rcode {rcode}"),
+        ReplyRefusal::Memory => String::from_str(alloc, "Memory"),
+    }
+}
+
+/// The line of a target.
+fn target_line(alloc: Global, front: &str, target: &Target) -> Result<String, AllocError>
+    ensures { IfOk result (λ line. string_bytes line ≡ spec.target_line front.now target.now) }
+{
+    let address = address_text(alloc, target.address)?;
+    let port = target.port;
+    let mut line = String::from_str(alloc, front)?;
+    line.push_str(transport_word(target.transport))?;
+    line.push_str(" ")?;
+    line.push_str(&address)?;
+    line.push_str(&format!(in alloc; " {port}\n")?)?;
+    Ok(line)
+}
+
+/// The lines of targets.
+fn target_lines(alloc: Global, front: &str, targets: &[Target]) -> Result<String, AllocError>
+    ensures { IfOk result (λ lines.
+        string_bytes lines ≡ flat_map (spec.target_line front.now) targets.now) }
+{
+    let mut lines = String::new(alloc);
+    'targets: for target in targets {
+        lines.push_str(&target_line(alloc, front, target)?)?;
+    }
+    Ok(lines)
+}
+
+/// A question in words: its kind and its name.
+fn question_words(alloc: Global, question: &Question) -> Result<String, AllocError>
+    ensures { IfOk result (λ words. string_bytes words ≡ spec.question_words question.now) }
+{
+    let kind = kind_word(question.kind);
+    let name = question.name.text()?;
+    format!(in alloc; "{kind} {name}")
+}
+
+/// The line of a question that has no answer, and why it has none.
+fn gaveup_line(
+    alloc: Global,
+    front: &str,
+    question: &Question,
+    why: &str,
+) -> Result<String, AllocError>
+    ensures { IfOk result (λ line.
+        string_bytes line ≡ spec.gaveup_line front.now question.now why.now) }
+{
+    let question = question_words(alloc, question)?;
+    let mut line = String::from_str(alloc, front)?;
+    line.push_str("gaveup ")?;
+    line.push_str(&question)?;
+    line.push_str(" ")?;
+    line.push_str(why)?;
+    line.push_str("\n")?;
+    Ok(line)
+}
+
+/// A line of two words, behind the front.
+fn words_line(alloc: Global, front: &str, word: &str, other: &str) -> Result<String, AllocError>
+    ensures { IfOk result (λ line.
+        string_bytes line ≡ spec.words_line front.now word.now other.now) }
+{
+    let mut line = String::from_str(alloc, front)?;
+    line.push_str(word)?;
+    line.push_str(other)?;
+    line.push_str("\n")?;
+    Ok(line)
+}
+
+/// The lines of what became of a text, each behind the front.
+pub fn lines_of(alloc: Global, front: &str, fate: &Fate) -> Result<String, AllocError>
+    ensures { IfOk result (λ lines. string_bytes lines ≡ spec.lines_of front.now fate.now) }
+{
+    match fate {
+        Fate::Became(outcome) => outcome_lines(alloc, front, outcome),
+        Fate::TimeOver => words_line(alloc, front, "gaveup ", "total"),
+        Fate::Bad(refusal) => words_line(alloc, front, "bad ", request_word(*refusal)),
+        Fate::Memory => words_line(alloc, front, "fault ", "memory"),
+    }
+}
+
+/// The lines of what became of a request.
+fn outcome_lines(alloc: Global, front: &str, outcome: &Outcome) -> Result<String, AllocError>
+    ensures { IfOk result (λ lines. string_bytes lines ≡ spec.outcome_lines front.now outcome.now) }
+{
+    match outcome {
+        Outcome::Targets(list) => target_lines(alloc, front, list.as_slice()),
+        Outcome::Refused(reason) => words_line(alloc, front, "refused ", reason_word(*reason)),
+        Outcome::NoAnswer(question) => gaveup_line(alloc, front, question, "timeout"),
+        Outcome::BadReply(question, refusal) => {
+            gaveup_line(alloc, front, question, &why_word(alloc, *refusal)?)
+        }
+        Outcome::Memory => words_line(alloc, front, "fault ", "memory"),
+    }
+}

@@ -1,0 +1,243 @@
+//! Texts one after the other, from their words to what is printed.
+ghost use Rattle.std.specs.Prelude.{◌≡◌, ◌≤◌, IfOk, OnOk};
+ghost use Rattle.std.specs.Io.KnownBytes.{Appends};
+ghost use Rattle.sipwhere.specs.Runs.{IsTold, Tells};
+
+use crate::fate::{Fate, status_of};
+use crate::locate::{Sender, locate};
+use crate::options::Options;
+use crate::output::lines_of;
+use crate::plan::{Plan, read_plan};
+use answer_cache::{AnswerBook, ListCache};
+use dns_asker::Clock;
+use dns_client::{MessageWire, RunClock, ServerWire, random_key};
+use std::alloc::{AllocError, Global};
+use std::io::{self, Write};
+use std::net::Net;
+use std::random::RandomSource;
+use std::rt::Files;
+use std::sync::Wait;
+use std::time::{self, Duration};
+
+/// The status where memory, input, output, a clock or a socket failed.
+pub const FAULT_STATUS: u8 = 5;
+
+/// Writes a text.
+fn write_text<W: Write>(output: &mut W, text: &str) -> io::Result<()>
+    ensures { OnOk result (Appends (W.contents output.old) (W.contents output.new) text.now) }
+{
+    output.write_all(text.as_bytes())?;
+    output.flush()
+}
+
+/// Prints what became of a text, behind the front, and gives the status.
+fn tell<O: Write>(alloc: Global, output: &mut O, front: &str, fate: &Fate) -> u8
+    ensures told { IsTold (O.contents output.old) (O.contents output.new) front.now fate.now
+        result }
+    ensures range { result ≤ 5 }
+{
+    let Ok(lines) = lines_of(alloc, front, fate) else {
+        return FAULT_STATUS;
+    };
+    match write_text(output, &lines) {
+        Ok(()) => status_of(fate),
+        Err(_) => FAULT_STATUS,
+    }
+}
+
+/// Locates the text of a number, prints what became of it, and gives the status.
+fn locate_and_tell<R: Wait, B: AnswerBook + Drop, W: MessageWire, C: Clock, O: Write>(
+    rt: &R,
+    alloc: Global,
+    sender: &Sender,
+    number: u64,
+    text: &str,
+    front: &str,
+    book: &B,
+    seat: &mut B::Seat,
+    wire: &mut W,
+    clock: &C,
+    output: &mut O,
+) -> u8
+    requires made_here { B.belongs book.now seat.old }
+    ensures stays { B.belongs book.now seat.new }
+    ensures tells { Tells W.gives C.shows (B.shown seat.new) number sender.now text.now front.now
+        (O.contents output.old) (O.contents output.new) result }
+    ensures range { result ≤ 5 }
+{
+    let fate = locate(rt, alloc, sender, number, text, book, seat, wire, clock);
+    tell(alloc, output, front, &fate)
+}
+
+/// What stands in front of the lines of a text, where there are several: the text and a space.
+fn front_of(alloc: Global, text: &str) -> Result<String, AllocError> {
+    format!(in alloc; "{text} ")
+}
+
+/// Locates the text of a number, prints what became of it, behind the text itself where there are
+/// several, and gives the status.
+fn locate_one<R: Wait, B: AnswerBook + Drop, W: MessageWire, C: Clock, O: Write>(
+    rt: &R,
+    alloc: Global,
+    sender: &Sender,
+    number: u64,
+    text: &str,
+    several: bool,
+    book: &B,
+    seat: &mut B::Seat,
+    wire: &mut W,
+    clock: &C,
+    output: &mut O,
+) -> u8
+    requires made_here { B.belongs book.now seat.old }
+    ensures stays { B.belongs book.now seat.new }
+    ensures range { result ≤ 5 }
+{
+    if !several {
+        return locate_and_tell(
+            rt, alloc, sender, number, text, "", book, seat, wire, clock, output,
+        );
+    }
+    match front_of(alloc, text) {
+        Ok(front) => {
+            locate_and_tell(
+                rt, alloc, sender, number, text, &front, book, seat, wire, clock, output,
+            )
+        }
+        Err(AllocError) => FAULT_STATUS,
+    }
+}
+
+/// Locates texts one after the other, and gives the greatest status.
+fn locate_texts<R: Wait, B: AnswerBook + Drop, W: MessageWire, C: Clock, O: Write>(
+    rt: &R,
+    alloc: Global,
+    sender: &Sender,
+    texts: &[&str],
+    book: &B,
+    seat: &mut B::Seat,
+    wire: &mut W,
+    clock: &C,
+    output: &mut O,
+) -> u8
+    requires made_here { B.belongs book.now seat.old }
+    ensures range { result ≤ 5 }
+{
+    let several = texts.len() > 1;
+    let mut status = 0;
+    'texts: for (at, text) in texts.iter().enumerate() {
+        let number = at as u64 + 1;
+        let told = locate_one(
+            rt, alloc, sender, number, text, several, book, seat, wire, clock, output,
+        );
+        status = status.max(told);
+    }
+    status
+}
+
+/// The next line of the input that has more than blanks, without its end; none at the end.
+fn next_line<R: Input>(rt: &R, alloc: Global) -> io::Result<Option<String>> {
+    for _ in 0..u64::MAX {
+        let mut line = String::new(alloc);
+        if rt.read_line(&mut line)? == 0 {
+            return Ok(None);
+        }
+        let text = line.trim();
+        if !text.is_empty() {
+            return Ok(Some(String::from_str(alloc, text)?));
+        }
+    }
+    Ok(None)
+}
+
+/// Locates the lines of the input as they come, and gives the greatest status.
+fn locate_lines<R: Wait + Input, B: AnswerBook + Drop, W: MessageWire, C: Clock, O: Write>(
+    rt: &R,
+    alloc: Global,
+    sender: &Sender,
+    book: &B,
+    seat: &mut B::Seat,
+    wire: &mut W,
+    clock: &C,
+    output: &mut O,
+) -> u8
+    requires made_here { B.belongs book.now seat.old }
+    ensures range { result ≤ 5 }
+{
+    let mut status = 0;
+    'lines: for number in 1..u64::MAX {
+        match next_line(rt, alloc) {
+            Ok(None) => return status,
+            Ok(Some(line)) => {
+                let told = locate_one(
+                    rt, alloc, sender, number, &line, true, book, seat, wire, clock, output,
+                );
+                status = status.max(told);
+            }
+            Err(_) => return FAULT_STATUS,
+        }
+    }
+    status
+}
+
+/// Does what the options ask for, over these servers, and gives the status.
+fn run_over<R: Wait + Input + Print + Net + time::Clock>(
+    rt: &R,
+    alloc: Global,
+    options: &Options<'_>,
+    plan: &Plan,
+    key: [u8; 32],
+) -> io::Result<u8>
+    ensures { IfOk result (λ status. status ≤ 5) }
+{
+    let sender = Sender {
+        caps: options.caps,
+        key,
+    };
+    let total = Duration::from_millis(u64::from(options.total));
+    let mut wire = ServerWire::open(rt, alloc, plan.servers.as_slice(), plan.over_tcp, total)?;
+    let clock = RunClock::start(rt)?;
+    let (book, mut seat) = ListCache::new(alloc);
+    let mut output = io::writer(rt);
+    if options.texts.as_slice() == ["-"].as_slice() {
+        return Ok(locate_lines(
+            rt,
+            alloc,
+            &sender,
+            &book,
+            &mut seat,
+            &mut wire,
+            &clock,
+            &mut output,
+        ));
+    }
+    Ok(locate_texts(
+        rt,
+        alloc,
+        &sender,
+        options.texts.as_slice(),
+        &book,
+        &mut seat,
+        &mut wire,
+        &clock,
+        &mut output,
+    ))
+}
+
+/// Does what the options ask for, and gives the status.
+///
+/// # Errors
+///
+/// Those of the resolver file, of the clock and of the system's entropy, and want of memory.
+pub fn run<
+    R: Wait + Input + Print + Eprint + Files + Net + RandomSource + time::Clock + AllocGlobal,
+>(rt: &R, options: &Options<'_>) -> io::Result<u8>
+    ensures { IfOk result (λ status. status ≤ 5) }
+{
+    let plan = read_plan(rt, options)?;
+    let key = match options.seed {
+        Some(key) => key,
+        None => random_key(rt)?,
+    };
+    run_over(rt, rt.alloc(), options, &plan, key)
+}

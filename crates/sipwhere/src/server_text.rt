@@ -1,0 +1,19 @@
+//! Name servers in words.
+ghost use Rattle.std.specs.Prelude.{IfSome};
+ghost use Rattle.sipwhere.specs.Servers.{ServerText};
+
+use std::net::{IpAddr, SocketAddr};
+
+/// The port of a server without one.
+pub const SERVER_PORT: u16 = 53;
+
+/// The server of a word: an address, which has port 53, or an address with a port, where one of
+/// IPv6 stands in brackets.
+pub fn server_from_text(text: &str) -> Option<SocketAddr>
+    ensures found { IfSome result (ServerText text.now) }
+{
+    match text.parse::<IpAddr>() {
+        Ok(address) => Some(SocketAddr::new(address, SERVER_PORT)),
+        Err(_) => text.parse::<SocketAddr>().ok(),
+    }
+}

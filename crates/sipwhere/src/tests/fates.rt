@@ -1,0 +1,80 @@
+//! What is printed of texts over a wire in memory.
+use super::act_wire::Act::{Answers, Cut, Fails, Loses, OtherId};
+use super::act_wire::{Act, ActClock, ActWire};
+use crate::locate::{Sender, locate};
+use crate::output::lines_of;
+use answer_cache::ListCache;
+use sip_selection::{Caps, Families};
+use sip_uri::Transport::{Tcp, Udp};
+use std::alloc::Global;
+use std::collections::VecDeque;
+use std::sync::Wait;
+use std::sync::atomic::AtomicU64;
+
+/// What the wire does with each query, a text, and what is printed of it.
+const ROWS: [(&[Act], &str, &str); 10] = [
+    (&[], "sip:192.0.2.9", "> udp 192.0.2.9 5060\n"),
+    (&[], "sips:a.example", "> refused TransportUnsupported\n"),
+    (&[], "sip:-", "> bad BadHost\n"),
+    (&[Answers], "sip:a.example:5070", "> udp 192.0.2.7 5070\n"),
+    (
+        &[Answers],
+        "VIA: SIP/2.0/TCP a.example:5071;branch=z9hG4bK1",
+        "> tcp 192.0.2.7 5071\n",
+    ),
+    (
+        &[Loses, Loses, Answers],
+        "sip:a.example:5070",
+        "> udp 192.0.2.7 5070\n",
+    ),
+    (
+        &[OtherId, Answers],
+        "sip:a.example:5070",
+        "> udp 192.0.2.7 5070\n",
+    ),
+    (
+        &[Loses, Loses, Loses],
+        "sip:a.example:5070",
+        "> gaveup A a.example. timeout\n",
+    ),
+    (
+        &[Cut],
+        "sip:a.example:5070",
+        "> gaveup A a.example. Truncated\n",
+    ),
+    (
+        &[Fails],
+        "sip:a.example:5070",
+        "> gaveup A a.example. rcode 2\n",
+    ),
+];
+
+/// What is printed of a text, behind `> `, over a wire that does this.
+fn printed<R: Wait>(rt: &R, alloc: Global, acts: &[Act], text: &str) -> Option<String> {
+    let sender = Sender {
+        caps: Caps::new(&[Udp, Tcp], Families::V4)?,
+        key: [7; 32],
+    };
+    let seconds = AtomicU64::new(0);
+    let mut wire = ActWire {
+        alloc,
+        acts,
+        sends: 0,
+        replies: VecDeque::new(alloc),
+        seconds: &seconds,
+    };
+    let clock = ActClock { seconds: &seconds };
+    let (book, mut seat) = ListCache::new(alloc);
+    let fate = locate(
+        rt, alloc, &sender, 1, text, &book, &mut seat, &mut wire, &clock,
+    );
+    lines_of(alloc, "> ", &fate).ok()
+}
+
+#[test]
+fn fates(rt: HostRuntime) {
+    for (acts, text, lines) in &ROWS {
+        let printed = printed(&rt, rt.alloc(), acts, text);
+        assert_eq!(rt; printed.as_deref(), Some(*lines));
+    }
+}
