@@ -2,5 +2,8 @@ mod Collecting
 mod Dealing
 mod FreeIds
 mod Going
+mod Places
+mod SameCaps
+mod Sorting
 mod Standing
 mod Working

@@ -33,6 +33,8 @@
 #![tactic(auto)]
 
 mod gate;
+mod gather_refusal;
+mod gathering;
 mod job;
 mod outcome;
 mod refusal;
@@ -41,6 +43,8 @@ mod task;
 mod worker;
 
 pub use gate::{Gate, OpenGate};
+pub use gather_refusal::GatherRefusal;
+pub use gathering::gather;
 pub use job::Job;
 pub use outcome::{JobResult, Outcome, TargetList};
 pub use refusal::RunRefusal;
