@@ -5,4 +5,5 @@ pub mod Tasks
 pub mod Runs
 pub mod Gathers
 pub mod Slots
+pub mod Rules
 pub mod Deals

@@ -8,7 +8,6 @@ use Rattle.std.specs.Cmp.Lexicographic.{pointwise, pointwise_decides, bytes_deci
 use Rattle.sip_uri.specs.Same.{same_transport}
 use Rattle.sip_uri.specs.Same.Decided.{spoken_decides, uri_decides, via_decides}
 use Rattle.sip_uri.specs.declared.transport.Transport.{Transport}
-use Rattle.sip_uri.specs.declared.transport.Spoken.{Spoken}
 use Rattle.sip_uri.specs.declared.transport.Spoken.TheVariants.{Known}
 use Rattle.sip_selection.specs.Callers.{CapsValue}
 use Rattle.sip_selection.specs.declared.caps.Families.{Families}
@@ -28,10 +27,12 @@ transport_decides transport other =
 
 pub request_decides : (request other : Request)
     → Decides (same_request request other) (request ≡ other)
-request_decides (Uri uri) (Uri other) = let k = uri_decides uri other in (λ e. cc (k.0 e), λ e. k.1 cc)
+request_decides (Uri uri) (Uri other) =
+    let k = uri_decides uri other in (λ e. cc (k.0 e), λ e. k.1 cc)
 request_decides (Uri uri) (Via other) = (λ e. absurd cc, λ e. absurd cc)
 request_decides (Via via) (Uri other) = (λ e. absurd cc, λ e. absurd cc)
-request_decides (Via via) (Via other) = let k = via_decides via other in (λ e. cc (k.0 e), λ e. k.1 cc)
+request_decides (Via via) (Via other) =
+    let k = via_decides via other in (λ e. cc (k.0 e), λ e. k.1 cc)
 
 families_decides : (families other : Families)
     → Decides (same_families families other) (families ≡ other)

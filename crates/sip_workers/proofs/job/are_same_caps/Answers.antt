@@ -1,9 +1,7 @@
-use Rattle.std.proofs.Common.{◌≡◌, Bool, refl, rules}
+use Rattle.std.proofs.Common.{◌≡◌, rules}
 use Rattle.sip_uri.specs.Same.{same_transport}
 use Rattle.sip_uri.specs.declared.transport.Transport.{Transport}
-use Rattle.sip_uri.specs.declared.transport.Transport.TheVariants.{Udp, Tcp, Sctp, Tls}
 use Rattle.sip_uri.specs.contracts.transport.TransportPartialEq.TheImpl.{eq-value}
-use Rattle.sip_workers.specs.SameJobs.{same_families}
 use Rattle.sip_workers.proofs.SameCaps.{caps-same}
 use Rattle.sip_workers.proofs.job.are_same_caps.Goals as goal
 
