@@ -1,6 +1,15 @@
 mod Collecting
-mod Dealing
 mod FreeIds
 mod Going
+mod Joining
+mod Moves
+mod NextPut
+mod Once
+mod Places
+mod SameCaps
+mod Sorting
 mod Standing
+mod Taking
+mod Totals
+mod Whole
 mod Working

@@ -1,5 +1,9 @@
 pub mod Outcomes
+pub mod SameJobs
 pub mod Works
 pub mod Tasks
 pub mod Runs
+pub mod Gathers
+pub mod Slots
+pub mod Rules
 pub mod Deals

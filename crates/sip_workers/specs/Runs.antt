@@ -1,12 +1,14 @@
 -- What a run of many workers is, and what it gives.
-use Rattle.std.specs.Prelude.{◌≡◌, ℕ, ◌+◌, ◌<◌, ◌≤◌, List, length, slice_index_or}
+use Rattle.std.specs.Prelude.{◌≡◌, ◌≢◌, ℕ, ◌+◌, ◌<◌, ◌≤◌, List, length, slice_index_or}
 use Rattle.std.specs.List.{AllZip}
 use Rattle.answer_cache.specs.Shared.{CacheView, Told}
 use Rattle.sip_workers.specs.Outcomes.{IsOutcome}
 use Rattle.sip_workers.specs.declared.job.Job.{Job}
 use Rattle.sip_workers.specs.declared.outcome.Outcome.{Outcome}
 use Rattle.sip_workers.specs.declared.refusal.RunRefusal.{RunRefusal}
-use Rattle.sip_workers.specs.declared.refusal.RunRefusal.TheVariants.{BadCount, NoThread, Memory}
+use Rattle.sip_workers.specs.declared.gather_refusal.GatherRefusal.{GatherRefusal}
+use Rattle.sip_workers.specs.declared.gather_refusal.GatherRefusal.TheVariants as gather
+use Rattle.sip_workers.specs.declared.refusal.RunRefusal.TheVariants.{BadCount, NoThread, Memory, Gathering}
 
 -- ---- what may run
 
@@ -25,11 +27,19 @@ pub record MayRun (seats wires : ℕ) (jobs : List Job) (batch : ℕ) : Type 0 w
   pub few : length jobs ≤ 10000
 
 -- The counts are bad exactly where they are not good. A thread and memory are wanted only where
--- they are.
+-- they are, and results are put in order only then.
 abbrev pub RefusesRun : Type 0 → RunRefusal → Type 0
 RefusesRun good BadCount = good → ⊥
 RefusesRun good NoThread = good
 RefusesRun good Memory = good
+RefusesRun good (Gathering refusal) = good × (refusal ≢ gather.Memory)
+
+-- a refusal of `gather`, as one of a run
+abbrev pub of_gather : GatherRefusal → RunRefusal
+of_gather gather.Stranger = Gathering gather.Stranger
+of_gather gather.Double = Gathering gather.Double
+of_gather gather.Missing = Gathering gather.Missing
+of_gather gather.Memory = Memory
 
 -- ---- what it gives
 

@@ -26,21 +26,33 @@
 //! `copy_goes` says of a copy whether its outcome is the target that was wanted.
 //!
 //! `run_workers` runs a worker for each seat, in a thread of its own, and gives what became of each
-//! job, in order.
+//! job, in order. The batches go through a bounded channel under a rule, from which a worker that
+//! is free takes the next one. `gather` puts results in the order of their jobs.
 //!
 //! Read `specs/Outcomes.antt` first: what an outcome says. Then `specs/Works.antt`: what a worker
-//! hands to the cache, and `specs/Runs.antt`: what a run of many workers gives.
+//! hands to the cache, `specs/Runs.antt`: what a run of many workers gives, `specs/Rules.antt`: the
+//! rule of the channel, and `specs/Gathers.antt`: when results are those of some jobs.
 #![tactic(auto)]
 
+mod batch;
 mod gate;
+mod gather_refusal;
+mod gathering;
 mod job;
 mod outcome;
+mod part;
+mod putting;
+mod queue;
 mod refusal;
+mod report;
 mod run;
 mod task;
+mod threads;
 mod worker;
 
 pub use gate::{Gate, OpenGate};
+pub use gather_refusal::GatherRefusal;
+pub use gathering::gather;
 pub use job::Job;
 pub use outcome::{JobResult, Outcome, TargetList};
 pub use refusal::RunRefusal;

@@ -1,7 +1,9 @@
 //! Why there is no run.
 ghost use Rattle.std.specs.Prelude.{◌≡◌};
 ghost use Rattle.sip_workers.specs.declared.refusal.RunRefusal.TheVariants as refusals;
+ghost use Rattle.sip_workers.specs.Runs.{of_gather};
 
+use crate::gather_refusal::GatherRefusal;
 use std::alloc::{AllocError, AllocFailed};
 use thiserror::Error;
 
@@ -18,6 +20,9 @@ pub enum RunRefusal {
     /// Memory was refused.
     #[error("out of memory")]
     Memory,
+    /// The results were not those of the jobs: the queue of the batches failed.
+    #[error("the queue of the batches failed")]
+    Gathering(GatherRefusal),
 }
 
 impl From<AllocError> for RunRefusal {
@@ -33,5 +38,19 @@ impl<T: Drop> From<AllocFailed<T>> for RunRefusal {
 
     fn from(_: AllocFailed<T>) -> RunRefusal {
         RunRefusal::Memory
+    }
+}
+
+/// Want of memory is the run's own.
+impl From<GatherRefusal> for RunRefusal {
+    ghost from_gives = { λ refusal run. run ≡ of_gather refusal };
+
+    fn from(refusal: GatherRefusal) -> RunRefusal {
+        match refusal {
+            GatherRefusal::Memory => RunRefusal::Memory,
+            GatherRefusal::Stranger | GatherRefusal::Double | GatherRefusal::Missing => {
+                RunRefusal::Gathering(refusal)
+            }
+        }
     }
 }

@@ -1,24 +1,32 @@
 //! Many workers at once, each in a thread of its own, over one shared cache.
-ghost use Rattle.std.specs.Prelude.{◌≡◌, ◌<◌, ◌≢◌, Decides, IfErr, IfOk, OnOk, flat_map, length};
+ghost use Rattle.std.specs.Prelude.{⊤, ◌≡◌, ◌<◌, ◌≤◌, true, [], Decides, IsTrue, IfErr, IfOk, OnOk, length};
 ghost use Rattle.std.specs.List.{All};
+ghost use Rattle.crossbeam_channel.specs.Claims.{IsSeatAt, view};
+ghost use Rattle.crossbeam_channel.specs.Ends.{sends_on};
 ghost use Rattle.answer_cache.specs.Shared.{Belongs};
-ghost use Rattle.sip_workers.specs.Deals.{InTurn, IsCut, IsPart, IsPromise};
-ghost use Rattle.sip_workers.specs.declared.refusal.RunRefusal.TheVariants.{BadCount};
+ghost use Rattle.sip_workers.specs.Deals.{AreSized, EachOnce, IsCut, IsReport};
+ghost use Rattle.sip_workers.specs.Rules.{all_parts, pass_view};
 ghost use Rattle.sip_workers.specs.Runs.{AreMade, MayRun, RefusesRun, Rises};
+ghost use Rattle.sip_workers.specs.declared.refusal.RunRefusal.TheVariants.{Memory};
 
+use crate::batch::Batch;
 use crate::gate::Gate;
+use crate::gathering::gather;
 use crate::job::Job;
 use crate::outcome::Outcome;
+use crate::part::Plan;
+use crate::putting::{put_all, put_ends};
+use crate::queue::{Dealt, Queue, Right};
 use crate::refusal::RunRefusal;
-use crate::worker::Worker;
+use crate::report::{Report, results_of};
+use crate::threads::{join_all, join_rest, start_all};
 use answer_cache::{Notice, Seat, SharedCache};
 use dns_asker::{Clock, Wire};
 use std::alloc::{AllocError, Global};
-use std::collections::VecDeque;
-use std::marker::PhantomData;
+use std::marker::Brand;
 use std::sync::Wait;
 use std::thread;
-use std::thread::{Promise, PromisedHandle, Scope, Threads};
+use std::thread::{Scope, Threads};
 
 /// How many jobs a run has at most.
 const JOB_LIMIT: usize = 10_000;
@@ -27,7 +35,7 @@ const JOB_LIMIT: usize = 10_000;
 const BATCH_LIMIT: usize = 8;
 
 /// Whether the number of each job is below the number of the next.
-fn rises(jobs: &[Job]) -> bool
+pub(crate) fn rises(jobs: &[Job]) -> bool
     ensures { Decides result (Rises jobs.now) }
 {
     jobs.is_sorted_by(|first, second| first.number < second.number)
@@ -45,108 +53,30 @@ fn may_run(seats: usize, wires: usize, jobs: &[Job], batch: usize) -> bool
         && rises(jobs)
 }
 
-/// What became of the jobs of each batch of a worker.
-type Part = VecDeque<Vec<(Outcome, Notice)>>;
-
-/// What all workers of a run share.
-#[derive(Drop)]
-struct Plan<'a, C, G> {
-    alloc: Global,
-    cache: &'a SharedCache,
-    batches: &'a [&'a [Job]],
-    workers: usize,
-    clock: &'a C,
-    gate: &'a G,
-}
-
 /// Cuts jobs into batches of this size; the last one may be smaller.
-fn cut(alloc: Global, jobs: &[Job], size: usize) -> Result<Vec<&[Job]>, AllocError>
+fn cut(alloc: Global, jobs: &[Job], size: usize) -> Result<Vec<Batch>, AllocError>
     requires { 0 < size }
-    ensures cut { IfOk result (λ batches. IsCut size jobs.now batches.items) }
-    ensures whole { IfOk result (λ batches.
-        flat_map (λ batch. batch.now) batches.items ≡ jobs.now) }
+    ensures cut { IfOk result (λ batches. IsCut jobs.now (length jobs.now) batches.items) }
+    ensures sized { IfOk result (λ batches.
+        AreSized size (length jobs.now) 0 batches.items) }
 {
     let mut batches = Vec::new(alloc);
-    let mut rest = jobs;
-    'cuts: while !rest.is_empty() {
-        let (batch, later) = rest.split_at(size.min(rest.len()));
-        batches.push(batch)?;
-        rest = later;
+    let mut first = 0;
+    'cuts: while first < jobs.len() {
+        let count = size.min(jobs.len() - first);
+        batches.push(Batch { first, count })?;
+        first += count;
     }
     Ok(batches)
 }
 
-/// What became of the jobs of a batch.
-fn made_of<R: Wait, W: Wire + Drop, C: Clock, G: Gate>(
-    rt: &R,
-    plan: &Plan<'_, C, G>,
-    worker: &mut Worker<W>,
-    jobs: &[Job],
-) -> Result<Vec<(Outcome, Notice)>, AllocError>
-    requires made_here { Belongs plan.now.cache.now worker.old }
-    ensures made_here { Belongs plan.now.cache.now worker.new }
-    ensures made { IfOk result (λ made.
-        AreMade W.gives C.shows plan.now.cache.now jobs.now made.items) }
-{
-    let results = worker.batch(rt, plan.cache, jobs, plan.clock, plan.gate)?;
-    let mut made = Vec::with_capacity(plan.alloc, results.len())?;
-    'results: for result in results {
-        made.push(result.into_parts())?;
-    }
-    Ok(made)
-}
-
-/// What a worker of this number, at this seat and over this wire, makes of its batches, in order.
-fn work_off<R: Wait, W: Wire + Drop, C: Clock, G: Gate>(
-    rt: &R,
-    plan: &Plan<'_, C, G>,
-    number: usize,
-    seat: Seat,
-    wire: W,
-) -> Result<Part, AllocError>
-    requires made_here { Belongs plan.now.cache.now seat }
-    requires some { 0 < plan.now.workers }
-    ensures part { IfOk result (λ made. IsPart W.gives C.shows plan.now.cache.now
-        plan.now.batches.now plan.now.workers number made.items) }
-{
-    let mut worker = Worker::new(plan.alloc, seat, wire)?;
-    let mut made = VecDeque::new(plan.alloc);
-    let mut at = number;
-    'batches: while at < plan.batches.len() {
-        made.push_back(made_of(rt, plan, &mut worker, plan.batches[at])?)?;
-        let Some(next) = at.checked_add(plan.workers) else {
-            break;
-        };
-        at = next;
-    }
-    Ok(made)
-}
-
-/// What the thread of a worker is to give.
-#[derive(Drop)]
-struct Promised<'a, W: Wire, C: Clock> {
-    cache: &'a SharedCache,
-    batches: &'a [&'a [Job]],
-    workers: usize,
-    number: usize,
-    over: PhantomData<(W, C)>,
-}
-
-impl<'a, W: Wire, C: Clock> Promise<Result<Part, AllocError>> for Promised<'a, W, C> {
-    ghost use Rattle.std.specs.Prelude.{IfOk};
-    ghost use Rattle.sip_workers.specs.Deals.{IsPart};
-
-    ghost kept_by = { λ it result. IfOk result (λ made.
-        IsPart W.gives C.shows it.cache.now it.batches.now it.workers it.number made.items) };
-}
-
-/// The thread of a worker.
-type Running<'a, W, C> = PromisedHandle<Result<Part, AllocError>, Promised<'a, W, C>>;
-
-/// Starts the thread of the worker of this number.
-fn start<
+/// The reports of the workers, and whether the queue failed nowhere: each batch and each end was
+/// put, and each worker took an end. Where a thread could not be started, those that run get an end
+/// each.
+fn deal_out<
     's,
     E: 's,
+    J: Dealt + Send + Sync + 's,
     R: Threads + Wait + Sync + 's,
     W: Wire + Drop + Send + 's,
     C: Clock + Sync + 's,
@@ -154,160 +84,156 @@ fn start<
 >(
     scope: &Scope<'s, E>,
     rt: &'s R,
-    plan: &'s Plan<'s, C, G>,
-    number: usize,
-    seat: Seat,
-    wire: W,
-) -> Result<Running<'s, W, C>, RunRefusal>
-    requires made_here { Belongs plan.now.cache.now seat }
-    requires some { 0 < plan.now.workers }
-    ensures promised { IfOk result (λ thread.
-        IsPromise plan.now.cache.now plan.now.batches.now plan.now.workers number
-        thread.promise.cache.now thread.promise.batches.now
-        thread.promise.workers thread.promise.number) }
-    ensures refused { IfErr result (λ refusal. refusal ≢ BadCount) }
-{
-    let promise = Promised {
-        cache: plan.cache,
-        batches: plan.batches,
-        workers: plan.workers,
-        number,
-        over: PhantomData,
-    };
-    match scope.spawn_with(promise, move || work_off(rt, plan, number, seat, wire)) {
-        Ok(thread) => Ok(thread),
-        Err(_) => Err(RunRefusal::NoThread),
-    }
-}
-
-/// Starts a thread for each seat.
-fn start_all<
-    's,
-    E: 's,
-    R: Threads + Wait + Sync + 's,
-    W: Wire + Drop + Send + 's,
-    C: Clock + Sync + 's,
-    G: Gate + Sync + 's,
->(
-    scope: &Scope<'s, E>,
-    rt: &'s R,
-    plan: &'s Plan<'s, C, G>,
-    mut seats: Vec<Seat>,
-    mut wires: Vec<W>,
-) -> Result<VecDeque<Running<'s, W, C>>, RunRefusal>
+    plan: &'s Plan<'s, J, C, G>,
+    mut own: Right,
+    seats: Vec<Seat>,
+    wires: Vec<W>,
+) -> Result<(Vec<Report<'s>>, bool), RunRefusal>
     requires made_here { All (Belongs plan.now.cache.now) seats.items }
     requires alike { length wires.items ≡ length seats.items }
-    requires workers { plan.now.workers ≡ length seats.items }
-    ensures promised { IfOk result (λ threads. InTurn (λ number thread.
-        IsPromise plan.now.cache.now plan.now.batches.now plan.now.workers number
-        thread.promise.cache.now thread.promise.batches.now
-        thread.promise.workers thread.promise.number) 0 threads.items) }
-    ensures all { IfOk result (λ threads. length threads.items ≡ length seats.items) }
-    ensures refused { IfErr result (λ refusal. refusal ≢ BadCount) }
+    requires some { 0 < length seats.items }
+    requires queue { IsSeatAt (sends_on plan.now.queue.now.sender) own }
+    requires fresh { view own ≡ pass_view true all_parts [] [] }
+    requires batches { plan.now.batches.now ≡ J.batches }
+    requires cut { IsCut plan.now.jobs.now (length plan.now.jobs.now) J.batches }
+    ensures told { IfOk result (λ it.
+        All (IsReport W.gives C.shows plan.now.cache.now) it.0.items) }
+    ensures once { IfOk result (λ it. IsTrue it.1 → EachOnce plan.now.jobs.now it.0.items) }
+    ensures refused { IfErr result (RefusesRun ⊤) }
 {
-    let mut threads = VecDeque::new(plan.alloc);
-    'seats: while let Some(seat) = seats.pop() {
-        let Some(wire) = wires.pop() else {
-            unreachable!()
-        };
-        threads.push_front(start(scope, rt, plan, seats.len(), seat, wire)?)?;
+    let (threads, started) = start_all(scope, rt, plan, &mut own, seats, wires)?;
+    if !started {
+        put_ends(rt, plan.queue, &mut own, threads.len());
+        join_rest(rt, threads);
+        return Err(RunRefusal::NoThread);
     }
-    Ok(threads)
+    let dealt = put_all(rt, plan.queue, &mut own, plan.batches);
+    let ended = put_ends(rt, plan.queue, &mut own, threads.len());
+    let (reports, took) = join_all(rt, plan, &mut own, threads)?;
+    plan.queue.tell_whole(&mut own);
+    Ok((reports, dealt & ended & took))
 }
 
-/// What each worker made.
-fn join_all<R: Threads, W: Wire, C: Clock, G>(
+/// What became of each job, in order. Where the queue failed nowhere, each job has one result, and
+/// memory alone can be wanted.
+fn put_in_order<J: Dealt, W: Wire + Drop, C: Clock, G>(
+    plan: &Plan<'_, J, C, G>,
+    reports: Vec<Report<'_>>,
+    whole: bool,
+) -> Result<Vec<(Outcome, Notice)>, RunRefusal>
+    requires rises { Rises plan.now.jobs.now }
+    requires told { All (IsReport W.gives C.shows plan.now.cache.now) reports.items }
+    requires once { IsTrue whole → EachOnce plan.now.jobs.now reports.items }
+    ensures outcomes { IfOk result (λ made.
+        AreMade W.gives C.shows plan.now.cache.now plan.now.jobs.now made.items) }
+    ensures refused { IfErr result (RefusesRun ⊤) }
+    ensures memory { IsTrue whole → IfErr result (λ refusal. refusal ≡ Memory) }
+{
+    let results = results_of::<W, C>(plan.alloc, reports)?;
+    Ok(gather(plan.alloc, plan.jobs, results)?)
+}
+
+/// Works on the jobs of this plan, each worker in a thread of its own.
+fn run_plan<
+    J: Dealt + Send + Sync,
+    R: Threads + Wait + Sync,
+    W: Wire + Drop + Send,
+    C: Clock + Sync,
+    G: Gate + Sync,
+>(
     rt: &R,
-    plan: &Plan<'_, C, G>,
-    mut threads: VecDeque<Running<'_, W, C>>,
-) -> Result<VecDeque<Part>, AllocError>
-    requires promised { InTurn (λ number thread.
-        IsPromise plan.now.cache.now plan.now.batches.now plan.now.workers number
-        thread.promise.cache.now thread.promise.batches.now
-        thread.promise.workers thread.promise.number) 0 threads.items }
-    ensures parts { IfOk result (λ parts. InTurn (λ number part.
-        IsPart W.gives C.shows plan.now.cache.now plan.now.batches.now
-        plan.now.workers number part.items) 0 parts.items) }
-    ensures all { IfOk result (λ parts. length parts.items ≡ length threads.entry.items) }
-{
-    let mut parts = VecDeque::new(plan.alloc);
-    'threads: while let Some(thread) = threads.pop_front() {
-        parts.push_back(thread.join(rt)?)?;
-    }
-    Ok(parts)
-}
-
-/// Puts what the workers made in the order of the batches.
-fn gather<W: Wire, C: Clock, G>(
-    plan: &Plan<'_, C, G>,
-    mut parts: VecDeque<Part>,
-) -> Result<Vec<(Outcome, Notice)>, AllocError>
-    requires parts { InTurn (λ number part.
-        IsPart W.gives C.shows plan.now.cache.now plan.now.batches.now
-        plan.now.workers number part.items) 0 parts.items }
-    requires all { length parts.items ≡ plan.now.workers }
-    requires some { 0 < plan.now.workers }
-    ensures made { IfOk result (λ made. AreMade W.gives C.shows plan.now.cache.now
-        (flat_map (λ batch. batch.now) plan.now.batches.now) made.items) }
-{
-    let mut all = Vec::new(plan.alloc);
-    'batches: for _batch in 0..plan.batches.len() {
-        let Some(mut part) = parts.pop_front() else {
-            unreachable!()
-        };
-        let Some(mut made) = part.pop_front() else {
-            unreachable!()
-        };
-        all.append(&mut made)?;
-        parts.push_back(part)?;
-    }
-    Ok(all)
-}
-
-/// Works on the batches of this plan, each worker in a thread of its own.
-fn run_plan<R: Threads + Wait + Sync, W: Wire + Drop + Send, C: Clock + Sync, G: Gate + Sync>(
-    rt: &R,
-    plan: &Plan<'_, C, G>,
+    plan: &Plan<'_, J, C, G>,
+    own: Right,
     seats: Vec<Seat>,
     wires: Vec<W>,
 ) -> Result<Vec<(Outcome, Notice)>, RunRefusal>
     requires made_here { All (Belongs plan.now.cache.now) seats.items }
     requires alike { length wires.items ≡ length seats.items }
-    requires workers { plan.now.workers ≡ length seats.items }
     requires some { 0 < length seats.items }
-    ensures refused { IfErr result (λ refusal. refusal ≢ BadCount) }
-    ensures made { IfOk result (λ made. AreMade W.gives C.shows plan.now.cache.now
-        (flat_map (λ batch. batch.now) plan.now.batches.now) made.items) }
+    requires rises { Rises plan.now.jobs.now }
+    requires queue { IsSeatAt (sends_on plan.now.queue.now.sender) own }
+    requires fresh { view own ≡ pass_view true all_parts [] [] }
+    requires batches { plan.now.batches.now ≡ J.batches }
+    requires cut { IsCut plan.now.jobs.now (length plan.now.jobs.now) J.batches }
+    ensures outcomes { IfOk result (λ made.
+        AreMade W.gives C.shows plan.now.cache.now plan.now.jobs.now made.items) }
+    ensures refused { IfErr result (RefusesRun ⊤) }
 {
     thread::scope(
         thread::scope_env(),
         rt,
         |scope| -> Result<Vec<(Outcome, Notice)>, RunRefusal>
             requires { All (Belongs plan.now.cache.now) seats.items
-                × (length wires.items ≡ length seats.items)
-                × (plan.now.workers ≡ length seats.items) × (0 < length seats.items) }
-            ensures refused { IfErr result (λ refusal. refusal ≢ BadCount) }
-            ensures made { IfOk result (λ made. AreMade W.gives C.shows plan.entry.now.cache.now
-                (flat_map (λ batch. batch.now) plan.entry.now.batches.now) made.items) }
+                × (length wires.items ≡ length seats.items) × (0 < length seats.items)
+                × Rises plan.now.jobs.now × IsSeatAt (sends_on plan.now.queue.now.sender) own
+                × (view own ≡ pass_view true all_parts [] [])
+                × (plan.now.batches.now ≡ J.batches)
+                × IsCut plan.now.jobs.now (length plan.now.jobs.now) J.batches }
+            ensures outcomes { IfOk result (λ made. AreMade W.gives C.shows
+                plan.entry.now.cache.now plan.entry.now.jobs.now made.items) }
+            ensures refused { IfErr result (RefusesRun ⊤) }
         {
-            let threads = start_all(scope, rt, plan, seats, wires)?;
-            let parts = join_all(rt, plan, threads)?;
-            Ok(gather::<W, C, G>(plan, parts)?)
+            let (reports, whole) = deal_out::<_, J, R, W, C, G>(
+                scope, rt, plan, own, seats, wires,
+            )?;
+            put_in_order::<J, W, C, G>(plan, reports, whole)
         },
     )
+}
+
+/// Works on these jobs in these batches, of which the rule of the queue tells.
+fn run_batches<
+    J: Dealt + Send + Sync,
+    R: Threads + Wait + Sync,
+    W: Wire + Drop + Send,
+    C: Clock + Sync,
+    G: Gate + Sync,
+>(
+    rt: &R,
+    alloc: Global,
+    cache: &SharedCache,
+    seats: Vec<Seat>,
+    wires: Vec<W>,
+    jobs: &[Job],
+    batches: &[Batch],
+    clock: &C,
+    gate: &G,
+) -> Result<Vec<(Outcome, Notice)>, RunRefusal>
+    requires made_here { All (Belongs cache.now) seats.items }
+    requires alike { length wires.items ≡ length seats.items }
+    requires some { 0 < length seats.items }
+    requires rises { Rises jobs.now }
+    requires batches { batches.now ≡ J.batches }
+    requires cut { IsCut jobs.now (length jobs.now) J.batches }
+    ensures outcomes { IfOk result (λ made.
+        AreMade W.gives C.shows cache.now jobs.now made.items) }
+    ensures refused { IfErr result (RefusesRun ⊤) }
+{
+    let (queue, own) = Queue::<J>::new(alloc, seats.len())?;
+    let plan = Plan {
+        alloc,
+        cache,
+        queue: &queue,
+        jobs,
+        batches,
+        clock,
+        gate,
+    };
+    run_plan(rt, &plan, own, seats, wires)
 }
 
 /// Resolves these jobs by many workers at once, one for each seat, each over a wire and in a thread
 /// of its own. What one worker stores the others find, too.
 ///
-/// The jobs are cut into batches of this many, in order, and batch `b`, from 0, goes to worker
-/// `b % seats.len()`. The result has what became of each job, in order, with its worker's notice
-/// taken then. The seats and the wires are given up in each case.
+/// The jobs are cut into batches of this many, in order, and a worker that is free takes the next
+/// one. The result has what became of each job, in order, with its worker's notice taken then. The
+/// seats and the wires are given up in each case.
 ///
 /// `BadCount` exactly where there are no seats or not as many wires as seats, a batch is not of 1
 /// to 8 jobs, the numbers of the jobs do not rise strictly, or there are over 10,000 jobs;
-/// `NoThread` where a thread could not be made, and `Memory` where memory was refused. The threads
-/// that run are waited for in each case.
+/// `NoThread` where a thread could not be made, and `Memory` where memory was refused. `Gathering`
+/// needs a channel that says that its other ends are gone, which they are not. The threads that run
+/// are waited for in each case.
 pub fn run_workers<
     R: Threads + Wait + Sync,
     W: Wire + Drop + Send,
@@ -335,14 +261,8 @@ pub fn run_workers<
     if !may_run(seats.len(), wires.len(), jobs.as_slice(), batch) {
         return Err(RunRefusal::BadCount);
     }
-    let batches = cut(alloc, jobs.as_slice(), batch)?;
-    let plan = Plan {
-        alloc,
-        cache,
-        batches: batches.as_slice(),
-        workers: seats.len(),
-        clock,
-        gate,
-    };
-    run_plan(rt, &plan, seats, wires)
+    let jobs = jobs.as_slice();
+    let batches = cut(alloc, jobs, batch)?;
+    let batches = batches.as_slice();
+    run_batches::<Brand, R, W, C, G>(rt, alloc, cache, seats, wires, jobs, batches, clock, gate)
 }

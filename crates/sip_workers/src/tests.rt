@@ -12,6 +12,8 @@ use std::sync::Wait;
 use std::sync::atomic::{AtomicU64, Ordering};
 use std::thread::Threads;
 
+mod gathered;
+mod many;
 mod page;
 mod successor;
 

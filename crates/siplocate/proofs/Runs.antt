@@ -8,7 +8,7 @@ use Rattle.answer_cache.specs.Shared.{CacheView, Told}
 use Rattle.sip_workers.specs.declared.job.Job.{Job}
 use Rattle.sip_workers.specs.declared.outcome.Outcome.{Outcome}
 use Rattle.sip_workers.specs.declared.refusal.RunRefusal.{RunRefusal}
-use Rattle.sip_workers.specs.declared.refusal.RunRefusal.TheVariants.{BadCount, NoThread, Memory}
+use Rattle.sip_workers.specs.declared.refusal.RunRefusal.TheVariants.{BadCount, NoThread, Memory, Gathering}
 use Rattle.std.specs.Str.Lines.{lines}
 use Rattle.sip_workers.specs.Runs.{IsMade, MayRun, RefusesRun, Rises}
 use Rattle.siplocate.specs.Runs.{AreEntries, AreFates, FitsSeats, HasRequests, HasTooMany, IsEntry, IsRequest, RefusesText, fates_of}
@@ -170,6 +170,7 @@ pub refuses_reading : (text : List ℕ) (seats wires : ℕ) (refusal : RunRefusa
 refuses_reading text seats wires BadCount full never = inl (full refl)
 refuses_reading text seats wires NoThread full never = elim (never refl) [ ]
 refuses_reading text seats wires Memory full never = tt
+refuses_reading text seats wires (Gathering refusal) full never = tt
 
 pub refuses_running : (text : List ℕ) (seats wires : ℕ) (entries : List Entry) (jobs : List Job)
     → AreEntries 1 (lines text) entries jobs → length jobs ≤ 10000
@@ -185,6 +186,7 @@ refuses_running text seats wires entries jobs are few BadCount refused = inr (λ
 refuses_running text seats wires entries jobs are few NoThread may =
     ((may.some, may.alike), not_too_many text entries jobs are few)
 refuses_running text seats wires entries jobs are few Memory may = tt
+refuses_running text seats wires entries jobs are few (Gathering refusal) may = tt
 
 -- where there is a wire for each of so many workers, only too many requests are refused as that
 pub faults_of : (workers : ℕ) (text : List ℕ) (seats wires : ℕ) (refusal : RunRefusal)
@@ -193,6 +195,7 @@ faults_of workers text seats wires BadCount fits (inl many) = many
 faults_of workers text seats wires BadCount fits (inr unfit) = elim (unfit fits) [ ]
 faults_of workers text seats wires NoThread fits refused = tt
 faults_of workers text seats wires Memory fits refused = tt
+faults_of workers text seats wires (Gathering refusal) fits refused = tt
 
 -- what is told of a fault
 pub tells_fault : (workers : ℕ) (text : List ℕ) (it : RunFault)
@@ -202,6 +205,7 @@ tells_fault workers text fault.Workers unfit many = unfit refl
 tells_fault workers text fault.Requests unfit many = many refl
 tells_fault workers text fault.Memory unfit many = tt
 tells_fault workers text fault.Thread unfit many = tt
+tells_fault workers text fault.Gathering unfit many = tt
 tells_fault workers text fault.Net unfit many = tt
 
 -- ---- what becomes of them

@@ -8,7 +8,7 @@ use Rattle.siplocate.specs.declared.input.InputRefusal.TheVariants.{Input, Memor
 use Rattle.siplocate.specs.declared.job.Job.{Job}
 use Rattle.siplocate.specs.declared.job.Job.TheVariants as job
 use Rattle.siplocate.specs.declared.job.Told.{Told}
-use Rattle.siplocate.specs.declared.job.Told.TheVariants.{Text, Usage, NoInput, NoMemory, NoThread, NoNet}
+use Rattle.siplocate.specs.declared.job.Told.TheVariants.{Text, Usage, NoInput, NoMemory, NoThread, NotGathered, NoNet}
 use Rattle.sip_selection.specs.Choice.{Resolution}
 use Rattle.siplocate.specs.Requests.{LocatesTo}
 use Rattle.siplocate.specs.Served.{IsCountOfWorkers, IsOverfull, IsServed}
@@ -32,6 +32,7 @@ TellsText families text Usage = ⊥
 TellsText families text NoInput = ⊥
 TellsText families text NoMemory = ⊤
 TellsText families text NoThread = ⊥
+TellsText families text NotGathered = ⊥
 TellsText families text NoNet = ⊥
 
 -- of a zone and requests: what is printed of the requests, over answers to what was asked, or that
@@ -42,6 +43,7 @@ TellsRun workers text Usage = IsCountOfWorkers workers → ⊥
 TellsRun workers text NoInput = IsOverfull text
 TellsRun workers text NoMemory = ⊤
 TellsRun workers text NoThread = ⊤
+TellsRun workers text NotGathered = ⊤
 TellsRun workers text NoNet = ⊤
 
 -- what is told where nothing becomes of a run
@@ -50,6 +52,7 @@ faulted fault.Workers = Usage
 faulted fault.Requests = NoInput
 faulted fault.Memory = NoMemory
 faulted fault.Thread = NoThread
+faulted fault.Gathering = NotGathered
 faulted fault.Net = NoNet
 
 -- what is told of an input that was not taken
@@ -72,6 +75,7 @@ printed Usage = codes "usage: siplocate one [4|6|46|64] | run WORKERS\n"
 printed NoInput = codes "fault input\n"
 printed NoMemory = codes "fault memory\n"
 printed NoThread = codes "fault thread\n"
+printed NotGathered = codes "fault gather\n"
 printed NoNet = codes "fault net\n"
 
 abbrev pub status : Told → ℕ
@@ -80,6 +84,7 @@ status Usage = 4
 status NoInput = 5
 status NoMemory = 5
 status NoThread = 5
+status NotGathered = 5
 status NoNet = 5
 
 -- the text was written behind what had been, and the status is its own, or else output failed

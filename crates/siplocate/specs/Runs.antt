@@ -10,7 +10,7 @@ use Rattle.sip_workers.specs.Runs.{IsMade}
 use Rattle.sip_workers.specs.declared.job.Job.{Job}
 use Rattle.sip_workers.specs.declared.outcome.Outcome.{Outcome}
 use Rattle.sip_workers.specs.declared.refusal.RunRefusal.{RunRefusal}
-use Rattle.sip_workers.specs.declared.refusal.RunRefusal.TheVariants.{BadCount, NoThread, Memory}
+use Rattle.sip_workers.specs.declared.refusal.RunRefusal.TheVariants.{BadCount, NoThread, Memory, Gathering}
 use Rattle.siplocate.specs.Draws.{drawn}
 use Rattle.siplocate.specs.Outcomes.{shown_from, status_of_all}
 use Rattle.siplocate.specs.Requests.{RequestText}
@@ -76,6 +76,7 @@ abbrev pub RefusesText : List ℕ → ℕ → ℕ → RunRefusal → Type 0
 RefusesText text seats wires BadCount = HasTooMany text ⊎ (FitsSeats seats wires → ⊥)
 RefusesText text seats wires NoThread = FitsSeats seats wires × (HasTooMany text → ⊥)
 RefusesText text seats wires Memory = ⊤
+RefusesText text seats wires (Gathering refusal) = ⊤
 
 -- ---- what becomes of it
 

@@ -17,7 +17,7 @@ use Rattle.sip_workers.specs.declared.refusal.RunRefusal.TheVariants as run
 use Rattle.siplocate.specs.Parts.{AreParts}
 use Rattle.siplocate.specs.Runs.{HasTooMany, IsRun}
 use Rattle.siplocate.specs.declared.server.RunFault.{RunFault}
-use Rattle.siplocate.specs.declared.server.RunFault.TheVariants.{Workers, Requests, Memory, Thread, Net}
+use Rattle.siplocate.specs.declared.server.RunFault.TheVariants.{Workers, Requests, Memory, Thread, Gathering, Net}
 
 -- ---- why nothing becomes of a run, by what refused it
 
@@ -33,6 +33,7 @@ abbrev pub of_run : RunRefusal → RunFault
 of_run run.BadCount = Requests
 of_run run.NoThread = Thread
 of_run run.Memory = Memory
+of_run (run.Gathering refusal) = Gathering
 
 -- how many workers a run has
 abbrev pub IsCountOfWorkers : ℕ → Type 0
@@ -44,6 +45,7 @@ Faults workers requests Workers = IsCountOfWorkers workers → ⊥
 Faults workers requests Requests = HasTooMany requests
 Faults workers requests Memory = ⊤
 Faults workers requests Thread = ⊤
+Faults workers requests Gathering = ⊤
 Faults workers requests Net = ⊤
 
 -- ---- what is printed

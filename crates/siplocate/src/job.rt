@@ -42,6 +42,8 @@ pub enum Told {
     NoMemory,
     /// That a thread could not be made.
     NoThread,
+    /// That the results of a run were not those of its requests.
+    NotGathered,
     /// That a socket could not be opened.
     NoNet,
 }
@@ -90,6 +92,7 @@ fn printed(told: &Told) -> &str
         Told::NoInput => "fault input\n",
         Told::NoMemory => "fault memory\n",
         Told::NoThread => "fault thread\n",
+        Told::NotGathered => "fault gather\n",
         Told::NoNet => "fault net\n",
     }
 }
@@ -101,7 +104,8 @@ fn status(told: &Told) -> u8
     match told {
         Told::Text(_, status) => *status,
         Told::Usage => 4,
-        Told::NoInput | Told::NoMemory | Told::NoThread | Told::NoNet => FAULT_STATUS,
+        Told::NoInput | Told::NoMemory | Told::NoThread | Told::NotGathered | Told::NoNet =>
+            FAULT_STATUS,
     }
 }
 

@@ -22,7 +22,7 @@ const BATCH: usize = 8;
 ///
 /// `BadCount` exactly where there are no seats, or not as many wires as seats, or over 10,000
 /// requests, but for want of memory; `NoThread` where a thread could not be made, and `Memory`
-/// where memory was refused.
+/// where memory was refused. `Gathering` is one of `run_workers`.
 pub fn run_text<R: Threads + Wait + Sync, W: Wire + Drop + Send, C: Clock + Sync, G: Gate + Sync>(
     rt: &R,
     alloc: Global,

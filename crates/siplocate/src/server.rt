@@ -44,6 +44,9 @@ pub enum RunFault {
     /// A thread could not be made.
     #[error("a thread could not be made")]
     Thread,
+    /// The results were not those of the requests.
+    #[error("the results were not those of the requests")]
+    Gathering,
     /// A socket could not be opened.
     #[error("a socket could not be opened")]
     Net,
@@ -95,6 +98,7 @@ impl From<RunRefusal> for RunFault {
             RunRefusal::BadCount => RunFault::Requests,
             RunRefusal::NoThread => RunFault::Thread,
             RunRefusal::Memory => RunFault::Memory,
+            RunRefusal::Gathering(_) => RunFault::Gathering,
         }
     }
 }
@@ -231,6 +235,7 @@ fn tell_fault(fault: RunFault) -> Told
         RunFault::Requests => Told::NoInput,
         RunFault::Memory => Told::NoMemory,
         RunFault::Thread => Told::NoThread,
+        RunFault::Gathering => Told::NotGathered,
         RunFault::Net => Told::NoNet,
     }
 }

@@ -12,7 +12,10 @@ use std::sync::Wait;
 use std::sync::atomic::AtomicU64;
 
 /// A worker over this wire, with its cache.
-fn one_worker<'a>(alloc: Global, wire: ZoneWire<'a>) -> Option<(SharedCache, Worker<ZoneWire<'a>>)>
+pub(super) fn one_worker<'a>(
+    alloc: Global,
+    wire: ZoneWire<'a>,
+) -> Option<(SharedCache, Worker<ZoneWire<'a>>)>
     ensures { IfSome result (λ made. Belongs made.0 made.1) }
 {
     let Ok((cache, mut seats)) = SharedCache::new(alloc, 1) else {

@@ -1,17 +1,28 @@
-use Rattle.std.proofs.Common.{[], sym, arith}
-use Rattle.std.proofs.lemmas.Grind.{common_steps}
-use Rattle.std.proofs.lemmas.List.{append-nil, nil_from_length}
-use Rattle.sip_workers.proofs.Dealing.{whole}
+use Rattle.std.proofs.Common.{◌+◌, ◌<◌, ◌≤◌, [], ◌∷◌, append_assoc, length, refl, rules, sym}
+use Rattle.sip_workers.proofs.Whole.{cut-next}
+use Rattle.std.proofs.lemmas.List.{append-nil}
+use Rattle.sip_workers.specs.declared.batch.Batch.{Batch}
 use Rattle.sip_workers.proofs.run.cut.Goals as goal
 
-pub returns-clause-cut : goal.returns-clause-cut
-returns-clause-cut c =
+pub cuts-preserved : goal.cuts-preserved
+cuts-preserved c =
     let l = c.cuts in
-    let none = nil_from_length l.rest.now (grind (arith, common_steps)) in
-    rw (sym (append-nil l.batches.items)) (l.invariant.cut [] none)
+    let jobs = c.args.jobs.now in
+    let count = c.min-count.result in
+    let inside : l.first + count ≤ length jobs = search rules in
+    let some : 0 < count = search rules in
+    let small : count ≤ c.args.size = search rules in
+    let last : (count < c.args.size → length jobs ≤ l.first + count) = search rules in
+    let batch : Batch = record { first = l.first; count = count } in
+    record {
+      size = l.invariant.size;
+      inside = inside;
+      sized = λ later given. rw (c.in_ok-push.ensures.items, append_assoc l.batches.items (batch ∷ []) later)
+          (l.invariant.sized (batch ∷ later) (refl, small, last, given));
+      cut = rw c.in_ok-push.ensures.items (cut-next jobs l.batches.items l.first count l.invariant.cut inside some);
+    }
 
-pub returns-clause-whole : goal.returns-clause-whole
-returns-clause-whole c =
+pub returns-clause-sized : goal.returns-clause-sized
+returns-clause-sized c =
     let l = c.cuts in
-    let none = nil_from_length l.rest.now (grind (arith, common_steps)) in
-    whole c.args.size c.args.jobs.now l.batches.items (rw (sym (append-nil l.batches.items)) (l.invariant.cut [] none))
+    rw (sym (append-nil l.batches.items)) (l.invariant.sized [] c.cuts-test.false)

@@ -1,0 +1,79 @@
+//! Results that are put in the order of their jobs: those of two jobs, over a wire in memory.
+use super::page::one_worker;
+use super::{ZONE, clock_at_100, goes_to, two_jobs};
+use crate::run::rises;
+use crate::*;
+use answer_cache::Notice;
+use dns_asker::{StandingClock, Zone, ZoneWire};
+use std::alloc::Global;
+use std::sync::Wait;
+use std::sync::atomic::AtomicU64;
+
+/// The result of a job.
+type Made<'a, 'b> = JobResult<'a, ZoneWire<'b>, StandingClock>;
+
+/// Copies of the results at these places.
+fn picked<'a, 'b>(
+    alloc: Global,
+    made: &[Made<'a, 'b>],
+    places: &[usize],
+) -> Option<Vec<Made<'a, 'b>>> {
+    let mut all = Vec::new(alloc);
+    for at in places {
+        all.push(made.get(*at)?.try_clone(alloc).ok()?).ok()?;
+    }
+    Some(all)
+}
+
+/// Whether these are what became of the two jobs, in order.
+fn is_in_order(made: &[(Outcome, Notice)]) -> bool {
+    match made {
+        [first, second] => goes_to(&first.0, 5070) && goes_to(&second.0, 5080),
+        _ => false,
+    }
+}
+
+/// What `gather` makes of some of the results of two jobs, for the first so many of the jobs.
+fn gathered<R: Wait + AllocGlobal>(
+    rt: &R,
+    count: usize,
+    places: &[usize],
+) -> Option<Result<bool, GatherRefusal>> {
+    let alloc = rt.alloc();
+    let zone = Zone::read(alloc, ZONE).ok()?;
+    let sent = AtomicU64::new(0);
+    let (cache, mut worker) = one_worker(alloc, ZoneWire::new(alloc, &zone, &sent))?;
+    let jobs = two_jobs(alloc, "sip:a.example:5070", "sip:192.0.2.7:5080")?;
+    let clock = clock_at_100();
+    let made = worker
+        .batch(rt, &cache, jobs.as_slice(), &clock, &OpenGate)
+        .ok()?;
+    let results = picked(alloc, made.as_slice(), places)?;
+    let wanted = jobs.get(..count)?;
+    if !rises(wanted) {
+        return None;
+    }
+    Some(gather(alloc, wanted, results).map(|all| is_in_order(all.as_slice())))
+}
+
+#[test]
+fn results_in_any_order(rt: HostRuntime) {
+    assert_eq!(rt; gathered(&rt, 2, &[1, 0]), Some(Ok(true)));
+}
+
+#[test]
+fn results_that_do_not_fit(rt: HostRuntime) {
+    assert_eq!(rt;
+        gathered(&rt, 2, &[0, 1, 0]),
+        Some(Err(GatherRefusal::Double))
+    );
+    assert_eq!(rt; gathered(&rt, 2, &[0]), Some(Err(GatherRefusal::Missing)));
+    assert_eq!(rt;
+        gathered(&rt, 1, &[0, 1]),
+        Some(Err(GatherRefusal::Stranger))
+    );
+    assert_eq!(rt;
+        gathered(&rt, 1, &[0, 0, 1]),
+        Some(Err(GatherRefusal::Double))
+    );
+}

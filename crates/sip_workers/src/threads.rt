@@ -1,0 +1,195 @@
+//! The threads of a run's workers: they are started, and what they bring home is joined.
+ghost use Rattle.std.specs.Prelude.{◌≡◌, ◌+◌, ◌≤◌, ◌<◌, false, [], IsTrue, IfOk, IfSome, OnOk, length};
+ghost use Rattle.std.specs.List.{All, sum_by};
+ghost use Rattle.crossbeam_channel.specs.Claims.{IsSeatAt, view};
+ghost use Rattle.crossbeam_channel.specs.Ends.{sends_on};
+ghost use Rattle.answer_cache.specs.Shared.{Belongs};
+ghost use Rattle.sip_workers.specs.Deals.{AreTaken, IsInside, IsPromise, end_of};
+ghost use Rattle.sip_workers.specs.Rules.{pass_view};
+
+use crate::gate::Gate;
+use crate::job::Job;
+use crate::part::{Part, Plan, work};
+use crate::queue::{Dealt, Queue, Right};
+use crate::report::Report;
+use answer_cache::{Seat, SharedCache};
+use dns_asker::{Clock, Wire};
+use std::alloc::AllocError;
+use std::marker::PhantomData;
+use std::sync::Wait;
+use std::thread::{Promise, PromisedHandle, Scope, Threads};
+
+/// What the thread of a worker is to give.
+#[derive(Drop)]
+pub(crate) struct Promised<'a, J: Dealt, W: Wire, C: Clock> {
+    queue: &'a Queue<J>,
+    jobs: &'a [Job],
+    cache: &'a SharedCache,
+    over: PhantomData<(W, C)>,
+}
+
+impl<'a, J: Dealt, W: Wire, C: Clock> Promise<Part<'a, W>> for Promised<'a, J, W, C> {
+    ghost use Rattle.std.specs.Prelude.{IfOk};
+    ghost use Rattle.crossbeam_channel.specs.Claims.{IsSeatAt, view};
+    ghost use Rattle.crossbeam_channel.specs.Ends.{sends_on};
+    ghost use Rattle.sip_workers.specs.Deals.{AreTaken, IsTaken};
+
+    ghost kept_by = { λ it part. IsSeatAt (sends_on it.queue.now.sender) part.right
+        × IsTaken (view part.right) part.ended
+        × IfOk part.made (λ all.
+        AreTaken W.gives C.shows it.cache.now it.jobs.now (view part.right) all.items) };
+}
+
+/// The thread of a worker.
+pub(crate) type Running<'a, J, W, C> = PromisedHandle<Part<'a, W>, Promised<'a, J, W, C>>;
+
+/// Starts the thread of a worker.
+fn start<
+    's,
+    E: 's,
+    J: Dealt + Send + Sync + 's,
+    R: Threads + Wait + Sync + 's,
+    W: Wire + Drop + Send + 's,
+    C: Clock + Sync + 's,
+    G: Gate + Sync + 's,
+>(
+    scope: &Scope<'s, E>,
+    rt: &'s R,
+    plan: &'s Plan<'s, J, C, G>,
+    seat: Seat,
+    wire: W,
+    right: Right,
+) -> Option<Running<'s, J, W, C>>
+    requires made_here { Belongs plan.now.cache.now seat }
+    requires queue { IsSeatAt (sends_on plan.now.queue.now.sender) right }
+    requires fresh { view right ≡ pass_view false 1 [] [] }
+    requires inside { All (IsInside plan.now.jobs.now) J.batches }
+    ensures promised { IfSome result (λ thread.
+        IsPromise plan.now.queue.now thread.promise.queue.now plan.now.jobs.now
+        thread.promise.jobs.now plan.now.cache.now thread.promise.cache.now) }
+{
+    let promise = Promised {
+        queue: plan.queue,
+        jobs: plan.jobs,
+        cache: plan.cache,
+        over: PhantomData,
+    };
+    scope
+        .spawn_with(promise, move || work(rt, plan, seat, wire, right))
+        .ok()
+}
+
+/// Starts a thread for each seat, and tells whether each could be.
+pub(crate) fn start_all<
+    's,
+    E: 's,
+    J: Dealt + Send + Sync + 's,
+    R: Threads + Wait + Sync + 's,
+    W: Wire + Drop + Send + 's,
+    C: Clock + Sync + 's,
+    G: Gate + Sync + 's,
+>(
+    scope: &Scope<'s, E>,
+    rt: &'s R,
+    plan: &'s Plan<'s, J, C, G>,
+    own: &mut Right,
+    mut seats: Vec<Seat>,
+    mut wires: Vec<W>,
+) -> Result<(Vec<Running<'s, J, W, C>>, bool), AllocError>
+    requires made_here { All (Belongs plan.now.cache.now) seats.items }
+    requires alike { length wires.items ≡ length seats.items }
+    requires queue { IsSeatAt (sends_on plan.now.queue.now.sender) own.old }
+    requires parts { length seats.items < (view own.old).parts }
+    requires inside { All (IsInside plan.now.jobs.now) J.batches }
+    ensures queue { IsSeatAt (sends_on plan.now.queue.now.sender) own.new }
+    ensures stays { pass_view (view own.old).deals (view own.new).parts (view own.old).put
+        (view own.old).taken ≡ view own.new }
+    ensures promised { IfOk result (λ it. All (λ thread.
+        IsPromise plan.now.queue.now thread.promise.queue.now plan.now.jobs.now
+        thread.promise.jobs.now plan.now.cache.now thread.promise.cache.now) it.0.items) }
+    ensures all { IfOk result (λ it. IsTrue it.1 → (length it.0.items ≡ length seats.items)
+        × ((view own.new).parts + length it.0.items ≡ (view own.old).parts)) }
+{
+    let mut threads = Vec::with_capacity(plan.alloc, seats.len())?;
+    'seats: while let Some(seat) = seats.pop() {
+        let Some(wire) = wires.pop() else {
+            unreachable!()
+        };
+        let right = plan.queue.cut(own);
+        let Some(thread) = start(scope, rt, plan, seat, wire, right) else {
+            return Ok((threads, false));
+        };
+        threads.push_reserved(thread);
+    }
+    Ok((threads, true))
+}
+
+/// Joins a worker, adds what it made to the rest, and tells whether it took an end.
+fn join_one<'s, J: Dealt, R: Threads, W: Wire + Drop, C: Clock, G>(
+    rt: &R,
+    plan: &Plan<'s, J, C, G>,
+    own: &mut Right,
+    thread: Running<'s, J, W, C>,
+    all: &mut Vec<Report<'s>>,
+) -> Result<bool, AllocError>
+    requires queue { IsSeatAt (sends_on plan.now.queue.now.sender) own.old }
+    requires promised { IsPromise plan.now.queue.now thread.promise.queue.now plan.now.jobs.now
+        thread.promise.jobs.now plan.now.cache.now thread.promise.cache.now }
+    requires made { AreTaken W.gives C.shows plan.now.cache.now plan.now.jobs.now
+        (view own.old) all.old.items }
+    ensures queue { IsSeatAt (sends_on plan.now.queue.now.sender) own.new }
+    ensures stays { ((view own.new).deals ≡ (view own.old).deals)
+        × ((view own.new).put ≡ (view own.old).put) }
+    ensures part { (view own.new).parts ≡ (view own.old).parts + 1 }
+    ensures made { OnOk result
+        (AreTaken W.gives C.shows plan.now.cache.now plan.now.jobs.now
+        (view own.new) all.new.items) }
+    ensures ended { IfOk result (λ ended. IsTrue ended
+        → sum_by end_of (view own.old).taken + 1 ≤ sum_by end_of (view own.new).taken) }
+{
+    let part = thread.join(rt);
+    plan.queue.take_in(own, part.right);
+    let mut made = part.made?;
+    all.append(&mut made)?;
+    Ok(part.ended)
+}
+
+/// The results of all workers, and whether each took an end.
+pub(crate) fn join_all<'s, J: Dealt, R: Threads, W: Wire + Drop, C: Clock, G>(
+    rt: &R,
+    plan: &Plan<'s, J, C, G>,
+    own: &mut Right,
+    mut threads: Vec<Running<'s, J, W, C>>,
+) -> Result<(Vec<Report<'s>>, bool), AllocError>
+    requires queue { IsSeatAt (sends_on plan.now.queue.now.sender) own.old }
+    requires none { (view own.old).taken ≡ [] }
+    requires promised { All (λ thread.
+        IsPromise plan.now.queue.now thread.promise.queue.now plan.now.jobs.now
+        thread.promise.jobs.now plan.now.cache.now thread.promise.cache.now) threads.items }
+    ensures queue { IsSeatAt (sends_on plan.now.queue.now.sender) own.new }
+    ensures stays { ((view own.new).deals ≡ (view own.old).deals)
+        × ((view own.new).put ≡ (view own.old).put) }
+    ensures parts { IfOk result (λ it.
+        (view own.new).parts ≡ (view own.old).parts + length threads.entry.items) }
+    ensures made { IfOk result (λ it.
+        AreTaken W.gives C.shows plan.now.cache.now plan.now.jobs.now (view own.new) it.0.items) }
+    ensures ended { IfOk result (λ it. IsTrue it.1
+        → length threads.entry.items ≤ sum_by end_of (view own.new).taken) }
+{
+    let mut all = Vec::new(plan.alloc);
+    let mut ended = true;
+    'threads: while let Some(thread) = threads.pop() {
+        ended &= join_one(rt, plan, own, thread, &mut all)?;
+    }
+    Ok((all, ended))
+}
+
+/// Waits for the threads, and drops what they made.
+pub(crate) fn join_rest<J: Dealt, R: Threads, W: Wire + Drop, C: Clock>(
+    rt: &R,
+    mut threads: Vec<Running<'_, J, W, C>>,
+) {
+    'threads: while let Some(thread) = threads.pop() {
+        thread.join(rt);
+    }
+}
