@@ -6,6 +6,21 @@
 //! no socket, reads no clock and starts no thread, so an event loop or a thread can drive it. The
 //! book of answers (`answer_cache`) and the caller's seat at it are lent to each call.
 //!
+//! ```
+//! let Ok(mut resolver) = Resolver::new(alloc, limits, CountingIds::new()) else {
+//!     return None;
+//! };
+//! resolver
+//!     .submit(1, request, caps, Words([0; WORD_COUNT]))
+//!     .ok()?;
+//! // the octets of a query, which begin with its id
+//! let query = resolver.poll_transmit(book, seat, now)?;
+//! // the octets of its reply
+//! resolver.handle(rt, &book, &mut seat, now, &REPLY).ok()?;
+//! // the request's number, and what became of it
+//! let ended = resolver.poll_outcome()?;
+//! ```
+//!
 //! A loop over it goes on so: `submit` what is to be resolved; call `poll_transmit` until it gives
 //! nothing, and send what it gives; take what `poll_outcome` gives; wait for a datagram until the
 //! moment that `next_timeout` names, and hand it to `handle`.
@@ -33,3 +48,6 @@ pub use origin::{Anything, Origin};
 pub use outcome::{Outcome, Resolved, TargetList};
 pub use refusal::SubmitRefusal;
 pub use resolver::{Heard, Limits, Resolver};
+
+#[cfg(test)]
+mod tests;
