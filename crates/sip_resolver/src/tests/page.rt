@@ -31,6 +31,7 @@ fn resolver_of<B: AnswerBook, F: Origin>(
     let limits = Limits {
         requests: 8,
         questions: 8,
+        streams: false,
     };
     let Ok(mut resolver) = Resolver::new(alloc, limits, CountingIds::new()) else {
         return None;
@@ -55,7 +56,7 @@ fn sends<B: AnswerBook, F: Origin>(
     ensures stand { Stand F.gives F.shows (B.shown seat.new) resolver.new.requests }
 {
     // the octets of a query, which begin with its id
-    let query = resolver.poll_transmit(book, seat, now)?;
+    let query = resolver.poll_transmit(book, seat, now)?.octets;
     Some(query.starts_with(b"\x00\x00"))
 }
 
@@ -66,7 +67,9 @@ fn sends_and_goes(rt: &impl Wait, alloc: Global, request: Request) -> Option<[bo
     let mut resolver = resolver_of::<ListCache, Anything>(alloc, request)?;
     let asks = sends(&mut resolver, &book, &mut seat, now)?;
     // the octets of its reply
-    resolver.handle(rt, &book, &mut seat, now, &REPLY).ok()?;
+    resolver
+        .handle(rt, &book, &mut seat, now, Over::Datagram, &REPLY)
+        .ok()?;
     let rests = sends(&mut resolver, &book, &mut seat, now).is_none();
     Some([asks, rests, goes(&mut resolver)?])
 }
