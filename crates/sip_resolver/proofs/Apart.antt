@@ -160,7 +160,8 @@ module _ (id : ℕ) (question : Question) (now : ℕ) where
   apart-from : (tickets : List Ticket) → LacksQuestion question tickets → ticket_of id tickets ≡ None → All (Differ ticket) tickets
   apart-from tickets lacks none = λ k d small. ((λ e. none-has id tickets none k d small (sym e)), (λ e. lacks k d small (sym e)))
 
-  pub distinct-asked : (over : Over) (old : QuestionsView) → AreDistinct old → Lacks question old → ticket_of id old.datagrams.tickets ≡ None
+  pub distinct-asked : (over : Over) (old : QuestionsView) → AreDistinct old → Lacks question old
+      → ticket_of id old.datagrams.tickets ≡ None
       → ticket_of id old.streams.tickets ≡ None → AreDistinct (asked_over over id question now old)
   distinct-asked Datagram old it lacks none other =
       let here = apart-from old.datagrams.tickets lacks.datagrams none in
@@ -186,7 +187,8 @@ module _ (id : ℕ) (question : Question) (now : ℕ) where
 pub heard-datagram : {E : Type 0} (old : QuestionsView) (new : Asking) (result : Result Incoming E)
     → IfOk result (λ it. new ≡ left_by it old.datagrams) → OnErr result (new ≡ old.datagrams) → AreDistinct old
     → AreDistinct (record { datagrams = new; streams = old.streams })
-heard-datagram old new (Ok (Ended id question ending)) left unchanged it = rw left (distinct-left Datagram (Ended id question ending) old it)
+heard-datagram old new (Ok (Ended id question ending)) left unchanged it =
+    rw left (distinct-left Datagram (Ended id question ending) old it)
 heard-datagram old new (Ok (Ignored why)) left unchanged it = rw left it
 heard-datagram old new (Err _) left unchanged it = rw unchanged it
 

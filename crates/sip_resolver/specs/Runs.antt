@@ -40,8 +40,8 @@ ended_by (takes ended) = Some ended.sought
 ended_by goes = None
 
 -- The requests that were inside at first, with those that were submitted, are those that are inside
--- at last, with those whose outcomes were taken, each as often: by any weight of each they weigh the
--- same.
+-- at last, with those whose outcomes were taken, each as often: by any weight of each they weigh
+-- the same.
 abbrev pub AreKept : ResolverView → List Event → ResolverView → Type 0
 AreKept first events last =
     (h : Sought → ℕ)

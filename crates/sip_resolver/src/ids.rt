@@ -59,7 +59,8 @@ impl Ids for CountingIds {
     }
 }
 
-/// Ids from a random generator (RFC 5452 9.2): each is the low 16 bits of the next 32 that it gives.
+/// Ids from a random generator (RFC 5452 9.2): each is the low 16 bits of the next 32 that it
+/// gives.
 ///
 /// Hand in one whose numbers can't be foretold, as ChaCha20 with a key from the operating system.
 #[derive(Drop)]

@@ -181,7 +181,8 @@ impl Questions {
 
 /// Asks a question under an id that is not open.
 fn asked(asker: &mut Asker, question: Question, id: u16, now: Moment) -> Result<u16, AskRefusal>
-    ensures asked { IfOk result (λ it. (it ≡ id) × (asker.new ≡ asked_too id question now asker.old)) }
+    ensures asked { IfOk result
+        (λ it. (it ≡ id) × (asker.new ≡ asked_too id question now asker.old)) }
     ensures unchanged { OnErr result (asker.new ≡ asker.old) }
 {
     match asker.ask(question, id, now) {

@@ -95,7 +95,8 @@ impl<B: AnswerBook, F: Origin, I: Ids + Drop> Resolver<B, F, I> {
     pub fn new(alloc: Global, limits: Limits, ids: I) -> Result<Resolver<B, F, I>, AllocError>
         requires requests { (1 ≤ limits.requests) × (limits.requests ≤ 1024) }
         requires questions { (1 ≤ limits.questions) × (limits.questions ≤ 256) }
-        ensures { IfOk result (λ it. it ≡ begun_of limits.requests limits.questions limits.streams) }
+        ensures { IfOk result
+            (λ it. it ≡ begun_of limits.requests limits.questions limits.streams) }
     {
         Ok(Resolver {
             alloc,

@@ -17,7 +17,8 @@ returns-in_default-next_due c =
     let datagrams = c.self.inside.datagrams.tickets in
     let streams = c.self.inside.streams.tickets in
     let front = rw c.in-Some.is at (least-of datagrams c.next_due.result c.next_due.ensures.first c.next_due.ensures.least) in
-    let back = rw c.in_default-next_due.is at (least-of streams c.next_due-2.result c.next_due-2.ensures.first c.next_due-2.ensures.least) in
+    let back =
+    rw c.in_default-next_due.is at (least-of streams c.next_due-2.result c.next_due-2.ensures.first c.next_due-2.ensures.least) in
     rw (← c.self.view_is) (none-behind (map deadline datagrams) (map deadline streams) c.in-Some.datagram front back)
 
 pub returns-then-datagram-stream : goal.returns-then-datagram-stream
@@ -38,4 +39,5 @@ returns-else-datagram-stream c =
     let back = rw c.in-Some-next_due.is at (least-of streams c.next_due-2.result c.next_due-2.ensures.first c.next_due-2.ensures.least) in
     let less = c.if-datagram-stream.false in
     rw (← c.self.view_is)
-    (least-behind (map deadline datagrams) (map deadline streams) c.in-Some.datagram c.in-Some-next_due.stream front back (omega (arith, less)))
+    (least-behind (map deadline datagrams) (map deadline streams) c.in-Some.datagram c.in-Some-next_due.stream front back
+    (omega (arith, less)))
