@@ -9,7 +9,8 @@ invariant_of-self g c =
       streams = c.self.inside.streams;
     } in
     let lacks : Lacks c.in-Ok.question old = rw c.in-Ok.ensures (rw (← c.self.view_is) at c.requires) in
-    asked-datagram c.in-Some.id c.in-Ok.question c.args.now old c.self.invariant lacks (rw (← c.self.view_is) at c.in-Some.ensures.datagrams)
+    asked-datagram c.in-Some.id c.in-Ok.question c.args.now old c.self.invariant lacks
+    (rw (← c.self.view_is) at c.in-Some.ensures.datagrams)
     (rw (← c.self.view_is) at c.in-Some.ensures.streams) c.asked.new.asker c.asked.result c.asked.ensures.asked c.asked.ensures.unchanged
 
 pub invariant_of-self-in-Stream : goal.invariant_of-self-in-Stream
@@ -19,6 +20,7 @@ invariant_of-self-in-Stream g c =
       streams = c.self.inside.streams;
     } in
     let lacks : Lacks c.in-Ok.question old = rw c.in-Ok.ensures (rw (← c.self.view_is) at c.requires) in
-    asked-stream c.in-Some.id c.in-Ok.question c.args.now old c.self.invariant lacks (rw (← c.self.view_is) at c.in-Some.ensures.datagrams)
-    (rw (← c.self.view_is) at c.in-Some.ensures.streams) c.asked-in-Stream.new.asker c.asked-in-Stream.result c.asked-in-Stream.ensures.asked
-    c.asked-in-Stream.ensures.unchanged
+    asked-stream c.in-Some.id c.in-Ok.question c.args.now old c.self.invariant lacks
+    (rw (← c.self.view_is) at c.in-Some.ensures.datagrams)
+    (rw (← c.self.view_is) at c.in-Some.ensures.streams) c.asked-in-Stream.new.asker c.asked-in-Stream.result
+    c.asked-in-Stream.ensures.asked c.asked-in-Stream.ensures.unchanged
