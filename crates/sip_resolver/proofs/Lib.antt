@@ -5,3 +5,6 @@ pub mod Weighing
 pub mod Storing
 pub mod Inside
 pub mod Turning
+pub mod Apart
+pub mod Deadlines
+pub mod Keeping

@@ -1,3 +1,4 @@
+pub mod Questions
 pub mod Outcomes
 pub mod Tasks
 pub mod Queues
@@ -5,3 +6,4 @@ pub mod Requests
 pub mod Works
 pub mod Waits
 pub mod Resolvers
+pub mod Runs

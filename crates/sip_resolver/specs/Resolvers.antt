@@ -1,36 +1,41 @@
 -- What contracts see of a resolver.
-use Rattle.std.specs.Prelude.{◌≡◌, ℕ, ◌<◌, List, [], ◌∷◌, ◌++◌, Option, Some, None}
-use Rattle.std.specs.Borrow.{Bor}
+use Rattle.std.specs.Prelude.{◌≡◌, ℕ, ◌<◌, Bool, true, false, List, [], ◌∷◌, ◌++◌, Option, Some, None}
 use Rattle.std.specs.List.{Contains}
 use Rattle.dns_message.specs.Messages.{Begins}
 use Rattle.dns_message.specs.declared.message.Message.{Message}
 use Rattle.dns_message.specs.declared.question.Question.{Question}
-use Rattle.dns_asker.specs.Events.{EndsBy, Means, closed}
-use Rattle.dns_asker.specs.Out.{IsOctetsOf}
-use Rattle.dns_asker.specs.Tickets.{Asking}
+use Rattle.dns_answers.specs.declared.refusal.ReplyRefusal.TheVariants as refusals
+use Rattle.dns_asker.specs.Events.{EndsBy, Means}
 use Rattle.dns_asker.specs.declared.incoming.Ending.{Ending}
+use Rattle.dns_asker.specs.declared.incoming.Ending.TheVariants as endings
 use Rattle.dns_asker.specs.declared.incoming.Incoming.TheVariants as incoming
 use Rattle.answer_cache.specs.Seats.{SeatView}
 use Rattle.sip_selection.specs.Selections.{begun}
 use Rattle.sip_selection.specs.declared.caps.Caps.{Caps}
 use Rattle.sip_selection.specs.declared.request.Request.{Request}
 use Rattle.sip_resolver.specs.Outcomes.{Ended}
+use Rattle.sip_resolver.specs.Questions.{AreDistinct, IsSent, QuestionsView, asking_over, closed_over, none_out}
 use Rattle.sip_resolver.specs.Requests.{AreSame, RequestsView, Stand, count_of, numbers_of, requests_of, waiting_without}
 use Rattle.sip_resolver.specs.declared.resolver.Heard.{Heard}
-use Rattle.sip_resolver.specs.declared.resolver.Heard.TheVariants.{Reply, Ignored}
+use Rattle.sip_resolver.specs.declared.resolver.Heard.TheVariants.{Reply, Cut, Ignored}
+use Rattle.sip_resolver.specs.declared.transmit.Over.{Over}
+use Rattle.sip_resolver.specs.declared.transmit.Over.TheVariants.{Datagram}
+use Rattle.sip_resolver.specs.declared.transmit.Transmit.{Transmit}
 use Rattle.sip_resolver.specs.declared.refusal.SubmitRefusal.{SubmitRefusal}
 use Rattle.sip_resolver.specs.declared.refusal.SubmitRefusal.TheVariants.{Full, NumberTaken, Memory}
 
--- the requests inside, and the questions that are out
+-- the requests inside, the questions that are out, and whether these can go on over streams
 pub record ResolverView : Type 0 where
   pub requests : RequestsView
-  pub asking : Asking
+  pub questions : QuestionsView
+  pub streams : Bool
 
 -- no request is inside, and no question is out
-abbrev pub begun_of : ℕ → ℕ → ResolverView
-begun_of requests questions = record {
+abbrev pub begun_of : ℕ → ℕ → Bool → ResolverView
+begun_of requests questions streams = record {
   requests = requests_of [] [] [] [] requests;
-  asking = record { tickets = []; limit = questions; serial = 0 };
+  questions = none_out questions;
+  streams = streams;
 }
 
 -- ---- a request is submitted
@@ -40,7 +45,11 @@ abbrev pub with_request : ℕ → Request → Caps → List ℕ → ResolverView
 with_request number request caps words it = record it {
   requests = record it.requests {
     ready = it.requests.ready
-        ++ record { number = number; selection = begun request caps words } ∷ [];
+        ++ record {
+          number = number;
+          selection = begun request caps words;
+          cut = false;
+        } ∷ [];
   };
 }
 
@@ -66,16 +75,29 @@ pub record IsEnded (question : Question) (octets : List ℕ) (ending : Ending) :
   pub begins : Begins octets it
   pub ends : EndsBy question it ending
 
--- What octets that came in leave. Those that are no reply to a question that is out leave all as it
--- was; a reply closes the question, and no request waits for it any more.
-abbrev pub Hears : ResolverView → ResolverView → List ℕ → Heard → Type 0
-Hears old new octets Reply =
-    (id : ℕ) × (question : Question) × (ending : Ending)
-    × Means old.asking octets (incoming.Ended id question ending)
-    × (new.asking ≡ closed id old.asking)
-    × (new.requests.waiting ≡ waiting_without id old.requests.waiting)
-Hears old new octets (Ignored why) =
-    Means old.asking octets (incoming.Ignored why) × (new ≡ old)
+-- the reply was cut, which came in a datagram, and its question can go on over a stream
+abbrev pub IsCut : ResolverView → Over → Ending → Type 0
+IsCut it over ending =
+    (it.streams ≡ true) × (over ≡ Datagram) × (ending ≡ endings.Faulty refusals.Truncated)
+
+-- a reply to a question that is out over this closes it, and no request waits for it any more
+pub record IsClosed (old new : ResolverView) (over : Over) (octets : List ℕ) (ending : Ending)
+    : Type 0 where
+  pub id : ℕ
+  pub question : Question
+  pub means : Means (asking_over over old.questions) octets (incoming.Ended id question ending)
+  pub left : new.questions ≡ closed_over over id old.questions
+  pub others : new.requests.waiting ≡ waiting_without id old.requests.waiting
+
+-- What octets that came in over this leave. Those that are no reply to a question that is out over
+-- it leave all as it was.
+abbrev pub Hears : ResolverView → ResolverView → Over → List ℕ → Heard → Type 0
+Hears old new over octets Reply =
+    (ending : Ending) × IsClosed old new over octets ending × (IsCut old over ending → ⊥)
+Hears old new over octets Cut =
+    (ending : Ending) × IsClosed old new over octets ending × IsCut old over ending
+Hears old new over octets (Ignored why) =
+    Means (asking_over over old.questions) octets (incoming.Ignored why) × (new ≡ old)
 
 -- ---- an outcome is taken
 
@@ -88,15 +110,11 @@ pub record IsTaken (ended : Ended) (old new : ResolverView) : Type 0 where
 
 -- ---- what is sent
 
--- these octets are those of a question that is out
-abbrev pub IsSent : ResolverView → Option (Bor (List ℕ)) → Type 0
-IsSent it None = Unit {0}
-IsSent it (Some octets) = (id : ℕ) × IsOctetsOf octets.now id it.asking.tickets
-
--- The requests are the same, what is so of them goes on to be so, and what is sent are the octets
--- of a question that is out.
+-- The requests are the same, and what is so of them goes on to be so. What is sent are the octets
+-- of a question that is out, under an id of its own.
 pub record Polls (gives : List ℕ → Type 0) (shows : ℕ → Type 0) (seat : SeatView)
-    (old new : ResolverView) (result : Option (Bor (List ℕ))) : Type 0 where
+    (old new : ResolverView) (result : Option Transmit) : Type 0 where
   pub stand : Stand gives shows seat new.requests
   pub same : AreSame old.requests new.requests
-  pub sent : IsSent new result
+  pub sent : IsSent new.questions result
+  pub distinct : AreDistinct new.questions

@@ -1,5 +1,5 @@
 -- What is so of a request on its way.
-use Rattle.std.specs.Prelude.{◌≡◌, ℕ, List}
+use Rattle.std.specs.Prelude.{◌≡◌, ℕ, Bool, List, if◌then◌else◌}
 use Rattle.std.specs.List.{All}
 use Rattle.dns_message.specs.declared.question.Question.{Question}
 use Rattle.answer_cache.specs.Seats.{SeatView}
@@ -7,13 +7,21 @@ use Rattle.sip_selection.specs.Choice.{Resolution, targets, refused, need}
 use Rattle.sip_selection.specs.Selections.{SelectionValue, now_of}
 use Rattle.sip_resolver.specs.Outcomes.{Counts, IsLacking, IsOutcome, Sought}
 use Rattle.sip_resolver.specs.declared.outcome.Outcome.TheVariants.{Targets, Refused, NoAnswer, BadReply, Memory}
+use Rattle.sip_resolver.specs.declared.transmit.Over.{Over}
+use Rattle.sip_resolver.specs.declared.transmit.Over.TheVariants.{Datagram, Stream}
 use Rattle.sip_resolver.specs.declared.task.Progress.{Progress}
 use Rattle.sip_resolver.specs.declared.task.Progress.TheVariants.{Asks, Ended}
 
--- its number, and its choice over the answers that it was given
+-- its number, its choice over the answers that it was given, and whether the reply to its question
+-- was cut, which came in a datagram
 pub record TaskView : Type 0 where
   pub number : ℕ
   pub selection : SelectionValue
+  pub cut : Bool
+
+-- over what its question goes
+abbrev pub over_of : TaskView → Over
+over_of task = if task.cut then Stream else Datagram
 
 -- a request that waits for the reply to the message of this id
 pub record WaitingView : Type 0 where

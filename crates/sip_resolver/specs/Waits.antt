@@ -13,14 +13,15 @@ use Rattle.sip_resolver.specs.declared.outcome.Outcome.TheVariants.{Targets, Ref
 use Rattle.sip_resolver.specs.declared.waits.Fate.{Fate}
 use Rattle.sip_resolver.specs.declared.waits.Fate.TheVariants.{Ready, Ended}
 use Rattle.sip_resolver.specs.declared.waits.WaitEnd.{WaitEnd}
-use Rattle.sip_resolver.specs.declared.waits.WaitEnd.TheVariants.{Answered, Faulty, GivenUp, NoMemory}
+use Rattle.sip_resolver.specs.declared.waits.WaitEnd.TheVariants.{Answered, Faulty, Cut, GivenUp, NoMemory}
 
 -- the answer counts, or the fault is one of octets that came in
 abbrev pub IsKnown : (List ℕ → Type 0) → (ℕ → Type 0) → SeatView → WaitEnd → Type 0
 IsKnown gives shows seat (Answered question answer) =
     Counts gives shows seat (record { question = question.now; answer = arc_value answer.now })
 IsKnown gives shows seat (Faulty question refusal) = IsFaulty gives question.now refusal
-IsKnown gives shows seat GivenUp = ⊤
+IsKnown gives shows seat Cut = ⊤
+IsKnown gives shows seat (GivenUp question) = ⊤
 IsKnown gives shows seat NoMemory = ⊤
 
 -- each answer of a request that can go on counts, and the outcome of one that ended is so
@@ -39,11 +40,13 @@ IsFailed task question refusal (Ended (BadReply other fault)) =
     (now_of task.selection ≡ need question) × (other ≡ question) × (fault ≡ refusal)
 IsFailed task question refusal (Ended Memory) = ⊤
 
--- it ended for want of the answer that it needed, or for want of memory; or it needed none
-abbrev pub IsGivenUp : TaskView → Fate → Type 0
-IsGivenUp task Ready = ⊤
-IsGivenUp task (Ended (Targets list)) = ⊥
-IsGivenUp task (Ended (Refused reason)) = ⊥
-IsGivenUp task (Ended (NoAnswer question)) = now_of task.selection ≡ need question
-IsGivenUp task (Ended (BadReply question fault)) = ⊥
-IsGivenUp task (Ended Memory) = ⊤
+-- it ended for want of the answer to this question, which it needed, or for want of memory; or it
+-- needed no such question
+abbrev pub IsGivenUp : TaskView → Question → Fate → Type 0
+IsGivenUp task question Ready = ⊤
+IsGivenUp task question (Ended (Targets list)) = ⊥
+IsGivenUp task question (Ended (Refused reason)) = ⊥
+IsGivenUp task question (Ended (NoAnswer other)) =
+    (now_of task.selection ≡ need question) × (other ≡ question)
+IsGivenUp task question (Ended (BadReply other fault)) = ⊥
+IsGivenUp task question (Ended Memory) = ⊤

@@ -7,21 +7,18 @@ ghost use Rattle.sip_resolver.specs.Tasks.{IsCounted, Lacks, sought_of};
 use crate::ids::Ids;
 use crate::origin::Origin;
 use crate::outcome::Outcome;
+use crate::questions::Questions;
 use crate::requests::Requests;
 use crate::task::Task;
 use answer_cache::AnswerBook;
 use dns_answers::Moment;
-use dns_asker::{AskRefusal, Asker};
-use dns_message::Question;
-
-/// How many ids are drawn at most: one more than the questions that can be out.
-const DRAW_LIMIT: usize = 257;
+use dns_asker::AskRefusal;
 
 /// Lets a request wait for the answer that it needs. Where its question is not out it is sent, and
 /// the result is its id; where as many are out as can be, the request is held.
 pub(crate) fn wait_for_answer<B: AnswerBook, F: Origin, I: Ids>(
     requests: &mut Requests<B>,
-    asker: &mut Asker,
+    questions: &mut Questions,
     ids: &mut I,
     task: Task<B>,
     now: Moment,
@@ -37,11 +34,11 @@ pub(crate) fn wait_for_answer<B: AnswerBook, F: Origin, I: Ids>(
         requests.end(task, Outcome::Memory);
         return None;
     };
-    if let Some(id) = asker.id_of(question) {
+    if let Some(id) = questions.id_of(question) {
         requests.wait(id, task);
         return None;
     }
-    match send(asker, ids, question, now) {
+    match questions.ask(task.over(), ids, question, now) {
         Ok(id) => {
             requests.wait(id, task);
             Some(id)
@@ -55,36 +52,4 @@ pub(crate) fn wait_for_answer<B: AnswerBook, F: Origin, I: Ids>(
             None
         }
     }
-}
-
-/// Asks a question that is not out, and gives its id.
-fn send<I: Ids>(
-    asker: &mut Asker,
-    ids: &mut I,
-    question: &Question,
-    now: Moment,
-) -> Result<u16, AskRefusal> {
-    if asker.is_full() {
-        return Err(AskRefusal::Full);
-    }
-    let id = free_id(asker, ids);
-    let Ok(question) = question.try_clone() else {
-        return Err(AskRefusal::Memory);
-    };
-    match asker.ask(question, id, now) {
-        Ok(_) => Ok(id),
-        Err(refusal) => Err(refusal),
-    }
-}
-
-/// An id that is drawn, and that no question is out under.
-fn free_id<I: Ids>(asker: &Asker, ids: &mut I) -> u16 {
-    let mut id = ids.draw();
-    for _draw in 0..DRAW_LIMIT {
-        if !asker.is_open(id) {
-            break;
-        }
-        id = ids.draw();
-    }
-    id
 }

@@ -6,9 +6,29 @@
 //! no socket, reads no clock and starts no thread, so an event loop or a thread can drive it. The
 //! book of answers (`answer_cache`) and the caller's seat at it are lent to each call.
 //!
+//! ```
+//! let Ok(mut resolver) = Resolver::new(alloc, limits, CountingIds::new()) else {
+//!     return None;
+//! };
+//! resolver
+//!     .submit(1, request, caps, Words([0; WORD_COUNT]))
+//!     .ok()?;
+//! // the octets of a query, which begin with its id
+//! let query = resolver.poll_transmit(book, seat, now)?.octets;
+//! // the octets of its reply
+//! resolver
+//!     .handle(rt, &book, &mut seat, now, Over::Datagram, &REPLY)
+//!     .ok()?;
+//! // the request's number, and what became of it
+//! let ended = resolver.poll_outcome()?;
+//! ```
+//!
 //! A loop over it goes on so: `submit` what is to be resolved; call `poll_transmit` until it gives
 //! nothing, and send what it gives; take what `poll_outcome` gives; wait for a datagram until the
 //! moment that `next_timeout` names, and hand it to `handle`.
+//!
+//! Where the caller can ask over streams (`Limits`), the question of a reply that was cut goes on
+//! over one: `poll_transmit` says over what it goes, and the caller says over what octets came.
 //!
 //! A question that many requests ask at once is sent once. Its reply is read once and stored once,
 //! and all that wait for it get its answer, in the order in which they came to wait.
@@ -19,17 +39,25 @@
 
 mod asks;
 mod ids;
+mod laws;
 mod origin;
 mod outcome;
+mod questions;
 mod queue;
 mod refusal;
 mod requests;
 mod resolver;
 mod task;
+mod transmit;
 mod waits;
 
-pub use ids::{CountingIds, Ids};
+pub use ids::{CountingIds, Ids, RandomIds};
+pub use laws::requests_are_kept;
 pub use origin::{Anything, Origin};
 pub use outcome::{Outcome, Resolved, TargetList};
 pub use refusal::SubmitRefusal;
 pub use resolver::{Heard, Limits, Resolver};
+pub use transmit::{Over, Transmit};
+
+#[cfg(test)]
+mod tests;

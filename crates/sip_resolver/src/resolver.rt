@@ -1,13 +1,14 @@
 //! The machine: what comes in, and what it leads to.
-ghost use Rattle.std.specs.Prelude.{◌≡◌, ◌<◌, ◌≤◌, [], slice_get, IfErr, IfOk, IfSome, MatchOption, OnErr, OnOk};
-ghost use Rattle.std.specs.List.{All};
-ghost use Rattle.std.specs.Option.{option_map};
+ghost use Rattle.std.specs.Prelude.{◌≡◌, ◌↔◌, ◌<◌, ◌≤◌, [], IfErr, IfOk, IfSome, IsTrue, MatchOption, OnErr, OnOk};
 ghost use Rattle.answer_cache.specs.Seats.{GoesOn, SeatView, StoresNothing};
 ghost use Rattle.dns_answers.specs.Records.{kind_of};
+ghost use Rattle.dns_answers.specs.declared.refusal.ReplyRefusal.TheVariants as refusals;
+ghost use Rattle.dns_asker.specs.declared.incoming.Ending.TheVariants as endings;
 ghost use Rattle.sip_locator.specs.Replies.{Answers};
 ghost use Rattle.sip_resolver.specs.Outcomes.{IsOutcome};
+ghost use Rattle.sip_resolver.specs.Questions.{IsLeast, deadlines_of};
 ghost use Rattle.sip_resolver.specs.Requests.{AreSame, IsBack, Stand, count_of, waiting_without};
-ghost use Rattle.sip_resolver.specs.Resolvers.{HasRoomFor, Hears, IsEnded, IsTaken, Polls, RefusesSubmit, begun_of, with_request};
+ghost use Rattle.sip_resolver.specs.Resolvers.{HasRoomFor, Hears, IsCut, IsEnded, IsTaken, Polls, RefusesSubmit, begun_of, with_request};
 ghost use Rattle.sip_resolver.specs.Tasks.{IsCounted, sought_of};
 ghost use Rattle.sip_resolver.specs.Works.{IsAtMostOne, Works};
 
@@ -15,13 +16,15 @@ use crate::asks::wait_for_answer;
 use crate::ids::Ids;
 use crate::origin::Origin;
 use crate::outcome::Resolved;
+use crate::questions::Questions;
 use crate::refusal::SubmitRefusal;
 use crate::requests::Requests;
 use crate::task::{Progress, Task};
+use crate::transmit::{Over, Transmit};
 use crate::waits::{WaitEnd, settle_all};
 use answer_cache::AnswerBook;
-use dns_answers::{Answer, Moment, answers_are_bounded};
-use dns_asker::{Asker, Due, Ending, Incoming, Why};
+use dns_answers::{Answer, Moment, ReplyRefusal, answers_are_bounded};
+use dns_asker::{Ending, Incoming, Why};
 use dns_message::Question;
 use sip_selection::{Caps, Request};
 use srv_choice::Words;
@@ -29,17 +32,17 @@ use std::alloc::{AllocError, Global};
 use std::marker::{Model, PhantomData};
 use std::sync::{Arc, Wait};
 
-/// The most questions that can be out at once.
-const QUESTION_LIMIT: usize = 256;
-
 /// How many requests and questions a resolver has at once.
 #[derive(Clone, Copy, Debug)]
 pub struct Limits {
     /// How many requests are inside at most, from 1 to 1,024. One that ended counts until its
     /// outcome is taken.
     pub requests: usize,
-    /// How many questions are out at most, from 1 to 256.
+    /// How many questions are out at most over datagrams, and as many over streams, from 1 to 256.
     pub questions: usize,
+    /// Whether a question goes on over a stream where the reply to it over a datagram was cut. Else
+    /// the requests that wait for it end.
+    pub streams: bool,
 }
 
 /// What octets that came in meant.
@@ -47,39 +50,28 @@ pub struct Limits {
 pub enum Heard {
     /// They ended the wait for the reply to a question.
     Reply,
+    /// They are a reply that was cut: its question goes over a stream next.
+    Cut,
     /// They are no reply to a question that is out, and all stays as it was.
     Ignored(Why),
 }
 
-/// Gives up the questions that were sent three times and whose replies did not come in time, until
-/// one is to be sent once more, and gives its id.
-fn next_resend<B: AnswerBook, F: Origin>(
-    asker: &mut Asker,
-    requests: &mut Requests<B>,
-    now: Moment,
-) -> Option<u16>
-    ensures stand { (seat : SeatView) → Stand F.gives F.shows seat requests.old
-        → Stand F.gives F.shows seat requests.new }
-    ensures same { AreSame requests.old requests.new }
+/// Whether the reply was cut.
+fn is_cut(ending: &Ending) -> bool
+    ensures { IsTrue result ↔ (ending.now ≡ endings.Faulty refusals.Truncated) }
 {
-    'dues: for _due in 0..QUESTION_LIMIT {
-        match asker.due(now) {
-            None => return None,
-            Some(Due::Resend(id, _)) => return Some(id),
-            Some(Due::GaveUp(id, _)) => settle_all::<B, F>(requests, id, &WaitEnd::GivenUp),
-        }
-    }
-    None
+    matches!(ending, Ending::Faulty(ReplyRefusal::Truncated))
 }
 
 /// Many requests at once, each on its way to its targets.
 #[derive(Drop)]
 pub struct Resolver<B, F, I> {
     alloc: Global,
-    asker: Asker,
+    questions: Questions,
     ids: I,
     requests: Requests<B>,
-    over: PhantomData<F>,
+    streams: bool,
+    origin: PhantomData<F>,
 }
 
 impl<B, F, I> Model for Resolver<B, F, I> {
@@ -87,7 +79,11 @@ impl<B, F, I> Model for Resolver<B, F, I> {
 
     ghost Value = { ResolverView };
 
-    ghost view = { λ it. record { requests = it.requests; asking = it.asker } };
+    ghost view = { λ it. record {
+      requests = it.requests;
+      questions = it.questions;
+      streams = it.streams;
+    } };
 }
 
 impl<B: AnswerBook, F: Origin, I: Ids + Drop> Resolver<B, F, I> {
@@ -99,14 +95,16 @@ impl<B: AnswerBook, F: Origin, I: Ids + Drop> Resolver<B, F, I> {
     pub fn new(alloc: Global, limits: Limits, ids: I) -> Result<Resolver<B, F, I>, AllocError>
         requires requests { (1 ≤ limits.requests) × (limits.requests ≤ 1024) }
         requires questions { (1 ≤ limits.questions) × (limits.questions ≤ 256) }
-        ensures { IfOk result (λ it. it ≡ begun_of limits.requests limits.questions) }
+        ensures { IfOk result
+            (λ it. it ≡ begun_of limits.requests limits.questions limits.streams) }
     {
         Ok(Resolver {
             alloc,
-            asker: Asker::new(alloc, limits.questions, 0)?,
+            questions: Questions::new(alloc, limits.questions)?,
             ids,
             requests: Requests::new(alloc, limits.requests)?,
-            over: PhantomData,
+            streams: limits.streams,
+            origin: PhantomData,
         })
     }
 
@@ -141,7 +139,12 @@ impl<B: AnswerBook, F: Origin, I: Ids + Drop> Resolver<B, F, I> {
     ///
     /// Questions whose replies did not come in time are given up after three sends, or sent once
     /// more; then each request that can goes on, by what the book has.
-    pub fn poll_transmit(&mut self, book: &B, seat: &mut B::Seat, now: Moment) -> Option<&[u8]>
+    pub fn poll_transmit(
+        &mut self,
+        book: &B,
+        seat: &mut B::Seat,
+        now: Moment,
+    ) -> Option<Transmit<'_>>
         requires made_here { B.belongs book.now seat.old }
         requires shown { F.shows now }
         requires stand { Stand F.gives F.shows (B.shown seat.old) self.old.requests }
@@ -151,8 +154,9 @@ impl<B: AnswerBook, F: Origin, I: Ids + Drop> Resolver<B, F, I> {
         ensures* polls { sem 𝓛 (Rests (the_row B.row F.row I.row) self.entry (λ ended.
             Polls F.gives F.shows (B.shown seat.new) self.old ended result)) }
     {
-        let id = self.next_transmit(book, seat, now)?;
-        self.asker.octets_of(id)
+        let id = self.next_transmit(book, seat, now);
+        self.questions.are_distinct();
+        self.questions.transmit_of(id?)
     }
 
     /// Takes octets that came in. The answer of a reply is stored once, and all requests that wait
@@ -164,6 +168,7 @@ impl<B: AnswerBook, F: Origin, I: Ids + Drop> Resolver<B, F, I> {
         book: &B,
         seat: &mut B::Seat,
         now: Moment,
+        over: Over,
         octets: &[u8],
     ) -> Result<Heard, AllocError>
         requires made_here { B.belongs book.now seat.old }
@@ -175,12 +180,16 @@ impl<B: AnswerBook, F: Origin, I: Ids + Drop> Resolver<B, F, I> {
         ensures stand { Stand F.gives F.shows (B.shown seat.new) self.new.requests }
         ensures once { IsAtMostOne (B.shown seat.old) (B.shown seat.new) }
         ensures same { AreSame self.old.requests self.new.requests }
-        ensures hears { IfOk result (Hears self.old self.new octets.now) }
+        ensures hears { IfOk result (Hears self.old self.new over octets.now) }
         ensures unchanged { OnErr result ((self.new ≡ self.old) × (seat.new ≡ seat.old)) }
     {
-        match self.asker.incoming(octets)? {
+        match self.questions.incoming(over, octets)? {
             Incoming::Ignored(why) => Ok(Heard::Ignored(why)),
             Incoming::Ended(id, question, ending) => {
+                if self.goes_on(over, &ending) {
+                    settle_all::<B, F>(&mut self.requests, id, &WaitEnd::Cut);
+                    return Ok(Heard::Cut);
+                }
                 self.hear(rt, book, seat, now, octets, id, &question, ending);
                 Ok(Heard::Reply)
             }
@@ -206,12 +215,19 @@ impl<B: AnswerBook, F: Origin, I: Ids + Drop> Resolver<B, F, I> {
     /// where no question is out.
     #[must_use]
     pub fn next_timeout(&self) -> Option<u64>
-        ensures first { result
-            ≡ option_map (λ it. it.deadline) (slice_get self.now.asking.tickets 0) }
-        ensures least { IfSome result
-            (λ it. All (λ ticket. it ≤ ticket.deadline) self.now.asking.tickets) }
+        ensures { IsLeast (deadlines_of self.now.questions) result }
     {
-        self.asker.next_due()
+        self.questions.next_due()
+    }
+
+    /// Whether the question of a reply that ends so and came over this goes over a stream next.
+    fn goes_on(&self, over: Over, ending: &Ending) -> bool
+        ensures { IsTrue result ↔ IsCut self.now over ending.now }
+    {
+        match over {
+            Over::Datagram => self.streams && is_cut(ending),
+            Over::Stream => false,
+        }
     }
 
     /// The id of the question to send next.
@@ -225,7 +241,7 @@ impl<B: AnswerBook, F: Origin, I: Ids + Drop> Resolver<B, F, I> {
         ensures stand { Stand F.gives F.shows (B.shown seat.new) self.new.requests }
         ensures same { AreSame self.old.requests self.new.requests }
     {
-        if let Some(id) = next_resend::<B, F>(&mut self.asker, &mut self.requests, now) {
+        if let Some(id) = self.questions.next_resend::<B, F>(&mut self.requests, now) {
             return Some(id);
         }
         if let Some(id) = self.run_ready(book, seat, now) {
@@ -266,7 +282,7 @@ impl<B: AnswerBook, F: Origin, I: Ids + Drop> Resolver<B, F, I> {
         ensures same { AreSame self.old.requests self.new.requests }
     {
         'tasks: for _held in 0..self.requests.held_len() {
-            if self.asker.is_full() {
+            if self.questions.is_full() {
                 return None;
             }
             let Some(task) = self.requests.next_held() else {
@@ -307,7 +323,7 @@ impl<B: AnswerBook, F: Origin, I: Ids + Drop> Resolver<B, F, I> {
             }
             Progress::Asks => wait_for_answer::<B, F, I>(
                 &mut self.requests,
-                &mut self.asker,
+                &mut self.questions,
                 &mut self.ids,
                 task,
                 now,
@@ -336,7 +352,7 @@ impl<B: AnswerBook, F: Origin, I: Ids + Drop> Resolver<B, F, I> {
         ensures works { Works F.gives F.shows (B.shown seat.old) (B.shown seat.new) }
         ensures stand { Stand F.gives F.shows (B.shown seat.new) self.new.requests }
         ensures once { IsAtMostOne (B.shown seat.old) (B.shown seat.new) }
-        ensures asking { self.new.asking ≡ self.old.asking }
+        ensures asking { self.new.questions ≡ self.old.questions }
         ensures others { self.new.requests.waiting
             ≡ waiting_without id self.old.requests.waiting }
         ensures same { AreSame self.old.requests self.new.requests }
@@ -375,7 +391,7 @@ impl<B: AnswerBook, F: Origin, I: Ids + Drop> Resolver<B, F, I> {
         ensures works { Works F.gives F.shows (B.shown seat.old) (B.shown seat.new) }
         ensures stand { Stand F.gives F.shows (B.shown seat.new) self.new.requests }
         ensures once { IsAtMostOne (B.shown seat.old) (B.shown seat.new) }
-        ensures asking { self.new.asking ≡ self.old.asking }
+        ensures asking { self.new.questions ≡ self.old.questions }
         ensures others { self.new.requests.waiting
             ≡ waiting_without id self.old.requests.waiting }
         ensures same { AreSame self.old.requests self.new.requests }

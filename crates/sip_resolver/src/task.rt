@@ -1,16 +1,17 @@
 //! A request on its way.
-ghost use Rattle.std.specs.Prelude.{◌≡◌, ◌≢◌, IfOk, MatchOption, OnErr, OnOk};
+ghost use Rattle.std.specs.Prelude.{◌≡◌, ◌≢◌, true, false, IfOk, MatchOption, OnErr, OnOk};
 ghost use Rattle.std.specs.Arc.{arc_value};
 ghost use Rattle.answer_cache.specs.Seats.{GoesOn, StoresNothing};
 ghost use Rattle.dns_message.specs.declared.question.Question.{Question as question};
 ghost use Rattle.sip_selection.specs.Choice.{IsNotRefused, need};
 ghost use Rattle.sip_selection.specs.Nexts.{next_of};
 ghost use Rattle.sip_selection.specs.Selections.{begun, given_too, now_of};
-ghost use Rattle.sip_resolver.specs.Tasks.{IsCounted, Leaves, Progresses, sought_of};
+ghost use Rattle.sip_resolver.specs.Tasks.{IsCounted, Leaves, Progresses, over_of, sought_of};
 
 use crate::origin::Origin;
 use crate::outcome::{Outcome, TargetList};
 use crate::queue::Numbered;
+use crate::transmit::Over;
 use answer_cache::AnswerBook;
 use dns_answers::{Answer, Moment};
 use dns_message::Question;
@@ -35,6 +36,8 @@ pub(crate) enum Progress {
 pub(crate) struct Task<B> {
     number: u64,
     locator: Box<Locator<B>>,
+    /// The reply to its question was cut, which came in a datagram.
+    cut: bool,
 }
 
 impl<B> Model for Task<B> {
@@ -42,7 +45,11 @@ impl<B> Model for Task<B> {
 
     ghost Value = { TaskView };
 
-    ghost view = { λ it. record { number = it.number; selection = it.locator.value } };
+    ghost view = { λ it. record {
+      number = it.number;
+      selection = it.locator.value;
+      cut = it.cut;
+    } };
 }
 
 impl<B> Task<B> {
@@ -51,6 +58,24 @@ impl<B> Task<B> {
         ensures { result ≡ self.now.number }
     {
         self.number
+    }
+
+    /// Over what its question goes: over a stream where the reply over a datagram was cut.
+    pub(crate) fn over(&self) -> Over
+        ensures { result ≡ over_of self.now }
+    {
+        if self.cut {
+            Over::Stream
+        } else {
+            Over::Datagram
+        }
+    }
+
+    /// The reply to its question was cut, which came in a datagram.
+    pub(crate) fn mark_cut(&mut self)
+        ensures { self.new ≡ record self.old { cut = true } }
+    {
+        self.cut = true;
     }
 }
 
@@ -72,11 +97,15 @@ impl<B: AnswerBook> Task<B> {
         words: Words,
     ) -> Result<Task<B>, AllocError>
         ensures { IfOk result (λ it. it
-            ≡ record { number = number; selection = begun request caps words.0 }) }
+            ≡ record { number = number; selection = begun request caps words.0; cut = false }) }
     {
         let locator = Locator::new(alloc, request, caps, words)?;
         match Box::new(alloc, locator) {
-            Ok(locator) => Ok(Task { number, locator }),
+            Ok(locator) => Ok(Task {
+                number,
+                locator,
+                cut: false,
+            }),
             Err(AllocFailed { .. }) => Err(AllocError),
         }
     }
@@ -125,13 +154,16 @@ impl<B: AnswerBook> Task<B> {
     ) -> Result<(), GiveRefusal>
         ensures given { OnOk result (self.new ≡ record self.old {
           selection = given_too self.old.selection question.now (arc_value answer.now);
+          cut = false;
         }) }
         ensures unchanged { OnErr result (self.new ≡ self.old) }
     {
         let Ok(answer) = Arc::try_clone(answer) else {
             return Err(GiveRefusal::Memory);
         };
-        self.locator.give(question, answer)
+        self.locator.give(question, answer)?;
+        self.cut = false;
+        Ok(())
     }
 }
 

@@ -4,6 +4,7 @@ ghost use Rattle.std.specs.Arc.{arc_value};
 ghost use Rattle.answer_cache.specs.Seats.{SeatView};
 ghost use Rattle.sip_selection.specs.Choice.{need};
 ghost use Rattle.sip_selection.specs.Selections.{now_of};
+ghost use Rattle.sip_resolver.specs.Questions.{Fewer};
 ghost use Rattle.sip_resolver.specs.Requests.{AreSame, IsBack, Stand, count_of, waiting_without};
 ghost use Rattle.sip_resolver.specs.Tasks.{IsCounted, Lacks, sought_of};
 ghost use Rattle.sip_resolver.specs.Waits.{Fits, IsFailed, IsGivenUp, IsKnown};
@@ -13,11 +14,15 @@ use crate::outcome::Outcome;
 use crate::requests::{Requests, Waiting};
 use crate::task::Task;
 use answer_cache::AnswerBook;
-use dns_answers::{Answer, ReplyRefusal};
+use dns_answers::{Answer, Moment, ReplyRefusal};
+use dns_asker::{Asker, Due};
 use dns_message::{Question, same_questions_are_equal};
 use sip_selection::GiveRefusal;
 use std::alloc::AllocError;
 use std::sync::Arc;
+
+/// The most questions that can be out at once over datagrams, and over streams.
+const QUESTION_LIMIT: usize = 256;
 
 /// How the wait for the reply to a question ended.
 #[derive(Drop)]
@@ -26,8 +31,10 @@ pub(crate) enum WaitEnd<'a> {
     Answered(&'a Question, &'a Arc<Answer>),
     /// The reply to this question has this fault.
     Faulty(&'a Question, ReplyRefusal),
-    /// The question was sent three times.
-    GivenUp,
+    /// The reply to the question was cut, and the question goes over a stream next.
+    Cut,
+    /// This question was sent three times.
+    GivenUp(&'a Question),
     /// Memory was refused for the answer.
     NoMemory,
 }
@@ -39,6 +46,30 @@ pub(crate) enum Fate {
     Ready,
     /// It ended.
     Ended(Outcome),
+}
+
+/// Gives up the questions that were sent three times and whose replies did not come in time, until
+/// one is to be sent once more, and gives its id.
+pub(crate) fn next_resend<B: AnswerBook, F: Origin>(
+    asker: &mut Asker,
+    requests: &mut Requests<B>,
+    now: Moment,
+) -> Option<u16>
+    ensures fewer { Fewer asker.old.tickets asker.new.tickets }
+    ensures stand { (seat : SeatView) → Stand F.gives F.shows seat requests.old
+        → Stand F.gives F.shows seat requests.new }
+    ensures same { AreSame requests.old requests.new }
+{
+    'dues: for _due in 0..QUESTION_LIMIT {
+        match asker.due(now) {
+            None => return None,
+            Some(Due::Resend(id, _)) => return Some(id),
+            Some(Due::GaveUp(id, question)) => {
+                settle_all::<B, F>(requests, id, &WaitEnd::GivenUp(question));
+            }
+        }
+    }
+    None
 }
 
 /// Lets all requests go on or end that wait for the reply to the message of this id.
@@ -102,7 +133,11 @@ fn fate_of<B: AnswerBook, F: Origin>(task: &mut Task<B>, end: &WaitEnd<'_>) -> F
             Err(GiveRefusal::Memory) => Fate::Ended(Outcome::Memory),
         },
         WaitEnd::Faulty(question, refusal) => faulty(task, question, *refusal),
-        WaitEnd::GivenUp => given_up(task),
+        WaitEnd::Cut => {
+            task.mark_cut();
+            Fate::Ready
+        }
+        WaitEnd::GivenUp(question) => given_up(task, question),
         WaitEnd::NoMemory => Fate::Ended(Outcome::Memory),
     }
 }
@@ -121,13 +156,14 @@ fn faulty<B: AnswerBook>(task: &Task<B>, question: &Question, refusal: ReplyRefu
     }
 }
 
-/// What becomes of a request whose question was sent three times.
-fn given_up<B: AnswerBook>(task: &Task<B>) -> Fate
-    ensures { IsGivenUp task.now result }
+/// What becomes of a request, as this question was sent three times.
+fn given_up<B: AnswerBook>(task: &Task<B>, question: &Question) -> Fate
+    ensures { IsGivenUp task.now question.now result }
 {
-    let Some(question) = task.question() else {
+    same_questions_are_equal();
+    if task.question() != Some(question) {
         return Fate::Ready;
-    };
+    }
     match question.try_clone() {
         Ok(question) => Fate::Ended(Outcome::NoAnswer(question)),
         Err(AllocError) => Fate::Ended(Outcome::Memory),

@@ -1,9 +1,11 @@
 use Rattle.answer_cache.specs.Seats.{SeatView}
+use Rattle.sip_resolver.specs.Questions.{Fewer}
 use Rattle.sip_resolver.specs.Requests.{AreSame, Stand}
-use Rattle.sip_resolver.proofs.resolver.next_resend.Given as goal
+use Rattle.sip_resolver.proofs.waits.next_resend.Given as goal
 
 abbrev pub invariant-dues : goal.invariant-dues
 invariant-dues g l = record {
+  fewer : Fewer l.fn.asker.tickets l.asker.tickets;
   stand : (seat : SeatView) → Stand g.F.Origin.gives g.F.Origin.shows seat l.fn.requests
       → Stand g.F.Origin.gives g.F.Origin.shows seat l.requests;
   same : AreSame l.fn.requests l.requests;

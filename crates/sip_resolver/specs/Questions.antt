@@ -1,0 +1,83 @@
+-- The questions that are out, over datagrams and over streams.
+use Rattle.std.specs.Prelude.{◌≡◌, ◌≢◌, ℕ, ◌≤◌, List, [], ◌++◌, map, Option, Some, None}
+use Rattle.std.specs.List.{All, AllPairs, Contains}
+use Rattle.dns_message.specs.declared.question.Question.{Question}
+use Rattle.dns_asker.specs.Events.{asked, closed}
+use Rattle.dns_asker.specs.Out.{IsOctetsOf, LacksQuestion}
+use Rattle.dns_asker.specs.Tickets.{Asking, Ticket}
+use Rattle.dns_asker.specs.declared.incoming.Incoming.{Incoming}
+use Rattle.dns_asker.specs.declared.incoming.Incoming.TheVariants.{Ended, Ignored}
+use Rattle.sip_resolver.specs.declared.transmit.Over.{Over}
+use Rattle.sip_resolver.specs.declared.transmit.Over.TheVariants.{Datagram, Stream}
+use Rattle.sip_resolver.specs.declared.transmit.Transmit.{Transmit}
+
+-- those over datagrams, and those over streams
+pub record QuestionsView : Type 0 where
+  pub datagrams : Asking
+  pub streams : Asking
+
+-- none is out, and at most so many can be over each
+abbrev pub none_out : ℕ → QuestionsView
+none_out limit = record {
+  datagrams = record { tickets = []; limit = limit; serial = 0 };
+  streams = record { tickets = []; limit = limit; serial = 0 };
+}
+
+abbrev pub asking_over : Over → QuestionsView → Asking
+asking_over Datagram it = it.datagrams
+asking_over Stream it = it.streams
+
+-- a question is asked over this
+abbrev pub asked_over : Over → ℕ → Question → ℕ → QuestionsView → QuestionsView
+asked_over Datagram id question now it =
+    record it { datagrams = asked id question now it.datagrams }
+asked_over Stream id question now it = record it { streams = asked id question now it.streams }
+
+-- a ticket over this is closed
+abbrev pub closed_over : Over → ℕ → QuestionsView → QuestionsView
+closed_over Datagram id it = record it { datagrams = closed id it.datagrams }
+closed_over Stream id it = record it { streams = closed id it.streams }
+
+-- what is left after octets that came in over this
+abbrev pub left_over : Over → Incoming → QuestionsView → QuestionsView
+left_over over (Ended id question ending) it = closed_over over id it
+left_over over (Ignored why) it = it
+
+-- this question is not out
+pub record Lacks (question : Question) (it : QuestionsView) : Type 0 where
+  pub datagrams : LacksQuestion question it.datagrams.tickets
+  pub streams : LacksQuestion question it.streams.tickets
+
+-- they have neither one id nor one question
+abbrev pub Differ : Ticket → Ticket → Type 0
+Differ one other = (one.sent.id ≢ other.sent.id) × (one.sent.question ≢ other.sent.question)
+
+-- no two that are out have one id, and no two are one question
+pub record AreDistinct (it : QuestionsView) : Type 0 where
+  pub datagrams : AllPairs Differ it.datagrams.tickets
+  pub streams : AllPairs Differ it.streams.tickets
+  pub across : All (λ one. All (Differ one) it.streams.tickets) it.datagrams.tickets
+
+-- these octets are those of a question that is out over this
+abbrev pub IsSent : QuestionsView → Option Transmit → Type 0
+IsSent it None = Unit {0}
+IsSent it (Some transmit) =
+    (id : ℕ) × IsOctetsOf transmit.octets.now id (asking_over transmit.over it).tickets
+
+-- the deadlines of all that are out
+abbrev pub deadlines_of : QuestionsView → List ℕ
+deadlines_of it =
+    map (λ ticket. ticket.deadline) it.datagrams.tickets
+    ++ map (λ ticket. ticket.deadline) it.streams.tickets
+
+-- the least of these numbers, if there are any
+abbrev pub IsLeast : List ℕ → Option ℕ → Type 0
+IsLeast numbers None = numbers ≡ []
+IsLeast numbers (Some least) = Contains numbers least × All (λ number. least ≤ number) numbers
+
+-- Tickets that come of others: some are gone, and the others have their ids and questions still.
+pub record Fewer (old new : List Ticket) : Type 0 where
+  pub pairs : AllPairs Differ old → AllPairs Differ new
+  pub from_one : (one : Ticket) → All (Differ one) old → All (Differ one) new
+  pub from_all : (others : List Ticket) → All (λ one. All (Differ one) others) old
+      → All (λ one. All (Differ one) others) new

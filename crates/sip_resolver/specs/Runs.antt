@@ -1,0 +1,49 @@
+-- What becomes of the requests, along any calls.
+use Rattle.std.specs.Prelude.{◌≡◌, ℕ, ◌+◌, List, [], ◌∷◌, ◌++◌, Option, Some, None}
+use Rattle.std.specs.List.{filter_map, sum_by}
+use Rattle.sip_selection.specs.declared.caps.Caps.{Caps}
+use Rattle.sip_selection.specs.declared.request.Request.{Request}
+use Rattle.sip_resolver.specs.Outcomes.{Ended, Sought}
+use Rattle.sip_resolver.specs.Requests.{AreSame, weight}
+use Rattle.sip_resolver.specs.Resolvers.{IsTaken, ResolverView, with_request}
+
+-- What happens to a resolver: a request is submitted, an outcome is taken, or it is polled or hears
+-- octets.
+pub data Event : Type 0 where
+  submits : Sought → Event
+  takes : Ended → Event
+  goes : Event
+
+-- what an event leaves
+pub data Step (old new : ResolverView) : Event → Type 0 where
+  submitted : (number : ℕ) (request : Request) (caps : Caps) (words : List ℕ)
+      → new ≡ with_request number request caps words old
+      → Step old new
+      (submits (record { number = number; request = request; caps = caps; words = words }))
+  taken : (ended : Ended) → IsTaken ended old new → Step old new (takes ended)
+  gone : AreSame old.requests new.requests → Step old new goes
+
+-- one event after the other
+pub data Runs (first : ResolverView) : List Event → ResolverView → Type 0 where
+  begun : Runs first [] first
+  further : (events : List Event) (event : Event) (old new : ResolverView)
+      → Runs first events old → Step old new event → Runs first (events ++ event ∷ []) new
+
+abbrev pub submitted_by : Event → Option Sought
+submitted_by (submits sought) = Some sought
+submitted_by (takes ended) = None
+submitted_by goes = None
+
+abbrev pub ended_by : Event → Option Sought
+ended_by (submits sought) = None
+ended_by (takes ended) = Some ended.sought
+ended_by goes = None
+
+-- The requests that were inside at first, with those that were submitted, are those that are inside
+-- at last, with those whose outcomes were taken, each as often: by any weight of each they weigh
+-- the same.
+abbrev pub AreKept : ResolverView → List Event → ResolverView → Type 0
+AreKept first events last =
+    (h : Sought → ℕ)
+    → weight h first.requests + sum_by h (filter_map submitted_by events)
+    ≡ weight h last.requests + sum_by h (filter_map ended_by events)

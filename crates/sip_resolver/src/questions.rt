@@ -1,0 +1,192 @@
+//! The questions that are out, over datagrams and over streams.
+ghost use Rattle.std.specs.Prelude.{◌≡◌, ◌≤◌, [], None, IfOk, IfSome, MatchOption, OnErr};
+ghost use Rattle.answer_cache.specs.Seats.{SeatView};
+ghost use Rattle.dns_asker.specs.Events.{Means, asked as asked_too};
+ghost use Rattle.dns_asker.specs.Tickets.{ticket_of};
+ghost use Rattle.sip_resolver.specs.Questions.{AreDistinct, IsLeast, IsSent, Lacks, asked_over, asking_over, deadlines_of, left_over, none_out};
+ghost use Rattle.sip_resolver.specs.Requests.{AreSame, Stand};
+
+use crate::ids::Ids;
+use crate::origin::Origin;
+use crate::requests::Requests;
+use crate::transmit::{Over, Transmit};
+use crate::waits::next_resend;
+use answer_cache::AnswerBook;
+use dns_answers::Moment;
+use dns_asker::{AskRefusal, Asker, Incoming};
+use dns_message::Question;
+use std::alloc::{AllocError, Global};
+use std::marker::Model;
+
+/// How many ids are drawn at most for a question: one more than the questions that can be out.
+const DRAW_LIMIT: usize = 513;
+
+/// The questions that are out. No two have one id, and no two are one question.
+#[derive(Drop)]
+pub(crate) struct Questions {
+    datagrams: Asker,
+    streams: Asker,
+}
+
+impl Model for Questions {
+    ghost use Rattle.sip_resolver.specs.Questions.{AreDistinct, QuestionsView};
+
+    ghost Value = { QuestionsView };
+
+    ghost view = { λ it. record { datagrams = it.datagrams; streams = it.streams } };
+
+    ghost invariant = { λ it. AreDistinct
+        (record { datagrams = it.datagrams; streams = it.streams }) };
+}
+
+impl Questions {
+    /// None. At most so many are out over datagrams, and as many over streams.
+    pub(crate) fn new(alloc: Global, limit: usize) -> Result<Questions, AllocError>
+        requires some { 1 ≤ limit }
+        requires few { limit ≤ 256 }
+        ensures { IfOk result (λ it. it ≡ none_out limit) }
+    {
+        Ok(Questions {
+            datagrams: Asker::new(alloc, limit, 0)?,
+            streams: Asker::new(alloc, limit, 0)?,
+        })
+    }
+
+    /// A law: no two of them have one id, and no two are one question.
+    pub(crate) fn are_distinct(&self)
+        ensures { AreDistinct self.now }
+    {
+        let _ = &self.datagrams;
+    }
+
+    /// Whether as many are out over datagrams, or over streams, as can be.
+    pub(crate) fn is_full(&self) -> bool {
+        self.datagrams.is_full() || self.streams.is_full()
+    }
+
+    /// The id under which this question is out, if it is.
+    pub(crate) fn id_of(&self, question: &Question) -> Option<u16>
+        ensures { result ≡ None → Lacks question.now self.now }
+    {
+        if let Some(id) = self.datagrams.id_of(question) {
+            return Some(id);
+        }
+        self.streams.id_of(question)
+    }
+
+    /// Asks a question that is not out, and gives its id.
+    pub(crate) fn ask<I: Ids>(
+        &mut self,
+        over: Over,
+        ids: &mut I,
+        question: &Question,
+        now: Moment,
+    ) -> Result<u16, AskRefusal>
+        requires { Lacks question.now self.old }
+        ensures asked { IfOk result
+            (λ id. self.new ≡ asked_over over id question.now now self.old) }
+        ensures unchanged { OnErr result (self.new ≡ self.old) }
+    {
+        let Some(id) = self.free_id(ids) else {
+            return Err(AskRefusal::IdTaken);
+        };
+        let Ok(question) = question.try_clone() else {
+            return Err(AskRefusal::Memory);
+        };
+        match over {
+            Over::Datagram => asked(&mut self.datagrams, question, id, now),
+            Over::Stream => asked(&mut self.streams, question, id, now),
+        }
+    }
+
+    /// The first id that is drawn and that no question is out under, if one is among so many.
+    fn free_id<I: Ids>(&self, ids: &mut I) -> Option<u16>
+        ensures datagrams { IfSome result
+            (λ id. ticket_of id self.now.datagrams.tickets ≡ None) }
+        ensures streams { IfSome result
+            (λ id. ticket_of id self.now.streams.tickets ≡ None) }
+    {
+        for _draw in 0..DRAW_LIMIT {
+            let id = ids.draw();
+            if !self.datagrams.is_open(id) && !self.streams.is_open(id) {
+                return Some(id);
+            }
+        }
+        None
+    }
+
+    /// Takes octets that came in over this.
+    pub(crate) fn incoming(&mut self, over: Over, octets: &[u8]) -> Result<Incoming, AllocError>
+        ensures means { IfOk result (Means (asking_over over self.old) octets.now) }
+        ensures left { IfOk result (λ it. self.new ≡ left_over over it self.old) }
+        ensures unchanged { OnErr result (self.new ≡ self.old) }
+    {
+        match over {
+            Over::Datagram => self.datagrams.incoming(octets),
+            Over::Stream => self.streams.incoming(octets),
+        }
+    }
+
+    /// Gives up the questions that were sent three times and whose replies did not come in time,
+    /// until one is to be sent once more, and gives its id.
+    pub(crate) fn next_resend<B: AnswerBook, F: Origin>(
+        &mut self,
+        requests: &mut Requests<B>,
+        now: Moment,
+    ) -> Option<u16>
+        ensures stand { (seat : SeatView) → Stand F.gives F.shows seat requests.old
+            → Stand F.gives F.shows seat requests.new }
+        ensures same { AreSame requests.old requests.new }
+    {
+        if let Some(id) = next_resend::<B, F>(&mut self.datagrams, requests, now) {
+            return Some(id);
+        }
+        next_resend::<B, F>(&mut self.streams, requests, now)
+    }
+
+    /// The octets of the question that is out under this id, and over what it is.
+    pub(crate) fn transmit_of(&self, id: u16) -> Option<Transmit<'_>>
+        ensures { IsSent self.now result }
+    {
+        if let Some(octets) = self.datagrams.octets_of(id) {
+            return Some(Transmit {
+                octets,
+                over: Over::Datagram,
+            });
+        }
+        let octets = self.streams.octets_of(id)?;
+        Some(Transmit {
+            octets,
+            over: Over::Stream,
+        })
+    }
+
+    /// The least deadline of those that are out.
+    pub(crate) fn next_due(&self) -> Option<u64>
+        ensures { IsLeast (deadlines_of self.now) result }
+    {
+        let Some(datagram) = self.datagrams.next_due() else {
+            return self.streams.next_due();
+        };
+        let Some(stream) = self.streams.next_due() else {
+            return Some(datagram);
+        };
+        if datagram <= stream {
+            Some(datagram)
+        } else {
+            Some(stream)
+        }
+    }
+}
+
+/// Asks a question under an id that is not open.
+fn asked(asker: &mut Asker, question: Question, id: u16, now: Moment) -> Result<u16, AskRefusal>
+    ensures asked { IfOk result
+        (λ it. (it ≡ id) × (asker.new ≡ asked_too id question now asker.old)) }
+    ensures unchanged { OnErr result (asker.new ≡ asker.old) }
+{
+    match asker.ask(question, id, now) {
+        Ok(_) => Ok(id),
+        Err(refusal) => Err(refusal),
+    }
+}

@@ -1,0 +1,3 @@
+//! Requests through one resolver.
+
+mod page;

@@ -1,0 +1,96 @@
+//! The example of the crate's page, line by line.
+ghost use Rattle.std.specs.Prelude.{IfSome};
+ghost use Rattle.answer_cache.specs.Seats.{SeatView};
+ghost use Rattle.sip_resolver.specs.Requests.{Stand};
+
+use crate::*;
+use answer_cache::{AnswerBook, ListCache};
+use dns_answers::Moment;
+use sip_selection::{Caps, Families, Request};
+use sip_uri::Transport::Udp;
+use sip_uri::read_uri;
+use srv_choice::{WORD_COUNT, Words};
+use std::alloc::Global;
+use std::sync::Wait;
+
+/// A reply to the query A a.example. of id 0: 192.0.2.7, TTL 300 (RFC 1035 4.1).
+const REPLY: [u8; 43] = [
+    0, 0, 0x81, 0x80, 0, 1, 0, 1, 0, 0, 0, 0, 1, b'a', 7, b'e', b'x', b'a', b'm', b'p', b'l', b'e',
+    0, 0, 1, 0, 1, 0xc0, 12, 0, 1, 0, 1, 0, 0, 0x01, 0x2c, 0, 4, 192, 0, 2, 7,
+];
+
+/// A resolver that has the request inside, where there is memory for both.
+fn resolver_of<B: AnswerBook, F: Origin>(
+    alloc: Global,
+    request: Request,
+) -> Option<Resolver<B, F, CountingIds>>
+    ensures { (seat : SeatView) → IfSome result
+        (λ made. Stand F.gives F.shows seat made.requests) }
+{
+    let caps = Caps::new(&[Udp], Families::V4)?;
+    let limits = Limits {
+        requests: 8,
+        questions: 8,
+        streams: false,
+    };
+    let Ok(mut resolver) = Resolver::new(alloc, limits, CountingIds::new()) else {
+        return None;
+    };
+    resolver
+        .submit(1, request, caps, Words([0; WORD_COUNT]))
+        .ok()?;
+    Some(resolver)
+}
+
+/// Whether the octets that are sent next are a query of id 0; None where none are.
+fn sends<B: AnswerBook, F: Origin>(
+    resolver: &mut Resolver<B, F, CountingIds>,
+    book: &B,
+    seat: &mut B::Seat,
+    now: Moment,
+) -> Option<bool>
+    requires made_here { B.belongs book.now seat.old }
+    requires shown { F.shows now }
+    requires stand { Stand F.gives F.shows (B.shown seat.old) resolver.old.requests }
+    ensures stays { B.belongs book.now seat.new }
+    ensures stand { Stand F.gives F.shows (B.shown seat.new) resolver.new.requests }
+{
+    // the octets of a query, which begin with its id
+    let query = resolver.poll_transmit(book, seat, now)?.octets;
+    Some(query.starts_with(b"\x00\x00"))
+}
+
+/// Whether a request sends a query, has nothing more to send after the reply, and goes to a target.
+fn sends_and_goes(rt: &impl Wait, alloc: Global, request: Request) -> Option<[bool; 3]> {
+    let now = Moment::new(100)?;
+    let (book, mut seat) = ListCache::new(alloc);
+    let mut resolver = resolver_of::<ListCache, Anything>(alloc, request)?;
+    let asks = sends(&mut resolver, &book, &mut seat, now)?;
+    // the octets of its reply
+    resolver
+        .handle(rt, &book, &mut seat, now, Over::Datagram, &REPLY)
+        .ok()?;
+    let rests = sends(&mut resolver, &book, &mut seat, now).is_none();
+    Some([asks, rests, goes(&mut resolver)?])
+}
+
+/// Whether the request that ended next goes to one target; None where none ended.
+fn goes<B: AnswerBook, F: Origin>(resolver: &mut Resolver<B, F, CountingIds>) -> Option<bool> {
+    // the request's number, and what became of it
+    let ended = resolver.poll_outcome()?;
+    Some(matches!(ended.outcome(), Outcome::Targets(list) if list.as_slice().len() == 1))
+}
+
+/// The same of the request to port 5070 of a.example.
+fn example(rt: &impl Wait, alloc: Global) -> Option<[bool; 3]> {
+    sends_and_goes(
+        rt,
+        alloc,
+        Request::Uri(read_uri(alloc, "sip:a.example:5070").ok()?),
+    )
+}
+
+#[test]
+fn page_example(rt: HostRuntime) {
+    assert_eq!(rt; example(&rt, rt.alloc()), Some([true; 3]));
+}

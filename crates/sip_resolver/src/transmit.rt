@@ -1,0 +1,20 @@
+//! What is sent, and over what.
+
+/// Over what octets go, and come.
+#[derive(Clone, Copy, Debug, PartialEq, Eq)]
+pub enum Over {
+    /// A datagram, which is these octets (RFC 1035 4.2.1).
+    Datagram,
+    /// A stream. In front of these octets stand two with their length, which the caller writes and
+    /// takes away (RFC 1035 4.2.2, RFC 7766 8).
+    Stream,
+}
+
+/// Octets to send.
+#[derive(Debug, Drop)]
+pub struct Transmit<'a> {
+    /// The message, which begins with its id.
+    pub octets: &'a [u8],
+    /// Over what it goes.
+    pub over: Over,
+}
