@@ -1,4 +1,3 @@
 pub mod WordParts
 pub mod Taken
 mod Colons
-mod NoTickets

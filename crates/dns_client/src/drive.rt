@@ -1,15 +1,15 @@
 //! The loop that drives a resolver over a wire.
-ghost use Rattle.std.specs.Prelude.{◌≡◌, ◌⊎◌, [], None, IfOk, IfSome, MatchOption};
-ghost use Rattle.std.specs.Option.{option_map};
+ghost use Rattle.std.specs.Prelude.{◌≡◌, ◌⊎◌, [], None, IfSome, MatchOption};
 ghost use Rattle.dns_client.specs.Driven.{GivesOut};
 ghost use Rattle.sip_resolver.specs.Outcomes.{IsOutcome};
+ghost use Rattle.sip_resolver.specs.Questions.{deadlines_of};
 ghost use Rattle.sip_resolver.specs.Requests.{AreSame, Stand};
 
 use crate::message_wire::MessageWire;
-use crate::over::Over;
+use crate::wire_origin::WireOrigin;
 use answer_cache::AnswerBook;
 use dns_asker::Clock;
-use sip_resolver::{Ids, Resolved, Resolver};
+use sip_resolver::{Ids, Over, Resolved, Resolver};
 use std::sync::Wait;
 
 /// How many queries are sent in one round at most, before something is received.
@@ -17,7 +17,7 @@ const SEND_LIMIT: usize = 1_024;
 
 /// Sends the query that is to be sent next, and tells whether there was one.
 fn send_next<B: AnswerBook, W: MessageWire, C: Clock, I: Ids + Drop>(
-    resolver: &mut Resolver<B, Over<W, C>, I>,
+    resolver: &mut Resolver<B, WireOrigin<W, C>, I>,
     book: &B,
     seat: &mut B::Seat,
     wire: &mut W,
@@ -31,7 +31,7 @@ fn send_next<B: AnswerBook, W: MessageWire, C: Clock, I: Ids + Drop>(
 {
     match resolver.poll_transmit(book, seat, clock.now()) {
         Some(query) => {
-            wire.send(query);
+            wire.send(query.octets);
             true
         }
         None => false,
@@ -40,7 +40,7 @@ fn send_next<B: AnswerBook, W: MessageWire, C: Clock, I: Ids + Drop>(
 
 /// Sends what there is to send.
 fn send_all<B: AnswerBook, W: MessageWire, C: Clock, I: Ids + Drop>(
-    resolver: &mut Resolver<B, Over<W, C>, I>,
+    resolver: &mut Resolver<B, WireOrigin<W, C>, I>,
     book: &B,
     seat: &mut B::Seat,
     wire: &mut W,
@@ -62,7 +62,7 @@ fn send_all<B: AnswerBook, W: MessageWire, C: Clock, I: Ids + Drop>(
 /// Receives once, and hands on what came. Where memory is refused for it, it is lost.
 fn receive_once<R: Wait, B: AnswerBook, W: MessageWire, C: Clock, I: Ids + Drop>(
     rt: &R,
-    resolver: &mut Resolver<B, Over<W, C>, I>,
+    resolver: &mut Resolver<B, WireOrigin<W, C>, I>,
     book: &B,
     seat: &mut B::Seat,
     wire: &mut W,
@@ -75,7 +75,14 @@ fn receive_once<R: Wait, B: AnswerBook, W: MessageWire, C: Clock, I: Ids + Drop>
     ensures same { AreSame resolver.old.requests resolver.new.requests }
 {
     if let Some(message) = wire.receive() {
-        let _heard = resolver.handle(rt, book, seat, clock.now(), message.as_slice());
+        let _heard = resolver.handle(
+            rt,
+            book,
+            seat,
+            clock.now(),
+            Over::Datagram,
+            message.as_slice(),
+        );
     }
 }
 
@@ -85,7 +92,7 @@ fn receive_once<R: Wait, B: AnswerBook, W: MessageWire, C: Clock, I: Ids + Drop>
 /// all that ended came out.
 pub fn next_outcome<R: Wait, B: AnswerBook, W: MessageWire, C: Clock, I: Ids + Drop>(
     rt: &R,
-    resolver: &mut Resolver<B, Over<W, C>, I>,
+    resolver: &mut Resolver<B, WireOrigin<W, C>, I>,
     book: &B,
     seat: &mut B::Seat,
     wire: &mut W,
@@ -102,7 +109,7 @@ pub fn next_outcome<R: Wait, B: AnswerBook, W: MessageWire, C: Clock, I: Ids + D
     // Each request that was inside comes out once, or is inside still.
     ensures once { GivesOut result resolver.old.requests resolver.new.requests }
     ensures none { result ≡ None → (resolver.new.requests.ended ≡ [])
-        × ((resolver.new.asking.tickets ≡ []) ⊎ W.over wire.new) }
+        × ((deadlines_of resolver.new.questions ≡ []) ⊎ W.over wire.new) }
 {
     'rounds: for _ in rt.forever() {
         send_all(resolver, book, seat, wire, clock);

@@ -4,7 +4,7 @@
 //! ends: it sends what the resolver has to send, and hands it what comes back. It works over any
 //! `MessageWire` and any `Clock`. `ServerWire` is a wire over the system's sockets: UDP, TCP for
 //! replies that were cut, and several servers in turn. `RunClock` is a clock that counts from its
-//! start. `RandomIds` and `draw_words` make ids of queries and random words of a key, which
+//! start. `random_ids` and `draw_words` make ids of queries and random words of a key, which
 //! `random_key` takes from the system's entropy. `read_request` reads the request of a line.
 //!
 //! `ResolverFile` is what the system's resolver file (resolv.conf(5)) says: the name servers, how
@@ -30,10 +30,9 @@
 mod deadline;
 mod draw;
 mod drive;
+mod ids;
 mod key;
 mod message_wire;
-mod over;
-mod random_ids;
 mod request_line;
 mod resolver_fact;
 mod resolver_file;
@@ -44,19 +43,20 @@ mod server_wire;
 mod tcp;
 mod udp;
 mod warning;
+mod wire_origin;
 mod words;
 
 pub use draw::draw_words;
 pub use drive::next_outcome;
+pub use ids::random_ids;
 pub use key::random_key;
 pub use message_wire::MessageWire;
-pub use over::Over;
-pub use random_ids::RandomIds;
 pub use request_line::read_request;
 pub use resolver_file::{ResolverFile, SERVER_LIMIT, SERVER_PORT};
 pub use run_clock::RunClock;
 pub use server_wire::ServerWire;
 pub use warning::{LineFault, LineWarning};
+pub use wire_origin::WireOrigin;
 
 #[cfg(test)]
 mod tests;

@@ -1,5 +1,5 @@
 -- Where one request is inside, the one that comes out is like it.
-use Rattle.std.proofs.Common.{◌≡◌, ℕ, List, [], ◌∷◌, refl, arith}
+use Rattle.std.proofs.Common.{◌≡◌, ℕ, Bool, false, List, [], ◌∷◌, refl, arith}
 use Rattle.std.proofs.lemmas.List.Sums.{sum_by-cons}
 use Rattle.std.specs.List.{sum_by}
 use Rattle.sip_resolver.specs.Outcomes.{Ended, Sought}
@@ -34,10 +34,10 @@ alike asked ended old new one back h =
     omega (arith, nothing, all, first)
 
 -- one request was submitted, and no other
-pub one_inside : (requests questions number : ℕ) (request : Request) (caps : Caps) (words : List ℕ) (old new : ResolverView)
-    → old ≡ begun_of requests questions → new ≡ with_request number request caps words old
+pub one_inside : (requests questions : ℕ) (streams : Bool) (number : ℕ) (request : Request) (caps : Caps) (words : List ℕ)
+    (old new : ResolverView) → old ≡ begun_of requests questions streams → new ≡ with_request number request caps words old
     → (h : Sought → ℕ) → weight h new.requests ≡ h (record { number = number; request = request; caps = caps; words = words })
-one_inside requests questions number request caps words old new began submitted h =
-    let task : TaskView = record { number = number; selection = begun request caps words } in
+one_inside requests questions streams number request caps words old new began submitted h =
+    let task : TaskView = record { number = number; selection = begun request caps words; cut = false } in
     let one = sum_by-cons (λ (task : TaskView). h (sought_of task)) task [] in
     rw (submitted, began) (omega (arith, one))

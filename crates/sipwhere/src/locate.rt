@@ -6,16 +6,18 @@ ghost use Rattle.dns_client.specs.Draws.{drawn};
 use crate::fate::Fate;
 use answer_cache::AnswerBook;
 use dns_asker::Clock;
-use dns_client::{MessageWire, Over, RandomIds, draw_words, next_outcome, read_request};
+use dns_client::{MessageWire, WireOrigin, draw_words, next_outcome, random_ids, read_request};
 use sip_resolver::{Limits, Resolver};
 use sip_selection::{Caps, Request};
 use std::alloc::Global;
 use std::sync::Wait;
 
-/// One request is inside at a time.
+/// One request is inside at a time. The wire asks again over TCP by itself, so no question goes
+/// over a stream here.
 const LIMITS: Limits = Limits {
     requests: 1,
     questions: 8,
+    streams: false,
 };
 
 /// What can be sent, and the key of the random words and ids.
@@ -49,8 +51,8 @@ fn fate_of<R: Wait, B: AnswerBook + Drop, W: MessageWire, C: Clock>(
           words = drawn sender.now.key number;
         }) result }
 {
-    let ids = RandomIds::new(sender.key, number);
-    let Ok(mut resolver) = Resolver::<B, Over<W, C>, RandomIds>::new(alloc, LIMITS, ids) else {
+    let ids = random_ids(sender.key, number);
+    let Ok(mut resolver) = Resolver::<B, WireOrigin<W, C>, _>::new(alloc, LIMITS, ids) else {
         return Fate::Memory;
     };
     let words = draw_words(sender.key, number);

@@ -1,5 +1,5 @@
-use Rattle.std.proofs.Common.{◌≡◌, None, inl, inr, sym, ◌∙◌, rules}
-use Rattle.dns_client.proofs.NoTickets.{no_tickets}
+use Rattle.std.proofs.Common.{◌≡◌, None, inl, inr, subst, rules}
+use Rattle.sip_resolver.specs.Questions.{IsLeast, deadlines_of}
 use Rattle.dns_client.proofs.drive.next_outcome.Goals as goal
 use Rattle.dns_client.proofs.drive.next_outcome.Goals.{then-is_none-via-then-is_none, then-is_none-via-else-is_none+then-is_over}
 
@@ -13,7 +13,7 @@ returns-then-is_none-clause-none g c = λ _. (
   elim c.then-is_none.branch [
     | then-is_none-via-then-is_none w ↦
         let none : c.next_timeout.result ≡ None = search rules in
-        inl (no_tickets c.poll_outcome.new.self.asking.tickets (sym c.next_timeout.ensures.first ∙ none))
+        inl (subst (IsLeast (deadlines_of c.poll_outcome.new.self.questions)) none c.next_timeout.ensures)
     | then-is_none-via-else-is_none+then-is_over w ↦ inr (search rules)
   ],
 )

@@ -6,12 +6,12 @@ use std::marker::PhantomData;
 
 /// Octets that a wire gives, at moments that a clock shows.
 #[derive(Clone, Copy, Debug)]
-pub struct Over<W, C> {
+pub struct WireOrigin<W, C> {
     wire: PhantomData<W>,
     clock: PhantomData<C>,
 }
 
-impl<W: MessageWire, C: Clock> Origin for Over<W, C> {
+impl<W: MessageWire, C: Clock> Origin for WireOrigin<W, C> {
     ghost gives = { W.gives };
 
     ghost shows = { C.shows };
