@@ -15,10 +15,8 @@
 //!     .ok()?;
 //! // the octets of a query, which begin with its id
 //! let query = resolver.poll_transmit(book, seat, now)?.octets;
-//! // the octets of its reply
-//! resolver
-//!     .handle(rt, &book, &mut seat, now, Over::Datagram, &REPLY)
-//!     .ok()?;
+//! // the octets of its reply, and what they meant
+//! let heard = resolver.handle(rt, book, seat, now, Over::Datagram, &REPLY);
 //! // the request's number, and what became of it
 //! let ended = resolver.poll_outcome()?;
 //! ```

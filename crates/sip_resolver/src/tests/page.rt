@@ -1,5 +1,5 @@
 //! The example of the crate's page, line by line.
-ghost use Rattle.std.specs.Prelude.{IfSome};
+ghost use Rattle.std.specs.Prelude.{ℕ, IfSome, List};
 ghost use Rattle.answer_cache.specs.Seats.{SeatView};
 ghost use Rattle.sip_resolver.specs.Requests.{Stand};
 
@@ -60,18 +60,24 @@ fn sends<B: AnswerBook, F: Origin>(
     Some(query.starts_with(b"\x00\x00"))
 }
 
-/// Whether a request sends a query, has nothing more to send after the reply, and goes to a target.
-fn sends_and_goes(rt: &impl Wait, alloc: Global, request: Request) -> Option<[bool; 3]> {
-    let now = Moment::new(100)?;
-    let (book, mut seat) = ListCache::new(alloc);
-    let mut resolver = resolver_of::<ListCache, Anything>(alloc, request)?;
-    let asks = sends(&mut resolver, &book, &mut seat, now)?;
-    // the octets of its reply
-    resolver
-        .handle(rt, &book, &mut seat, now, Over::Datagram, &REPLY)
-        .ok()?;
-    let rests = sends(&mut resolver, &book, &mut seat, now).is_none();
-    Some([asks, rests, goes(&mut resolver)?])
+/// Hands its reply in; None where memory is refused.
+fn hears<B: AnswerBook, F: Origin>(
+    rt: &impl Wait,
+    resolver: &mut Resolver<B, F, CountingIds>,
+    book: &B,
+    seat: &mut B::Seat,
+    now: Moment,
+) -> Option<Heard>
+    requires made_here { B.belongs book.now seat.old }
+    requires given { (octets : List ℕ) → F.gives octets }
+    requires shown { F.shows now }
+    requires stand { Stand F.gives F.shows (B.shown seat.old) resolver.old.requests }
+    ensures stays { B.belongs book.now seat.new }
+    ensures stand { Stand F.gives F.shows (B.shown seat.new) resolver.new.requests }
+{
+    // the octets of its reply, and what they meant
+    let heard = resolver.handle(rt, book, seat, now, Over::Datagram, &REPLY);
+    heard.ok()
 }
 
 /// Whether the request that ended next goes to one target; None where none ended.
@@ -81,9 +87,37 @@ fn goes<B: AnswerBook, F: Origin>(resolver: &mut Resolver<B, F, CountingIds>) ->
     Some(matches!(ended.outcome(), Outcome::Targets(list) if list.as_slice().len() == 1))
 }
 
+/// Whether a query is sent, nothing more after its reply, and the request then goes to a target.
+fn sends_and_goes<B: AnswerBook, F: Origin>(
+    rt: &impl Wait,
+    resolver: &mut Resolver<B, F, CountingIds>,
+    book: &B,
+    seat: &mut B::Seat,
+    now: Moment,
+) -> Option<[bool; 3]>
+    requires made_here { B.belongs book.now seat.old }
+    requires given { (octets : List ℕ) → F.gives octets }
+    requires shown { F.shows now }
+    requires stand { Stand F.gives F.shows (B.shown seat.old) resolver.old.requests }
+{
+    let asks = sends(resolver, book, seat, now)?;
+    hears(rt, resolver, book, seat, now)?;
+    let rests = sends(resolver, book, seat, now).is_none();
+    let goes = goes(resolver)?;
+    Some([asks, rests, goes])
+}
+
+/// The same of a request, over a book of its own.
+fn with_book(rt: &impl Wait, alloc: Global, request: Request) -> Option<[bool; 3]> {
+    let now = Moment::new(100)?;
+    let mut resolver = resolver_of::<ListCache, Anything>(alloc, request)?;
+    let (book, mut seat) = ListCache::new(alloc);
+    sends_and_goes(rt, &mut resolver, &book, &mut seat, now)
+}
+
 /// The same of the request to port 5070 of a.example.
 fn example(rt: &impl Wait, alloc: Global) -> Option<[bool; 3]> {
-    sends_and_goes(
+    with_book(
         rt,
         alloc,
         Request::Uri(read_uri(alloc, "sip:a.example:5070").ok()?),
