@@ -8,7 +8,7 @@ use srv_choice::{WORD_COUNT, Words};
 use std::alloc::Global;
 
 /// The job of this number, where there is memory for it: it goes to a domain by its number.
-fn job_of(alloc: Global, number: u64) -> Option<Job> {
+pub fn job_of(alloc: Global, number: u64) -> Option<Job> {
     let domain = number % DOMAINS;
     let text = format!(in alloc; "sip:user@d{domain}.example").ok()?;
     Some(Job {

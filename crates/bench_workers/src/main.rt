@@ -1,13 +1,18 @@
 //! How long runs of many workers take, over wires in memory to one zone.
 //!
 //! With a word it prints a line for each run: its requests, its workers, its milliseconds, how many
-//! queries were sent, and how many requests have targets. Without a word it does nothing.
+//! queries were sent, and how many requests have targets. Then come runs over a rolling cache that
+//! last a hundred lives of the answers: `rolling`, the threads, the milliseconds, the queries, the
+//! most queries of a thread in one life, and the requests with targets. Without a word it does
+//! nothing.
 #![tactic(auto)]
 
 mod jobs;
+mod rolling;
 mod zone_text;
 
 use crate::jobs::jobs_of;
+use crate::rolling::resolve_by;
 use crate::zone_text::zone_text;
 use answer_cache::{Notice, SharedCache};
 use dns_answers::Moment;
@@ -105,6 +110,28 @@ fn print_run<R: Threads + Wait + Clock + Print + AllocGlobal + Sync>(
     .ok()
 }
 
+/// How many threads there are in each run over a rolling cache.
+const ROLLING: [usize; 2] = [1, 4];
+
+/// Measures a run over a rolling cache, and prints it.
+fn print_rolling<R: Threads + Wait + Clock + Print + AllocGlobal + Sync>(
+    rt: &R,
+    zone: &Zone,
+    threads: usize,
+) -> Option<()> {
+    let start = Instant::now(rt).ok()?;
+    let it = resolve_by(rt, zone, threads)?;
+    let time = start.elapsed(rt).ok()?;
+    println!(rt;
+        "rolling {threads} {} {} {} {}",
+        time.as_millis(),
+        it.sent,
+        it.most,
+        it.targets
+    )
+    .ok()
+}
+
 /// The zone that all requests ask.
 fn zone(alloc: Global) -> Option<Zone> {
     let text = zone_text(alloc).ok()?;
@@ -116,6 +143,9 @@ fn print_runs<R: Threads + Wait + Clock + Print + AllocGlobal + Sync>(rt: &R) ->
     let zone = zone(rt.alloc())?;
     for (requests, workers) in RUNS {
         print_run(rt, &zone, requests, workers)?;
+    }
+    for threads in ROLLING {
+        print_rolling(rt, &zone, threads)?;
     }
     Some(())
 }
