@@ -33,6 +33,43 @@ fn is_in_order(made: &[(Outcome, Notice)]) -> bool {
     }
 }
 
+/// What `gather` makes of copies of the results at these places, for these jobs.
+fn gather_picked(
+    alloc: Global,
+    wanted: &[Job],
+    made: &[Made<'_, '_>],
+    places: &[usize],
+) -> Option<Result<bool, GatherRefusal>> {
+    let results = picked(alloc, made, places)?;
+    if !rises(wanted) {
+        return None;
+    }
+    Some(gather(alloc, wanted, results).map(|all| is_in_order(all.as_slice())))
+}
+
+/// The results of these jobs in one batch over this wire.
+fn results_over<'a, 'b, R: Wait + AllocGlobal>(
+    rt: &R,
+    wire: ZoneWire<'b>,
+    jobs: &'a [Job],
+) -> Option<Vec<Made<'a, 'b>>> {
+    let (cache, mut worker) = one_worker(rt.alloc(), wire)?;
+    let clock = clock_at_100();
+    worker.batch(rt, &cache, jobs, &clock, &OpenGate).ok()
+}
+
+/// What `gather` makes of some of the results of these jobs, for the first so many of them.
+fn gathered_over<R: Wait + AllocGlobal>(
+    rt: &R,
+    wire: ZoneWire<'_>,
+    jobs: &[Job],
+    count: usize,
+    places: &[usize],
+) -> Option<Result<bool, GatherRefusal>> {
+    let made = results_over(rt, wire, jobs)?;
+    gather_picked(rt.alloc(), jobs.get(..count)?, made.as_slice(), places)
+}
+
 /// What `gather` makes of some of the results of two jobs, for the first so many of the jobs.
 fn gathered<R: Wait + AllocGlobal>(
     rt: &R,
@@ -42,18 +79,9 @@ fn gathered<R: Wait + AllocGlobal>(
     let alloc = rt.alloc();
     let zone = Zone::read(alloc, ZONE).ok()?;
     let sent = AtomicU64::new(0);
-    let (cache, mut worker) = one_worker(alloc, ZoneWire::new(alloc, &zone, &sent))?;
+    let wire = ZoneWire::new(alloc, &zone, &sent);
     let jobs = two_jobs(alloc, "sip:a.example:5070", "sip:192.0.2.7:5080")?;
-    let clock = clock_at_100();
-    let made = worker
-        .batch(rt, &cache, jobs.as_slice(), &clock, &OpenGate)
-        .ok()?;
-    let results = picked(alloc, made.as_slice(), places)?;
-    let wanted = jobs.get(..count)?;
-    if !rises(wanted) {
-        return None;
-    }
-    Some(gather(alloc, wanted, results).map(|all| is_in_order(all.as_slice())))
+    gathered_over(rt, wire, &jobs, count, places)
 }
 
 #[test]

@@ -58,6 +58,23 @@ fn each_goes(made: &[(Outcome, Notice)]) -> bool {
         .all(|(place, it)| goes_to(&it.0, port_at(place)))
 }
 
+/// Whether so many requests each go to their own ports, by a worker for each wire.
+fn all_go_over<R: Threads + Wait + AllocGlobal + Sync, G: Gate + Sync>(
+    rt: &R,
+    wires: Vec<ZoneWire<'_>>,
+    count: usize,
+    gate: &G,
+) -> Option<bool> {
+    let alloc = rt.alloc();
+    let Ok((cache, seats)) = SharedCache::new(alloc, wires.len()) else {
+        return None;
+    };
+    let jobs = jobs_to_ports(alloc, count)?;
+    let clock = clock_at_100();
+    let made = run_workers(rt, alloc, &cache, seats, wires, jobs, 1, &clock, gate).ok()?;
+    Some(made.len() == count && each_goes(made.as_slice()))
+}
+
 /// Whether so many requests each go to their own ports, by so many workers.
 fn all_go_by<R: Threads + Wait + AllocGlobal + Sync, G: Gate + Sync>(
     rt: &R,
@@ -69,13 +86,7 @@ fn all_go_by<R: Threads + Wait + AllocGlobal + Sync, G: Gate + Sync>(
     let zone = Zone::read(alloc, ZONE).ok()?;
     let sent = AtomicU64::new(0);
     let wires = ZoneWire::several(alloc, &zone, &sent, workers).ok()?;
-    let Ok((cache, seats)) = SharedCache::new(alloc, workers) else {
-        return None;
-    };
-    let jobs = jobs_to_ports(alloc, count)?;
-    let clock = clock_at_100();
-    let made = run_workers(rt, alloc, &cache, seats, wires, jobs, 1, &clock, gate).ok()?;
-    Some(made.len() == count && each_goes(made.as_slice()))
+    all_go_over(rt, wires, count, gate)
 }
 
 #[test]
