@@ -1,5 +1,5 @@
 -- No request is lost, and none ends twice.
-use Rattle.std.proofs.Common.{◌≡◌, ℕ, ◌+◌, false, List, [], ◌∷◌, ◌++◌, Some, None, refl, ap, ◌∙◌, arith}
+use Rattle.std.proofs.Common.{◌≡◌, ℕ, ◌+◌, false, List, [], ◌∷◌, ◌++◌, refl, arith}
 use Rattle.std.proofs.lemmas.List.Elements.{filter_map-append}
 use Rattle.std.proofs.lemmas.List.Sums.{sum_by-append, sum_by-cons}
 use Rattle.std.specs.List.{filter_map, sum_by}
@@ -7,7 +7,7 @@ use Rattle.sip_selection.specs.Selections.{begun}
 use Rattle.sip_resolver.proofs.Weighing.{ready-more}
 use Rattle.sip_resolver.specs.Outcomes.{Ended, Sought}
 use Rattle.sip_resolver.specs.Requests.{weight}
-use Rattle.sip_resolver.specs.Resolvers.{ResolverView, with_request}
+use Rattle.sip_resolver.specs.Resolvers.{ResolverView}
 use Rattle.sip_resolver.specs.Runs.{AreKept, Event, Runs, Step, ended_by, submitted_by}
 use Rattle.sip_resolver.specs.Runs as runs
 use Rattle.sip_resolver.specs.Tasks.{TaskView}

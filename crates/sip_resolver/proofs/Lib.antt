@@ -8,3 +8,5 @@ pub mod Turning
 pub mod Apart
 pub mod Deadlines
 pub mod Keeping
+pub mod Ending
+pub mod Sending

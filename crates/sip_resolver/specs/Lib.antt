@@ -1,5 +1,7 @@
 pub mod Questions
 pub mod Outcomes
+pub mod Ends
+pub mod Sends
 pub mod Tasks
 pub mod Queues
 pub mod Requests

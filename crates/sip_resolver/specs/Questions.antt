@@ -4,7 +4,7 @@ use Rattle.std.specs.List.{All, AllPairs, Contains}
 use Rattle.dns_message.specs.declared.question.Question.{Question}
 use Rattle.dns_asker.specs.Events.{asked, closed}
 use Rattle.dns_asker.specs.Out.{IsOctetsOf, LacksQuestion}
-use Rattle.dns_asker.specs.Tickets.{Asking, Ticket}
+use Rattle.dns_asker.specs.Tickets.{Asking, Ticket, ticket_of}
 use Rattle.dns_asker.specs.declared.incoming.Incoming.{Incoming}
 use Rattle.dns_asker.specs.declared.incoming.Incoming.TheVariants.{Ended, Ignored}
 use Rattle.sip_resolver.specs.declared.transmit.Over.{Over}
@@ -58,11 +58,12 @@ pub record AreDistinct (it : QuestionsView) : Type 0 where
   pub streams : AllPairs Differ it.streams.tickets
   pub across : All (λ one. All (Differ one) it.streams.tickets) it.datagrams.tickets
 
--- these octets are those of a question that is out over this
-abbrev pub IsSent : QuestionsView → Option Transmit → Type 0
-IsSent it None = Unit {0}
-IsSent it (Some transmit) =
-    (id : ℕ) × IsOctetsOf transmit.octets.now id (asking_over transmit.over it).tickets
+-- these octets are those of the question that is out under this id, over this
+abbrev pub IsSent : ℕ → QuestionsView → Option Transmit → Type 0
+IsSent id it None =
+    (ticket_of id it.datagrams.tickets ≡ None) × (ticket_of id it.streams.tickets ≡ None)
+IsSent id it (Some transmit) =
+    IsOctetsOf transmit.octets.now id (asking_over transmit.over it).tickets
 
 -- the deadlines of all that are out
 abbrev pub deadlines_of : QuestionsView → List ℕ

@@ -5,6 +5,7 @@ use Rattle.dns_message.specs.declared.question.Question.{Question}
 use Rattle.answer_cache.specs.Seats.{SeatView}
 use Rattle.sip_selection.specs.Choice.{Resolution, targets, refused, need}
 use Rattle.sip_selection.specs.Selections.{SelectionValue, now_of}
+use Rattle.sip_resolver.specs.Ends.{IsByChoice}
 use Rattle.sip_resolver.specs.Outcomes.{Counts, IsLacking, IsOutcome, Sought}
 use Rattle.sip_resolver.specs.declared.outcome.Outcome.TheVariants.{Targets, Refused, NoAnswer, BadReply, Memory}
 use Rattle.sip_resolver.specs.declared.transmit.Over.{Over}
@@ -63,3 +64,8 @@ Progresses gives shows seat task Asks =
     × ((question : Question) × (now_of task.selection ≡ need question))
 Progresses gives shows seat task (Ended outcome) =
     IsOutcome gives shows seat (sought_of task) outcome
+
+-- where a step ends a request, the choice does, or want of memory
+abbrev pub EndsByChoice : Progress → Type 0
+EndsByChoice Asks = Unit {0}
+EndsByChoice (Ended outcome) = IsByChoice outcome

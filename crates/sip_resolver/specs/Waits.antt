@@ -3,12 +3,17 @@
 use Rattle.std.specs.Prelude.{◌≡◌, ⊤, ℕ, List}
 use Rattle.std.specs.Arc.{arc_value}
 use Rattle.dns_answers.specs.declared.refusal.ReplyRefusal.{ReplyRefusal}
+use Rattle.dns_asker.specs.Events.{IsResent}
+use Rattle.dns_asker.specs.Tickets.{Asking}
 use Rattle.dns_message.specs.declared.question.Question.{Question}
 use Rattle.answer_cache.specs.Seats.{SeatView}
 use Rattle.sip_selection.specs.Choice.{need}
 use Rattle.sip_selection.specs.Selections.{now_of}
+use Rattle.sip_resolver.specs.Ends.{IsByFault, IsBySilence, IsMemory}
 use Rattle.sip_resolver.specs.Outcomes.{Counts, IsFaulty, IsOutcome}
+use Rattle.sip_resolver.specs.Sends.{GivesUp}
 use Rattle.sip_resolver.specs.Tasks.{IsCounted, TaskView, sought_of}
+use Rattle.sip_resolver.specs.declared.outcome.Outcome.{Outcome}
 use Rattle.sip_resolver.specs.declared.outcome.Outcome.TheVariants.{Targets, Refused, NoAnswer, BadReply, Memory}
 use Rattle.sip_resolver.specs.declared.waits.Fate.{Fate}
 use Rattle.sip_resolver.specs.declared.waits.Fate.TheVariants.{Ready, Ended}
@@ -50,3 +55,22 @@ IsGivenUp task question (Ended (NoAnswer other)) =
     (now_of task.selection ≡ need question) × (other ≡ question)
 IsGivenUp task question (Ended (BadReply other fault)) = ⊥
 IsGivenUp task question (Ended Memory) = ⊤
+
+-- how a request may end as the wait ends so: where the reply was cut, none does
+abbrev pub MayEnd : WaitEnd → Outcome → Type 0
+MayEnd (Answered question answer) outcome = IsMemory outcome
+MayEnd (Faulty question refusal) outcome = IsByFault question.now refusal outcome
+MayEnd Cut outcome = ⊥
+MayEnd (GivenUp question) outcome = IsBySilence question.now outcome
+MayEnd NoMemory outcome = IsMemory outcome
+
+abbrev pub EndsAs : WaitEnd → Fate → Type 0
+EndsAs end Ready = ⊤
+EndsAs end (Ended outcome) = MayEnd end outcome
+
+-- some are given up, and then the question of this id is sent once more
+pub record Resends (now id : ℕ) (old new : Asking) : Type 0 where
+  pub middle : Asking
+  pub gives_up : GivesUp now old middle
+  pub octets : List ℕ
+  pub resent : IsResent middle new now id octets

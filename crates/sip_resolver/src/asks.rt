@@ -1,7 +1,9 @@
 //! How a request comes to wait for the answer to a question.
-ghost use Rattle.std.specs.Prelude.{◌≡◌, ◌<◌};
+ghost use Rattle.std.specs.Prelude.{◌≡◌, ◌<◌, MatchOption};
 ghost use Rattle.answer_cache.specs.Seats.{SeatView};
+ghost use Rattle.sip_resolver.specs.Ends.{EndsMore, IsByChoice};
 ghost use Rattle.sip_resolver.specs.Requests.{IsBack, Stand, count_of};
+ghost use Rattle.sip_resolver.specs.Sends.{SendsOne};
 ghost use Rattle.sip_resolver.specs.Tasks.{IsCounted, Lacks, sought_of};
 
 use crate::ids::Ids;
@@ -29,6 +31,9 @@ pub(crate) fn wait_for_answer<B: AnswerBook, F: Origin, I: Ids>(
         → Stand F.gives F.shows seat requests.old → Stand F.gives F.shows seat requests.new }
     ensures back { IsBack (sought_of task) requests.old requests.new }
     ensures ready { requests.new.ready ≡ requests.old.ready }
+    ensures ends { EndsMore IsByChoice requests.old.ended requests.new.ended }
+    ensures sends { MatchOption result (questions.new ≡ questions.old)
+        (λ id. SendsOne now id questions.old questions.new) }
 {
     let Some(question) = task.question() else {
         requests.end(task, Outcome::Memory);

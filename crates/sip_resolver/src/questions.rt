@@ -3,8 +3,10 @@ ghost use Rattle.std.specs.Prelude.{◌≡◌, ◌≤◌, [], None, IfOk, IfSome
 ghost use Rattle.answer_cache.specs.Seats.{SeatView};
 ghost use Rattle.dns_asker.specs.Events.{Means, asked as asked_too};
 ghost use Rattle.dns_asker.specs.Tickets.{ticket_of};
+ghost use Rattle.sip_resolver.specs.Ends.{EndsMore};
 ghost use Rattle.sip_resolver.specs.Questions.{AreDistinct, IsLeast, IsSent, Lacks, asked_over, asking_over, deadlines_of, left_over, none_out};
 ghost use Rattle.sip_resolver.specs.Requests.{AreSame, Stand};
+ghost use Rattle.sip_resolver.specs.Sends.{GivesUpBoth, IsInTime, SendsAfter, tickets_of};
 
 use crate::ids::Ids;
 use crate::origin::Origin;
@@ -137,6 +139,10 @@ impl Questions {
         ensures stand { (seat : SeatView) → Stand F.gives F.shows seat requests.old
             → Stand F.gives F.shows seat requests.new }
         ensures same { AreSame requests.old requests.new }
+        ensures ends { EndsMore (IsInTime (tickets_of self.old) now)
+            requests.old.ended requests.new.ended }
+        ensures sends { MatchOption result (GivesUpBoth now self.old self.new)
+            (λ id. SendsAfter now id self.old self.new) }
     {
         if let Some(id) = next_resend::<B, F>(&mut self.datagrams, requests, now) {
             return Some(id);
@@ -146,7 +152,7 @@ impl Questions {
 
     /// The octets of the question that is out under this id, and over what it is.
     pub(crate) fn transmit_of(&self, id: u16) -> Option<Transmit<'_>>
-        ensures { IsSent self.now result }
+        ensures { IsSent id self.now result }
     {
         if let Some(octets) = self.datagrams.octets_of(id) {
             return Some(Transmit {

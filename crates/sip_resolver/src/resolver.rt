@@ -5,10 +5,12 @@ ghost use Rattle.dns_answers.specs.Records.{kind_of};
 ghost use Rattle.dns_answers.specs.declared.refusal.ReplyRefusal.TheVariants as refusals;
 ghost use Rattle.dns_asker.specs.declared.incoming.Ending.TheVariants as endings;
 ghost use Rattle.sip_locator.specs.Replies.{Answers};
+ghost use Rattle.sip_resolver.specs.Ends.{EndsMore, IsByChoice, IsByReply, IsMemory};
 ghost use Rattle.sip_resolver.specs.Outcomes.{IsOutcome};
 ghost use Rattle.sip_resolver.specs.Questions.{IsLeast, deadlines_of};
 ghost use Rattle.sip_resolver.specs.Requests.{AreSame, IsBack, Stand, count_of, waiting_without};
 ghost use Rattle.sip_resolver.specs.Resolvers.{HasRoomFor, Hears, IsCut, IsEnded, IsTaken, Polls, RefusesSubmit, begun_of, with_request};
+ghost use Rattle.sip_resolver.specs.Sends.{GivesUpBoth, IsInTime, SendsAfter, SendsOne, tickets_of};
 ghost use Rattle.sip_resolver.specs.Tasks.{IsCounted, sought_of};
 ghost use Rattle.sip_resolver.specs.Works.{IsAtMostOne, Works};
 
@@ -152,7 +154,7 @@ impl<B: AnswerBook, F: Origin, I: Ids + Drop> Resolver<B, F, I> {
         ensures goes_on { GoesOn (B.shown seat.old) (B.shown seat.new) }
         ensures stores_nothing { StoresNothing (B.shown seat.old) (B.shown seat.new) }
         ensures* polls { sem 𝓛 (Rests (the_row B.row F.row I.row) self.entry (λ ended.
-            Polls F.gives F.shows (B.shown seat.new) self.old ended result)) }
+            Polls F.gives F.shows (B.shown seat.new) now self.old ended result)) }
     {
         let id = self.next_transmit(book, seat, now);
         self.questions.are_distinct();
@@ -240,6 +242,11 @@ impl<B: AnswerBook, F: Origin, I: Ids + Drop> Resolver<B, F, I> {
         ensures stores_nothing { StoresNothing (B.shown seat.old) (B.shown seat.new) }
         ensures stand { Stand F.gives F.shows (B.shown seat.new) self.new.requests }
         ensures same { AreSame self.old.requests self.new.requests }
+        ensures ends { EndsMore (IsInTime (tickets_of self.old.questions) now)
+            self.old.requests.ended self.new.requests.ended }
+        ensures sends { MatchOption result
+            (GivesUpBoth now self.old.questions self.new.questions)
+            (λ id. SendsAfter now id self.old.questions self.new.questions) }
     {
         if let Some(id) = self.questions.next_resend::<B, F>(&mut self.requests, now) {
             return Some(id);
@@ -260,6 +267,10 @@ impl<B: AnswerBook, F: Origin, I: Ids + Drop> Resolver<B, F, I> {
         ensures stores_nothing { StoresNothing (B.shown seat.old) (B.shown seat.new) }
         ensures stand { Stand F.gives F.shows (B.shown seat.new) self.new.requests }
         ensures same { AreSame self.old.requests self.new.requests }
+        ensures ends { EndsMore IsByChoice
+            self.old.requests.ended self.new.requests.ended }
+        ensures sends { MatchOption result (self.new.questions ≡ self.old.questions)
+            (λ id. SendsOne now id self.old.questions self.new.questions) }
     {
         'tasks: while let Some(task) = self.requests.next_ready() {
             if let Some(id) = self.advance(book, seat, now, task) {
@@ -280,6 +291,10 @@ impl<B: AnswerBook, F: Origin, I: Ids + Drop> Resolver<B, F, I> {
         ensures stores_nothing { StoresNothing (B.shown seat.old) (B.shown seat.new) }
         ensures stand { Stand F.gives F.shows (B.shown seat.new) self.new.requests }
         ensures same { AreSame self.old.requests self.new.requests }
+        ensures ends { EndsMore IsByChoice
+            self.old.requests.ended self.new.requests.ended }
+        ensures sends { MatchOption result (self.new.questions ≡ self.old.questions)
+            (λ id. SendsOne now id self.old.questions self.new.questions) }
     {
         'tasks: for _held in 0..self.requests.held_len() {
             if self.questions.is_full() {
@@ -315,6 +330,10 @@ impl<B: AnswerBook, F: Origin, I: Ids + Drop> Resolver<B, F, I> {
         ensures stand { Stand F.gives F.shows (B.shown seat.new) self.new.requests }
         ensures back { IsBack (sought_of task) self.old.requests self.new.requests }
         ensures ready { self.new.requests.ready ≡ self.old.requests.ready }
+        ensures ends { EndsMore IsByChoice
+            self.old.requests.ended self.new.requests.ended }
+        ensures sends { MatchOption result (self.new.questions ≡ self.old.questions)
+            (λ id. SendsOne now id self.old.questions self.new.questions) }
     {
         match task.step::<F>(self.alloc, book, seat, now) {
             Progress::Ended(outcome) => {
@@ -356,6 +375,8 @@ impl<B: AnswerBook, F: Origin, I: Ids + Drop> Resolver<B, F, I> {
         ensures others { self.new.requests.waiting
             ≡ waiting_without id self.old.requests.waiting }
         ensures same { AreSame self.old.requests self.new.requests }
+        ensures ends { EndsMore (IsByReply question.now ending)
+            self.old.requests.ended self.new.requests.ended }
     {
         match ending {
             Ending::Answered(answer) => {
@@ -395,6 +416,7 @@ impl<B: AnswerBook, F: Origin, I: Ids + Drop> Resolver<B, F, I> {
         ensures others { self.new.requests.waiting
             ≡ waiting_without id self.old.requests.waiting }
         ensures same { AreSame self.old.requests self.new.requests }
+        ensures ends { EndsMore IsMemory self.old.requests.ended self.new.requests.ended }
     {
         let Ok(answer) = Arc::new(self.alloc, answer) else {
             settle_all::<B, F>(&mut self.requests, id, &WaitEnd::NoMemory);

@@ -6,7 +6,7 @@ ghost use Rattle.dns_message.specs.declared.question.Question.{Question as quest
 ghost use Rattle.sip_selection.specs.Choice.{IsNotRefused, need};
 ghost use Rattle.sip_selection.specs.Nexts.{next_of};
 ghost use Rattle.sip_selection.specs.Selections.{begun, given_too, now_of};
-ghost use Rattle.sip_resolver.specs.Tasks.{IsCounted, Leaves, Progresses, over_of, sought_of};
+ghost use Rattle.sip_resolver.specs.Tasks.{EndsByChoice, IsCounted, Leaves, Progresses, over_of, sought_of};
 
 use crate::origin::Origin;
 use crate::outcome::{Outcome, TargetList};
@@ -138,6 +138,7 @@ impl<B: AnswerBook> Task<B> {
         ensures request { sought_of self.new ≡ sought_of self.old }
         ensures progresses { IsCounted F.gives F.shows (B.shown seat.old) self.old
             → Progresses F.gives F.shows (B.shown seat.new) self.new result }
+        ensures ends { EndsByChoice result }
     {
         let locator = &mut *self.locator;
         match locator.step(book, seat, now) {

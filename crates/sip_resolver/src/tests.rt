@@ -13,8 +13,10 @@ use srv_choice::{WORD_COUNT, Words};
 use std::alloc::Global;
 
 mod ids;
+mod lossy;
 mod page;
 mod rows;
+mod scripts;
 mod waits;
 
 const WORDS: Words = Words([0; WORD_COUNT]);

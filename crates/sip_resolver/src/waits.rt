@@ -1,13 +1,15 @@
 //! How the wait for a reply ends, for the requests that share it.
-ghost use Rattle.std.specs.Prelude.{◌≡◌, ◌<◌, [], ◌∷◌, ◌++◌};
+ghost use Rattle.std.specs.Prelude.{◌≡◌, ◌<◌, [], ◌∷◌, ◌++◌, MatchOption};
 ghost use Rattle.std.specs.Arc.{arc_value};
 ghost use Rattle.answer_cache.specs.Seats.{SeatView};
 ghost use Rattle.sip_selection.specs.Choice.{need};
 ghost use Rattle.sip_selection.specs.Selections.{now_of};
+ghost use Rattle.sip_resolver.specs.Ends.{EndsMore};
 ghost use Rattle.sip_resolver.specs.Questions.{Fewer};
 ghost use Rattle.sip_resolver.specs.Requests.{AreSame, IsBack, Stand, count_of, waiting_without};
+ghost use Rattle.sip_resolver.specs.Sends.{GivesUp, IsInTime};
 ghost use Rattle.sip_resolver.specs.Tasks.{IsCounted, Lacks, sought_of};
-ghost use Rattle.sip_resolver.specs.Waits.{Fits, IsFailed, IsGivenUp, IsKnown};
+ghost use Rattle.sip_resolver.specs.Waits.{EndsAs, Fits, IsFailed, IsGivenUp, IsKnown, MayEnd, Resends};
 
 use crate::origin::Origin;
 use crate::outcome::Outcome;
@@ -59,6 +61,10 @@ pub(crate) fn next_resend<B: AnswerBook, F: Origin>(
     ensures stand { (seat : SeatView) → Stand F.gives F.shows seat requests.old
         → Stand F.gives F.shows seat requests.new }
     ensures same { AreSame requests.old requests.new }
+    ensures ends { EndsMore (IsInTime asker.old.tickets now)
+        requests.old.ended requests.new.ended }
+    ensures sends { MatchOption result (GivesUp now asker.old asker.new)
+        (λ id. Resends now id asker.old asker.new) }
 {
     'dues: for _due in 0..QUESTION_LIMIT {
         match asker.due(now) {
@@ -82,6 +88,7 @@ pub(crate) fn settle_all<B: AnswerBook, F: Origin>(
         → Stand F.gives F.shows seat requests.old → Stand F.gives F.shows seat requests.new }
     ensures same { AreSame requests.old requests.new }
     ensures others { requests.new.waiting ≡ waiting_without id requests.old.waiting }
+    ensures ends { EndsMore (MayEnd end.now) requests.old.ended requests.new.ended }
 {
     'waits: for _wait in 0..requests.waiting_len() {
         match requests.next_waiting() {
@@ -107,6 +114,7 @@ fn settle<B: AnswerBook, F: Origin>(
     ensures back { IsBack (sought_of waiting.task) requests.old requests.new }
     ensures others { requests.new.waiting
         ≡ requests.old.waiting ++ waiting_without id (waiting ∷ []) }
+    ensures ends { EndsMore (MayEnd end.now) requests.old.ended requests.new.ended }
 {
     let Waiting { id: own, mut task } = waiting;
     if own != id {
@@ -125,6 +133,7 @@ fn fate_of<B: AnswerBook, F: Origin>(task: &mut Task<B>, end: &WaitEnd<'_>) -> F
     ensures fits { (seat : SeatView) → IsKnown F.gives F.shows seat end.now
         → IsCounted F.gives F.shows seat task.old → Lacks F.shows seat task.old
         → Fits F.gives F.shows seat task.new result }
+    ensures ends { EndsAs end.now result }
 {
     match end {
         WaitEnd::Answered(question, answer) => match task.give(question, answer) {

@@ -1,11 +1,16 @@
 use Rattle.sip_resolver.proofs.Apart.{fewer-due, fewer-not, fewer-through}
+use Rattle.sip_resolver.proofs.Ending.{ends-as, ends-not, ends-through, silence-in-time}
+use Rattle.sip_resolver.proofs.Sending.{gives-up-not, gives-up-too, unanswered}
 use Rattle.sip_resolver.proofs.Weighing.{same-not, same-through}
+use Rattle.sip_resolver.specs.Sends.{IsInTime}
 use Rattle.sip_resolver.proofs.waits.next_resend.Goals as goal
 
 pub dues-init : goal.dues-init
 dues-init g c = record {
   fewer = fewer-not c.args.asker.now.tickets;
   stand = λ seat it. it;
+  ends = ends-not (IsInTime c.args.asker.now.tickets c.args.now) c.args.requests.now.ended;
+  gives_up = gives-up-not c.args.now c.args.asker.now;
   same = same-not c.args.requests.now;
 }
 
@@ -13,6 +18,17 @@ pub dues-preserved : goal.dues-preserved
 dues-preserved g c = record {
   fewer = fewer-through _ _ _ c.dues.invariant.fewer (fewer-due _ _ _ _ c.due.follows.holds-at-none);
   stand = λ seat it. c.settle_all.ensures.stand seat tt (c.dues.invariant.stand seat it);
+  ends =
+      let tickets = c.args.asker.now.tickets in
+      let is = rw c.in-Some-GaveUp.field-0-is at (rw c.in-Some-GaveUp.is at c.due.follows.holds-at-none) in
+      let in-vain = unanswered _ _ _ c.args.asker.now _ _ c.dues.invariant.gives_up is in
+      ends-through (IsInTime tickets c.args.now) c.args.requests.now.ended c.dues.requests.ended c.settle_all.new.requests.ended
+      c.dues.invariant.ends
+      (ends-as _ (IsInTime tickets c.args.now) (silence-in-time tickets c.args.now _ in-vain) c.dues.requests.ended
+      c.settle_all.new.requests.ended c.settle_all.ensures.ends);
+  gives_up =
+      let is = rw c.in-Some-GaveUp.field-0-is at (rw c.in-Some-GaveUp.is at c.due.follows.holds-at-none) in
+      gives-up-too _ _ _ c.args.asker.now _ _ c.dues.invariant.gives_up is;
   same = same-through c.args.requests.now c.dues.requests c.settle_all.new.requests c.dues.invariant.same c.settle_all.ensures.same;
 }
 
@@ -21,3 +37,25 @@ returns-in-None-clause-fewer g c = fewer-through _ _ _ c.dues.invariant.fewer (f
 
 pub returns-in-Some-Resend-clause-fewer : goal.returns-in-Some-Resend-clause-fewer
 returns-in-Some-Resend-clause-fewer g c = fewer-through _ _ _ c.dues.invariant.fewer (fewer-due _ _ _ _ c.due.follows.holds-at-none)
+
+pub returns-in-None-clause-ends : goal.returns-in-None-clause-ends
+returns-in-None-clause-ends g c = c.dues.invariant.ends
+
+pub returns-in-None-clause-sends : goal.returns-in-None-clause-sends
+returns-in-None-clause-sends g c =
+    let is = rw c.in-None.is at c.due.follows.holds-at-none in
+    rw is.0 c.dues.invariant.gives_up
+
+pub returns-in-Some-Resend-clause-ends : goal.returns-in-Some-Resend-clause-ends
+returns-in-Some-Resend-clause-ends g c = c.dues.invariant.ends
+
+pub returns-in-Some-Resend-clause-sends : goal.returns-in-Some-Resend-clause-sends
+returns-in-Some-Resend-clause-sends g c =
+    let is = rw c.in-Some-Resend.field-0-is at (rw c.in-Some-Resend.is at c.due.follows.holds-at-none) in
+    record { middle = c.dues.asker; gives_up = c.dues.invariant.gives_up; octets = _; resent = is }
+
+pub returns-clause-ends : goal.returns-clause-ends
+returns-clause-ends g c = c.dues.invariant.ends
+
+pub returns-clause-sends : goal.returns-clause-sends
+returns-clause-sends g c = c.dues.invariant.gives_up

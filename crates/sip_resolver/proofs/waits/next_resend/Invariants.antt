@@ -1,6 +1,8 @@
 use Rattle.answer_cache.specs.Seats.{SeatView}
+use Rattle.sip_resolver.specs.Ends.{EndsMore}
 use Rattle.sip_resolver.specs.Questions.{Fewer}
 use Rattle.sip_resolver.specs.Requests.{AreSame, Stand}
+use Rattle.sip_resolver.specs.Sends.{GivesUp, IsInTime}
 use Rattle.sip_resolver.proofs.waits.next_resend.Given as goal
 
 abbrev pub invariant-dues : goal.invariant-dues
@@ -8,5 +10,7 @@ invariant-dues g l = record {
   fewer : Fewer l.fn.asker.tickets l.asker.tickets;
   stand : (seat : SeatView) → Stand g.F.Origin.gives g.F.Origin.shows seat l.fn.requests
       → Stand g.F.Origin.gives g.F.Origin.shows seat l.requests;
+  ends : EndsMore (IsInTime l.fn.asker.tickets l.now) l.fn.requests.ended l.requests.ended;
+  gives_up : GivesUp l.now l.fn.asker l.asker;
   same : AreSame l.fn.requests l.requests;
 }

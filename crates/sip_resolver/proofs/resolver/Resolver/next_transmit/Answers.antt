@@ -1,3 +1,8 @@
+use Rattle.std.proofs.Common.{◌≡◌, MatchOption, subst}
+use Rattle.sip_resolver.proofs.Ending.{choice-in-time, ends-as, ends-through}
+use Rattle.sip_resolver.proofs.Sending.{sends-then}
+use Rattle.sip_resolver.specs.Ends.{IsByChoice}
+use Rattle.sip_resolver.specs.Sends.{IsInTime, SendsOne, tickets_of}
 use Rattle.sip_resolver.proofs.resolver.Resolver.next_transmit.Goals as goal
 
 pub returns-in-Some-clause-stand : goal.returns-in-Some-clause-stand
@@ -7,3 +12,33 @@ returns-in-Some-clause-stand g c =
 pub run_ready-requires-clause-stand : goal.run_ready-requires-clause-stand
 run_ready-requires-clause-stand g c =
     c.next_resend.ensures.stand (g.B.AnswerBook.shown c.args.seat.now) (rw (← c.self.view_is) at c.requires.stand)
+
+pub returns-in-Some-run_ready-clause-ends : goal.returns-in-Some-run_ready-clause-ends
+returns-in-Some-run_ready-clause-ends g c =
+    let tickets = tickets_of c.self.inside.questions in
+    let kind = IsInTime tickets c.args.now in
+    rw (← c.self.view_is)
+    (ends-through kind _ _ _ c.next_resend.ensures.ends
+    (ends-as IsByChoice kind (choice-in-time tickets c.args.now) _ _ c.run_ready.ensures.ends))
+
+pub returns-in-Some-run_ready-clause-sends : goal.returns-in-Some-run_ready-clause-sends
+returns-in-Some-run_ready-clause-sends g c =
+    rw (← c.self.view_is)
+    (record { middle = c.next_resend.new.self; gives_up = c.in_default.ensures.sends; sends = c.in-Some-run_ready.ensures.sends })
+
+pub returns-clause-ends : goal.returns-clause-ends
+returns-clause-ends g c =
+    let tickets = tickets_of c.self.inside.questions in
+    let kind = IsInTime tickets c.args.now in
+    let by-choice = ends-as IsByChoice kind (choice-in-time tickets c.args.now) in
+    rw (← c.self.view_is)
+    (ends-through kind _ _ _ c.next_resend.ensures.ends
+    (ends-through kind _ _ _ (by-choice _ _ c.run_ready.ensures.ends) (by-choice _ _ c.run_held.ensures.ends)))
+
+pub returns-clause-sends : goal.returns-clause-sends
+returns-clause-sends g c =
+    let new = c.run_held.new.self.questions in
+    rw (← c.self.view_is)
+    (sends-then c.args.now c.self.inside.questions c.next_resend.new.self new c.run_held.result c.in_default.ensures.sends
+    (subst (λ it. MatchOption c.run_held.result (new ≡ it) (λ id. SendsOne c.args.now id it new)) c.in_default-run_ready.ensures.sends
+    c.run_held.ensures.sends))

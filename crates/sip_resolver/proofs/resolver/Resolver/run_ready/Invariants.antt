@@ -1,5 +1,6 @@
-use Rattle.std.proofs.Common.{length}
+use Rattle.std.proofs.Common.{◌≡◌, length}
 use Rattle.answer_cache.specs.Seats.{GoesOn, StoresNothing}
+use Rattle.sip_resolver.specs.Ends.{EndsMore, IsByChoice}
 use Rattle.sip_resolver.specs.Requests.{AreSame, Stand}
 use Rattle.sip_resolver.proofs.resolver.Resolver.run_ready.Given as goal
 
@@ -9,6 +10,8 @@ invariant-tasks g l = record {
   goes_on : GoesOn (g.B.AnswerBook.shown l.fn.seat) (g.B.AnswerBook.shown l.seat);
   nothing : StoresNothing (g.B.AnswerBook.shown l.fn.seat) (g.B.AnswerBook.shown l.seat);
   stand : Stand g.F.Origin.gives g.F.Origin.shows (g.B.AnswerBook.shown l.seat) l.self.requests;
+  questions : l.self.questions ≡ l.fn.self.questions;
+  ends : EndsMore IsByChoice l.fn.self.requests.ended l.self.requests.ended;
   same : AreSame l.fn.self.requests l.self.requests;
 }
 

@@ -1,0 +1,123 @@
+-- Questions that are given up, and the one that is sent.
+use Rattle.std.proofs.Common.{◌≡◌, ℕ, Bool, true, List, [], ◌∷◌, ◌++◌, Option, Some, None, refl, sym, ap, ◌∙◌, ◌+◌, rules, arith, MatchOption}
+use Rattle.std.specs.List.{find}
+use Rattle.std.specs.Option.{option_or}
+use Rattle.std.proofs.lemmas.List.Folds.{find-append}
+use Rattle.std.proofs.lemmas.List.{append_assoc}
+use Rattle.std.proofs.lemmas.List.Elements.{All-append, All-cons, All-nil, Contains-append_right}
+use Rattle.dns_asker.specs.Events.{IsGivenUp, IsResent, again}
+use Rattle.dns_asker.specs.Tickets.{Asking, Ticket, has_id, waiting_too}
+use Rattle.dns_message.specs.declared.question.Question.{Question}
+use Rattle.sip_resolver.specs.Questions.{QuestionsView, IsSent, asked_over, asking_over}
+use Rattle.sip_resolver.specs.Sends.{GivesUp, GivesUpBoth, IsInVain, IsUnanswered, SendsAfter, SendsOne, Sends, first, again as again-sent, with_over}
+use Rattle.sip_resolver.specs.Waits.{Resends}
+use Rattle.sip_resolver.specs.declared.transmit.Over.{Over}
+use Rattle.sip_resolver.specs.declared.transmit.Over.TheVariants.{Datagram, Stream}
+use Rattle.sip_resolver.specs.declared.transmit.Transmit.{Transmit}
+
+pub gives-up-not : (now : ℕ) (asking : Asking) → GivesUp now asking asking
+gives-up-not now asking = record { gone = []; were = refl; in_vain = All-nil (IsInVain now) }
+
+pub gives-up-none : (now : ℕ) (questions : QuestionsView) → GivesUpBoth now questions questions
+gives-up-none now questions =
+    record { datagrams = gives-up-not now questions.datagrams; streams = gives-up-not now questions.streams }
+
+-- one more is given up
+pub gives-up-too : (now id : ℕ) (question : Question) (old middle new : Asking) → GivesUp now old middle
+    → IsGivenUp middle new now id question → GivesUp now old new
+gives-up-too now id question old middle new gives is = record {
+  gone = gives.gone ++ is.ticket ∷ [];
+  were = gives.were ∙ rw (is.first, is.left) (ap (λ l. record middle { tickets = l }) (sym (append_assoc gives.gone (is.ticket ∷ []) is.others)));
+  in_vain = All-append (IsInVain now) gives.gone (is.ticket ∷ []) gives.in_vain
+      (All-cons (IsInVain now) is.ticket [] (is.enough, is.over) (All-nil (IsInVain now)));
+}
+
+-- the question that is given up was one of those that were out at first
+pub unanswered : (now id : ℕ) (question : Question) (old middle new : Asking) → GivesUp now old middle
+    → IsGivenUp middle new now id question → IsUnanswered old.tickets now question
+unanswered now id question old middle new gives is = record {
+  ticket = is.ticket;
+  stands = rw gives.were (Contains-append_right gives.gone middle.tickets is.ticket (rw is.first (0, omega arith, refl)));
+  in_vain = (is.enough, is.over);
+  of_it = sym is.question_is;
+}
+
+-- ---- what is sent
+
+-- one over datagrams
+pub sends-datagram : (now id : ℕ) (old : QuestionsView) (new : Asking) → Resends now id old.datagrams new
+    → SendsAfter now id old (with_over Datagram new old)
+sends-datagram now id old new it = record {
+  middle = with_over Datagram it.middle old;
+  gives_up = record { datagrams = it.gives_up; streams = gives-up-not now old.streams };
+  sends = again-sent Datagram new it.octets it.resent refl;
+}
+
+-- one over streams, after some over datagrams were given up
+pub sends-stream : (now id : ℕ) (old : QuestionsView) (datagrams streams : Asking) → GivesUp now old.datagrams datagrams
+    → Resends now id old.streams streams → SendsAfter now id old (record { datagrams = datagrams; streams = streams })
+sends-stream now id old datagrams streams gives it = record {
+  middle = record { datagrams = datagrams; streams = it.middle };
+  gives_up = record { datagrams = gives; streams = it.gives_up };
+  sends = again-sent Stream streams it.octets it.resent refl;
+}
+
+pub sends-both : (now : ℕ) (old : QuestionsView) (datagrams streams : Asking) (found : Option ℕ) → GivesUp now old.datagrams datagrams
+    → MatchOption found (GivesUp now old.streams streams) (λ id. Resends now id old.streams streams)
+    → MatchOption found (GivesUpBoth now old (record { datagrams = datagrams; streams = streams }))
+    (λ id. SendsAfter now id old (record { datagrams = datagrams; streams = streams }))
+sends-both now old datagrams streams None gives it = record { datagrams = gives; streams = it }
+sends-both now old datagrams streams (Some id) gives it = sends-stream now id old datagrams streams gives it
+
+-- some are given up, and then one is sent or none
+pub sends-then : (now : ℕ) (old middle new : QuestionsView) (found : Option ℕ) → GivesUpBoth now old middle
+    → MatchOption found (new ≡ middle) (λ id. SendsOne now id middle new)
+    → MatchOption found (GivesUpBoth now old new) (λ id. SendsAfter now id old new)
+sends-then now old middle new None gives it = rw it gives
+sends-then now old middle new (Some id) gives it = record { middle = middle; gives_up = gives; sends = it }
+
+-- ---- the one that is sent is out
+
+abbrev ticket-of : ℕ → Question → ℕ → Ticket
+ticket-of id question now = record { sent = record { id = id; question = question; sends = 1 }; deadline = now + 1 }
+
+module _ (p : Ticket → Bool) (ticket : Ticket) (back : List Ticket) (is : p ticket ≡ true) where
+  found-by : (before : Option Ticket) → option_or before (find p (ticket ∷ back)) ≡ None → ⊥
+  found-by None none = let there = rw is at none in cc
+  found-by (Some other) none = cc
+
+  found-in : (front : List Ticket) → find p (front ++ ticket ∷ back) ≡ None → ⊥
+  found-in front none = found-by (find p front) (sym (find-append p front (ticket ∷ back)) ∙ none)
+
+module _ (now id : ℕ) (old new : QuestionsView) (none : IsSent id new None) where
+  -- a ticket of this id is among these
+  is-there : (over : Over) (ticket : Ticket) (others : List Ticket) → has_id id ticket ≡ true
+      → (asking_over over new).tickets ≡ waiting_too ticket others → ⊥
+  is-there Datagram ticket others is there =
+      found-in (has_id id) ticket _ is _ (rw there at none.0)
+  is-there Stream ticket others is there =
+      found-in (has_id id) ticket _ is _ (rw there at none.1)
+
+  asked-there : (over : Over) (question : Question) → new ≡ asked_over over id question now old → ⊥
+  asked-there Datagram question is =
+      is-there Datagram (ticket-of id question now) old.datagrams.tickets (search rules) (rw is refl)
+  asked-there Stream question is =
+      is-there Stream (ticket-of id question now) old.streams.tickets (search rules) (rw is refl)
+
+  again-there : (over : Over) (asking : Asking) (octets : List ℕ) → IsResent (asking_over over old) asking now id octets
+      → new ≡ with_over over asking old → ⊥
+  again-there Datagram asking octets it is =
+      is-there Datagram (again now it.ticket) it.others (search rules) (rw is (rw it.left refl))
+  again-there Stream asking octets it is =
+      is-there Stream (again now it.ticket) it.others (search rules) (rw is (rw it.left refl))
+
+  -- so its octets are there
+  pub sent-there : SendsOne now id old new → ⊥
+  sent-there (first over question is) = asked-there over question is
+  sent-there (again-sent over asking octets it is) = again-there over asking octets it is
+
+-- what is sent is what was counted as sent
+pub sends-octets : (now id : ℕ) (old new : QuestionsView) (transmit : Option Transmit) → SendsAfter now id old new
+    → IsSent id new transmit → Sends now old new transmit
+sends-octets now id old new None it sent = absurd (sent-there now id it.middle new sent it.sends)
+sends-octets now id old new (Some transmit) it sent = (id, it, sent)

@@ -1,0 +1,26 @@
+use Rattle.std.proofs.Common.{refl}
+use Rattle.sip_resolver.proofs.Sending.{sends-octets}
+use Rattle.sip_resolver.proofs.resolver.Resolver.poll_transmit.Goals as goal
+
+pub returns : goal.returns
+returns g c =
+    let told = rw (← c.self.view_is) at c.in_ok-id.ensures in (
+      (
+        refl,
+        (λ it. tt),
+        record {
+          stand = told.stand;
+          same = told.same;
+          ends = told.ends;
+          sends = sends-octets c.args.now c.in_ok-id.field-0 c.args.self.now.questions c.self.inside.questions c.transmit_of.result
+              told.sends c.transmit_of.ensures;
+          distinct = c.are_distinct.ensures;
+        },
+      ),
+      record {
+        stays = c.next_transmit-id.ensures.stays;
+        goes_on = c.next_transmit-id.ensures.goes_on;
+        stores_nothing = c.next_transmit-id.ensures.stores_nothing;
+        polls = tt;
+      },
+    )

@@ -1,0 +1,53 @@
+-- Which requests end by a call, and how.
+use Rattle.std.specs.Prelude.{◌≡◌, ⊤, List, ◌++◌}
+use Rattle.std.specs.List.{All}
+use Rattle.dns_answers.specs.declared.refusal.ReplyRefusal.{ReplyRefusal}
+use Rattle.dns_asker.specs.declared.incoming.Ending.{Ending}
+use Rattle.dns_asker.specs.declared.incoming.Ending.TheVariants.{Answered, Faulty}
+use Rattle.dns_message.specs.declared.question.Question.{Question}
+use Rattle.sip_resolver.specs.Outcomes.{Ended}
+use Rattle.sip_resolver.specs.declared.outcome.Outcome.{Outcome}
+use Rattle.sip_resolver.specs.declared.outcome.Outcome.TheVariants.{Targets, Refused, NoAnswer, BadReply, Memory}
+
+-- those that ended before, and after them others whose outcomes are of this kind
+pub record EndsMore (kind : Outcome → Type 0) (old new : List Ended) : Type 0 where
+  pub more : List Ended
+  pub after : new ≡ old ++ more
+  pub are : All (λ ended. kind ended.outcome) more
+
+-- want of memory
+abbrev pub IsMemory : Outcome → Type 0
+IsMemory (Targets list) = ⊥
+IsMemory (Refused reason) = ⊥
+IsMemory (NoAnswer question) = ⊥
+IsMemory (BadReply question refusal) = ⊥
+IsMemory Memory = ⊤
+
+-- an end of the choice, or want of memory
+abbrev pub IsByChoice : Outcome → Type 0
+IsByChoice (Targets list) = ⊤
+IsByChoice (Refused reason) = ⊤
+IsByChoice (NoAnswer question) = ⊥
+IsByChoice (BadReply question refusal) = ⊥
+IsByChoice Memory = ⊤
+
+-- this fault of the reply to this question, or want of memory
+abbrev pub IsByFault : Question → ReplyRefusal → Outcome → Type 0
+IsByFault question refusal (Targets list) = ⊥
+IsByFault question refusal (Refused reason) = ⊥
+IsByFault question refusal (NoAnswer other) = ⊥
+IsByFault question refusal (BadReply other fault) = (other ≡ question) × (fault ≡ refusal)
+IsByFault question refusal Memory = ⊤
+
+-- no answer to this question, or want of memory
+abbrev pub IsBySilence : Question → Outcome → Type 0
+IsBySilence question (Targets list) = ⊥
+IsBySilence question (Refused reason) = ⊥
+IsBySilence question (NoAnswer other) = other ≡ question
+IsBySilence question (BadReply other fault) = ⊥
+IsBySilence question Memory = ⊤
+
+-- how a reply to this question may end a request: by its fault, or for want of memory
+abbrev pub IsByReply : Question → Ending → Outcome → Type 0
+IsByReply question (Answered found) outcome = IsMemory outcome
+IsByReply question (Faulty refusal) outcome = IsByFault question refusal outcome

@@ -1,0 +1,80 @@
+-- What is sent at a moment, and what is given up.
+use Rattle.std.specs.Prelude.{◌≡◌, ⊤, ℕ, ◌≤◌, List, ◌++◌, Option, Some, None}
+use Rattle.std.specs.List.{All, Contains}
+use Rattle.dns_message.specs.declared.question.Question.{Question}
+use Rattle.dns_asker.specs.Events.{IsResent}
+use Rattle.dns_asker.specs.Out.{IsOctetsOf}
+use Rattle.dns_asker.specs.Tickets.{Asking, Ticket}
+use Rattle.sip_resolver.specs.Questions.{QuestionsView, asked_over, asking_over}
+use Rattle.sip_resolver.specs.declared.outcome.Outcome.{Outcome}
+use Rattle.sip_resolver.specs.declared.outcome.Outcome.TheVariants.{Targets, Refused, NoAnswer, BadReply, Memory}
+use Rattle.sip_resolver.specs.declared.transmit.Over.{Over}
+use Rattle.sip_resolver.specs.declared.transmit.Over.TheVariants.{Datagram, Stream}
+use Rattle.sip_resolver.specs.declared.transmit.Transmit.{Transmit}
+
+-- ---- what is given up
+
+-- a question was sent three times, and no reply came in time
+abbrev pub IsInVain : ℕ → Ticket → Type 0
+IsInVain now ticket = (3 ≤ ticket.sent.sends) × (ticket.deadline ≤ now)
+
+-- those at the front that were in vain are given up, and the others are as they were
+pub record GivesUp (now : ℕ) (old new : Asking) : Type 0 where
+  pub gone : List Ticket
+  pub were : old ≡ record new { tickets = gone ++ new.tickets }
+  pub in_vain : All (IsInVain now) gone
+
+-- over datagrams and over streams
+pub record GivesUpBoth (now : ℕ) (old new : QuestionsView) : Type 0 where
+  pub datagrams : GivesUp now old.datagrams new.datagrams
+  pub streams : GivesUp now old.streams new.streams
+
+-- this question is one of those that are out, and was in vain
+pub record IsUnanswered (tickets : List Ticket) (now : ℕ) (question : Question) : Type 0 where
+  pub ticket : Ticket
+  pub stands : Contains tickets ticket
+  pub in_vain : IsInVain now ticket
+  pub of_it : ticket.sent.question ≡ question
+
+-- All that are out.
+abbrev pub tickets_of : QuestionsView → List Ticket
+tickets_of it = it.datagrams.tickets ++ it.streams.tickets
+
+-- How a request may end at a moment: for want of an answer to a question only that was in vain, and
+-- not by a reply.
+abbrev pub IsInTime : List Ticket → ℕ → Outcome → Type 0
+IsInTime tickets now (Targets list) = ⊤
+IsInTime tickets now (Refused reason) = ⊤
+IsInTime tickets now (NoAnswer question) = IsUnanswered tickets now question
+IsInTime tickets now (BadReply question refusal) = ⊥
+IsInTime tickets now Memory = ⊤
+
+-- ---- what is sent
+
+-- the questions over this are so, and the others as they were
+abbrev pub with_over : Over → Asking → QuestionsView → QuestionsView
+with_over Datagram asking it = record it { datagrams = asking }
+with_over Stream asking it = record it { streams = asking }
+
+-- One question is sent, under this id, and counted as sent: for the first time, or once more, as no
+-- reply came in time.
+pub data SendsOne (now id : ℕ) (old new : QuestionsView) : Type 0 where
+  first : (over : Over) (question : Question) → new ≡ asked_over over id question now old
+      → SendsOne now id old new
+  again : (over : Over) (asking : Asking) (octets : List ℕ)
+      → IsResent (asking_over over old) asking now id octets → new ≡ with_over over asking old
+      → SendsOne now id old new
+
+-- some are given up, and then one is sent
+pub record SendsAfter (now id : ℕ) (old new : QuestionsView) : Type 0 where
+  pub middle : QuestionsView
+  pub gives_up : GivesUpBoth now old middle
+  pub sends : SendsOne now id middle new
+
+-- The octets are those of the one question that is sent. Where there are none, none is sent, and
+-- none is counted as sent.
+abbrev pub Sends : ℕ → QuestionsView → QuestionsView → Option Transmit → Type 0
+Sends now old new None = GivesUpBoth now old new
+Sends now old new (Some transmit) =
+    (id : ℕ) × SendsAfter now id old new
+    × IsOctetsOf transmit.octets.now id (asking_over transmit.over new).tickets
