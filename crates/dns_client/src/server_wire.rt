@@ -103,8 +103,8 @@ fn wait_for(servers: &[Server]) -> Duration {
 ///
 /// Where a send or a receive fails, as at a closed port, or where a reply tells SERVFAIL or REFUSED
 /// (RFC 1035 4.1.1), the query goes to the next server at once, as long as there is one that was
-/// not asked (RFC 1035 7.2). Where there is none, a send or a receive that fails counts as lost, and
-/// the reply is given.
+/// not asked (RFC 1035 7.2). Where there is none, a send or a receive that fails counts as lost,
+/// and the reply is given.
 #[derive(Drop)]
 pub struct ServerWire<'a, R> {
     rt: &'a R,

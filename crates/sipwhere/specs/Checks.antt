@@ -9,8 +9,8 @@ use Rattle.sipwhere.specs.declared.address.AddressForm.{AddressForm}
 use Rattle.sipwhere.specs.declared.fate.Fate.{Fate}
 use Rattle.sipwhere.specs.declared.fate.Fate.TheVariants as fate
 
--- 0 OK: there are targets. 2 CRITICAL: the request goes nowhere, or no server answered. 3 UNKNOWN: it
--- is no request, or memory was refused.
+-- 0 OK: there are targets. 2 CRITICAL: the request goes nowhere, or no server answered. 3 UNKNOWN:
+-- it is no request, or memory was refused.
 abbrev pub check_status : Fate → ℕ
 check_status (fate.Became (outcome.Targets list)) = 0
 check_status (fate.Became (outcome.Refused reason)) = 2

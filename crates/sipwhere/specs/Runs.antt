@@ -12,7 +12,8 @@ use Rattle.sipwhere.specs.declared.report.Style.{Style}
 -- Its report was printed, and the status is that of what became of it; or the status is 5.
 abbrev pub IsTold : Option (List ℕ) → Option (List ℕ) → Style → List ℕ → Fate → ℕ → Type 0
 IsTold old new style text fate status =
-    (Appends old new (report_of style text fate) × (status ≡ status_in style.report fate)) ⊎ (status ≡ 5)
+    (Appends old new (report_of style text fate) × (status ≡ status_in style.report fate))
+    ⊎ (status ≡ 5)
 
 -- what became of the text of a number is told
 pub record Tells (gives : List ℕ → Type 0) (shows : ℕ → Type 0) (seat : SeatView) (number : ℕ)

@@ -50,7 +50,7 @@ const ROWS: [(&[Act], &str, &str); 10] = [
     ),
 ];
 
-/// What is printed, whether several texts are, a text, and what is printed of it over a silent wire.
+/// What is printed, whether of several texts, a text, and what is printed of it over a silent wire.
 const FORMS: [(Report, bool, &str, &str); 8] = [
     (
         Report::Lines,
@@ -68,7 +68,8 @@ const FORMS: [(Report, bool, &str, &str); 8] = [
         Report::Json,
         true,
         "sip:[2001:db8::1]:5070",
-        "{\"targets\":[{\"address\":\"2001:db8::1\",\"port\":5070,\"transport\":\"udp\"}],\"text\":\"sip:[2001:db8::1]:5070\"}\n",
+        "{\"targets\":[{\"address\":\"2001:db8::1\",\"port\":5070,\
+         \"transport\":\"udp\"}],\"text\":\"sip:[2001:db8::1]:5070\"}\n",
     ),
     (
         Report::Json,
@@ -80,7 +81,8 @@ const FORMS: [(Report, bool, &str, &str); 8] = [
         Report::Json,
         false,
         "sip:a.example:5070",
-        "{\"gaveup\":{\"kind\":\"A\",\"name\":\"a.example.\",\"why\":\"timeout\"},\"text\":\"sip:a.example:5070\"}\n",
+        "{\"gaveup\":{\"kind\":\"A\",\"name\":\"a.example.\",\
+         \"why\":\"timeout\"},\"text\":\"sip:a.example:5070\"}\n",
     ),
     (
         Report::Check,
