@@ -1,12 +1,13 @@
 -- The queries that were sent last.
-use Rattle.std.specs.Prelude.{◌≡◌, ℕ, ◌<◌, take, Bool, List, Option, Some, None, slice_get}
-use Rattle.std.specs.List.{position_or_len}
+use Rattle.std.specs.Prelude.{◌≡◌, ℕ, ◌+◌, ◌<◌, take, Bool, true, List, Option, Some, None, slice_get}
+use Rattle.std.specs.List.{Contains, position_or_len}
 use Rattle.std.specs.Str.{bytes_eq}
 
--- a query, and how often it was sent
+-- a query, how often it was sent, and whether no reply to it was handed on since
 pub record SentValue : Type 0 where
   pub octets : List ℕ
   pub sends : ℕ
+  pub is_out : Bool
 
 abbrev pub has_octets : List ℕ → SentValue → Bool
 has_octets query sent = bytes_eq sent.octets query
@@ -23,3 +24,16 @@ sends_of query kept = sends_in (slice_get kept (position_or_len (has_octets quer
 pub record HasIdOf (message : List ℕ) (sends : ℕ) (sent : SentValue) : Type 0 where
   pub more : sends < sent.sends
   pub id : take 2 sent.octets ≡ take 2 message
+
+-- it is out, this server was asked last, and one of so many was not asked yet
+pub record CanGoOn (server servers : ℕ) (sent : SentValue) : Type 0 where
+  pub is_out : sent.is_out ≡ true
+  pub last : sent.sends ≡ server + 1
+  pub others : sent.sends < servers
+
+-- a query that is kept can go on
+pub record IsFurther (server servers : ℕ) (query : List ℕ) (kept : List SentValue) : Type 0 where
+  pub sent : SentValue
+  pub stands : Contains kept sent
+  pub octets : sent.octets ≡ query
+  pub can : CanGoOn server servers sent

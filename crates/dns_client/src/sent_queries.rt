@@ -1,7 +1,7 @@
 //! The queries that were sent last.
-ghost use Rattle.std.specs.Prelude.{◌≡◌, IfOk, IfSome, IsTrue, take};
+ghost use Rattle.std.specs.Prelude.{◌≡◌, IfOk, IfSome, IsTrue, length, take};
 ghost use Rattle.std.specs.List.{position};
-ghost use Rattle.dns_client.specs.SentQueries.{HasIdOf, has_octets, sends_of};
+ghost use Rattle.dns_client.specs.SentQueries.{CanGoOn, HasIdOf, IsFurther, has_octets, sends_of};
 
 use std::alloc::{AllocError, Global};
 use std::marker::Model;
@@ -9,11 +9,12 @@ use std::marker::Model;
 /// How many queries are kept: the last ones.
 const QUERY_LIMIT: usize = 256;
 
-/// A query, and how often it was sent.
+/// A query, how often it was sent, and whether no reply to it was handed on since.
 #[derive(Drop)]
 struct SentQuery {
     octets: Vec<u8>,
     sends: usize,
+    is_out: bool,
 }
 
 impl Model for SentQuery {
@@ -21,7 +22,11 @@ impl Model for SentQuery {
 
     ghost Value = { SentValue };
 
-    ghost view = { λ it. record { octets = it.octets.items; sends = it.sends } };
+    ghost view = { λ it. record {
+      octets = it.octets.items;
+      sends = it.sends;
+      is_out = it.is_out;
+    } };
 }
 
 impl SentQuery {
@@ -37,6 +42,13 @@ impl SentQuery {
         ensures { IsTrue result → HasIdOf message.now sends self.now }
     {
         sends < self.sends && message.len() >= 2 && self.octets.starts_with(&message[..2])
+    }
+
+    /// Whether it is out, this server was asked last, and one of so many was not asked yet.
+    fn can_go_on(&self, server: usize, servers: usize) -> bool
+        ensures { IsTrue result → CanGoOn server servers self.now }
+    {
+        self.is_out && server < self.sends && self.sends - server == 1 && self.sends < servers
     }
 }
 
@@ -80,14 +92,38 @@ impl SentQueries {
         if let Some(at) = self.place_of(query) {
             let sends = self.items[at].sends;
             self.items[at].sends = sends.saturating_add(1);
+            self.items[at].is_out = true;
             return Ok(sends);
         }
         if self.items.len() >= QUERY_LIMIT {
             self.items.remove(0);
         }
         let octets = Vec::from_slice(self.alloc, query)?;
-        self.items.push(SentQuery { octets, sends: 1 })?;
+        self.items.push(SentQuery {
+            octets,
+            sends: 1,
+            is_out: true,
+        })?;
         Ok(0)
+    }
+
+    /// How often a query was sent, as far as it is kept.
+    pub(crate) fn sends_of(&self, query: &[u8]) -> usize
+        ensures { result ≡ sends_of query.now self.now }
+    {
+        match self.place_of(query) {
+            Some(at) => self.items[at].sends,
+            None => 0,
+        }
+    }
+
+    /// Notes that a reply to a query was handed on.
+    pub(crate) fn settle(&mut self, query: &[u8])
+        ensures { length self.new ≡ length self.old }
+    {
+        if let Some(at) = self.place_of(query) {
+            self.items[at].is_out = false;
+        }
     }
 
     /// The last query of a message's id that was sent more often than so many times.
@@ -96,6 +132,18 @@ impl SentQueries {
     {
         for sent in self.items.iter().rev() {
             if sent.fits(message, sends) {
+                return Some(sent.octets.as_slice());
+            }
+        }
+        None
+    }
+
+    /// A query that is out, for which this server was asked last, and one of so many not yet.
+    pub(crate) fn further(&self, server: usize, servers: usize) -> Option<&[u8]>
+        ensures { IfSome result (λ query. IsFurther server servers query.now self.now) }
+    {
+        for sent in self.items.iter() {
+            if sent.can_go_on(server, servers) {
                 return Some(sent.octets.as_slice());
             }
         }

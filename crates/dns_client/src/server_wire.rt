@@ -15,6 +15,13 @@ use std::time::{Clock, Duration};
 /// How long a receive waits where one server was asked, in milliseconds.
 const LONG_WAIT: u64 = 100;
 
+/// Whether a message is a reply that another server may better: its server can't or won't answer.
+fn tells_failure(message: &[u8]) -> bool {
+    message.len() >= HEADER_LENGTH
+        && message[2] & REPLY_BIT != 0
+        && matches!(message[3] & RCODE_BITS, SERVER_FAILURE | REFUSED)
+}
+
 /// How long a receive waits for each server where several were asked, in milliseconds.
 const SHORT_WAIT: u64 = 10;
 
@@ -24,8 +31,22 @@ const DATAGRAM_LIMIT: usize = 4_096;
 /// The octets of a header (RFC 1035 4.1.1).
 const HEADER_LENGTH: usize = 12;
 
-/// The bits QR and TC of a header's third octet: a reply that was cut.
+/// The bit QR of a header's third octet: a reply.
+const REPLY_BIT: u8 = 0x80;
+
+/// The bits QR and TC of that octet: a reply that was cut.
 const CUT_BITS: u8 = 0x82;
+
+/// The bits RCODE of a header's fourth octet.
+const RCODE_BITS: u8 = 0x0f;
+
+/// The RCODEs of a server that can't, and of one that won't, answer.
+const SERVER_FAILURE: u8 = 2;
+
+const REFUSED: u8 = 5;
+
+/// How many queries leave a server at once at most.
+const LEAVE_LIMIT: usize = 256;
 
 /// A server, its socket where one could be opened, and whether it was asked.
 #[derive(Drop)]
@@ -36,11 +57,12 @@ struct Server {
 }
 
 impl Server {
-    /// Sends a query. What can't be sent is lost.
-    fn send(&mut self, query: &[u8]) {
+    /// Sends a query, and tells whether it could be sent.
+    fn send(&mut self, query: &[u8]) -> bool {
         self.asked = true;
-        if let Some(socket) = &self.socket {
-            let _ = socket.send(query);
+        match &self.socket {
+            Some(socket) => socket.send(query).is_ok(),
+            None => false,
         }
     }
 
@@ -77,8 +99,12 @@ fn wait_for(servers: &[Server]) -> Duration {
 /// The first send of a query goes to the first server, the second to the second, and so on round.
 /// Each server has a UDP socket of a port that the system chose, and a message counts only from a
 /// server to which a query of its id was sent. A reply that was cut is asked for again over TCP,
-/// from the same server, and the whole one is given; where that fails the cut one is given. A send
-/// or a receive that fails counts as lost.
+/// from the same server, and the whole one is given; where that fails the cut one is given.
+///
+/// Where a send or a receive fails, as at a closed port, or where a reply tells SERVFAIL or REFUSED
+/// (RFC 1035 4.1.1), the query goes to the next server at once, as long as there is one that was
+/// not asked (RFC 1035 7.2). Where there is none, a send or a receive that fails counts as lost,
+/// and the reply is given.
 #[derive(Drop)]
 pub struct ServerWire<'a, R> {
     rt: &'a R,
@@ -132,9 +158,8 @@ impl<'a, R: Net + Clock> ServerWire<'a, R> {
         ask_over_tcp(self.rt, self.alloc, &server.address, query, &self.deadline).ok()
     }
 
-    /// The whole message for one that came from a server, if the server was asked for it.
-    fn whole(&self, server: usize, message: &[u8]) -> Option<Vec<u8>> {
-        let query = self.sent.query_of(message, server)?;
+    /// The whole message for one that came from a server, as a reply to this query.
+    fn whole(&self, server: usize, query: &[u8], message: &[u8]) -> Option<Vec<u8>> {
         if is_cut(message) {
             if let Some(whole) = self.over_tcp(server, query) {
                 return Some(whole);
@@ -143,20 +168,104 @@ impl<'a, R: Net + Clock> ServerWire<'a, R> {
         Vec::from_slice(self.alloc, message).ok()
     }
 
+    /// Whether a query that this server failed to answer is with another server: with one that was
+    /// asked since, or with the next one, which is asked now.
+    fn goes_on(&mut self, server: usize, query: &[u8]) -> bool {
+        let servers = self.servers.len();
+        let sends = self.sent.sends_of(query);
+        if servers == 0 || sends == 0 || (sends - 1) % servers != server {
+            return true;
+        }
+        if sends < servers {
+            self.send(query);
+            return true;
+        }
+        false
+    }
+
+    /// Takes a message that came from a server, and gives what is to be handed on.
+    fn take(&mut self, server: usize, message: &[u8]) -> Option<Vec<u8>> {
+        let query = self.sent.query_of(message, server)?;
+        let query = Vec::from_slice(self.alloc, query).ok()?;
+        let whole = self.whole(server, query.as_slice(), message)?;
+        if tells_failure(whole.as_slice()) && self.goes_on(server, query.as_slice()) {
+            return None;
+        }
+        self.sent.settle(query.as_slice());
+        Some(whole)
+    }
+
+    /// Sends one of the queries that were sent to this server, and to none behind it, to the next
+    /// server, if there is such a query.
+    fn leave_once(&mut self, server: usize) -> bool {
+        let Some(query) = self.sent.further(server, self.servers.len()) else {
+            return false;
+        };
+        let Ok(query) = Vec::from_slice(self.alloc, query) else {
+            return false;
+        };
+        self.send(query.as_slice());
+        true
+    }
+
+    /// Leaves a server whose port is closed: what was sent to it goes to the next server. Where
+    /// there is nothing or no server left, it waits.
+    fn leave(&mut self, server: usize, wait: Duration) {
+        if !self.leave_once(server) {
+            self.rt.sleep(wait);
+            return;
+        }
+        'queries: for _query in 0..LEAVE_LIMIT {
+            if !self.leave_once(server) {
+                return;
+            }
+        }
+    }
+
+    /// Receives a datagram from a server, if one comes in this time.
+    fn receive_from(
+        &self,
+        server: usize,
+        wait: Duration,
+        buffer: &mut [u8; DATAGRAM_LIMIT],
+    ) -> io::Result<usize>
+        ensures { IfOk result (λ count. count ≤ length buffer.new) }
+    {
+        match self.servers.get(server) {
+            Some(server) if server.asked => server.receive(wait, buffer),
+            _ => Err(io::Error::from(ErrorKind::WouldBlock)),
+        }
+    }
+
     /// A datagram that came from one of the servers that were asked.
-    fn receive_datagram(&self) -> Option<Vec<u8>> {
+    fn receive_datagram(&mut self) -> Option<Vec<u8>> {
         let wait = wait_for(self.servers.as_slice());
         let mut buffer = [0; DATAGRAM_LIMIT];
-        'servers: for (at, server) in self.servers.iter().enumerate() {
-            if server.asked {
-                match server.receive(wait, &mut buffer) {
-                    Ok(count) => return self.whole(at, &buffer[..count]),
-                    Err(error) if is_wait(error.kind()) => {}
-                    Err(_) => self.rt.sleep(wait),
-                }
+        'servers: for at in 0..self.servers.len() {
+            match self.receive_from(at, wait, &mut buffer) {
+                Ok(count) => return self.take(at, &buffer[..count]),
+                Err(error) if is_wait(error.kind()) => {}
+                Err(_) => self.leave(at, wait),
             }
         }
         None
+    }
+
+    /// Sends a query to a server, and tells whether its reply may come. Over TCP the reply comes at
+    /// once; one that tells a failure counts as none, but for the last server.
+    fn send_to(&mut self, server: usize, query: &[u8], is_last: bool) -> bool {
+        if !self.over_tcp {
+            return match self.servers.get_mut(server) {
+                Some(server) => server.send(query),
+                None => false,
+            };
+        }
+        match self.over_tcp(server, query) {
+            Some(reply) if is_last || !tells_failure(reply.as_slice()) => {
+                self.replies.push_back(reply).is_ok()
+            }
+            _ => false,
+        }
     }
 }
 
@@ -177,16 +286,15 @@ impl<'a, R: Net + Clock> MessageWire for ServerWire<'a, R> {
     }
 
     fn send(&mut self, query: &[u8]) {
-        let Ok(before) = self.sent.keep(query) else {
-            return;
-        };
-        let turn = before % self.servers.len().max(1);
-        if self.over_tcp {
-            if let Some(reply) = self.over_tcp(turn, query) {
-                let _ = self.replies.push_back(reply);
+        let servers = self.servers.len();
+        'servers: for _server in 0..servers {
+            let Ok(before) = self.sent.keep(query) else {
+                return;
+            };
+            let is_last = before >= servers - 1;
+            if self.send_to(before % servers, query, is_last) || is_last {
+                return;
             }
-        } else if let Some(server) = self.servers.get_mut(turn) {
-            server.send(query);
         }
     }
 

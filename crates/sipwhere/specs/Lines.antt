@@ -8,7 +8,6 @@ use Rattle.dns_answers.specs.declared.refusal.ReplyRefusal.TheVariants as refusa
 use Rattle.dns_message.specs.declared.kind.Kind.{Kind}
 use Rattle.dns_message.specs.declared.kind.Kind.TheVariants.{A, Aaaa, Srv, Naptr}
 use Rattle.dns_message.specs.declared.question.Question.{Question}
-use Rattle.sip_uri.specs.Shown.{address_text}
 use Rattle.sip_uri.specs.declared.transport.Transport.{Transport}
 use Rattle.sip_uri.specs.declared.transport.Transport.TheVariants.{Udp, Tcp, Sctp, Tls}
 use Rattle.sip_uri.specs.declared.refusal.UriRefusal.{UriRefusal}
@@ -18,6 +17,8 @@ use Rattle.sip_selection.specs.declared.reason.Reason.TheVariants.{TransportUnsu
 use Rattle.sip_selection.specs.declared.target.Target.{Target}
 use Rattle.sip_resolver.specs.declared.outcome.Outcome.{Outcome}
 use Rattle.sip_resolver.specs.declared.outcome.Outcome.TheVariants as outcome
+use Rattle.sipwhere.specs.Addresses.{address_words}
+use Rattle.sipwhere.specs.declared.address.AddressForm.{AddressForm}
 use Rattle.sipwhere.specs.declared.fate.Fate.{Fate}
 use Rattle.sipwhere.specs.declared.fate.Fate.TheVariants as fate
 
@@ -64,9 +65,9 @@ why_word refusal.Memory = codes "Memory"
 -- ---- lines, each behind the front
 
 -- a target's line
-abbrev pub target_line : List ℕ → Target → List ℕ
-target_line front target =
-    front ++ transport_word target.transport ++ (32 ∷ address_text target.address)
+abbrev pub target_line : AddressForm → List ℕ → Target → List ℕ
+target_line form front target =
+    front ++ transport_word target.transport ++ (32 ∷ address_words form target.address)
     ++ (32 ∷ decimal target.port) ++ 10 ∷ []
 
 -- a question: its kind and its name
@@ -83,21 +84,21 @@ abbrev pub words_line : List ℕ → List ℕ → List ℕ → List ℕ
 words_line front word other = front ++ word ++ other ++ 10 ∷ []
 
 -- the lines of what became of a request
-abbrev pub outcome_lines : List ℕ → Outcome → List ℕ
-outcome_lines front (outcome.Targets list) = flat_map (target_line front) list
-outcome_lines front (outcome.Refused reason) =
+abbrev pub outcome_lines : AddressForm → List ℕ → Outcome → List ℕ
+outcome_lines form front (outcome.Targets list) = flat_map (target_line form front) list
+outcome_lines form front (outcome.Refused reason) =
     words_line front (codes "refused ") (reason_word reason)
-outcome_lines front (outcome.NoAnswer question) = gaveup_line front question (codes "timeout")
-outcome_lines front (outcome.BadReply question refusal) =
+outcome_lines form front (outcome.NoAnswer question) = gaveup_line front question (codes "timeout")
+outcome_lines form front (outcome.BadReply question refusal) =
     gaveup_line front question (why_word refusal)
-outcome_lines front outcome.Memory = words_line front (codes "fault ") (codes "memory")
+outcome_lines form front outcome.Memory = words_line front (codes "fault ") (codes "memory")
 
 -- the lines of what became of a text
-abbrev pub lines_of : List ℕ → Fate → List ℕ
-lines_of front (fate.Became outcome) = outcome_lines front outcome
-lines_of front fate.TimeOver = words_line front (codes "gaveup ") (codes "total")
-lines_of front (fate.Bad refusal) = words_line front (codes "bad ") (request_word refusal)
-lines_of front fate.Memory = words_line front (codes "fault ") (codes "memory")
+abbrev pub lines_of : AddressForm → List ℕ → Fate → List ℕ
+lines_of form front (fate.Became outcome) = outcome_lines form front outcome
+lines_of form front fate.TimeOver = words_line front (codes "gaveup ") (codes "total")
+lines_of form front (fate.Bad refusal) = words_line front (codes "bad ") (request_word refusal)
+lines_of form front fate.Memory = words_line front (codes "fault ") (codes "memory")
 
 -- ---- the status
 

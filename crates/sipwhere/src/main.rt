@@ -3,19 +3,25 @@
 
 ghost use Rattle.std.specs.Prelude.{◌≡◌, ◌≤◌, IfOk};
 
+mod address;
+mod check_line;
 mod fate;
+mod json;
 mod locate;
 mod options;
 mod output;
 mod plan;
+mod report;
 mod run;
 mod seed;
 mod server_text;
 #[cfg(test)]
 mod tests;
 
+use check_line::UNKNOWN_STATUS;
 use clap::Error;
 use options::{Options, command, read_options};
+use report::Report;
 use run::{FAULT_STATUS, run};
 use std::net::Net;
 use std::process::ExitCode;
@@ -38,6 +44,33 @@ fn tell_usage<R: Print + Eprint>(rt: &R, error: &Error) -> u8
     if error.use_stderr() { USAGE_STATUS } else { 0 }
 }
 
+/// The status where there is a fault: a check is UNKNOWN then.
+fn fault_status(report: Report) -> u8
+    ensures { result ≤ 5 }
+{
+    match report {
+        Report::Lines | Report::Json => FAULT_STATUS,
+        Report::Check => UNKNOWN_STATUS,
+    }
+}
+
+/// Does what the options ask for, and gives the status. A fault is told on standard error.
+fn run_as<R: Wait + Input + Print + Eprint + Files + Net + RandomSource + Clock + AllocGlobal>(
+    rt: &R,
+    options: &Options<'_>,
+) -> u8
+    ensures { result ≤ 5 }
+{
+    match run(rt, options) {
+        Ok(FAULT_STATUS) => fault_status(options.report),
+        Ok(status) => status,
+        Err(error) => {
+            let _ = eprintln!(rt; "sipwhere: {error}");
+            fault_status(options.report)
+        }
+    }
+}
+
 /// Does what the program is asked to do, and gives its status.
 fn perform<
     R: Wait + Env + Input + Print + Eprint + Files + Net + RandomSource + Clock + AllocGlobal,
@@ -51,7 +84,7 @@ fn perform<
         Err(error) => return Ok(tell_usage(rt, &error)),
     };
     match read_options(alloc, &matches) {
-        Ok(options) => run(rt, &options),
+        Ok(options) => Ok(run_as(rt, &options)),
         Err(fault) => {
             let _ = eprintln!(rt; "sipwhere: {fault}");
             Ok(USAGE_STATUS)

@@ -1,6 +1,8 @@
 //! The words after the program's name.
 ghost use Rattle.std.specs.Prelude.{◌≡◌, ◌≤◌, IfOk};
 
+use crate::address::AddressForm;
+use crate::report::{Report, Style};
 use crate::seed::key_from_text;
 use crate::server_text::server_from_text;
 use clap::{Arg, ArgAction, ArgMatches, Command, value_parser};
@@ -25,6 +27,10 @@ pub struct Options<'a> {
     pub total: u32,
     /// The key of the random words and ids, where it is named.
     pub seed: Option<[u8; 32]>,
+    /// What is printed of a text.
+    pub report: Report,
+    /// The form of addresses.
+    pub form: AddressForm,
     /// The texts, or `-` for the lines of the standard input.
     pub texts: Vec<&'a str>,
 }
@@ -41,6 +47,9 @@ pub enum OptionFault {
     /// A seed that is none.
     #[error("a seed has 1 to 64 hexadecimal digits")]
     Seed,
+    /// There is more to check than one URI.
+    #[error("--check takes one URI")]
+    Check,
     /// Memory was refused.
     #[error("out of memory")]
     Memory,
@@ -66,9 +75,28 @@ impl<T: Drop> From<AllocFailed<T>> for OptionFault {
     }
 }
 
+impl<'a> Options<'a> {
+    /// How what became of texts is printed.
+    pub fn style(&self, several: bool) -> Style {
+        Style {
+            report: self.report,
+            form: self.form,
+            several,
+        }
+    }
+}
+
 /// An option with one value.
 fn value<'a>(alloc: Global, name: &'a str, word: &'a str, help: &'a str) -> Arg<'a> {
     Arg::new(alloc, name).long(name).value_name(word).help(help)
+}
+
+/// An option without a value.
+fn flag<'a>(alloc: Global, name: &'a str, help: &'a str) -> Arg<'a> {
+    Arg::new(alloc, name)
+        .long(name)
+        .action(ArgAction::SetTrue)
+        .help(help)
 }
 
 /// With the options of whom to ask.
@@ -91,12 +119,7 @@ fn with_servers<'a>(alloc: Global, command: Command<'a>) -> Result<Command<'a>, 
             "The file that names servers where none is named",
         )
         .default_value("/etc/resolv.conf"))?
-        .arg(
-            Arg::new(alloc, "tcp")
-                .long("tcp")
-                .action(ArgAction::SetTrue)
-                .help("Ask over TCP alone"),
-        )
+        .arg(flag(alloc, "tcp", "Ask over TCP alone"))
 }
 
 /// With the options of what can be sent.
@@ -142,6 +165,18 @@ fn with_limits<'a>(alloc: Global, command: Command<'a>) -> Result<Command<'a>, A
         .arg(value(alloc, "seed", "HEX", "The key of the random words and ids"))
 }
 
+/// With the options of what is printed.
+fn with_output<'a>(alloc: Global, command: Command<'a>) -> Result<Command<'a>, AllocError> {
+    command
+        .arg(flag(
+            alloc,
+            "short",
+            "IPv6 addresses in their short form (RFC 5952)",
+        ))?
+        .arg(flag(alloc, "json", "An object of JSON for each URI"))?
+        .arg(flag(alloc, "check", "One line for a monitoring system").conflicts_with("json")?)
+}
+
 /// The command line.
 pub fn command<'a>(alloc: Global) -> Result<Command<'a>, AllocError> {
     let command = Command::new(alloc, "sipwhere")
@@ -154,7 +189,8 @@ pub fn command<'a>(alloc: Global) -> Result<Command<'a>, AllocError> {
         );
     let command = with_servers(alloc, command)?;
     let command = with_sender(alloc, command)?;
-    with_limits(alloc, command)?.arg(
+    let command = with_limits(alloc, command)?;
+    with_output(alloc, command)?.arg(
         Arg::new(alloc, "uri")
             .value_name("URI")
             .required(true)
@@ -219,6 +255,34 @@ fn seed_of(word: Option<&str>) -> Result<Option<[u8; 32]>, OptionFault> {
     }
 }
 
+/// What is printed of a text.
+fn report_of(matches: &ArgMatches<'_>) -> Report {
+    if matches.get_flag("check") {
+        return Report::Check;
+    }
+    if matches.get_flag("json") {
+        return Report::Json;
+    }
+    Report::Lines
+}
+
+/// Whether texts can be reported so: a check is of one text.
+fn can_report(report: Report, texts: &[&str]) -> bool {
+    match report {
+        Report::Lines | Report::Json => true,
+        Report::Check => texts.len() == 1 && texts[0] != "-",
+    }
+}
+
+/// The form of addresses.
+fn form_of(matches: &ArgMatches<'_>) -> AddressForm {
+    if matches.get_flag("short") {
+        AddressForm::Short
+    } else {
+        AddressForm::Full
+    }
+}
+
 /// What is asked for.
 pub fn read_options<'a>(
     alloc: Global,
@@ -226,6 +290,11 @@ pub fn read_options<'a>(
 ) -> Result<Options<'a>, OptionFault> {
     let families = families_of(matches.get_str("families").unwrap_or("46"));
     let transports = matches.get_strs("transports").unwrap_or(&[]);
+    let texts = matches.get_strs("uri").unwrap_or(&[]);
+    let report = report_of(matches);
+    if !can_report(report, texts) {
+        return Err(OptionFault::Check);
+    }
     Ok(Options {
         servers: servers_of(alloc, matches.get_strs("server").unwrap_or(&[]))?,
         resolver_file: matches.get_str("resolver-file").unwrap_or(""),
@@ -233,6 +302,8 @@ pub fn read_options<'a>(
         caps: caps_of(alloc, transports, families)?,
         total: matches.get_one::<u32>("total").unwrap_or(10_000),
         seed: seed_of(matches.get_str("seed"))?,
-        texts: Vec::from_slice(alloc, matches.get_strs("uri").unwrap_or(&[]))?,
+        report,
+        form: form_of(matches),
+        texts: Vec::from_slice(alloc, texts)?,
     })
 }

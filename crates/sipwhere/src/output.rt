@@ -4,15 +4,16 @@ ghost use Rattle.std.specs.List.{flat_map};
 ghost use Rattle.std.specs.String.{string_bytes};
 ghost use Rattle.sipwhere.specs.Lines as spec;
 
+use crate::address::{AddressForm, address_words};
 use crate::fate::Fate;
 use dns_answers::ReplyRefusal;
 use dns_message::{Kind, Question};
 use sip_resolver::Outcome;
 use sip_selection::{Reason, Target};
-use sip_uri::{Transport, UriRefusal, address_text};
+use sip_uri::{Transport, UriRefusal};
 use std::alloc::{AllocError, Global};
 
-fn transport_word(transport: Transport) -> &'static str
+pub fn transport_word(transport: Transport) -> &'static str
     ensures { result.now ≡ spec.transport_word transport }
 {
     match transport {
@@ -23,7 +24,7 @@ fn transport_word(transport: Transport) -> &'static str
     }
 }
 
-fn reason_word(reason: Reason) -> &'static str
+pub fn reason_word(reason: Reason) -> &'static str
     ensures { result.now ≡ spec.reason_word reason }
 {
     match reason {
@@ -34,7 +35,7 @@ fn reason_word(reason: Reason) -> &'static str
     }
 }
 
-fn kind_word(kind: Kind) -> &'static str
+pub fn kind_word(kind: Kind) -> &'static str
     ensures { result.now ≡ spec.kind_word kind }
 {
     match kind {
@@ -45,7 +46,7 @@ fn kind_word(kind: Kind) -> &'static str
     }
 }
 
-fn request_word(refusal: UriRefusal) -> &'static str
+pub fn request_word(refusal: UriRefusal) -> &'static str
     ensures { result.now ≡ spec.request_word refusal }
 {
     match refusal {
@@ -76,10 +77,16 @@ fn why_word(alloc: Global, refusal: ReplyRefusal) -> Result<String, AllocError>
 }
 
 /// The line of a target.
-fn target_line(alloc: Global, front: &str, target: &Target) -> Result<String, AllocError>
-    ensures { IfOk result (λ line. string_bytes line ≡ spec.target_line front.now target.now) }
+pub fn target_line(
+    alloc: Global,
+    form: AddressForm,
+    front: &str,
+    target: &Target,
+) -> Result<String, AllocError>
+    ensures { IfOk result (λ line.
+        string_bytes line ≡ spec.target_line form front.now target.now) }
 {
-    let address = address_text(alloc, target.address)?;
+    let address = address_words(alloc, form, target.address)?;
     let port = target.port;
     let mut line = String::from_str(alloc, front)?;
     line.push_str(transport_word(target.transport))?;
@@ -90,13 +97,18 @@ fn target_line(alloc: Global, front: &str, target: &Target) -> Result<String, Al
 }
 
 /// The lines of targets.
-fn target_lines(alloc: Global, front: &str, targets: &[Target]) -> Result<String, AllocError>
+fn target_lines(
+    alloc: Global,
+    form: AddressForm,
+    front: &str,
+    targets: &[Target],
+) -> Result<String, AllocError>
     ensures { IfOk result (λ lines.
-        string_bytes lines ≡ flat_map (spec.target_line front.now) targets.now) }
+        string_bytes lines ≡ flat_map (spec.target_line form front.now) targets.now) }
 {
     let mut lines = String::new(alloc);
     'targets: for target in targets {
-        lines.push_str(&target_line(alloc, front, target)?)?;
+        lines.push_str(&target_line(alloc, form, front, target)?)?;
     }
     Ok(lines)
 }
@@ -143,11 +155,16 @@ fn words_line(alloc: Global, front: &str, word: &str, other: &str) -> Result<Str
 }
 
 /// The lines of what became of a text, each behind the front.
-pub fn lines_of(alloc: Global, front: &str, fate: &Fate) -> Result<String, AllocError>
-    ensures { IfOk result (λ lines. string_bytes lines ≡ spec.lines_of front.now fate.now) }
+pub fn lines_of(
+    alloc: Global,
+    form: AddressForm,
+    front: &str,
+    fate: &Fate,
+) -> Result<String, AllocError>
+    ensures { IfOk result (λ lines. string_bytes lines ≡ spec.lines_of form front.now fate.now) }
 {
     match fate {
-        Fate::Became(outcome) => outcome_lines(alloc, front, outcome),
+        Fate::Became(outcome) => outcome_lines(alloc, form, front, outcome),
         Fate::TimeOver => words_line(alloc, front, "gaveup ", "total"),
         Fate::Bad(refusal) => words_line(alloc, front, "bad ", request_word(*refusal)),
         Fate::Memory => words_line(alloc, front, "fault ", "memory"),
@@ -155,11 +172,17 @@ pub fn lines_of(alloc: Global, front: &str, fate: &Fate) -> Result<String, Alloc
 }
 
 /// The lines of what became of a request.
-fn outcome_lines(alloc: Global, front: &str, outcome: &Outcome) -> Result<String, AllocError>
-    ensures { IfOk result (λ lines. string_bytes lines ≡ spec.outcome_lines front.now outcome.now) }
+pub fn outcome_lines(
+    alloc: Global,
+    form: AddressForm,
+    front: &str,
+    outcome: &Outcome,
+) -> Result<String, AllocError>
+    ensures { IfOk result (λ lines.
+        string_bytes lines ≡ spec.outcome_lines form front.now outcome.now) }
 {
     match outcome {
-        Outcome::Targets(list) => target_lines(alloc, front, list.as_slice()),
+        Outcome::Targets(list) => target_lines(alloc, form, front, list.as_slice()),
         Outcome::Refused(reason) => words_line(alloc, front, "refused ", reason_word(*reason)),
         Outcome::NoAnswer(question) => gaveup_line(alloc, front, question, "timeout"),
         Outcome::BadReply(question, refusal) => {

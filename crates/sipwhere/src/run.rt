@@ -3,15 +3,15 @@ ghost use Rattle.std.specs.Prelude.{◌≡◌, ◌≤◌, IfOk, OnOk};
 ghost use Rattle.std.specs.Io.KnownBytes.{Appends};
 ghost use Rattle.sipwhere.specs.Runs.{IsTold, Tells};
 
-use crate::fate::{Fate, status_of};
+use crate::fate::Fate;
 use crate::locate::{Sender, locate};
 use crate::options::Options;
-use crate::output::lines_of;
 use crate::plan::{Plan, read_plan};
+use crate::report::{Style, report_of, status_in};
 use answer_cache::{AnswerBook, ListCache};
 use dns_asker::Clock;
 use dns_client::{MessageWire, RunClock, ServerWire, random_key};
-use std::alloc::{AllocError, Global};
+use std::alloc::Global;
 use std::io::{self, Write};
 use std::net::Net;
 use std::random::RandomSource;
@@ -30,17 +30,17 @@ fn write_text<W: Write>(output: &mut W, text: &str) -> io::Result<()>
     output.flush()
 }
 
-/// Prints what became of a text, behind the front, and gives the status.
-fn tell<O: Write>(alloc: Global, output: &mut O, front: &str, fate: &Fate) -> u8
-    ensures told { IsTold (O.contents output.old) (O.contents output.new) front.now fate.now
+/// Prints what became of a text, and gives the status.
+fn tell<O: Write>(alloc: Global, output: &mut O, style: Style, text: &str, fate: &Fate) -> u8
+    ensures told { IsTold (O.contents output.old) (O.contents output.new) style text.now fate.now
         result }
     ensures range { result ≤ 5 }
 {
-    let Ok(lines) = lines_of(alloc, front, fate) else {
+    let Ok(report) = report_of(alloc, style, text, fate) else {
         return FAULT_STATUS;
     };
-    match write_text(output, &lines) {
-        Ok(()) => status_of(fate),
+    match write_text(output, &report) {
+        Ok(()) => status_in(style.report, fate),
         Err(_) => FAULT_STATUS,
     }
 }
@@ -50,9 +50,9 @@ fn locate_and_tell<R: Wait, B: AnswerBook + Drop, W: MessageWire, C: Clock, O: W
     rt: &R,
     alloc: Global,
     sender: &Sender,
+    style: Style,
     number: u64,
     text: &str,
-    front: &str,
     book: &B,
     seat: &mut B::Seat,
     wire: &mut W,
@@ -61,58 +61,20 @@ fn locate_and_tell<R: Wait, B: AnswerBook + Drop, W: MessageWire, C: Clock, O: W
 ) -> u8
     requires made_here { B.belongs book.now seat.old }
     ensures stays { B.belongs book.now seat.new }
-    ensures tells { Tells W.gives C.shows (B.shown seat.new) number sender.now text.now front.now
+    ensures tells { Tells W.gives C.shows (B.shown seat.new) number sender.now style text.now
         (O.contents output.old) (O.contents output.new) result }
     ensures range { result ≤ 5 }
 {
     let fate = locate(rt, alloc, sender, number, text, book, seat, wire, clock);
-    tell(alloc, output, front, &fate)
+    tell(alloc, output, style, text, &fate)
 }
 
-/// What stands in front of the lines of a text, where there are several: the text and a space.
-fn front_of(alloc: Global, text: &str) -> Result<String, AllocError> {
-    format!(in alloc; "{text} ")
-}
-
-/// Locates the text of a number, prints what became of it, behind the text itself where there are
-/// several, and gives the status.
-fn locate_one<R: Wait, B: AnswerBook + Drop, W: MessageWire, C: Clock, O: Write>(
-    rt: &R,
-    alloc: Global,
-    sender: &Sender,
-    number: u64,
-    text: &str,
-    several: bool,
-    book: &B,
-    seat: &mut B::Seat,
-    wire: &mut W,
-    clock: &C,
-    output: &mut O,
-) -> u8
-    requires made_here { B.belongs book.now seat.old }
-    ensures stays { B.belongs book.now seat.new }
-    ensures range { result ≤ 5 }
-{
-    if !several {
-        return locate_and_tell(
-            rt, alloc, sender, number, text, "", book, seat, wire, clock, output,
-        );
-    }
-    match front_of(alloc, text) {
-        Ok(front) => {
-            locate_and_tell(
-                rt, alloc, sender, number, text, &front, book, seat, wire, clock, output,
-            )
-        }
-        Err(AllocError) => FAULT_STATUS,
-    }
-}
-
-/// Locates texts one after the other, and gives the greatest status.
+/// Locates texts one after the other, prints what became of each, and gives the greatest status.
 fn locate_texts<R: Wait, B: AnswerBook + Drop, W: MessageWire, C: Clock, O: Write>(
     rt: &R,
     alloc: Global,
     sender: &Sender,
+    style: Style,
     texts: &[&str],
     book: &B,
     seat: &mut B::Seat,
@@ -123,12 +85,11 @@ fn locate_texts<R: Wait, B: AnswerBook + Drop, W: MessageWire, C: Clock, O: Writ
     requires made_here { B.belongs book.now seat.old }
     ensures range { result ≤ 5 }
 {
-    let several = texts.len() > 1;
     let mut status = 0;
     'texts: for (at, text) in texts.iter().enumerate() {
         let number = at as u64 + 1;
-        let told = locate_one(
-            rt, alloc, sender, number, text, several, book, seat, wire, clock, output,
+        let told = locate_and_tell(
+            rt, alloc, sender, style, number, text, book, seat, wire, clock, output,
         );
         status = status.max(told);
     }
@@ -155,6 +116,7 @@ fn locate_lines<R: Wait + Input, B: AnswerBook + Drop, W: MessageWire, C: Clock,
     rt: &R,
     alloc: Global,
     sender: &Sender,
+    style: Style,
     book: &B,
     seat: &mut B::Seat,
     wire: &mut W,
@@ -169,8 +131,8 @@ fn locate_lines<R: Wait + Input, B: AnswerBook + Drop, W: MessageWire, C: Clock,
         match next_line(rt, alloc) {
             Ok(None) => return status,
             Ok(Some(line)) => {
-                let told = locate_one(
-                    rt, alloc, sender, number, &line, true, book, seat, wire, clock, output,
+                let told = locate_and_tell(
+                    rt, alloc, sender, style, number, &line, book, seat, wire, clock, output,
                 );
                 status = status.max(told);
             }
@@ -199,11 +161,13 @@ fn run_over<R: Wait + Input + Print + Net + time::Clock>(
     let clock = RunClock::start(rt)?;
     let (book, mut seat) = ListCache::new(alloc);
     let mut output = io::writer(rt);
-    if options.texts.as_slice() == ["-"].as_slice() {
+    let texts = options.texts.as_slice();
+    if texts == ["-"].as_slice() {
         return Ok(locate_lines(
             rt,
             alloc,
             &sender,
+            options.style(true),
             &book,
             &mut seat,
             &mut wire,
@@ -215,7 +179,8 @@ fn run_over<R: Wait + Input + Print + Net + time::Clock>(
         rt,
         alloc,
         &sender,
-        options.texts.as_slice(),
+        options.style(texts.len() > 1),
+        texts,
         &book,
         &mut seat,
         &mut wire,

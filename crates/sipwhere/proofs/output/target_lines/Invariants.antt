@@ -5,4 +5,4 @@ use Rattle.sipwhere.specs.Lines.{target_line}
 use Rattle.sipwhere.proofs.output.target_lines.Given as goal
 
 abbrev pub invariant-targets : goal.invariant-targets
-invariant-targets l = string_bytes l.lines ≡ flat_map (target_line l.front) (take l.target-index l.targets)
+invariant-targets l = string_bytes l.lines ≡ flat_map (target_line l.form l.front) (take l.target-index l.targets)

@@ -1,0 +1,48 @@
+-- One line for a monitoring system, as the plugins of such systems print it.
+use Rattle.std.specs.Prelude.{ℕ, List, [], ◌∷◌, ◌++◌, length, codes}
+use Rattle.std.specs.Fmt.{decimal}
+use Rattle.sip_resolver.specs.declared.outcome.Outcome.{Outcome}
+use Rattle.sip_resolver.specs.declared.outcome.Outcome.TheVariants as outcome
+use Rattle.sip_selection.specs.declared.target.Target.{Target}
+use Rattle.sipwhere.specs.Lines.{lines_of, outcome_lines, target_line}
+use Rattle.sipwhere.specs.declared.address.AddressForm.{AddressForm}
+use Rattle.sipwhere.specs.declared.fate.Fate.{Fate}
+use Rattle.sipwhere.specs.declared.fate.Fate.TheVariants as fate
+
+-- 0 OK: there are targets. 2 CRITICAL: the request goes nowhere, or no server answered. 3 UNKNOWN:
+-- it is no request, or memory was refused.
+abbrev pub check_status : Fate → ℕ
+check_status (fate.Became (outcome.Targets list)) = 0
+check_status (fate.Became (outcome.Refused reason)) = 2
+check_status (fate.Became (outcome.NoAnswer question)) = 2
+check_status (fate.Became (outcome.BadReply question refusal)) = 2
+check_status (fate.Became outcome.Memory) = 3
+check_status fate.TimeOver = 2
+check_status (fate.Bad refusal) = 3
+check_status fate.Memory = 3
+
+abbrev pub targets_front : ℕ → List ℕ
+targets_front count = codes "SIP OK - " ++ decimal count ++ codes " targets, first "
+
+-- how many targets, and the first one
+abbrev pub targets_line : AddressForm → List Target → List ℕ
+targets_line form [] = codes "SIP OK - 0 targets\n"
+targets_line form (only ∷ []) = target_line form (codes "SIP OK - 1 target: ") only
+targets_line form (first ∷ second ∷ others) =
+    target_line form (targets_front (length (first ∷ second ∷ others))) first
+
+abbrev pub outcome_line : AddressForm → Outcome → List ℕ
+outcome_line form (outcome.Targets list) = targets_line form list
+outcome_line form (outcome.Refused reason) =
+    outcome_lines form (codes "SIP CRITICAL - ") (outcome.Refused reason)
+outcome_line form (outcome.NoAnswer question) =
+    outcome_lines form (codes "SIP CRITICAL - ") (outcome.NoAnswer question)
+outcome_line form (outcome.BadReply question refusal) =
+    outcome_lines form (codes "SIP CRITICAL - ") (outcome.BadReply question refusal)
+outcome_line form outcome.Memory = outcome_lines form (codes "SIP UNKNOWN - ") outcome.Memory
+
+abbrev pub check_line : AddressForm → Fate → List ℕ
+check_line form (fate.Became outcome) = outcome_line form outcome
+check_line form fate.TimeOver = lines_of form (codes "SIP CRITICAL - ") fate.TimeOver
+check_line form (fate.Bad refusal) = lines_of form (codes "SIP UNKNOWN - ") (fate.Bad refusal)
+check_line form fate.Memory = lines_of form (codes "SIP UNKNOWN - ") fate.Memory

@@ -1,0 +1,97 @@
+-- What became of a text as an object of JSON (RFC 8259). The members of an object stand in the
+-- order of their keys.
+use Rattle.std.specs.Prelude.{ℕ, List, [], ◌∷◌, ◌++◌, map, codes}
+use Rattle.dns_name.specs.Texts.{text_of}
+use Rattle.dns_answers.specs.declared.refusal.ReplyRefusal.{ReplyRefusal}
+use Rattle.dns_answers.specs.declared.refusal.ReplyRefusal.TheVariants as refusal
+use Rattle.dns_message.specs.declared.question.Question.{Question}
+use Rattle.serde_json.specs.Data.{Data, array, member, no_items, no_members, number, object, string, unsigned}
+use Rattle.serde_json.specs.View.{items_of}
+use Rattle.serde_json.specs.Written.{compact_text}
+use Rattle.sip_resolver.specs.declared.outcome.Outcome.{Outcome}
+use Rattle.sip_resolver.specs.declared.outcome.Outcome.TheVariants as outcome
+use Rattle.sip_selection.specs.declared.target.Target.{Target}
+use Rattle.sipwhere.specs.Addresses.{address_words}
+use Rattle.sipwhere.specs.Lines.{kind_word, reason_word, request_word, transport_word}
+use Rattle.sipwhere.specs.declared.address.AddressForm.{AddressForm}
+use Rattle.sipwhere.specs.declared.fate.Fate.{Fate}
+use Rattle.sipwhere.specs.declared.fate.Fate.TheVariants as fate
+
+-- ---- the parts
+
+abbrev pub target_data : AddressForm → Target → Data
+target_data form target =
+    object (member (codes "address") (string (address_words form target.address))
+    (member (codes "port") (number (unsigned target.port))
+    (member (codes "transport") (string (transport_word target.transport)) no_members)))
+
+abbrev pub targets_data : AddressForm → List Target → Data
+targets_data form targets = array (items_of (map (target_data form) targets))
+
+-- a question, and the RCODE of the reply to it (RFC 1035 4.1.1)
+abbrev pub rcode_data : Question → ℕ → Data
+rcode_data question rcode =
+    object (member (codes "kind") (string (kind_word question.kind))
+    (member (codes "name") (string (text_of question.name))
+    (member (codes "rcode") (number (unsigned rcode)) no_members)))
+
+-- a question, and why it has no answer
+abbrev pub why_data : Question → List ℕ → Data
+why_data question why =
+    object (member (codes "kind") (string (kind_word question.kind))
+    (member (codes "name") (string (text_of question.name))
+    (member (codes "why") (string why) no_members)))
+
+abbrev pub reply_data : Question → ReplyRefusal → Data
+reply_data question refusal.NotReply = why_data question (codes "NotReply")
+reply_data question refusal.OtherQuestion = why_data question (codes "OtherQuestion")
+reply_data question refusal.Truncated = why_data question (codes "Truncated")
+reply_data question (refusal.ServerFault rcode) = rcode_data question rcode
+reply_data question refusal.Memory = why_data question (codes "Memory")
+
+-- ---- the object: what became of the text, and the text
+
+abbrev pub with_targets : List ℕ → Data → Data
+with_targets text targets =
+    object (member (codes "targets") targets (member (codes "text") (string text) no_members))
+
+abbrev pub with_gaveup : List ℕ → Data → Data
+with_gaveup text gaveup =
+    object (member (codes "gaveup") gaveup (member (codes "text") (string text) no_members))
+
+abbrev pub time_over : List ℕ → Data
+time_over text =
+    with_gaveup text (object (member (codes "why") (string (codes "total")) no_members))
+
+abbrev pub with_refused : List ℕ → List ℕ → Data
+with_refused text word =
+    object (member (codes "refused") (string word)
+    (member (codes "text") (string text) no_members))
+
+abbrev pub with_bad : List ℕ → List ℕ → Data
+with_bad text word =
+    object (member (codes "bad") (string word)
+    (member (codes "text") (string text) no_members))
+
+abbrev pub with_fault : List ℕ → Data
+with_fault text =
+    object (member (codes "fault") (string (codes "memory"))
+    (member (codes "text") (string text) no_members))
+
+abbrev pub outcome_data : AddressForm → List ℕ → Outcome → Data
+outcome_data form text (outcome.Targets list) = with_targets text (targets_data form list)
+outcome_data form text (outcome.Refused reason) = with_refused text (reason_word reason)
+outcome_data form text (outcome.NoAnswer question) =
+    with_gaveup text (why_data question (codes "timeout"))
+outcome_data form text (outcome.BadReply question refusal) =
+    with_gaveup text (reply_data question refusal)
+outcome_data form text outcome.Memory = with_fault text
+
+abbrev pub fate_data : AddressForm → List ℕ → Fate → Data
+fate_data form text (fate.Became outcome) = outcome_data form text outcome
+fate_data form text fate.TimeOver = time_over text
+fate_data form text (fate.Bad refusal) = with_bad text (request_word refusal)
+fate_data form text fate.Memory = with_fault text
+
+abbrev pub json_line : AddressForm → List ℕ → Fate → List ℕ
+json_line form text fate = compact_text (fate_data form text fate) ++ 10 ∷ []

@@ -1,0 +1,29 @@
+-- What is printed of a text.
+use Rattle.std.specs.Prelude.{ℕ, Bool, true, false, List, [], ◌∷◌, ◌++◌}
+use Rattle.sipwhere.specs.Checks.{check_line, check_status}
+use Rattle.sipwhere.specs.Jsons.{json_line}
+use Rattle.sipwhere.specs.Lines.{lines_of, status_of}
+use Rattle.sipwhere.specs.declared.address.AddressForm.{AddressForm}
+use Rattle.sipwhere.specs.declared.fate.Fate.{Fate}
+use Rattle.sipwhere.specs.declared.report.Report.{Report}
+use Rattle.sipwhere.specs.declared.report.Report.TheVariants.{Lines, Json, Check}
+use Rattle.sipwhere.specs.declared.report.Style.{Style}
+
+-- in front of the lines of a text: the text and a space, where there are several
+abbrev pub front_of : Bool → List ℕ → List ℕ
+front_of true text = text ++ 32 ∷ []
+front_of false text = []
+
+abbrev pub report_as : Report → AddressForm → Bool → List ℕ → Fate → List ℕ
+report_as Lines form several text fate = lines_of form (front_of several text) fate
+report_as Json form several text fate = json_line form text fate
+report_as Check form several text fate = check_line form fate
+
+abbrev pub report_of : Style → List ℕ → Fate → List ℕ
+report_of style text fate = report_as style.report style.form style.several text fate
+
+-- its status: a check has one of its own
+abbrev pub status_in : Report → Fate → ℕ
+status_in Lines fate = status_of fate
+status_in Json fate = status_of fate
+status_in Check fate = check_status fate

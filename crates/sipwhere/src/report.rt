@@ -1,0 +1,72 @@
+//! What is printed of a text.
+ghost use Rattle.std.specs.Prelude.{◌≡◌, ◌≤◌, IfOk};
+ghost use Rattle.std.specs.String.{string_bytes};
+ghost use Rattle.sipwhere.specs.Reports as spec;
+
+use crate::address::AddressForm;
+use crate::check_line::{check_line, check_status};
+use crate::fate::{Fate, status_of};
+use crate::json::json_line;
+use crate::output::lines_of;
+use std::alloc::{AllocError, Global};
+
+/// What is printed of a text.
+#[derive(Clone, Copy, Debug, PartialEq, Eq)]
+pub enum Report {
+    /// A line for each target, or why there is none.
+    Lines,
+    /// An object of JSON, in one line.
+    Json,
+    /// One line for a monitoring system.
+    Check,
+}
+
+/// How what became of texts is printed.
+#[derive(Clone, Copy, Debug)]
+pub struct Style {
+    /// What is printed.
+    pub report: Report,
+    /// The form of addresses.
+    pub form: AddressForm,
+    /// Whether each line begins with the text and a space.
+    pub several: bool,
+}
+
+/// What stands in front of the lines of a text.
+fn front_of(alloc: Global, several: bool, text: &str) -> Result<String, AllocError>
+    ensures { IfOk result (λ front. string_bytes front ≡ spec.front_of several text.now) }
+{
+    let mut front = String::new(alloc);
+    if several {
+        front.push_str(text)?;
+        front.push_str(" ")?;
+    }
+    Ok(front)
+}
+
+/// What is printed of a text, of which this became.
+pub fn report_of(alloc: Global, style: Style, text: &str, fate: &Fate) -> Result<String, AllocError>
+    ensures { IfOk result (λ report.
+        string_bytes report ≡ spec.report_of style text.now fate.now) }
+{
+    match style.report {
+        Report::Lines => {
+            let front = front_of(alloc, style.several, text)?;
+            lines_of(alloc, style.form, &front, fate)
+        }
+        Report::Json => json_line(alloc, style.form, text, fate),
+        Report::Check => check_line(alloc, style.form, fate),
+    }
+}
+
+/// The status of what became of a text.
+pub fn status_in(report: Report, fate: &Fate) -> u8
+    ensures status { result ≡ spec.status_in report fate.now }
+    ensures range { result ≤ 5 }
+{
+    match report {
+        Report::Lines => status_of(fate),
+        Report::Json => status_of(fate),
+        Report::Check => check_status(fate),
+    }
+}

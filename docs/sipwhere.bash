@@ -1,0 +1,15 @@
+# Completion of the words of sipwhere, for bash.
+_sipwhere() {
+    local word=${COMP_WORDS[COMP_CWORD]} before=${COMP_WORDS[COMP_CWORD - 1]}
+    case $before in
+        -s | --server | --total | --seed) COMPREPLY=() ;;
+        --resolver-file) mapfile -t COMPREPLY < <(compgen -f -- "$word") ;;
+        --families) mapfile -t COMPREPLY < <(compgen -W '4 6 46 64' -- "$word") ;;
+        -t | --transports) mapfile -t COMPREPLY < <(compgen -W 'udp tcp tls sctp' -- "$word") ;;
+        *)
+            mapfile -t COMPREPLY < <(compgen -W '--server --resolver-file --tcp --families --transports --total --seed
+                --short --json --check --help --version' -- "$word")
+            ;;
+    esac
+}
+complete -F _sipwhere sipwhere
