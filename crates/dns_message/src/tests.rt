@@ -1,5 +1,6 @@
 //! Messages by hand, as tables (RFC 1035 4.1).
 use self::records::SRV_REPLY;
+use self::servers::{BIND_SRV_REPLY, KNOT_ALIAS, KNOT_NO_NAME, KNOT_NOT_OFFERED, NSD_NAPTR_REPLY};
 use super::*;
 use std::alloc::Global;
 
@@ -49,6 +50,34 @@ fn a_reply_cut_anywhere(rt: HostRuntime) {
             Some(MessageRefusal::Malformed(part)),
             "{end}"
         );
+    }
+}
+
+/// A query, and replies with a pointer in their data, of each kind of answer.
+const WHOLE: [&[u8]; 7] = [
+    QUERY,
+    SRV_REPLY,
+    NSD_NAPTR_REPLY,
+    BIND_SRV_REPLY,
+    KNOT_ALIAS,
+    KNOT_NOT_OFFERED,
+    KNOT_NO_NAME,
+];
+
+/// Whether each shorter beginning of these octets is malformed.
+fn is_malformed_cut(alloc: Global, octets: &[u8]) -> bool {
+    (0..octets.len()).all(|end| {
+        matches!(
+            refusal(alloc, &octets[..end]),
+            Some(MessageRefusal::Malformed(_))
+        )
+    })
+}
+
+#[test]
+fn cut_anywhere(rt: HostRuntime) {
+    for octets in WHOLE {
+        assert!(rt; is_malformed_cut(rt.alloc(), octets), "{:?}", octets);
     }
 }
 

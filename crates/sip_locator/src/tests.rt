@@ -15,6 +15,7 @@ use std::alloc::Global;
 use std::sync::Wait;
 
 mod allocations;
+mod full;
 mod page;
 
 /// A reply to A of a.example.: 192.0.2.7, TTL 300, with a pointer to the question (RFC 1035 4.1.4).

@@ -1,10 +1,13 @@
 //! Where memory is refused: the call then says so, or has its answer all the same, and done again
 //! it has it.
 
+use super::full::brief_answer;
 use crate::tests::{Desk, Gives, REPLY, one_seat, open_desk, told};
 use crate::*;
 use answer_cache::{AnswerBook, ListCache, StoreRefusal};
 use dns_answers::Moment;
+use dns_message::Question;
+use sip_selection::{GiveRefusal, Next};
 use std::alloc::Global;
 use std::sync::Wait;
 
@@ -70,4 +73,27 @@ fn is_right_over_shared(rt: &impl Wait, alloc: Global) -> Option<bool> {
 #[test]
 fn shared_locator_refused(rt: HostRuntime) {
     assert!(rt; is_right_over_shared(&rt, rt.alloc()) != Some(false));
+}
+
+/// Whether the question is asked again that a refused answer was given to, or has its target.
+fn is_after(given: Result<(), GiveRefusal>, next: Next<'_>, question: &Question) -> bool {
+    match given {
+        Ok(()) => told(next, question) == Gives::NoAddress,
+        Err(GiveRefusal::Memory) => told(next, question) == Gives::Asks,
+        Err(_) => false,
+    }
+}
+
+/// Whether an answer that is given is used or refused for want of memory, where there is memory for
+/// the desk and the answer.
+fn is_given(alloc: Global) -> Option<bool> {
+    let mut desk = open_desk::<ListCache>(alloc)?;
+    let answer = brief_answer(alloc)?;
+    let given = desk.first.give(&desk.question, answer);
+    Some(is_after(given, desk.first.next(), &desk.question))
+}
+
+#[test]
+fn give_refused(rt: HostRuntime) {
+    assert!(rt; is_given(rt.alloc()) != Some(false));
 }
