@@ -12,10 +12,14 @@ use std::sync::Wait;
 use std::sync::atomic::{AtomicU64, Ordering};
 use std::thread::Threads;
 
+mod allocations;
 mod gathered;
+mod ids;
 mod many;
 mod page;
+mod slow;
 mod successor;
+mod threads_refused;
 
 /// A zone with one address.
 const ZONE: &str = "a.example. 300 A 192.0.2.7";

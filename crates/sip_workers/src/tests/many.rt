@@ -2,7 +2,7 @@
 use super::{ZONE, clock_at_100, goes_to, job_of};
 use crate::*;
 use answer_cache::{Notice, SharedCache};
-use dns_asker::{Zone, ZoneWire};
+use dns_asker::{Wire, Zone, ZoneWire};
 use std::alloc::Global;
 use std::sync::Wait;
 use std::sync::atomic::{AtomicU64, Ordering};
@@ -51,28 +51,60 @@ fn jobs_to_ports(alloc: Global, count: usize) -> Option<Vec<Job>> {
     Some(jobs)
 }
 
-/// Whether each goes to its own port.
-fn each_goes(made: &[(Outcome, Notice)]) -> bool {
-    made.iter()
-        .enumerate()
-        .all(|(place, it)| goes_to(&it.0, port_at(place)))
+/// Whether these are so many, and each goes to its own port.
+fn each_goes(made: &[(Outcome, Notice)], count: usize) -> bool {
+    made.len() == count
+        && made
+            .iter()
+            .enumerate()
+            .all(|(place, it)| goes_to(&it.0, port_at(place)))
 }
 
-/// Whether so many requests each go to their own ports, by a worker for each wire.
-fn all_go_over<R: Threads + Wait + AllocGlobal + Sync, G: Gate + Sync>(
+/// What a run of so many requests, in batches of this size, gives by a worker for each wire; none
+/// without memory for it.
+fn run_over<R: Threads + Wait + AllocGlobal + Sync, W: Wire + Drop + Send, G: Gate + Sync>(
     rt: &R,
-    wires: Vec<ZoneWire<'_>>,
+    wires: Vec<W>,
     count: usize,
+    batch: usize,
     gate: &G,
-) -> Option<bool> {
+) -> Option<Result<Vec<(Outcome, Notice)>, RunRefusal>> {
     let alloc = rt.alloc();
     let Ok((cache, seats)) = SharedCache::new(alloc, wires.len()) else {
         return None;
     };
     let jobs = jobs_to_ports(alloc, count)?;
     let clock = clock_at_100();
-    let made = run_workers(rt, alloc, &cache, seats, wires, jobs, 1, &clock, gate).ok()?;
-    Some(made.len() == count && each_goes(made.as_slice()))
+    Some(run_workers(rt, alloc, &cache, seats, wires, jobs, batch, &clock, gate))
+}
+
+/// Whether so many requests each go to their own ports in such a run.
+pub(super) fn all_go_over<
+    R: Threads + Wait + AllocGlobal + Sync,
+    W: Wire + Drop + Send,
+    G: Gate + Sync,
+>(rt: &R, wires: Vec<W>, count: usize, batch: usize, gate: &G) -> Option<bool> {
+    let made = run_over(rt, wires, count, batch, gate)?.ok()?;
+    Some(each_goes(made.as_slice(), count))
+}
+
+/// Whether so many requests, in batches of one, each go to their own ports, by so many workers; or
+/// whether such a run is refused for want of a thread, where one is refused.
+pub(super) fn is_right_by<R: Threads + Wait + AllocGlobal + Sync, G: Gate + Sync>(
+    rt: &R,
+    workers: usize,
+    count: usize,
+    gate: &G,
+    refused: bool,
+) -> Option<bool> {
+    let alloc = rt.alloc();
+    let zone = Zone::read(alloc, ZONE).ok()?;
+    let sent = AtomicU64::new(0);
+    let wires = ZoneWire::several(alloc, &zone, &sent, workers).ok()?;
+    Some(match run_over(rt, wires, count, 1, gate)? {
+        Ok(made) => !refused && each_goes(made.as_slice(), count),
+        Err(refusal) => refused && refusal == RunRefusal::NoThread,
+    })
 }
 
 /// Whether so many requests each go to their own ports, by so many workers.
@@ -82,11 +114,7 @@ fn all_go_by<R: Threads + Wait + AllocGlobal + Sync, G: Gate + Sync>(
     count: usize,
     gate: &G,
 ) -> Option<bool> {
-    let alloc = rt.alloc();
-    let zone = Zone::read(alloc, ZONE).ok()?;
-    let sent = AtomicU64::new(0);
-    let wires = ZoneWire::several(alloc, &zone, &sent, workers).ok()?;
-    all_go_over(rt, wires, count, gate)
+    is_right_by(rt, workers, count, gate, false)
 }
 
 #[test]

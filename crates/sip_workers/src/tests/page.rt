@@ -6,16 +6,13 @@ ghost use Rattle.answer_cache.specs.Shared.{Belongs};
 use super::{ZONE, clock_at_100, goes_to, two_jobs};
 use crate::*;
 use answer_cache::SharedCache;
-use dns_asker::{StandingClock, Zone, ZoneWire};
+use dns_asker::{StandingClock, Wire, Zone, ZoneWire};
 use std::alloc::Global;
 use std::sync::Wait;
 use std::sync::atomic::AtomicU64;
 
 /// A worker over this wire, with its cache.
-pub(super) fn one_worker<'a>(
-    alloc: Global,
-    wire: ZoneWire<'a>,
-) -> Option<(SharedCache, Worker<ZoneWire<'a>>)>
+pub(super) fn one_worker<W: Wire + Drop>(alloc: Global, wire: W) -> Option<(SharedCache, Worker<W>)>
     ensures { IfSome result (λ made. Belongs made.0 made.1) }
 {
     let Ok((cache, mut seats)) = SharedCache::new(alloc, 1) else {
