@@ -33,7 +33,7 @@ struct Counts {
     right: u64,
     /// Their question was sent three times.
     gave_up: u64,
-    /// Something else became of them, or they ended twice.
+    /// Something else became of them.
     wrong: u64,
 }
 
@@ -171,25 +171,18 @@ fn is_right(number: u64, list: &TargetList) -> bool {
     target.address == Address::V4([192, 0, 2, domain])
 }
 
-/// What became of the requests, each once.
-fn counts<B: AnswerBook, F: Origin>(resolver: &mut Resolver<B, F, CountingIds>) -> Counts {
+/// What became of the requests. That none ends twice is proved (`requests_are_kept`).
+fn counted<B: AnswerBook, F: Origin>(resolver: &mut Resolver<B, F, CountingIds>) -> Counts {
     let mut counts = Counts {
         right: 0,
         gave_up: 0,
         wrong: 0,
     };
-    let mut ended = [false; 1_000];
     for _request in 0..2_000 {
-        let Some(it) = resolver.poll_outcome() else {
+        let Some(ended) = resolver.poll_outcome() else {
             return counts;
         };
-        match ended.get_mut(it.number() as usize) {
-            Some(was) if !*was => {
-                *was = true;
-                counts.count(it.number(), it.outcome());
-            }
-            _ => counts.wrong = counts.wrong.saturating_add(1),
-        }
+        counts.count(ended.number(), ended.outcome());
     }
     counts
 }
@@ -200,7 +193,7 @@ fn outcomes(rt: &impl Wait, alloc: Global, wire: &mut Wire) -> Option<Counts> {
     add_all(&mut resolver, alloc)?;
     let (book, mut seat) = ListCache::new(alloc);
     finish(rt, alloc, &mut resolver, &book, &mut seat, wire);
-    Some(counts(&mut resolver))
+    Some(counted(&mut resolver))
 }
 
 /// The same over a wire that loses by the key stream of this byte.
