@@ -27,7 +27,8 @@ pub gives-up-too : (now id : ℕ) (question : Question) (old middle new : Asking
     → IsGivenUp middle new now id question → GivesUp now old new
 gives-up-too now id question old middle new gives is = record {
   gone = gives.gone ++ is.ticket ∷ [];
-  were = gives.were ∙ rw (is.first, is.left) (ap (λ l. record middle { tickets = l }) (sym (append_assoc gives.gone (is.ticket ∷ []) is.others)));
+  were = gives.were ∙ rw (is.first, is.left)
+      (ap (λ l. record middle { tickets = l }) (sym (append_assoc gives.gone (is.ticket ∷ []) is.others)));
   in_vain = All-append (IsInVain now) gives.gone (is.ticket ∷ []) gives.in_vain
       (All-cons (IsInVain now) is.ticket [] (is.enough, is.over) (All-nil (IsInVain now)));
 }

@@ -82,8 +82,8 @@ abbrev pub IsCut : ResolverView → Over → Ending → Type 0
 IsCut it over ending =
     (it.streams ≡ true) × (over ≡ Datagram) × (ending ≡ endings.Faulty refusals.Truncated)
 
--- a reply to a question that is out over this closes it, and no request waits for it any more: those
--- that end do so by its fault, or for want of memory
+-- a reply to a question that is out over this closes it, and no request waits for it any more:
+-- those that end do so by its fault, or for want of memory
 pub record IsClosed (old new : ResolverView) (over : Over) (octets : List ℕ) (ending : Ending)
     : Type 0 where
   pub id : ℕ
@@ -93,8 +93,8 @@ pub record IsClosed (old new : ResolverView) (over : Over) (octets : List ℕ) (
   pub others : new.requests.waiting ≡ waiting_without id old.requests.waiting
   pub ends : EndsMore (IsByReply question ending) old.requests.ended new.requests.ended
 
--- What octets that came in over this leave. A reply that was cut ends no request. Octets that are no
--- reply to a question that is out over it leave all as it was.
+-- What octets that came in over this leave. A reply that was cut ends no request. Octets that are
+-- no reply to a question that is out over it leave all as it was.
 abbrev pub Hears : ResolverView → ResolverView → Over → List ℕ → Heard → Type 0
 Hears old new over octets Reply =
     (ending : Ending) × IsClosed old new over octets ending × (IsCut old over ending → ⊥)

@@ -1,5 +1,6 @@
 //! Two requests for one question, call by call.
 ghost use Rattle.std.specs.Prelude.{ℕ, List};
+ghost use Rattle.answer_cache.specs.Seats.{SeatView};
 ghost use Rattle.sip_resolver.specs.Requests.{Stand};
 
 use super::{Sent, add, send_next, two};
@@ -194,7 +195,10 @@ fn ends<B: AnswerBook, F: Origin>(
     resolver: &mut Resolver<B, F, CountingIds>,
     number: u64,
     end: End,
-) -> bool {
+) -> bool
+    ensures { (seat : SeatView) → Stand F.gives F.shows seat resolver.old.requests
+        → Stand F.gives F.shows seat resolver.new.requests }
+{
     let Some(ended) = resolver.poll_outcome() else {
         return false;
     };

@@ -30,7 +30,8 @@ waits-preserved g c =
       same = same-through old now new c.waits.invariant.same
           (waiting-back now middle new c.in-Some.waiting c.in-Some.ensures c.settle.ensures.back);
       ends = ends-through (MayEnd c.args.end.now) old.ended now.ended new.ended c.waits.invariant.ends
-          (subst (λ l. EndsMore (MayEnd c.args.end.now) l new.ended) (ap (λ (it : RequestsView). it.ended) c.in-Some.ensures.others) c.settle.ensures.ends);
+          (subst (λ l. EndsMore (MayEnd c.args.end.now) l new.ended) (ap (λ (it : RequestsView). it.ended) c.in-Some.ensures.others)
+          c.settle.ensures.ends);
       turned = turned-on c.args.id old.waiting now.waiting c.waits._wait c.in-Some.waiting middle.waiting new.waiting
           c.waits.invariant.turned c.in-Some.ensures.first less c.settle.ensures.others;
     }

@@ -24,7 +24,8 @@ returns-then-goes_on-clause-hears g c =
     let left = rw c.in-Ended.is at c.in_ok-why.ensures.left in
     let cut = c.goes_on.ensures.0 c.if-goes_on.true in
     let ended = ends-none (MayEnd Cut) (λ outcome it. it) _ _ c.settle_all.ensures.ends in
-    let ends = ends-as (MayEnd Cut) (IsByReply c.in-Ended.question c.in-Ended.ending) (λ outcome it. absurd it) _ _ c.settle_all.ensures.ends in
+    let by-reply = IsByReply c.in-Ended.question c.in-Ended.ending in
+    let ends = ends-as (MayEnd Cut) by-reply (λ outcome it. absurd it) _ _ c.settle_all.ensures.ends in
     rw (← c.self.view_is) (
       c.in-Ended.ending,
       record {

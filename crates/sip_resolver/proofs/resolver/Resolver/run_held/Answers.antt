@@ -21,7 +21,8 @@ advance-requires-clause-counted g c =
 
 pub returns-in-Some-advance-clause-ends : goal.returns-in-Some-advance-clause-ends
 returns-in-Some-advance-clause-ends g c =
-    ends-held IsByChoice c.args.self.now.requests.ended c.advance.new.self.requests.ended c.self-in-tasks.inside.requests c.next_held.new.self
+    ends-held IsByChoice c.args.self.now.requests.ended c.advance.new.self.requests.ended c.self-in-tasks.inside.requests
+    c.next_held.new.self
     c.in-Some.task (rw (← c.self-in-tasks.view_is) at c.tasks.invariant.ends) c.in-Some.ensures c.advance.ensures.ends
 
 pub returns-in-Some-advance-clause-sends : goal.returns-in-Some-advance-clause-sends
@@ -37,8 +38,10 @@ tasks-preserved g c = record {
   stand = c.advance.ensures.stand;
   questions = c.in_default-advance.ensures.sends ∙ (rw (← c.self-in-tasks.view_is) at c.tasks.invariant.questions);
   ends = ends-held IsByChoice c.args.self.now.requests.ended c.advance.new.self.requests.ended c.self-in-tasks.inside.requests
-      c.next_held.new.self c.in-Some.task (rw (← c.self-in-tasks.view_is) at c.tasks.invariant.ends) c.in-Some.ensures c.advance.ensures.ends;
+      c.next_held.new.self c.in-Some.task (rw (← c.self-in-tasks.view_is) at c.tasks.invariant.ends) c.in-Some.ensures
+      c.advance.ensures.ends;
   same = same-through c.args.self.now.requests c.self-in-tasks.inside.requests c.advance.new.self.requests
       (rw (← c.self-in-tasks.view_is) at c.tasks.invariant.same)
-      (held-back c.self-in-tasks.inside.requests c.next_held.new.self c.advance.new.self.requests c.in-Some.task c.in-Some.ensures c.advance.ensures.back);
+      (held-back c.self-in-tasks.inside.requests c.next_held.new.self c.advance.new.self.requests c.in-Some.task
+      c.in-Some.ensures c.advance.ensures.back);
 }

@@ -40,5 +40,6 @@ tasks-preserved g c = record {
       c.next_ready.new.self c.in-Some.task (rw (← c.self.view_is) at c.tasks.invariant.ends) c.in-Some.ensures c.advance.ensures.ends;
   same = same-through c.args.self.now.requests c.self.inside.requests c.advance.new.self.requests
       (rw (← c.self.view_is) at c.tasks.invariant.same)
-      (ready-back c.self.inside.requests c.next_ready.new.self c.advance.new.self.requests c.in-Some.task c.in-Some.ensures c.advance.ensures.back);
+      (ready-back c.self.inside.requests c.next_ready.new.self c.advance.new.self.requests c.in-Some.task
+      c.in-Some.ensures c.advance.ensures.back);
 }
