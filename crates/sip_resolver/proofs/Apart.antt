@@ -149,7 +149,7 @@ none-by id x xs false is none rest =
     let there : find (has_id id) xs ≡ None = rw is at none in
     All-cons (λ (it : Ticket). it.sent.id ≢ id) x xs (search rules) (rest there)
 
-none-has : (id : ℕ) (xs : List Ticket) → ticket_of id xs ≡ None → All (λ it. it.sent.id ≢ id) xs
+pub none-has : (id : ℕ) (xs : List Ticket) → ticket_of id xs ≡ None → All (λ it. it.sent.id ≢ id) xs
 none-has id [] none = All-nil (λ (it : Ticket). it.sent.id ≢ id)
 none-has id (x ∷ xs) none = none-by id x xs (has_id id x) refl none (none-has id xs)
 

@@ -5,6 +5,7 @@ use Rattle.std.proofs.lemmas.List.Sums.{sum_by-append, sum_by-cons}
 use Rattle.std.specs.List.{filter_map, sum_by}
 use Rattle.sip_selection.specs.Selections.{begun}
 use Rattle.sip_resolver.proofs.Weighing.{ready-more}
+use Rattle.sip_resolver.specs.Idle.{AreAwaited}
 use Rattle.sip_resolver.specs.Outcomes.{Ended, Sought}
 use Rattle.sip_resolver.specs.Requests.{weight}
 use Rattle.sip_resolver.specs.Resolvers.{ResolverView}
@@ -34,7 +35,7 @@ module _ (h : Sought → ℕ) where
       let one = sum_by-cons h ended.sought [] in
       let less = out-of-ended old new ended it.first it.others in
       omega (arith, one, less)
-  step-kept old new runs.goes (runs.gone same) = let it = same.1 h in omega (arith, it)
+  step-kept old new runs.goes (runs.gone same awaited) = let it = same.1 h in omega (arith, it)
 
   joined : (first old new : ℕ) (submitted ended : List Sought) (more less : List Sought)
       → first + sum_by h submitted ≡ old + sum_by h ended → old + sum_by h more ≡ new + sum_by h less
@@ -51,3 +52,17 @@ kept-along first last events (runs.further before event old new along step) h =
     (joined h (weight h first.requests) (weight h old.requests) (weight h new.requests) (filter_map submitted_by before)
     (filter_map ended_by before) (filter_map submitted_by (event ∷ [])) (filter_map ended_by (event ∷ []))
     (kept-along first old before along h) (step-kept h old new event step))
+
+-- ---- those that wait
+
+step-awaited : (old new : ResolverView) (event : Event) → Step old new event → AreAwaited old.requests old.questions
+    → AreAwaited new.requests new.questions
+step-awaited old new (runs.submits sought) (runs.submitted number request caps words is) it = rw is it
+step-awaited old new (runs.takes out) (runs.taken ended taken) it = rw taken.others it
+step-awaited old new runs.goes (runs.gone same awaited) it = awaited it
+
+pub awaited-along : (first last : ResolverView) (events : List Event) → Runs first events last
+    → AreAwaited first.requests first.questions → AreAwaited last.requests last.questions
+awaited-along first last events runs.begun it = it
+awaited-along first last events (runs.further before event old new along step) it =
+    step-awaited old new event step (awaited-along first old before along it)

@@ -4,9 +4,12 @@ pub mod Going
 pub mod Weighing
 pub mod Storing
 pub mod Inside
-pub mod Turning
+pub mod Settling
 pub mod Apart
 pub mod Deadlines
 pub mod Keeping
 pub mod Ending
+pub mod Turns
 pub mod Sending
+pub mod Idling
+pub mod Awaiting

@@ -1,5 +1,6 @@
 -- Questions that are given up, and the one that is sent.
 use Rattle.std.proofs.Common.{◌≡◌, ℕ, Bool, true, List, [], ◌∷◌, ◌++◌, Option, Some, None, refl, sym, ap, ◌∙◌, ◌+◌, rules, arith, MatchOption}
+use Rattle.std.specs.Prelude.{IfNone}
 use Rattle.std.specs.List.{find}
 use Rattle.std.specs.Option.{option_or}
 use Rattle.std.proofs.lemmas.List.Folds.{find-append}
@@ -10,6 +11,7 @@ use Rattle.dns_asker.specs.Tickets.{Asking, Ticket, has_id, waiting_too}
 use Rattle.dns_message.specs.declared.question.Question.{Question}
 use Rattle.sip_resolver.specs.Questions.{QuestionsView, IsSent, asked_over, asking_over}
 use Rattle.sip_resolver.specs.Sends.{GivesUp, GivesUpBoth, IsInVain, IsUnanswered, SendsAfter, SendsOne, Sends, first, again as again-sent, with_over}
+use Rattle.sip_resolver.specs.Tasks.{WaitingView, over_of}
 use Rattle.sip_resolver.specs.Waits.{Resends}
 use Rattle.sip_resolver.specs.declared.transmit.Over.{Over}
 use Rattle.sip_resolver.specs.declared.transmit.Over.TheVariants.{Datagram, Stream}
@@ -46,36 +48,37 @@ unanswered now id question old middle new gives is = record {
 -- ---- what is sent
 
 -- one over datagrams
-pub sends-datagram : (now id : ℕ) (old : QuestionsView) (new : Asking) → Resends now id old.datagrams new
-    → SendsAfter now id old (with_over Datagram new old)
-sends-datagram now id old new it = record {
+pub sends-datagram : (now id : ℕ) (waiting : List WaitingView) (old : QuestionsView) (new : Asking) → Resends now id old.datagrams new
+    → SendsAfter now id waiting old (with_over Datagram new old)
+sends-datagram now id waiting old new it = record {
   middle = with_over Datagram it.middle old;
   gives_up = record { datagrams = it.gives_up; streams = gives-up-not now old.streams };
   sends = again-sent Datagram new it.octets it.resent refl;
 }
 
 -- one over streams, after some over datagrams were given up
-pub sends-stream : (now id : ℕ) (old : QuestionsView) (datagrams streams : Asking) → GivesUp now old.datagrams datagrams
-    → Resends now id old.streams streams → SendsAfter now id old (record { datagrams = datagrams; streams = streams })
-sends-stream now id old datagrams streams gives it = record {
+pub sends-stream : (now id : ℕ) (waiting : List WaitingView) (old : QuestionsView) (datagrams streams : Asking)
+    → GivesUp now old.datagrams datagrams → Resends now id old.streams streams
+    → SendsAfter now id waiting old (record { datagrams = datagrams; streams = streams })
+sends-stream now id waiting old datagrams streams gives it = record {
   middle = record { datagrams = datagrams; streams = it.middle };
   gives_up = record { datagrams = gives; streams = it.gives_up };
   sends = again-sent Stream streams it.octets it.resent refl;
 }
 
-pub sends-both : (now : ℕ) (old : QuestionsView) (datagrams streams : Asking) (found : Option ℕ) → GivesUp now old.datagrams datagrams
-    → MatchOption found (GivesUp now old.streams streams) (λ id. Resends now id old.streams streams)
+pub sends-both : (now : ℕ) (waiting : List WaitingView) (old : QuestionsView) (datagrams streams : Asking) (found : Option ℕ)
+    → GivesUp now old.datagrams datagrams → MatchOption found (GivesUp now old.streams streams) (λ id. Resends now id old.streams streams)
     → MatchOption found (GivesUpBoth now old (record { datagrams = datagrams; streams = streams }))
-    (λ id. SendsAfter now id old (record { datagrams = datagrams; streams = streams }))
-sends-both now old datagrams streams None gives it = record { datagrams = gives; streams = it }
-sends-both now old datagrams streams (Some id) gives it = sends-stream now id old datagrams streams gives it
+    (λ id. SendsAfter now id waiting old (record { datagrams = datagrams; streams = streams }))
+sends-both now waiting old datagrams streams None gives it = record { datagrams = gives; streams = it }
+sends-both now waiting old datagrams streams (Some id) gives it = sends-stream now id waiting old datagrams streams gives it
 
 -- some are given up, and then one is sent or none
-pub sends-then : (now : ℕ) (old middle new : QuestionsView) (found : Option ℕ) → GivesUpBoth now old middle
-    → MatchOption found (new ≡ middle) (λ id. SendsOne now id middle new)
-    → MatchOption found (GivesUpBoth now old new) (λ id. SendsAfter now id old new)
-sends-then now old middle new None gives it = rw it gives
-sends-then now old middle new (Some id) gives it = record { middle = middle; gives_up = gives; sends = it }
+pub sends-then : (now : ℕ) (waiting : List WaitingView) (old middle new : QuestionsView) (found : Option ℕ) → GivesUpBoth now old middle
+    → MatchOption found (new ≡ middle) (λ id. SendsOne now id waiting middle new)
+    → MatchOption found (GivesUpBoth now old new) (λ id. SendsAfter now id waiting old new)
+sends-then now waiting old middle new None gives it = rw it gives
+sends-then now waiting old middle new (Some id) gives it = record { middle = middle; gives_up = gives; sends = it }
 
 -- ---- the one that is sent is out
 
@@ -90,7 +93,7 @@ module _ (p : Ticket → Bool) (ticket : Ticket) (back : List Ticket) (is : p ti
   found-in : (front : List Ticket) → find p (front ++ ticket ∷ back) ≡ None → ⊥
   found-in front none = found-by (find p front) (sym (find-append p front (ticket ∷ back)) ∙ none)
 
-module _ (now id : ℕ) (old new : QuestionsView) (none : IsSent id new None) where
+module _ (now id : ℕ) (waiting : List WaitingView) (old new : QuestionsView) (none : IsSent id new None) where
   -- a ticket of this id is among these
   is-there : (over : Over) (ticket : Ticket) (others : List Ticket) → has_id id ticket ≡ true
       → (asking_over over new).tickets ≡ waiting_too ticket others → ⊥
@@ -113,12 +116,18 @@ module _ (now id : ℕ) (old new : QuestionsView) (none : IsSent id new None) wh
       is-there Stream (again now it.ticket) it.others (search rules) (rw is (rw it.left refl))
 
   -- so its octets are there
-  pub sent-there : SendsOne now id old new → ⊥
-  sent-there (first over question is) = asked-there over question is
+  pub sent-there : SendsOne now id waiting old new → ⊥
+  sent-there (first task question needs waits is) = asked-there (over_of task) question is
   sent-there (again-sent over asking octets it is) = again-there over asking octets it is
 
 -- what is sent is what was counted as sent
-pub sends-octets : (now id : ℕ) (old new : QuestionsView) (transmit : Option Transmit) → SendsAfter now id old new
-    → IsSent id new transmit → Sends now old new transmit
-sends-octets now id old new None it sent = absurd (sent-there now id it.middle new sent it.sends)
-sends-octets now id old new (Some transmit) it sent = (id, it, sent)
+pub sends-octets : (now id : ℕ) (waiting : List WaitingView) (old new : QuestionsView) (transmit : Option Transmit)
+    → SendsAfter now id waiting old new → IsSent id new transmit → Sends now waiting old new transmit
+sends-octets now id waiting old new None it sent = absurd (sent-there now id waiting it.middle new sent it.sends)
+sends-octets now id waiting old new (Some transmit) it sent = (id, it, sent)
+
+-- so there are octets
+pub sends-some : (now id : ℕ) (waiting : List WaitingView) (old new : QuestionsView) (transmit : Option Transmit)
+    → SendsAfter now id waiting old new → IsSent id new transmit → (P : Type 0) → IfNone transmit P
+sends-some now id waiting old new None it sent P = absurd (sent-there now id waiting it.middle new sent it.sends)
+sends-some now id waiting old new (Some transmit) it sent P = tt

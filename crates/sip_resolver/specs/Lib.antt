@@ -1,10 +1,12 @@
 pub mod Questions
 pub mod Outcomes
 pub mod Ends
-pub mod Sends
 pub mod Tasks
+pub mod Sends
 pub mod Queues
 pub mod Requests
+pub mod Idle
+pub mod Settles
 pub mod Works
 pub mod Waits
 pub mod Resolvers

@@ -1,6 +1,6 @@
 -- What becomes of a request, and what that rests on: what a book answered, and what octets that
 -- came in say.
-use Rattle.std.specs.Prelude.{◌≡◌, ◌⊎◌, ℕ, List, Some, None}
+use Rattle.std.specs.Prelude.{⊤, ◌≡◌, ◌⊎◌, ℕ, List, Some, None}
 use Rattle.std.specs.List.{All, Contains}
 use mathlib.Core.List.{IsPrefix}
 use Rattle.dns_answers.specs.Replies.{reply_refusal}
@@ -71,6 +71,14 @@ pub record IsFaulty (gives : List ℕ → Type 0) (question : Question) (refusal
   pub ends : EndsWait refusal
 
 -- ---- what becomes of a request
+
+-- an outcome with targets or with a question
+abbrev pub HasParts : Outcome → Type 0
+HasParts (Targets list) = ⊤
+HasParts (Refused reason) = ⊥
+HasParts (NoAnswer question) = ⊤
+HasParts (BadReply question refusal) = ⊤
+HasParts Memory = ⊥
 
 -- a request, as it was submitted
 pub record Sought : Type 0 where

@@ -58,6 +58,12 @@ pub record AreDistinct (it : QuestionsView) : Type 0 where
   pub streams : AllPairs Differ it.streams.tickets
   pub across : All (λ one. All (Differ one) it.streams.tickets) it.datagrams.tickets
 
+-- They are so, and no more than 256 can be out over datagrams or over streams.
+pub record AreBounded (it : QuestionsView) : Type 0 where
+  pub distinct : AreDistinct it
+  pub few_datagrams : it.datagrams.limit ≤ 256
+  pub few_streams : it.streams.limit ≤ 256
+
 -- these octets are those of the question that is out under this id, over this
 abbrev pub IsSent : ℕ → QuestionsView → Option Transmit → Type 0
 IsSent id it None =

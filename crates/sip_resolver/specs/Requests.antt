@@ -52,9 +52,16 @@ pub record IsBack (sought : Sought) (old new : RequestsView) : Type 0 where
   pub limit : new.limit ≡ old.limit
   pub weighs : (h : Sought → ℕ) → weight h new ≡ weight h old + h sought
 
--- those that wait for the reply to the message of this id are no longer among them
+-- those that wait for the reply to the message of this id
+abbrev pub waits_for : ℕ → WaitingView → Bool
+waits_for id waiting = waiting.id == id
+
+abbrev pub waiting_for : ℕ → List WaitingView → List WaitingView
+waiting_for id waiting = filter (waits_for id) waiting
+
+-- the others
 abbrev pub waits_for_other : ℕ → WaitingView → Bool
-waits_for_other id waiting = not (waiting.id == id)
+waits_for_other id waiting = not (waits_for id waiting)
 
 abbrev pub waiting_without : ℕ → List WaitingView → List WaitingView
 waiting_without id waiting = filter (waits_for_other id) waiting

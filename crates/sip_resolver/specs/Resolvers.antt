@@ -1,5 +1,5 @@
 -- What contracts see of a resolver.
-use Rattle.std.specs.Prelude.{◌≡◌, ℕ, ◌<◌, Bool, true, false, List, [], ◌∷◌, ◌++◌, Option}
+use Rattle.std.specs.Prelude.{◌≡◌, ℕ, ◌<◌, Bool, true, false, List, [], ◌∷◌, ◌++◌, Option, IfNone}
 use Rattle.std.specs.List.{Contains}
 use Rattle.dns_message.specs.Messages.{Begins}
 use Rattle.dns_message.specs.declared.message.Message.{Message}
@@ -14,10 +14,14 @@ use Rattle.sip_selection.specs.Selections.{begun}
 use Rattle.sip_selection.specs.declared.caps.Caps.{Caps}
 use Rattle.sip_selection.specs.declared.request.Request.{Request}
 use Rattle.sip_resolver.specs.Ends.{EndsMore, IsByReply}
+use Rattle.sip_resolver.specs.Idle.{AreAwaited, IsIdle}
 use Rattle.sip_resolver.specs.Outcomes.{Ended}
 use Rattle.sip_resolver.specs.Questions.{AreDistinct, QuestionsView, asking_over, closed_over, none_out}
-use Rattle.sip_resolver.specs.Requests.{AreSame, RequestsView, Stand, count_of, numbers_of, requests_of, waiting_without}
+use Rattle.sip_resolver.specs.Requests.{AreSame, RequestsView, Stand, count_of, numbers_of, requests_of}
 use Rattle.sip_resolver.specs.Sends.{IsInTime, Sends, tickets_of}
+use Rattle.sip_resolver.specs.Settles.{GoesByReply, GoesOverStream, SettlesAll}
+use Rattle.sip_resolver.specs.Tasks.{TaskView}
+use Rattle.sip_resolver.specs.declared.outcome.Outcome.{Outcome}
 use Rattle.sip_resolver.specs.declared.resolver.Heard.{Heard}
 use Rattle.sip_resolver.specs.declared.resolver.Heard.TheVariants.{Reply, Cut, Ignored}
 use Rattle.sip_resolver.specs.declared.transmit.Over.{Over}
@@ -82,25 +86,30 @@ abbrev pub IsCut : ResolverView → Over → Ending → Type 0
 IsCut it over ending =
     (it.streams ≡ true) × (over ≡ Datagram) × (ending ≡ endings.Faulty refusals.Truncated)
 
--- a reply to a question that is out over this closes it, and no request waits for it any more:
--- those that end do so by its fault, or for want of memory
+-- A reply to a question that is out over this closes it, and no request waits for it any more: all
+-- that did go on or end so, in the order in which they came to wait.
 pub record IsClosed (old new : ResolverView) (over : Over) (octets : List ℕ) (ending : Ending)
+    (goes : Question → TaskView → TaskView → Type 0) (kind : Question → Outcome → Type 0)
     : Type 0 where
   pub id : ℕ
   pub question : Question
   pub means : Means (asking_over over old.questions) octets (incoming.Ended id question ending)
   pub left : new.questions ≡ closed_over over id old.questions
-  pub others : new.requests.waiting ≡ waiting_without id old.requests.waiting
-  pub ends : EndsMore (IsByReply question ending) old.requests.ended new.requests.ended
+  pub settles : SettlesAll id (goes question) (kind question) old.requests new.requests
 
--- What octets that came in over this leave. A reply that was cut ends no request. Octets that are
--- no reply to a question that is out over it leave all as it was.
+-- What octets that came in over this leave. All requests that wait for a reply get its answer, but
+-- where memory is refused, or end by its fault. A reply that was cut ends none: the question goes
+-- over a stream next. Octets that are no reply to a question that is out over it leave all as it
+-- was.
 abbrev pub Hears : ResolverView → ResolverView → Over → List ℕ → Heard → Type 0
 Hears old new over octets Reply =
-    (ending : Ending) × IsClosed old new over octets ending × (IsCut old over ending → ⊥)
+    (ending : Ending)
+    × IsClosed old new over octets ending (λ question. GoesByReply question ending)
+    (λ question. IsByReply question ending) × (IsCut old over ending → ⊥)
 Hears old new over octets Cut =
-    (ending : Ending) × IsClosed old new over octets ending × IsCut old over ending
-    × (new.requests.ended ≡ old.requests.ended)
+    (ending : Ending)
+    × IsClosed old new over octets ending (λ question. GoesOverStream) (λ question outcome. ⊥)
+    × IsCut old over ending
 Hears old new over octets (Ignored why) =
     Means (asking_over over old.questions) octets (incoming.Ignored why) × (new ≡ old)
 
@@ -117,12 +126,15 @@ pub record IsTaken (ended : Ended) (old new : ResolverView) : Type 0 where
 
 -- The requests are the same, and what is so of them goes on to be so. A request ends by its choice,
 -- or as a question was in vain, or for want of memory. What is sent are the octets of a question
--- that is out, under an id of its own.
-pub record Polls (gives : List ℕ → Type 0) (shows : ℕ → Type 0) (seat : SeatView) (now : ℕ)
-    (old new : ResolverView) (result : Option Transmit) : Type 0 where
+-- that is out, under an id of its own. Where nothing is sent, nothing is left to do at this moment.
+pub record Polls (gives : List ℕ → Type 0) (shows : ℕ → Type 0) {I : Type 0}
+    (draws : I → ℕ → I → Type 0) (seat : SeatView) (now : ℕ) (old new : ResolverView)
+    (result : Option Transmit) : Type 0 where
   pub stand : Stand gives shows seat new.requests
   pub same : AreSame old.requests new.requests
   pub ends : EndsMore (IsInTime (tickets_of old.questions) now)
       old.requests.ended new.requests.ended
-  pub sends : Sends now old.questions new.questions result
+  pub sends : Sends now new.requests.waiting old.questions new.questions result
+  pub idle : IfNone result (IsIdle draws now new.requests new.questions)
+  pub awaited : AreAwaited old.requests old.questions → AreAwaited new.requests new.questions
   pub distinct : AreDistinct new.questions

@@ -3,6 +3,7 @@ use Rattle.std.specs.Prelude.{◌≡◌, ℕ, ◌+◌, List, [], ◌∷◌, ◌+
 use Rattle.std.specs.List.{filter_map, sum_by}
 use Rattle.sip_selection.specs.declared.caps.Caps.{Caps}
 use Rattle.sip_selection.specs.declared.request.Request.{Request}
+use Rattle.sip_resolver.specs.Idle.{AreAwaited}
 use Rattle.sip_resolver.specs.Outcomes.{Ended, Sought}
 use Rattle.sip_resolver.specs.Requests.{AreSame, weight}
 use Rattle.sip_resolver.specs.Resolvers.{IsTaken, ResolverView, with_request}
@@ -21,7 +22,9 @@ pub data Step (old new : ResolverView) : Event → Type 0 where
       → Step old new
       (submits (record { number = number; request = request; caps = caps; words = words }))
   taken : (ended : Ended) → IsTaken ended old new → Step old new (takes ended)
-  gone : AreSame old.requests new.requests → Step old new goes
+  gone : AreSame old.requests new.requests
+      → (AreAwaited old.requests old.questions → AreAwaited new.requests new.questions)
+      → Step old new goes
 
 -- one event after the other
 pub data Runs (first : ResolverView) : List Event → ResolverView → Type 0 where

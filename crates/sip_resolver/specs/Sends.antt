@@ -5,7 +5,10 @@ use Rattle.dns_message.specs.declared.question.Question.{Question}
 use Rattle.dns_asker.specs.Events.{IsResent}
 use Rattle.dns_asker.specs.Out.{IsOctetsOf}
 use Rattle.dns_asker.specs.Tickets.{Asking, Ticket}
+use Rattle.sip_selection.specs.Choice.{need}
+use Rattle.sip_selection.specs.Selections.{now_of}
 use Rattle.sip_resolver.specs.Questions.{QuestionsView, asked_over, asking_over}
+use Rattle.sip_resolver.specs.Tasks.{TaskView, WaitingView, over_of}
 use Rattle.sip_resolver.specs.declared.outcome.Outcome.{Outcome}
 use Rattle.sip_resolver.specs.declared.outcome.Outcome.TheVariants.{Targets, Refused, NoAnswer, BadReply, Memory}
 use Rattle.sip_resolver.specs.declared.transmit.Over.{Over}
@@ -56,25 +59,29 @@ abbrev pub with_over : Over → Asking → QuestionsView → QuestionsView
 with_over Datagram asking it = record it { datagrams = asking }
 with_over Stream asking it = record it { streams = asking }
 
--- One question is sent, under this id, and counted as sent: for the first time, or once more, as no
--- reply came in time.
-pub data SendsOne (now id : ℕ) (old new : QuestionsView) : Type 0 where
-  first : (over : Over) (question : Question) → new ≡ asked_over over id question now old
-      → SendsOne now id old new
+-- One question is sent, under this id, and counted as sent. It is sent for the first time for a
+-- request that needs its answer and now waits for it: over a stream where the reply in a datagram
+-- was cut. Or it is sent once more, as no reply came in time.
+pub data SendsOne (now id : ℕ) (waiting : List WaitingView) (old new : QuestionsView)
+    : Type 0 where
+  first : (task : TaskView) (question : Question) → now_of task.selection ≡ need question
+      → Contains waiting (record { id = id; task = task })
+      → new ≡ asked_over (over_of task) id question now old → SendsOne now id waiting old new
   again : (over : Over) (asking : Asking) (octets : List ℕ)
       → IsResent (asking_over over old) asking now id octets → new ≡ with_over over asking old
-      → SendsOne now id old new
+      → SendsOne now id waiting old new
 
 -- some are given up, and then one is sent
-pub record SendsAfter (now id : ℕ) (old new : QuestionsView) : Type 0 where
+pub record SendsAfter (now id : ℕ) (waiting : List WaitingView) (old new : QuestionsView)
+    : Type 0 where
   pub middle : QuestionsView
   pub gives_up : GivesUpBoth now old middle
-  pub sends : SendsOne now id middle new
+  pub sends : SendsOne now id waiting middle new
 
 -- The octets are those of the one question that is sent. Where there are none, none is sent, and
 -- none is counted as sent.
-abbrev pub Sends : ℕ → QuestionsView → QuestionsView → Option Transmit → Type 0
-Sends now old new None = GivesUpBoth now old new
-Sends now old new (Some transmit) =
-    (id : ℕ) × SendsAfter now id old new
+abbrev pub Sends : ℕ → List WaitingView → QuestionsView → QuestionsView → Option Transmit → Type 0
+Sends now waiting old new None = GivesUpBoth now old new
+Sends now waiting old new (Some transmit) =
+    (id : ℕ) × SendsAfter now id waiting old new
     × IsOctetsOf transmit.octets.now id (asking_over transmit.over new).tickets

@@ -1,7 +1,8 @@
 -- How the wait for a reply ends, and what becomes of a request that waited. No public clause cites
 -- this module.
-use Rattle.std.specs.Prelude.{◌≡◌, ⊤, ℕ, List}
+use Rattle.std.specs.Prelude.{◌≡◌, ◌≢◌, ⊤, ℕ, List, [], ◌∷◌, ◌++◌}
 use Rattle.std.specs.Arc.{arc_value}
+use Rattle.dns_answers.specs.Records.{kind_of}
 use Rattle.dns_answers.specs.declared.refusal.ReplyRefusal.{ReplyRefusal}
 use Rattle.dns_asker.specs.Events.{IsResent}
 use Rattle.dns_asker.specs.Tickets.{Asking}
@@ -11,8 +12,10 @@ use Rattle.sip_selection.specs.Choice.{need}
 use Rattle.sip_selection.specs.Selections.{now_of}
 use Rattle.sip_resolver.specs.Ends.{IsByFault, IsBySilence, IsMemory}
 use Rattle.sip_resolver.specs.Outcomes.{Counts, IsFaulty, IsOutcome}
+use Rattle.sip_resolver.specs.Requests.{RequestsView}
 use Rattle.sip_resolver.specs.Sends.{GivesUp}
-use Rattle.sip_resolver.specs.Tasks.{IsCounted, TaskView, sought_of}
+use Rattle.sip_resolver.specs.Settles.{GetsAnswer, GoesOverStream, NeedsOther}
+use Rattle.sip_resolver.specs.Tasks.{IsCounted, TaskView, WaitingView, sought_of}
 use Rattle.sip_resolver.specs.declared.outcome.Outcome.{Outcome}
 use Rattle.sip_resolver.specs.declared.outcome.Outcome.TheVariants.{Targets, Refused, NoAnswer, BadReply, Memory}
 use Rattle.sip_resolver.specs.declared.waits.Fate.{Fate}
@@ -34,10 +37,10 @@ abbrev pub Fits : (List ℕ → Type 0) → (ℕ → Type 0) → SeatView → Ta
 Fits gives shows seat task Ready = IsCounted gives shows seat task
 Fits gives shows seat task (Ended outcome) = IsOutcome gives shows seat (sought_of task) outcome
 
--- it ended by this fault of the reply to the question that it needed, or for want of memory; or it
--- needed no such question
+-- It ended by this fault of the reply to the question that it needed, or for want of memory. Or it
+-- needed no such question, and goes on.
 abbrev pub IsFailed : TaskView → Question → ReplyRefusal → Fate → Type 0
-IsFailed task question refusal Ready = ⊤
+IsFailed task question refusal Ready = now_of task.selection ≢ need question
 IsFailed task question refusal (Ended (Targets list)) = ⊥
 IsFailed task question refusal (Ended (Refused reason)) = ⊥
 IsFailed task question refusal (Ended (NoAnswer other)) = ⊥
@@ -45,10 +48,10 @@ IsFailed task question refusal (Ended (BadReply other fault)) =
     (now_of task.selection ≡ need question) × (other ≡ question) × (fault ≡ refusal)
 IsFailed task question refusal (Ended Memory) = ⊤
 
--- it ended for want of the answer to this question, which it needed, or for want of memory; or it
--- needed no such question
+-- It ended for want of the answer to this question, which it needed, or for want of memory. Or it
+-- needed no such question, and goes on.
 abbrev pub IsGivenUp : TaskView → Question → Fate → Type 0
-IsGivenUp task question Ready = ⊤
+IsGivenUp task question Ready = now_of task.selection ≢ need question
 IsGivenUp task question (Ended (Targets list)) = ⊥
 IsGivenUp task question (Ended (Refused reason)) = ⊥
 IsGivenUp task question (Ended (NoAnswer other)) =
@@ -64,9 +67,37 @@ MayEnd Cut outcome = ⊥
 MayEnd (GivenUp question) outcome = IsBySilence question.now outcome
 MayEnd NoMemory outcome = IsMemory outcome
 
+-- how a request may go on as the wait ends so
+abbrev pub MayGoOn : WaitEnd → TaskView → TaskView → Type 0
+MayGoOn (Answered question answer) old new =
+    kind_of (arc_value answer.now).records ≡ question.now.kind
+    → GetsAnswer question.now (arc_value answer.now) old new
+MayGoOn (Faulty question refusal) old new = NeedsOther question.now old new
+MayGoOn Cut old new = GoesOverStream old new
+MayGoOn (GivenUp question) old new = NeedsOther question.now old new
+MayGoOn NoMemory old new = ⊥
+
+abbrev pub GoesAs : WaitEnd → TaskView → TaskView → Fate → Type 0
+GoesAs end old new Ready = MayGoOn end old new
+GoesAs end old new (Ended outcome) = ⊤
+
 abbrev pub EndsAs : WaitEnd → Fate → Type 0
 EndsAs end Ready = ⊤
 EndsAs end (Ended outcome) = MayEnd end outcome
+
+-- A request that was taken out of those that wait is put back: it waits on for another reply, it
+-- goes on, or it ended.
+pub data SettlesOne (id : ℕ) (goes : TaskView → TaskView → Type 0) (kind : Outcome → Type 0)
+    (waiting : WaitingView) (old new : RequestsView) : Type 0 where
+  waits_on : waiting.id ≢ id → new ≡ record old { waiting = old.waiting ++ waiting ∷ [] }
+      → SettlesOne id goes kind waiting old new
+  goes_on : waiting.id ≡ id → (task : TaskView) → goes waiting.task task
+      → new ≡ record old { ready = old.ready ++ task ∷ [] }
+      → SettlesOne id goes kind waiting old new
+  ends : waiting.id ≡ id → (outcome : Outcome) → kind outcome
+      → new ≡ record old {
+        ended = old.ended ++ record { sought = sought_of waiting.task; outcome = outcome } ∷ [];
+      } → SettlesOne id goes kind waiting old new
 
 -- some are given up, and then the question of this id is sent once more
 pub record Resends (now id : ℕ) (old new : Asking) : Type 0 where

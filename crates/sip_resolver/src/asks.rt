@@ -1,7 +1,8 @@
 //! How a request comes to wait for the answer to a question.
-ghost use Rattle.std.specs.Prelude.{◌≡◌, ◌<◌, MatchOption};
+ghost use Rattle.std.specs.Prelude.{◌≡◌, ◌<◌, ◌⊎◌, ◌↔◌, IsTrue, MatchOption};
 ghost use Rattle.answer_cache.specs.Seats.{SeatView};
 ghost use Rattle.sip_resolver.specs.Ends.{EndsMore, IsByChoice};
+ghost use Rattle.sip_resolver.specs.Idle.{AreAwaited, CannotAsk};
 ghost use Rattle.sip_resolver.specs.Requests.{IsBack, Stand, count_of};
 ghost use Rattle.sip_resolver.specs.Sends.{SendsOne};
 ghost use Rattle.sip_resolver.specs.Tasks.{IsCounted, Lacks, sought_of};
@@ -33,7 +34,10 @@ pub(crate) fn wait_for_answer<B: AnswerBook, F: Origin, I: Ids>(
     ensures ready { requests.new.ready ≡ requests.old.ready }
     ensures ends { EndsMore IsByChoice requests.old.ended requests.new.ended }
     ensures sends { MatchOption result (questions.new ≡ questions.old)
-        (λ id. SendsOne now id questions.old questions.new) }
+        (λ id. SendsOne now id requests.new.waiting questions.old questions.new) }
+    ensures awaited { AreAwaited requests.old questions.old
+        → AreAwaited requests.new questions.new }
+    ensures held { (requests.new.held ≡ requests.old.held) ⊎ CannotAsk I.draws questions.new }
 {
     let Some(question) = task.question() else {
         requests.end(task, Outcome::Memory);
@@ -43,18 +47,24 @@ pub(crate) fn wait_for_answer<B: AnswerBook, F: Origin, I: Ids>(
         requests.wait(id, task);
         return None;
     }
-    match questions.ask(task.over(), ids, question, now) {
+    let refusal = match questions.ask(task.over(), ids, question, now) {
         Ok(id) => {
             requests.wait(id, task);
-            Some(id)
+            return Some(id);
         }
-        Err(AskRefusal::Full | AskRefusal::IdTaken) => {
-            requests.hold(task);
-            None
-        }
-        Err(AskRefusal::Spent | AskRefusal::Memory) => {
-            requests.end(task, Outcome::Memory);
-            None
-        }
+        Err(refusal) => refusal,
+    };
+    if is_for_now(refusal) {
+        requests.hold(task);
+        return None;
     }
+    requests.end(task, Outcome::Memory);
+    None
+}
+
+/// Whether a question that was refused so can be asked later.
+fn is_for_now(refusal: AskRefusal) -> bool
+    ensures { IsTrue result ↔ ((refusal ≡ AskRefusal.Full) ⊎ (refusal ≡ AskRefusal.IdTaken)) }
+{
+    matches!(refusal, AskRefusal::Full | AskRefusal::IdTaken)
 }

@@ -16,6 +16,15 @@ pub trait Ids {
         ensures { draws self.old result self.new };
 }
 
+/// Ids that are lent: what draws them goes on to own them.
+impl<I: Ids> Ids for &mut I {
+    ghost draws = { λ old id new. I.draws old.now id new.now };
+
+    fn draw(&mut self) -> u16 {
+        (**self).draw()
+    }
+}
+
 /// Ids that count up from 0; behind 65,535 comes 0.
 ///
 /// Whoever can send to the resolver's port knows them: use `RandomIds` where replies come over a

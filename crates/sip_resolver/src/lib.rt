@@ -50,7 +50,7 @@ mod transmit;
 mod waits;
 
 pub use ids::{CountingIds, Ids, RandomIds};
-pub use laws::requests_are_kept;
+pub use laws::{requests_are_awaited, requests_are_kept};
 pub use origin::{Anything, Origin};
 pub use outcome::{Outcome, Resolved, TargetList};
 pub use refusal::SubmitRefusal;

@@ -1,6 +1,6 @@
 //! What becomes of a request.
-ghost use Rattle.std.specs.Prelude.{◌≡◌, IfOk};
-ghost use Rattle.sip_resolver.specs.Outcomes.{Ended, Sought};
+ghost use Rattle.std.specs.Prelude.{◌≡◌, IfOk, OnErr};
+ghost use Rattle.sip_resolver.specs.Outcomes.{Ended, HasParts, Sought};
 
 use crate::queue::Numbered;
 use crate::task::Task;
@@ -12,7 +12,7 @@ use std::marker::Model;
 
 /// Where a request can be sent, in the order in which the targets are to be tried.
 ///
-/// It gives its `Vec` back, and takes no memory for that.
+/// It is made from a `Vec` and gives it back, and takes no memory for either.
 #[derive(Debug, Drop)]
 pub struct TargetList {
     items: Vec<Target>,
@@ -28,6 +28,14 @@ impl Model for TargetList {
 }
 
 impl TargetList {
+    /// These targets.
+    #[must_use]
+    pub fn from_vec(items: Vec<Target>) -> TargetList
+        ensures { result ≡ items.items }
+    {
+        TargetList { items }
+    }
+
     /// A copy of these targets.
     pub(crate) fn of(alloc: Global, targets: &[Target]) -> Result<TargetList, AllocError>
         ensures { IfOk result (λ list. list ≡ targets.now) }
@@ -69,6 +77,24 @@ pub enum Outcome {
     BadReply(Question, ReplyRefusal),
     /// Memory was refused, or the resolver has sent 2^64 - 1 questions.
     Memory,
+}
+
+impl Outcome {
+    /// A copy. Memory is taken for targets and for a question alone.
+    pub fn try_clone(&self, alloc: Global) -> Result<Outcome, AllocError>
+        ensures copy { IfOk result (λ copy. copy ≡ self.now) }
+        ensures memory { OnErr result (HasParts self.now) }
+    {
+        Ok(match self {
+            Outcome::Targets(list) => Outcome::Targets(TargetList::of(alloc, list.as_slice())?),
+            Outcome::Refused(reason) => Outcome::Refused(*reason),
+            Outcome::NoAnswer(question) => Outcome::NoAnswer(question.try_clone()?),
+            Outcome::BadReply(question, refusal) => {
+                Outcome::BadReply(question.try_clone()?, *refusal)
+            }
+            Outcome::Memory => Outcome::Memory,
+        })
+    }
 }
 
 /// A request that ended, and what became of it.

@@ -1,9 +1,12 @@
 //! The questions that are out, over datagrams and over streams.
-ghost use Rattle.std.specs.Prelude.{◌≡◌, ◌≤◌, [], None, IfOk, IfSome, MatchOption, OnErr};
+ghost use Rattle.std.specs.Prelude.{◌≡◌, ◌≤◌, ◌↔◌, [], None, Err, IfErr, IfNone, IfOk, IfSome, IsTrue, MatchOption, OnErr};
 ghost use Rattle.answer_cache.specs.Seats.{SeatView};
-ghost use Rattle.dns_asker.specs.Events.{Means, asked as asked_too};
+ghost use Rattle.std.specs.List.{All};
+ghost use Rattle.dns_asker.specs.Events.{Means, Refuses, asked as asked_too};
 ghost use Rattle.dns_asker.specs.Tickets.{ticket_of};
 ghost use Rattle.sip_resolver.specs.Ends.{EndsMore};
+ghost use Rattle.dns_asker.specs.declared.refusal.AskRefusal.TheVariants as refusals;
+ghost use Rattle.sip_resolver.specs.Idle.{AreAwaited, AreTaken, HasNoRoom, IsFull, IsInWait, IsOut, MayRefuse};
 ghost use Rattle.sip_resolver.specs.Questions.{AreDistinct, IsLeast, IsSent, Lacks, asked_over, asking_over, deadlines_of, left_over, none_out};
 ghost use Rattle.sip_resolver.specs.Requests.{AreSame, Stand};
 ghost use Rattle.sip_resolver.specs.Sends.{GivesUpBoth, IsInTime, SendsAfter, tickets_of};
@@ -31,13 +34,14 @@ pub(crate) struct Questions {
 }
 
 impl Model for Questions {
-    ghost use Rattle.sip_resolver.specs.Questions.{AreDistinct, QuestionsView};
+    ghost use Rattle.sip_resolver.specs.Idle.{AreAwaited, AreTaken, IsFull, IsInWait, IsOut, MayRefuse};
+    ghost use Rattle.sip_resolver.specs.Questions.{AreBounded, QuestionsView};
 
     ghost Value = { QuestionsView };
 
     ghost view = { λ it. record { datagrams = it.datagrams; streams = it.streams } };
 
-    ghost invariant = { λ it. AreDistinct
+    ghost invariant = { λ it. AreBounded
         (record { datagrams = it.datagrams; streams = it.streams }) };
 }
 
@@ -62,13 +66,33 @@ impl Questions {
     }
 
     /// Whether as many are out over datagrams, or over streams, as can be.
-    pub(crate) fn is_full(&self) -> bool {
+    pub(crate) fn is_full(&self) -> bool
+        ensures { IsTrue result ↔ IsFull self.now }
+    {
         self.datagrams.is_full() || self.streams.is_full()
+    }
+
+    /// Whether as many are out over this as can be.
+    fn is_full_over(&self, over: Over) -> bool
+        ensures { IsTrue result ↔ HasNoRoom (asking_over over self.now) }
+    {
+        match over {
+            Over::Datagram => self.datagrams.is_full(),
+            Over::Stream => self.streams.is_full(),
+        }
+    }
+
+    /// Whether a question is out under this id.
+    fn is_out(&self, id: u16) -> bool
+        ensures { IsTrue result ↔ IsOut id self.now }
+    {
+        self.datagrams.is_open(id) || self.streams.is_open(id)
     }
 
     /// The id under which this question is out, if it is.
     pub(crate) fn id_of(&self, question: &Question) -> Option<u16>
-        ensures { result ≡ None → Lacks question.now self.now }
+        ensures lacks { result ≡ None → Lacks question.now self.now }
+        ensures out { IfSome result (λ id. IsOut id self.now) }
     {
         if let Some(id) = self.datagrams.id_of(question) {
             return Some(id);
@@ -76,7 +100,8 @@ impl Questions {
         self.streams.id_of(question)
     }
 
-    /// Asks a question that is not out, and gives its id.
+    /// Asks a question that is not out, and gives its id. Where as many are out as can be, no id is
+    /// drawn.
     pub(crate) fn ask<I: Ids>(
         &mut self,
         over: Over,
@@ -88,12 +113,18 @@ impl Questions {
         ensures asked { IfOk result
             (λ id. self.new ≡ asked_over over id question.now now self.old) }
         ensures unchanged { OnErr result (self.new ≡ self.old) }
+        ensures full { HasNoRoom (asking_over over self.old)
+            → (result ≡ Err refusals.Full) × (ids.new ≡ ids.old) }
+        ensures refused { IfErr result (MayRefuse I.draws self.old) }
     {
-        let Some(id) = self.free_id(ids) else {
-            return Err(AskRefusal::IdTaken);
-        };
+        if self.is_full_over(over) {
+            return Err(AskRefusal::Full);
+        }
         let Ok(question) = question.try_clone() else {
             return Err(AskRefusal::Memory);
+        };
+        let Some(id) = self.free_id(ids) else {
+            return Err(AskRefusal::IdTaken);
         };
         match over {
             Over::Datagram => asked(&mut self.datagrams, question, id, now),
@@ -107,10 +138,13 @@ impl Questions {
             (λ id. ticket_of id self.now.datagrams.tickets ≡ None) }
         ensures streams { IfSome result
             (λ id. ticket_of id self.now.streams.tickets ≡ None) }
+        ensures taken { IfNone result (AreTaken I.draws self.now) }
     {
-        for _draw in 0..DRAW_LIMIT {
+        self.datagrams.stands_in_order();
+        self.streams.stands_in_order();
+        'draws: for _draw in 0..DRAW_LIMIT {
             let id = ids.draw();
-            if !self.datagrams.is_open(id) && !self.streams.is_open(id) {
+            if !self.is_out(id) {
                 return Some(id);
             }
         }
@@ -142,8 +176,13 @@ impl Questions {
         ensures ends { EndsMore (IsInTime (tickets_of self.old) now)
             requests.old.ended requests.new.ended }
         ensures sends { MatchOption result (GivesUpBoth now self.old self.new)
-            (λ id. SendsAfter now id self.old self.new) }
+            (λ id. SendsAfter now id requests.new.waiting self.old self.new) }
+        ensures datagrams { IfNone result (All (IsInWait now) self.new.datagrams.tickets) }
+        ensures streams { IfNone result (All (IsInWait now) self.new.streams.tickets) }
+        ensures awaited { AreAwaited requests.old self.old → AreAwaited requests.new self.new }
     {
+        self.datagrams.stands_in_order();
+        self.streams.stands_in_order();
         if let Some(id) = next_resend::<B, F>(&mut self.datagrams, requests, now) {
             return Some(id);
         }
@@ -190,6 +229,7 @@ fn asked(asker: &mut Asker, question: Question, id: u16, now: Moment) -> Result<
     ensures asked { IfOk result
         (λ it. (it ≡ id) × (asker.new ≡ asked_too id question now asker.old)) }
     ensures unchanged { OnErr result (asker.new ≡ asker.old) }
+    ensures refused { IfErr result (Refuses asker.old id) }
 {
     match asker.ask(question, id, now) {
         Ok(_) => Ok(id),

@@ -82,6 +82,16 @@ impl<B> Requests<B> {
         self.ended.len() < others
     }
 
+    /// Whether there is none.
+    pub(crate) fn is_empty(&self) -> bool
+        ensures { IsTrue result ↔ (count_of self.now ≡ 0) }
+    {
+        self.ready.len() == 0
+            && self.held.len() == 0
+            && self.waiting.len() == 0
+            && self.ended.len() == 0
+    }
+
     /// Whether one of this number is among them.
     pub(crate) fn has(&self, number: u64) -> bool
         ensures { IsTrue result ↔ Contains (numbers_of self.now) number }

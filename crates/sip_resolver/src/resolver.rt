@@ -1,16 +1,18 @@
 //! The machine: what comes in, and what it leads to.
-ghost use Rattle.std.specs.Prelude.{◌≡◌, ◌↔◌, ◌<◌, ◌≤◌, [], IfErr, IfOk, IfSome, IsTrue, MatchOption, OnErr, OnOk};
+ghost use Rattle.std.specs.Prelude.{◌≡◌, ◌↔◌, ◌<◌, ◌≤◌, ◌⊎◌, [], IfErr, IfNone, IfOk, IfSome, IsTrue, MatchOption, OnErr, OnOk};
 ghost use Rattle.answer_cache.specs.Seats.{GoesOn, SeatView, StoresNothing};
 ghost use Rattle.dns_answers.specs.Records.{kind_of};
 ghost use Rattle.dns_answers.specs.declared.refusal.ReplyRefusal.TheVariants as refusals;
 ghost use Rattle.dns_asker.specs.declared.incoming.Ending.TheVariants as endings;
 ghost use Rattle.sip_locator.specs.Replies.{Answers};
 ghost use Rattle.sip_resolver.specs.Ends.{EndsMore, IsByChoice, IsByReply, IsMemory};
+ghost use Rattle.sip_resolver.specs.Idle.{AreAwaited, CannotAsk, IsIdle};
 ghost use Rattle.sip_resolver.specs.Outcomes.{IsOutcome};
 ghost use Rattle.sip_resolver.specs.Questions.{IsLeast, deadlines_of};
-ghost use Rattle.sip_resolver.specs.Requests.{AreSame, IsBack, Stand, count_of, waiting_without};
+ghost use Rattle.sip_resolver.specs.Requests.{AreSame, IsBack, Stand, count_of};
 ghost use Rattle.sip_resolver.specs.Resolvers.{HasRoomFor, Hears, IsCut, IsEnded, IsTaken, Polls, RefusesSubmit, begun_of, with_request};
 ghost use Rattle.sip_resolver.specs.Sends.{GivesUpBoth, IsInTime, SendsAfter, SendsOne, tickets_of};
+ghost use Rattle.sip_resolver.specs.Settles.{GetsAnswer, GoesByReply, SettlesAll};
 ghost use Rattle.sip_resolver.specs.Tasks.{IsCounted, sought_of};
 ghost use Rattle.sip_resolver.specs.Works.{IsAtMostOne, Works};
 
@@ -110,6 +112,22 @@ impl<B: AnswerBook, F: Origin, I: Ids + Drop> Resolver<B, F, I> {
         })
     }
 
+    /// Whether there is room for one more request.
+    #[must_use]
+    pub fn has_room(&self) -> bool
+        ensures { IsTrue result ↔ (count_of self.now.requests < self.now.requests.limit) }
+    {
+        self.requests.has_room()
+    }
+
+    /// Whether no request is inside: the outcome of each that was submitted was taken.
+    #[must_use]
+    pub fn is_empty(&self) -> bool
+        ensures { IsTrue result ↔ (count_of self.now.requests ≡ 0) }
+    {
+        self.requests.is_empty()
+    }
+
     /// Takes a request in, under a number by which its outcome is told.
     pub fn submit(
         &mut self,
@@ -154,7 +172,7 @@ impl<B: AnswerBook, F: Origin, I: Ids + Drop> Resolver<B, F, I> {
         ensures goes_on { GoesOn (B.shown seat.old) (B.shown seat.new) }
         ensures stores_nothing { StoresNothing (B.shown seat.old) (B.shown seat.new) }
         ensures* polls { sem 𝓛 (Rests (the_row B.row F.row I.row) self.entry (λ ended.
-            Polls F.gives F.shows (B.shown seat.new) now self.old ended result)) }
+            Polls F.gives F.shows I.draws (B.shown seat.new) now self.old ended result)) }
     {
         let id = self.next_transmit(book, seat, now);
         self.questions.are_distinct();
@@ -182,6 +200,8 @@ impl<B: AnswerBook, F: Origin, I: Ids + Drop> Resolver<B, F, I> {
         ensures stand { Stand F.gives F.shows (B.shown seat.new) self.new.requests }
         ensures once { IsAtMostOne (B.shown seat.old) (B.shown seat.new) }
         ensures same { AreSame self.old.requests self.new.requests }
+        ensures awaited { AreAwaited self.old.requests self.old.questions
+            → AreAwaited self.new.requests self.new.questions }
         ensures hears { IfOk result (Hears self.old self.new over octets.now) }
         ensures unchanged { OnErr result ((self.new ≡ self.old) × (seat.new ≡ seat.old)) }
     {
@@ -246,7 +266,12 @@ impl<B: AnswerBook, F: Origin, I: Ids + Drop> Resolver<B, F, I> {
             self.old.requests.ended self.new.requests.ended }
         ensures sends { MatchOption result
             (GivesUpBoth now self.old.questions self.new.questions)
-            (λ id. SendsAfter now id self.old.questions self.new.questions) }
+            (λ id. SendsAfter now id self.new.requests.waiting
+            self.old.questions self.new.questions) }
+        ensures awaited { AreAwaited self.old.requests self.old.questions
+            → AreAwaited self.new.requests self.new.questions }
+        ensures idle { IfNone result
+            (IsIdle I.draws now self.new.requests self.new.questions) }
     {
         if let Some(id) = self.questions.next_resend::<B, F>(&mut self.requests, now) {
             return Some(id);
@@ -270,7 +295,11 @@ impl<B: AnswerBook, F: Origin, I: Ids + Drop> Resolver<B, F, I> {
         ensures ends { EndsMore IsByChoice
             self.old.requests.ended self.new.requests.ended }
         ensures sends { MatchOption result (self.new.questions ≡ self.old.questions)
-            (λ id. SendsOne now id self.old.questions self.new.questions) }
+            (λ id. SendsOne now id self.new.requests.waiting
+            self.old.questions self.new.questions) }
+        ensures awaited { AreAwaited self.old.requests self.old.questions
+            → AreAwaited self.new.requests self.new.questions }
+        ensures ready { IfNone result (self.new.requests.ready ≡ []) }
     {
         'tasks: while let Some(task) = self.requests.next_ready() {
             if let Some(id) = self.advance(book, seat, now, task) {
@@ -294,7 +323,13 @@ impl<B: AnswerBook, F: Origin, I: Ids + Drop> Resolver<B, F, I> {
         ensures ends { EndsMore IsByChoice
             self.old.requests.ended self.new.requests.ended }
         ensures sends { MatchOption result (self.new.questions ≡ self.old.questions)
-            (λ id. SendsOne now id self.old.questions self.new.questions) }
+            (λ id. SendsOne now id self.new.requests.waiting
+            self.old.questions self.new.questions) }
+        ensures ready { self.new.requests.ready ≡ self.old.requests.ready }
+        ensures awaited { AreAwaited self.old.requests self.old.questions
+            → AreAwaited self.new.requests self.new.questions }
+        ensures held { IfNone result
+            ((self.new.requests.held ≡ []) ⊎ CannotAsk I.draws self.new.questions) }
     {
         'tasks: for _held in 0..self.requests.held_len() {
             if self.questions.is_full() {
@@ -333,7 +368,12 @@ impl<B: AnswerBook, F: Origin, I: Ids + Drop> Resolver<B, F, I> {
         ensures ends { EndsMore IsByChoice
             self.old.requests.ended self.new.requests.ended }
         ensures sends { MatchOption result (self.new.questions ≡ self.old.questions)
-            (λ id. SendsOne now id self.old.questions self.new.questions) }
+            (λ id. SendsOne now id self.new.requests.waiting
+            self.old.questions self.new.questions) }
+        ensures awaited { AreAwaited self.old.requests self.old.questions
+            → AreAwaited self.new.requests self.new.questions }
+        ensures held { (self.new.requests.held ≡ self.old.requests.held)
+            ⊎ CannotAsk I.draws self.new.questions }
     {
         match task.step::<F>(self.alloc, book, seat, now) {
             Progress::Ended(outcome) => {
@@ -372,11 +412,9 @@ impl<B: AnswerBook, F: Origin, I: Ids + Drop> Resolver<B, F, I> {
         ensures stand { Stand F.gives F.shows (B.shown seat.new) self.new.requests }
         ensures once { IsAtMostOne (B.shown seat.old) (B.shown seat.new) }
         ensures asking { self.new.questions ≡ self.old.questions }
-        ensures others { self.new.requests.waiting
-            ≡ waiting_without id self.old.requests.waiting }
         ensures same { AreSame self.old.requests self.new.requests }
-        ensures ends { EndsMore (IsByReply question.now ending)
-            self.old.requests.ended self.new.requests.ended }
+        ensures settles { SettlesAll id (GoesByReply question.now ending)
+            (IsByReply question.now ending) self.old.requests self.new.requests }
     {
         match ending {
             Ending::Answered(answer) => {
@@ -413,10 +451,9 @@ impl<B: AnswerBook, F: Origin, I: Ids + Drop> Resolver<B, F, I> {
         ensures stand { Stand F.gives F.shows (B.shown seat.new) self.new.requests }
         ensures once { IsAtMostOne (B.shown seat.old) (B.shown seat.new) }
         ensures asking { self.new.questions ≡ self.old.questions }
-        ensures others { self.new.requests.waiting
-            ≡ waiting_without id self.old.requests.waiting }
         ensures same { AreSame self.old.requests self.new.requests }
-        ensures ends { EndsMore IsMemory self.old.requests.ended self.new.requests.ended }
+        ensures settles { SettlesAll id (GetsAnswer question.now answer) IsMemory
+            self.old.requests self.new.requests }
     {
         let Ok(answer) = Arc::new(self.alloc, answer) else {
             settle_all::<B, F>(&mut self.requests, id, &WaitEnd::NoMemory);

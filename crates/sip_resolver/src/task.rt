@@ -1,7 +1,8 @@
 //! A request on its way.
-ghost use Rattle.std.specs.Prelude.{◌≡◌, ◌≢◌, true, false, IfOk, MatchOption, OnErr, OnOk};
+ghost use Rattle.std.specs.Prelude.{◌≡◌, ◌≢◌, true, false, Err, IfOk, MatchOption, OnErr, OnOk};
 ghost use Rattle.std.specs.Arc.{arc_value};
 ghost use Rattle.answer_cache.specs.Seats.{GoesOn, StoresNothing};
+ghost use Rattle.dns_answers.specs.Records.{kind_of};
 ghost use Rattle.dns_message.specs.declared.question.Question.{Question as question};
 ghost use Rattle.sip_selection.specs.Choice.{IsNotRefused, need};
 ghost use Rattle.sip_selection.specs.Nexts.{next_of};
@@ -158,6 +159,10 @@ impl<B: AnswerBook> Task<B> {
           cut = false;
         }) }
         ensures unchanged { OnErr result (self.new ≡ self.old) }
+        ensures not_asked { result ≡ Err GiveRefusal.NotAsked
+            → now_of self.old.selection ≢ need question.now }
+        ensures wrong_kind { result ≡ Err GiveRefusal.WrongKind
+            → kind_of (arc_value answer.now).records ≢ question.now.kind }
     {
         let Ok(answer) = Arc::try_clone(answer) else {
             return Err(GiveRefusal::Memory);

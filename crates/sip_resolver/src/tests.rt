@@ -1,5 +1,5 @@
 //! Requests through one resolver.
-ghost use Rattle.std.specs.Prelude.{IfSome};
+ghost use Rattle.std.specs.Prelude.{◌≡◌, ◌≤◌, IfSome};
 ghost use Rattle.answer_cache.specs.Seats.{SeatView};
 ghost use Rattle.sip_resolver.specs.Requests.{Stand};
 
@@ -21,20 +21,28 @@ mod waits;
 
 const WORDS: Words = Words([0; WORD_COUNT]);
 
+/// Eight requests and eight questions.
+pub(crate) fn eight_of_each(streams: bool) -> Limits
+    ensures { result ≡ record { requests = 8; questions = 8; streams = streams } }
+{
+    Limits {
+        requests: 8,
+        questions: 8,
+        streams,
+    }
+}
+
 /// A resolver in which no request is, where there is memory for it.
 pub(crate) fn empty<B: AnswerBook, F: Origin, I: Ids + Drop>(
     alloc: Global,
     ids: I,
-    streams: bool,
+    limits: Limits,
 ) -> Option<Resolver<B, F, I>>
+    requires requests { (1 ≤ limits.requests) × (limits.requests ≤ 1024) }
+    requires questions { (1 ≤ limits.questions) × (limits.questions ≤ 256) }
     ensures { (seat : SeatView) → IfSome result
         (λ made. Stand F.gives F.shows seat made.requests) }
 {
-    let limits = Limits {
-        requests: 8,
-        questions: 8,
-        streams,
-    };
     let Ok(resolver) = Resolver::new(alloc, limits, ids) else {
         return None;
     };
@@ -71,7 +79,7 @@ pub(crate) fn two<B: AnswerBook, F: Origin, I: Ids + Drop>(
     ensures { (seat : SeatView) → IfSome result
         (λ made. Stand F.gives F.shows seat made.requests) }
 {
-    let mut resolver = empty::<B, F, I>(alloc, ids, streams)?;
+    let mut resolver = empty::<B, F, I>(alloc, ids, eight_of_each(streams))?;
     add(&mut resolver, alloc, 1, first, Families::V4)?;
     add(&mut resolver, alloc, 2, second, Families::V4)?;
     Some(resolver)

@@ -1,15 +1,19 @@
 //! How the wait for a reply ends, for the requests that share it.
-ghost use Rattle.std.specs.Prelude.{◌≡◌, ◌<◌, [], ◌∷◌, ◌++◌, MatchOption};
+ghost use Rattle.std.specs.Prelude.{◌≡◌, ◌<◌, ◌≤◌, IfNone, List, MatchOption, length};
 ghost use Rattle.std.specs.Arc.{arc_value};
+ghost use Rattle.std.specs.List.{All};
 ghost use Rattle.answer_cache.specs.Seats.{SeatView};
+ghost use Rattle.dns_asker.specs.Tickets.{Ticket as ticket};
 ghost use Rattle.sip_selection.specs.Choice.{need};
 ghost use Rattle.sip_selection.specs.Selections.{now_of};
 ghost use Rattle.sip_resolver.specs.Ends.{EndsMore};
+ghost use Rattle.sip_resolver.specs.Idle.{AreIn, IsInWait};
 ghost use Rattle.sip_resolver.specs.Questions.{Fewer};
-ghost use Rattle.sip_resolver.specs.Requests.{AreSame, IsBack, Stand, count_of, waiting_without};
+ghost use Rattle.sip_resolver.specs.Requests.{AreSame, IsBack, Stand, count_of};
 ghost use Rattle.sip_resolver.specs.Sends.{GivesUp, IsInTime};
 ghost use Rattle.sip_resolver.specs.Tasks.{IsCounted, Lacks, sought_of};
-ghost use Rattle.sip_resolver.specs.Waits.{EndsAs, Fits, IsFailed, IsGivenUp, IsKnown, MayEnd, Resends};
+ghost use Rattle.sip_resolver.specs.Settles.{SettlesAll};
+ghost use Rattle.sip_resolver.specs.Waits.{EndsAs, Fits, GoesAs, IsFailed, IsGivenUp, IsKnown, MayEnd, MayGoOn, Resends, SettlesOne};
 
 use crate::origin::Origin;
 use crate::outcome::Outcome;
@@ -57,6 +61,11 @@ pub(crate) fn next_resend<B: AnswerBook, F: Origin>(
     requests: &mut Requests<B>,
     now: Moment,
 ) -> Option<u16>
+    requires few { length asker.old.tickets ≤ 256 }
+    ensures in_wait { IfNone result (All (IsInWait now) asker.new.tickets) }
+    ensures limit { asker.new.limit ≡ asker.old.limit }
+    ensures awaited { (others : List ticket) → AreIn asker.old.tickets others requests.old.waiting
+        → AreIn asker.new.tickets others requests.new.waiting }
     ensures fewer { Fewer asker.old.tickets asker.new.tickets }
     ensures stand { (seat : SeatView) → Stand F.gives F.shows seat requests.old
         → Stand F.gives F.shows seat requests.new }
@@ -87,8 +96,7 @@ pub(crate) fn settle_all<B: AnswerBook, F: Origin>(
     ensures stand { (seat : SeatView) → IsKnown F.gives F.shows seat end.now
         → Stand F.gives F.shows seat requests.old → Stand F.gives F.shows seat requests.new }
     ensures same { AreSame requests.old requests.new }
-    ensures others { requests.new.waiting ≡ waiting_without id requests.old.waiting }
-    ensures ends { EndsMore (MayEnd end.now) requests.old.ended requests.new.ended }
+    ensures settles { SettlesAll id (MayGoOn end.now) (MayEnd end.now) requests.old requests.new }
 {
     'waits: for _wait in 0..requests.waiting_len() {
         match requests.next_waiting() {
@@ -112,9 +120,8 @@ fn settle<B: AnswerBook, F: Origin>(
         → Lacks F.shows seat waiting.task
         → Stand F.gives F.shows seat requests.old → Stand F.gives F.shows seat requests.new }
     ensures back { IsBack (sought_of waiting.task) requests.old requests.new }
-    ensures others { requests.new.waiting
-        ≡ requests.old.waiting ++ waiting_without id (waiting ∷ []) }
-    ensures ends { EndsMore (MayEnd end.now) requests.old.ended requests.new.ended }
+    ensures settles { SettlesOne id (MayGoOn end.now) (MayEnd end.now) waiting
+        requests.old requests.new }
 {
     let Waiting { id: own, mut task } = waiting;
     if own != id {
@@ -133,6 +140,7 @@ fn fate_of<B: AnswerBook, F: Origin>(task: &mut Task<B>, end: &WaitEnd<'_>) -> F
     ensures fits { (seat : SeatView) → IsKnown F.gives F.shows seat end.now
         → IsCounted F.gives F.shows seat task.old → Lacks F.shows seat task.old
         → Fits F.gives F.shows seat task.new result }
+    ensures goes { GoesAs end.now task.old task.new result }
     ensures ends { EndsAs end.now result }
 {
     match end {

@@ -1,9 +1,9 @@
 //! A thousand requests to a hundred domains, over a wire that loses a third of what it carries.
-ghost use Rattle.std.specs.Prelude.{ℕ, IfSome, List};
+ghost use Rattle.std.specs.Prelude.{ℕ, List};
 ghost use Rattle.answer_cache.specs.Seats.{SeatView};
 ghost use Rattle.sip_resolver.specs.Requests.{Stand};
 
-use super::add;
+use super::{add, empty};
 use crate::*;
 use answer_cache::{AnswerBook, ListCache};
 use dns_answers::Moment;
@@ -18,6 +18,13 @@ use std::sync::Wait;
 const DOMAINS: u64 = 100;
 
 const REQUESTS: u64 = 1_000;
+
+/// Room for all requests, and for as many questions as there can be.
+const LIMITS: Limits = Limits {
+    requests: 1_024,
+    questions: 256,
+    streams: false,
+};
 
 /// Where the datagrams go, and which of them are lost.
 #[derive(Drop)]
@@ -61,22 +68,6 @@ impl Wire {
         let reply = self.zone.answer_datagram(alloc, query).ok()??;
         if self.loses() { None } else { Some(reply) }
     }
-}
-
-/// A resolver with room for all requests, and for as many questions as there can be.
-fn large<B: AnswerBook, F: Origin>(alloc: Global) -> Option<Resolver<B, F, CountingIds>>
-    ensures { (seat : SeatView) → IfSome result
-        (λ made. Stand F.gives F.shows seat made.requests) }
-{
-    let limits = Limits {
-        requests: 1_024,
-        questions: 256,
-        streams: false,
-    };
-    let Ok(resolver) = Resolver::new(alloc, limits, CountingIds::new()) else {
-        return None;
-    };
-    Some(resolver)
 }
 
 /// Takes all requests in: request n to domain n modulo a hundred.
@@ -189,7 +180,11 @@ fn counted<B: AnswerBook, F: Origin>(resolver: &mut Resolver<B, F, CountingIds>)
 
 /// What becomes of the requests over this wire.
 fn outcomes(rt: &impl Wait, alloc: Global, wire: &mut Wire) -> Option<Counts> {
-    let mut resolver = large::<ListCache, Anything>(alloc)?;
+    let mut resolver = empty::<ListCache, Anything, CountingIds>(
+        alloc,
+        CountingIds::new(),
+        LIMITS,
+    )?;
     add_all(&mut resolver, alloc)?;
     let (book, mut seat) = ListCache::new(alloc);
     finish(rt, alloc, &mut resolver, &book, &mut seat, wire);

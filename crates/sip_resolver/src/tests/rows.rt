@@ -3,7 +3,7 @@ ghost use Rattle.std.specs.Prelude.{ℕ, List};
 ghost use Rattle.answer_cache.specs.Seats.{SeatView};
 ghost use Rattle.sip_resolver.specs.Requests.{Stand};
 
-use super::{add, empty, send_next};
+use super::{add, eight_of_each, empty, send_next};
 use crate::*;
 use answer_cache::{AnswerBook, ListCache};
 use dns_answers::Moment;
@@ -134,7 +134,7 @@ fn lists<B: AnswerBook, F: Origin>(resolver: &mut Resolver<B, F, CountingIds>) -
 fn eight(rt: &impl Wait, alloc: Global, zone: &Zone) -> Option<[u32; 2]> {
     let now = Moment::new(100)?;
     let ids = CountingIds::new();
-    let mut resolver = empty::<ListCache, Anything, CountingIds>(alloc, ids, false)?;
+    let mut resolver = empty::<ListCache, Anything, CountingIds>(alloc, ids, eight_of_each(false))?;
     add_eight(&mut resolver, alloc)?;
     let (book, mut seat) = ListCache::new(alloc);
     let queries = queries(rt, alloc, &mut resolver, &book, &mut seat, zone, now);

@@ -1,7 +1,13 @@
+use Rattle.std.proofs.Common.{ap, arith, refl}
 use Rattle.sip_resolver.proofs.Apart.{fewer-due, fewer-not, fewer-through}
+use Rattle.sip_resolver.proofs.Awaiting.{given-up-in, resent-in}
 use Rattle.sip_resolver.proofs.Ending.{ends-as, ends-not, ends-through, silence-in-time}
+use Rattle.sip_resolver.proofs.Idling.{given-up-few, given-up-limit, none-left, resent-limit}
 use Rattle.sip_resolver.proofs.Sending.{gives-up-not, gives-up-too, unanswered}
+use Rattle.sip_resolver.proofs.Settling.{settles-ends}
 use Rattle.sip_resolver.proofs.Weighing.{same-not, same-through}
+use Rattle.sip_resolver.specs.Idle.{IsInWait}
+use Rattle.sip_resolver.specs.Requests.{RequestsView}
 use Rattle.sip_resolver.specs.Sends.{IsInTime}
 use Rattle.sip_resolver.proofs.waits.next_resend.Goals as goal
 
@@ -10,6 +16,9 @@ dues-init g c = record {
   fewer = fewer-not c.args.asker.now.tickets;
   stand = λ seat it. it;
   ends = ends-not (IsInTime c.args.asker.now.tickets c.args.now) c.args.requests.now.ended;
+  few = let few = c.requires.few in omega (arith, few);
+  awaited = λ others it. it;
+  limit = refl;
   gives_up = gives-up-not c.args.now c.args.asker.now;
   same = same-not c.args.requests.now;
 }
@@ -25,7 +34,17 @@ dues-preserved g c = record {
       ends-through (IsInTime tickets c.args.now) c.args.requests.now.ended c.dues.requests.ended c.settle_all.new.requests.ended
       c.dues.invariant.ends
       (ends-as _ (IsInTime tickets c.args.now) (silence-in-time tickets c.args.now _ in-vain) c.dues.requests.ended
-      c.settle_all.new.requests.ended c.settle_all.ensures.ends);
+      c.settle_all.new.requests.ended (settles-ends _ _ _ c.settle_all.ensures.settles));
+  few =
+      let is = rw c.in-Some-GaveUp.field-0-is at (rw c.in-Some-GaveUp.is at c.due.follows.holds-at-none) in
+      given-up-few _ _ _ c.dues.asker _ c.dues._due is c.dues.invariant.few;
+  awaited = λ others it.
+      let is = rw c.in-Some-GaveUp.field-0-is at (rw c.in-Some-GaveUp.is at c.due.follows.holds-at-none) in
+      rw (ap (λ (v : RequestsView). v.waiting) c.settle_all.ensures.settles.new_is)
+      (given-up-in _ _ _ c.dues.asker _ others c.dues.requests.waiting is (c.dues.invariant.awaited others it));
+  limit =
+      let is = rw c.in-Some-GaveUp.field-0-is at (rw c.in-Some-GaveUp.is at c.due.follows.holds-at-none) in
+      given-up-limit _ _ _ c.args.asker.now.limit c.dues.asker _ is c.dues.invariant.limit;
   gives_up =
       let is = rw c.in-Some-GaveUp.field-0-is at (rw c.in-Some-GaveUp.is at c.due.follows.holds-at-none) in
       gives-up-too _ _ _ c.args.asker.now _ _ c.dues.invariant.gives_up is;
@@ -56,6 +75,40 @@ returns-in-Some-Resend-clause-sends g c =
 
 pub returns-clause-ends : goal.returns-clause-ends
 returns-clause-ends g c = c.dues.invariant.ends
+
+pub returns-in-None-clause-in_wait : goal.returns-in-None-clause-in_wait
+returns-in-None-clause-in_wait g c =
+    let is = rw c.in-None.is at c.due.follows.holds-at-none in
+    rw is.0 is.1
+
+pub returns-in-None-clause-awaited : goal.returns-in-None-clause-awaited
+returns-in-None-clause-awaited g c =
+    let is = rw c.in-None.is at c.due.follows.holds-at-none in
+    rw is.0 c.dues.invariant.awaited
+
+pub returns-in-Some-Resend-clause-awaited : goal.returns-in-Some-Resend-clause-awaited
+returns-in-Some-Resend-clause-awaited g c = λ others it.
+    let is = rw c.in-Some-Resend.field-0-is at (rw c.in-Some-Resend.is at c.due.follows.holds-at-none) in
+    resent-in _ _ _ c.dues.asker _ others c.dues.requests.waiting is (c.dues.invariant.awaited others it)
+
+pub returns-clause-awaited : goal.returns-clause-awaited
+returns-clause-awaited g c = c.dues.invariant.awaited
+
+pub returns-in-None-clause-limit : goal.returns-in-None-clause-limit
+returns-in-None-clause-limit g c =
+    let is = rw c.in-None.is at c.due.follows.holds-at-none in
+    rw is.0 c.dues.invariant.limit
+
+pub returns-in-Some-Resend-clause-limit : goal.returns-in-Some-Resend-clause-limit
+returns-in-Some-Resend-clause-limit g c =
+    let is = rw c.in-Some-Resend.field-0-is at (rw c.in-Some-Resend.is at c.due.follows.holds-at-none) in
+    resent-limit _ _ _ c.args.asker.now.limit c.dues.asker _ is c.dues.invariant.limit
+
+pub returns-clause-in_wait : goal.returns-clause-in_wait
+returns-clause-in_wait g c = none-left (IsInWait c.args.now) c.dues.asker.tickets c.dues._due c.dues-test.false c.dues.invariant.few
+
+pub returns-clause-limit : goal.returns-clause-limit
+returns-clause-limit g c = c.dues.invariant.limit
 
 pub returns-clause-sends : goal.returns-clause-sends
 returns-clause-sends g c = c.dues.invariant.gives_up

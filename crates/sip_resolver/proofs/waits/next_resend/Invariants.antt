@@ -1,5 +1,8 @@
+use Rattle.std.proofs.Common.{◌≡◌, ◌+◌, ◌≤◌, List, length}
 use Rattle.answer_cache.specs.Seats.{SeatView}
+use Rattle.dns_asker.specs.Tickets.{Ticket}
 use Rattle.sip_resolver.specs.Ends.{EndsMore}
+use Rattle.sip_resolver.specs.Idle.{AreIn}
 use Rattle.sip_resolver.specs.Questions.{Fewer}
 use Rattle.sip_resolver.specs.Requests.{AreSame, Stand}
 use Rattle.sip_resolver.specs.Sends.{GivesUp, IsInTime}
@@ -11,6 +14,10 @@ invariant-dues g l = record {
   stand : (seat : SeatView) → Stand g.F.Origin.gives g.F.Origin.shows seat l.fn.requests
       → Stand g.F.Origin.gives g.F.Origin.shows seat l.requests;
   ends : EndsMore (IsInTime l.fn.asker.tickets l.now) l.fn.requests.ended l.requests.ended;
+  few : length l.asker.tickets + l._due ≤ 256;
+  awaited : (others : List Ticket) → AreIn l.fn.asker.tickets others l.fn.requests.waiting
+      → AreIn l.asker.tickets others l.requests.waiting;
+  limit : l.asker.limit ≡ l.fn.asker.limit;
   gives_up : GivesUp l.now l.fn.asker l.asker;
   same : AreSame l.fn.requests l.requests;
 }

@@ -1,8 +1,7 @@
 use Rattle.answer_cache.specs.Seats.{SeatView}
-use Rattle.sip_resolver.proofs.Turning.{Turned}
+use Rattle.sip_resolver.proofs.Settling.{Settling}
 use Rattle.sip_resolver.specs.Requests.{AreSame, Stand}
-use Rattle.sip_resolver.specs.Ends.{EndsMore}
-use Rattle.sip_resolver.specs.Waits.{IsKnown, MayEnd}
+use Rattle.sip_resolver.specs.Waits.{IsKnown, MayEnd, MayGoOn}
 use Rattle.sip_resolver.proofs.waits.settle_all.Given as goal
 
 abbrev pub invariant-waits : goal.invariant-waits
@@ -10,6 +9,5 @@ invariant-waits g l = record {
   stand : (seat : SeatView) → IsKnown g.F.Origin.gives g.F.Origin.shows seat l.end
       → Stand g.F.Origin.gives g.F.Origin.shows seat l.fn.requests → Stand g.F.Origin.gives g.F.Origin.shows seat l.requests;
   same : AreSame l.fn.requests l.requests;
-  ends : EndsMore (MayEnd l.end) l.fn.requests.ended l.requests.ended;
-  turned : Turned l.id l.fn.requests.waiting l.requests.waiting l._wait;
+  settling : Settling l.id (MayGoOn l.end) (MayEnd l.end) l.fn.requests l.requests l._wait;
 }

@@ -1,5 +1,7 @@
 use Rattle.sip_resolver.proofs.Apart.{asked-datagram, asked-stream}
+use Rattle.sip_resolver.proofs.Idling.{asked-few, may-refuse-all}
 use Rattle.sip_resolver.specs.Questions.{Lacks, QuestionsView}
+use Rattle.sip_resolver.specs.declared.transmit.Over.TheVariants.{Datagram, Stream}
 use Rattle.sip_resolver.proofs.questions.Questions.ask.Goals as goal
 
 pub invariant_of-self : goal.invariant_of-self
@@ -9,9 +11,15 @@ invariant_of-self g c =
       streams = c.self.inside.streams;
     } in
     let lacks : Lacks c.in-Ok.question old = rw c.in-Ok.ensures (rw (← c.self.view_is) at c.requires) in
-    asked-datagram c.in-Some.id c.in-Ok.question c.args.now old c.self.invariant lacks
-    (rw (← c.self.view_is) at c.in-Some.ensures.datagrams)
-    (rw (← c.self.view_is) at c.in-Some.ensures.streams) c.asked.new.asker c.asked.result c.asked.ensures.asked c.asked.ensures.unchanged
+    record {
+      distinct = asked-datagram c.in-Some.id c.in-Ok.question c.args.now old c.self.invariant.distinct lacks
+          (rw (← c.self.view_is) at c.in-Some.ensures.datagrams)
+          (rw (← c.self.view_is) at c.in-Some.ensures.streams) c.asked.new.asker c.asked.result c.asked.ensures.asked
+          c.asked.ensures.unchanged;
+      few_datagrams = asked-few c.in-Some.id c.in-Ok.question c.args.now old.datagrams c.asked.new.asker c.asked.result
+          c.asked.ensures.asked c.asked.ensures.unchanged c.self.invariant.few_datagrams;
+      few_streams = c.self.invariant.few_streams;
+    }
 
 pub invariant_of-self-in-Stream : goal.invariant_of-self-in-Stream
 invariant_of-self-in-Stream g c =
@@ -20,7 +28,22 @@ invariant_of-self-in-Stream g c =
       streams = c.self.inside.streams;
     } in
     let lacks : Lacks c.in-Ok.question old = rw c.in-Ok.ensures (rw (← c.self.view_is) at c.requires) in
-    asked-stream c.in-Some.id c.in-Ok.question c.args.now old c.self.invariant lacks
-    (rw (← c.self.view_is) at c.in-Some.ensures.datagrams)
-    (rw (← c.self.view_is) at c.in-Some.ensures.streams) c.asked-in-Stream.new.asker c.asked-in-Stream.result
-    c.asked-in-Stream.ensures.asked c.asked-in-Stream.ensures.unchanged
+    record {
+      distinct = asked-stream c.in-Some.id c.in-Ok.question c.args.now old c.self.invariant.distinct lacks
+          (rw (← c.self.view_is) at c.in-Some.ensures.datagrams)
+          (rw (← c.self.view_is) at c.in-Some.ensures.streams) c.asked-in-Stream.new.asker c.asked-in-Stream.result
+          c.asked-in-Stream.ensures.asked c.asked-in-Stream.ensures.unchanged;
+      few_datagrams = c.self.invariant.few_datagrams;
+      few_streams = asked-few c.in-Some.id c.in-Ok.question c.args.now old.streams c.asked-in-Stream.new.asker c.asked-in-Stream.result
+          c.asked-in-Stream.ensures.asked c.asked-in-Stream.ensures.unchanged c.self.invariant.few_streams;
+    }
+
+pub returns-in-Datagram-clause-refused : goal.returns-in-Datagram-clause-refused
+returns-in-Datagram-clause-refused g c =
+    may-refuse-all g.I.Ids.draws c.args.self.now c.in-Some.id Datagram c.asked.result (rw (← c.self.view_is) c.asked.ensures.refused)
+    c.in-Some.ensures.datagrams c.in-Some.ensures.streams
+
+pub returns-in-Stream-clause-refused : goal.returns-in-Stream-clause-refused
+returns-in-Stream-clause-refused g c =
+    may-refuse-all g.I.Ids.draws c.args.self.now c.in-Some.id Stream c.asked-in-Stream.result
+    (rw (← c.self.view_is) c.asked-in-Stream.ensures.refused) c.in-Some.ensures.datagrams c.in-Some.ensures.streams

@@ -1,5 +1,6 @@
 use Rattle.std.proofs.lemmas.List.Elements.{Contains-append_left, Contains-append_right}
 use Rattle.sip_resolver.proofs.Apart.{distinct-fewer}
+use Rattle.sip_resolver.proofs.Awaiting.{in-flipped}
 use Rattle.sip_resolver.proofs.Ending.{ends-as, ends-through, in-time-of}
 use Rattle.sip_resolver.proofs.Sending.{sends-both, sends-datagram}
 use Rattle.sip_resolver.specs.Questions.{QuestionsView}
@@ -8,9 +9,13 @@ use Rattle.sip_resolver.proofs.questions.Questions.next_resend.Goals as goal
 
 pub invariant_of-self-2 : goal.invariant_of-self-2
 invariant_of-self-2 g c =
-    distinct-fewer (record { datagrams = c.self.inside.datagrams; streams = c.self.inside.streams })
-    (record { datagrams = c.next_resend.new.asker; streams = c.next_resend-2.new.asker }) c.next_resend.ensures.fewer
-    c.next_resend-2.ensures.fewer c.self.invariant
+    record {
+      distinct = distinct-fewer (record { datagrams = c.self.inside.datagrams; streams = c.self.inside.streams })
+          (record { datagrams = c.next_resend.new.asker; streams = c.next_resend-2.new.asker }) c.next_resend.ensures.fewer
+          c.next_resend-2.ensures.fewer c.self.invariant.distinct;
+      few_datagrams = rw c.next_resend.ensures.limit c.self.invariant.few_datagrams;
+      few_streams = rw c.next_resend-2.ensures.limit c.self.invariant.few_streams;
+    }
 
 pub returns-clause-stand : goal.returns-clause-stand
 returns-clause-stand g c = λ seat it. c.next_resend-2.ensures.stand seat (c.next_resend.ensures.stand seat it)
@@ -27,7 +32,7 @@ pub returns-in-Some-clause-sends : goal.returns-in-Some-clause-sends
 returns-in-Some-clause-sends g c =
     let old : QuestionsView = record { datagrams = c.self.inside.datagrams; streams = c.self.inside.streams } in
     rw (← c.self.view_is)
-    (sends-datagram _ _ old _ (rw c.in-Some.is at c.next_resend.ensures.sends))
+    (sends-datagram _ _ _ old _ (rw c.in-Some.is at c.next_resend.ensures.sends))
 
 pub returns-clause-ends : goal.returns-clause-ends
 returns-clause-ends g c =
@@ -46,5 +51,17 @@ pub returns-clause-sends : goal.returns-clause-sends
 returns-clause-sends g c =
     let old : QuestionsView = record { datagrams = c.self.inside.datagrams; streams = c.self.inside.streams } in
     rw (← c.self.view_is)
-    (sends-both c.args.now old c.next_resend.new.asker c.next_resend-2.new.asker c.next_resend-2.result
+    (sends-both c.args.now c.next_resend-2.new.requests.waiting old c.next_resend.new.asker c.next_resend-2.new.asker c.next_resend-2.result
     (rw c.in_default.is at c.next_resend.ensures.sends) c.next_resend-2.ensures.sends)
+
+pub returns-in-Some-clause-awaited : goal.returns-in-Some-clause-awaited
+returns-in-Some-clause-awaited g c =
+    rw (← c.self.view_is) (λ it. c.next_resend.ensures.awaited c.self.inside.streams.tickets it)
+
+pub returns-clause-awaited : goal.returns-clause-awaited
+returns-clause-awaited g c =
+    rw (← c.self.view_is)
+    (λ it.
+    in-flipped _ _ _
+    (c.next_resend-2.ensures.awaited c.next_resend.new.asker.tickets
+    (in-flipped _ _ _ (c.next_resend.ensures.awaited c.self.inside.streams.tickets it))))

@@ -21,3 +21,9 @@ returns-in-Asks-clause-stand g c =
     let later = stand-later _ _ before after works c.self.inside.requests stand in
     let it = rw c.in-Asks.is at c.step.ensures.progresses c.requires.counted in
     c.wait_for_answer.ensures.stand after it.0 it.1 later
+
+pub returns-in-Ended-clause-awaited : goal.returns-in-Ended-clause-awaited
+returns-in-Ended-clause-awaited g c = rw (← c.self.view_is) (λ it. rw c.end.ensures it)
+
+pub returns-in-Asks-clause-awaited : goal.returns-in-Asks-clause-awaited
+returns-in-Asks-clause-awaited g c = rw (← c.self.view_is) c.wait_for_answer.ensures.awaited

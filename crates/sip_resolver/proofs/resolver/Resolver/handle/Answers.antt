@@ -1,8 +1,7 @@
+use Rattle.std.proofs.Common.{ap, ◌∙◌}
+use Rattle.sip_resolver.proofs.Awaiting.{closed-in}
+use Rattle.sip_resolver.specs.Requests.{RequestsView}
 use Rattle.sip_resolver.proofs.Standing.{works-not}
-use Rattle.sip_resolver.proofs.Ending.{ends-as, ends-none}
-use Rattle.sip_resolver.specs.Ends.{IsByReply}
-use Rattle.sip_resolver.specs.Waits.{MayEnd}
-use Rattle.sip_resolver.specs.declared.waits.WaitEnd.TheVariants.{Cut}
 use Rattle.sip_resolver.proofs.resolver.Resolver.handle.Goals as goal
 
 pub returns-in_err-why-clause-works : goal.returns-in_err-why-clause-works
@@ -23,9 +22,6 @@ returns-then-goes_on-clause-hears g c =
     let means = rw c.in-Ended.is at c.in_ok-why.ensures.means in
     let left = rw c.in-Ended.is at c.in_ok-why.ensures.left in
     let cut = c.goes_on.ensures.0 c.if-goes_on.true in
-    let ended = ends-none (MayEnd Cut) (λ outcome it. it) _ _ c.settle_all.ensures.ends in
-    let by-reply = IsByReply c.in-Ended.question c.in-Ended.ending in
-    let ends = ends-as (MayEnd Cut) by-reply (λ outcome it. absurd it) _ _ c.settle_all.ensures.ends in
     rw (← c.self.view_is) (
       c.in-Ended.ending,
       record {
@@ -33,9 +29,39 @@ returns-then-goes_on-clause-hears g c =
         question = c.in-Ended.question;
         means = means;
         left = left;
-        others = c.settle_all.ensures.others;
-        ends = ends;
+        settles = c.settle_all.ensures.settles;
       },
       cut,
-      ended,
     )
+
+pub returns-else-goes_on-clause-hears : goal.returns-else-goes_on-clause-hears
+returns-else-goes_on-clause-hears g c =
+    let means = rw c.in-Ended.is at c.in_ok-why.ensures.means in
+    let left = rw c.in-Ended.is at c.in_ok-why.ensures.left in
+    rw (← c.self.view_is) (
+      c.in-Ended.ending,
+      record {
+        id = c.in-Ended.id;
+        question = c.in-Ended.question;
+        means = means;
+        left = c.hear.ensures.asking ∙ left;
+        settles = c.hear.ensures.settles;
+      },
+      (λ cut. let yes = c.goes_on.ensures.1 cut in let no = c.if-goes_on.false in cc),
+    )
+
+pub returns-then-goes_on-clause-awaited : goal.returns-then-goes_on-clause-awaited
+returns-then-goes_on-clause-awaited g c =
+    let left = rw c.in-Ended.is at c.in_ok-why.ensures.left in
+    rw (← c.self.view_is)
+    (λ it.
+    rw (left, ap (λ (v : RequestsView). v.waiting) c.settle_all.ensures.settles.new_is)
+    (closed-in c.args.over c.in-Ended.id c.self.inside.questions c.self.inside.requests.waiting it))
+
+pub returns-else-goes_on-clause-awaited : goal.returns-else-goes_on-clause-awaited
+returns-else-goes_on-clause-awaited g c =
+    let left = rw c.in-Ended.is at c.in_ok-why.ensures.left in
+    rw (← c.self.view_is)
+    (λ it.
+    rw (c.hear.ensures.asking, left, ap (λ (v : RequestsView). v.waiting) c.hear.ensures.settles.new_is)
+    (closed-in c.args.over c.in-Ended.id c.self.inside.questions c.self.inside.requests.waiting it))

@@ -1,3 +1,4 @@
+use Rattle.sip_resolver.proofs.Settling.{settles-as}
 use Rattle.sip_resolver.proofs.Standing.{works-not}
 use Rattle.sip_resolver.specs.Outcomes.{IsFaulty}
 use Rattle.sip_resolver.proofs.resolver.Resolver.hear.Goals as goal
@@ -17,3 +18,12 @@ returns-in-Faulty-clause-stand g c =
       ends = ends.1;
     } in
     c.settle_all.ensures.stand (g.B.AnswerBook.shown c.args.seat.now) faulty (rw (← c.self.view_is) at c.requires.stand)
+
+pub returns-in-Faulty-clause-settles : goal.returns-in-Faulty-clause-settles
+returns-in-Faulty-clause-settles g c =
+    rw (c.in-Faulty.is, ← c.self.view_is)
+    (settles-as (λ old new it. it) (λ outcome it. it) _ _ _ c.settle_all.ensures.settles)
+
+pub returns-in-Answered-clause-settles : goal.returns-in-Answered-clause-settles
+returns-in-Answered-clause-settles g c =
+    rw c.in-Answered.is (settles-as (λ old new it. it) (λ outcome it. it) _ _ _ c.take.ensures.settles)

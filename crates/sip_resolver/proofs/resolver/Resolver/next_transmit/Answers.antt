@@ -1,5 +1,6 @@
-use Rattle.std.proofs.Common.{◌≡◌, MatchOption, subst}
+use Rattle.std.proofs.Common.{◌≡◌, MatchOption, subst, ◌∙◌}
 use Rattle.sip_resolver.proofs.Ending.{choice-in-time, ends-as, ends-through}
+use Rattle.sip_resolver.proofs.Idling.{idle-after}
 use Rattle.sip_resolver.proofs.Sending.{sends-then}
 use Rattle.sip_resolver.specs.Ends.{IsByChoice}
 use Rattle.sip_resolver.specs.Sends.{IsInTime, SendsOne, tickets_of}
@@ -39,6 +40,28 @@ pub returns-clause-sends : goal.returns-clause-sends
 returns-clause-sends g c =
     let new = c.run_held.new.self.questions in
     rw (← c.self.view_is)
-    (sends-then c.args.now c.self.inside.questions c.next_resend.new.self new c.run_held.result c.in_default.ensures.sends
-    (subst (λ it. MatchOption c.run_held.result (new ≡ it) (λ id. SendsOne c.args.now id it new)) c.in_default-run_ready.ensures.sends
+    (sends-then c.args.now c.run_held.new.self.requests.waiting c.self.inside.questions c.next_resend.new.self new c.run_held.result
+    c.in_default.ensures.sends
+    (subst (λ it. MatchOption c.run_held.result (new ≡ it) (λ id. SendsOne c.args.now id c.run_held.new.self.requests.waiting it new))
+    c.in_default-run_ready.ensures.sends
     c.run_held.ensures.sends))
+
+pub returns-clause-idle : goal.returns-clause-idle
+returns-clause-idle g c =
+    let new = c.run_held.new.self.questions in
+    idle-after g.I.Ids.draws c.args.now c.run_held.new.self.requests c.next_resend.new.self new c.run_held.result
+    (λ id. SendsOne c.args.now id c.run_held.new.self.requests.waiting c.next_resend.new.self new) c.in_default.ensures.datagrams
+    c.in_default.ensures.streams (c.run_held.ensures.ready ∙ c.in_default-run_ready.ensures.ready) c.run_held.ensures.held
+    (subst (λ it. MatchOption c.run_held.result (new ≡ it) (λ id. SendsOne c.args.now id c.run_held.new.self.requests.waiting it new))
+    c.in_default-run_ready.ensures.sends c.run_held.ensures.sends)
+
+pub returns-in-Some-clause-awaited : goal.returns-in-Some-clause-awaited
+returns-in-Some-clause-awaited g c = rw (← c.self.view_is) c.next_resend.ensures.awaited
+
+pub returns-in-Some-run_ready-clause-awaited : goal.returns-in-Some-run_ready-clause-awaited
+returns-in-Some-run_ready-clause-awaited g c =
+    rw (← c.self.view_is) (λ it. c.run_ready.ensures.awaited (c.next_resend.ensures.awaited it))
+
+pub returns-clause-awaited : goal.returns-clause-awaited
+returns-clause-awaited g c =
+    rw (← c.self.view_is) (λ it. c.run_held.ensures.awaited (c.run_ready.ensures.awaited (c.next_resend.ensures.awaited it)))

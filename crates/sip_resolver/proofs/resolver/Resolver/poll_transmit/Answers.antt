@@ -1,5 +1,5 @@
 use Rattle.std.proofs.Common.{refl}
-use Rattle.sip_resolver.proofs.Sending.{sends-octets}
+use Rattle.sip_resolver.proofs.Sending.{sends-octets, sends-some}
 use Rattle.sip_resolver.proofs.resolver.Resolver.poll_transmit.Goals as goal
 
 pub returns : goal.returns
@@ -12,8 +12,11 @@ returns g c =
           stand = told.stand;
           same = told.same;
           ends = told.ends;
-          sends = sends-octets c.args.now c.in_ok-id.field-0 c.args.self.now.questions c.self.inside.questions c.transmit_of.result
-              told.sends c.transmit_of.ensures;
+          sends = sends-octets c.args.now c.in_ok-id.field-0 c.self.inside.requests.waiting c.args.self.now.questions
+              c.self.inside.questions c.transmit_of.result told.sends c.transmit_of.ensures;
+          idle = sends-some c.args.now c.in_ok-id.field-0 c.self.inside.requests.waiting c.args.self.now.questions
+              c.self.inside.questions c.transmit_of.result told.sends c.transmit_of.ensures _;
+          awaited = told.awaited;
           distinct = c.are_distinct.ensures;
         },
       ),

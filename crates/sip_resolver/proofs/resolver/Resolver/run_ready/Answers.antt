@@ -1,45 +1,61 @@
-use Rattle.std.proofs.Common.{◌∙◌, subst}
+use Rattle.std.proofs.Common.{ap, subst}
 use Rattle.sip_resolver.proofs.Ending.{ends-ready}
-use Rattle.sip_resolver.specs.Ends.{IsByChoice}
-use Rattle.sip_resolver.specs.Sends.{SendsOne}
-use Rattle.sip_resolver.proofs.Standing.{goes-through, nothing-through}
-use Rattle.sip_resolver.proofs.Weighing.{ready-back, same-through}
 use Rattle.sip_resolver.proofs.Inside.{ready-out}
+use Rattle.sip_resolver.proofs.Turns.{went-not, went-too}
+use Rattle.sip_resolver.proofs.Weighing.{ready-back}
+use Rattle.sip_resolver.specs.Ends.{IsByChoice}
+use Rattle.sip_resolver.specs.Requests.{RequestsView}
+use Rattle.sip_resolver.specs.Sends.{SendsOne}
 use Rattle.sip_resolver.proofs.resolver.Resolver.run_ready.Goals as goal
+
+pub tasks-init : goal.tasks-init
+tasks-init g c = record {
+  stays = c.requires.made_here;
+  went = went-not _ _ (g.B.AnswerBook.shown c.args.seat.now) c.args.self.now c.requires.stand;
+}
 
 pub advance-requires-clause-stand : goal.advance-requires-clause-stand
 advance-requires-clause-stand g c =
-    let stand = rw (← c.self.view_is) at c.tasks.invariant.stand in
+    let stand = rw (← c.self.view_is) at c.tasks.invariant.went.stand in
     let seat = g.B.AnswerBook.shown c.tasks.seat in
     (ready-out _ _ seat c.self.inside.requests c.next_ready.new.self c.in-Some.task c.in-Some.ensures stand).0
 
 pub advance-requires-clause-counted : goal.advance-requires-clause-counted
 advance-requires-clause-counted g c =
-    let stand = rw (← c.self.view_is) at c.tasks.invariant.stand in
+    let stand = rw (← c.self.view_is) at c.tasks.invariant.went.stand in
     let seat = g.B.AnswerBook.shown c.tasks.seat in
     (ready-out _ _ seat c.self.inside.requests c.next_ready.new.self c.in-Some.task c.in-Some.ensures stand).1
 
 pub returns-in-Some-advance-clause-ends : goal.returns-in-Some-advance-clause-ends
 returns-in-Some-advance-clause-ends g c =
     ends-ready IsByChoice c.args.self.now.requests.ended c.advance.new.self.requests.ended c.self.inside.requests c.next_ready.new.self
-    c.in-Some.task (rw (← c.self.view_is) at c.tasks.invariant.ends) c.in-Some.ensures c.advance.ensures.ends
+    c.in-Some.task (rw (← c.self.view_is) at c.tasks.invariant.went.ends) c.in-Some.ensures c.advance.ensures.ends
 
 pub returns-in-Some-advance-clause-sends : goal.returns-in-Some-advance-clause-sends
 returns-in-Some-advance-clause-sends g c =
-    let same = rw (← c.self.view_is) at c.tasks.invariant.questions in
-    subst (λ it. SendsOne c.args.now c.in-Some-advance.id it c.advance.new.self.questions) same c.in-Some-advance.ensures.sends
+    let same = rw (← c.self.view_is) at c.tasks.invariant.went.questions in
+    subst (λ it. SendsOne c.args.now c.in-Some-advance.id c.advance.new.self.requests.waiting it c.advance.new.self.questions) same
+    c.in-Some-advance.ensures.sends
 
 pub tasks-preserved : goal.tasks-preserved
-tasks-preserved g c = record {
-  stays = c.advance.ensures.stays;
-  goes_on = goes-through _ _ _ c.tasks.invariant.goes_on c.advance.ensures.goes_on;
-  nothing = nothing-through _ _ _ c.tasks.invariant.nothing c.advance.ensures.stores_nothing;
-  stand = c.advance.ensures.stand;
-  questions = c.in_default-advance.ensures.sends ∙ (rw (← c.self.view_is) at c.tasks.invariant.questions);
-  ends = ends-ready IsByChoice c.args.self.now.requests.ended c.advance.new.self.requests.ended c.self.inside.requests
-      c.next_ready.new.self c.in-Some.task (rw (← c.self.view_is) at c.tasks.invariant.ends) c.in-Some.ensures c.advance.ensures.ends;
-  same = same-through c.args.self.now.requests c.self.inside.requests c.advance.new.self.requests
-      (rw (← c.self.view_is) at c.tasks.invariant.same)
-      (ready-back c.self.inside.requests c.next_ready.new.self c.advance.new.self.requests c.in-Some.task
-      c.in-Some.ensures c.advance.ensures.back);
-}
+tasks-preserved g c =
+    let before = g.B.AnswerBook.shown c.args.seat.now in
+    let seat = g.B.AnswerBook.shown c.tasks.seat in
+    let after = g.B.AnswerBook.shown c.advance.new.seat in
+    let middle = c.next_ready.new.self in
+    record {
+      stays = c.advance.ensures.stays;
+      went = went-too _ _ before seat after c.args.self.now c.tasks.self c.advance.new.self middle.ended c.tasks.invariant.went
+          (rw (← c.self.view_is)
+          (λ it. c.advance.ensures.awaited (rw (ap (λ (it : RequestsView). it.waiting) c.in-Some.ensures.others) it)))
+          (rw (← c.self.view_is) (ap (λ (it : RequestsView). it.ended) c.in-Some.ensures.others))
+          (rw (← c.self.view_is)
+          (ready-back c.self.inside.requests middle c.advance.new.self.requests c.in-Some.task c.in-Some.ensures c.advance.ensures.back))
+          c.advance.ensures.goes_on c.advance.ensures.stores_nothing c.advance.ensures.stand
+          (rw (← c.self.view_is) c.in_default-advance.ensures.sends) c.advance.ensures.ends;
+    }
+
+pub returns-in-Some-advance-clause-awaited : goal.returns-in-Some-advance-clause-awaited
+returns-in-Some-advance-clause-awaited g c =
+    let so = rw (← c.self.view_is) at c.tasks.invariant.went.awaited in
+    λ it. c.advance.ensures.awaited (rw (ap (λ (it : RequestsView). it.waiting) c.in-Some.ensures.others) (so it))

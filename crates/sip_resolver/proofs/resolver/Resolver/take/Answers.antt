@@ -1,4 +1,7 @@
+use Rattle.std.proofs.Common.{◌≡◌}
 use Rattle.std.specs.Arc.{arc_value}
+use Rattle.dns_answers.specs.Records.{kind_of}
+use Rattle.sip_resolver.proofs.Settling.{settles-as}
 use Rattle.sip_locator.specs.Replies.{Answers}
 use Rattle.sip_resolver.proofs.Standing.{stand-later, works-not}
 use Rattle.sip_resolver.proofs.Storing.{counts, works-store}
@@ -36,3 +39,15 @@ returns-clause-stand g c =
     c.args.question.now answer answers store.offered in
     let stand = rw (← c.self.view_is) at c.requires.stand in
     c.settle_all-2.ensures.stand after known (stand-later _ _ before after works c.self.inside.requests stand)
+
+pub returns-in_default-clause-settles : goal.returns-in_default-clause-settles
+returns-in_default-clause-settles g c =
+    rw (← c.self.view_is)
+    (settles-as (λ old new it. absurd it) (λ outcome it. it) _ _ _ c.settle_all.ensures.settles)
+
+pub returns-clause-settles : goal.returns-clause-settles
+returns-clause-settles g c =
+    let answer = arc_value c.in-Ok.answer in
+    let kind : kind_of answer.records ≡ c.args.question.now.kind = rw c.in-Ok.ensures.ok c.requires.kind in
+    rw (← c.self.view_is)
+    (settles-as (λ old new it. rw (← c.in-Ok.ensures.ok) (it kind)) (λ outcome it. it) _ _ _ c.settle_all-2.ensures.settles)

@@ -1,0 +1,124 @@
+-- When nothing is left to do at a moment.
+use Rattle.std.proofs.Common.{◌≡◌, ◌⊎◌, inl, inr, ℕ, ◌+◌, ◌≤◌, List, [], ◌∷◌, length, Option, Some, None, Result, Ok, Err, refl, ap, arith}
+use Rattle.std.specs.List.{All}
+use Rattle.std.proofs.lemmas.List.Elements.{All-nil}
+use Rattle.std.specs.Option.{IfNone, IsSome, MatchOption}
+use Rattle.std.specs.Result.{IfErr, IfOk, OnErr}
+use Rattle.dns_asker.specs.Events.{IsGivenUp, IsResent, Refuses, asked, left_by}
+use Rattle.dns_asker.specs.Tickets.{Asking, Ticket, ticket_of}
+use Rattle.dns_asker.specs.declared.incoming.Incoming.{Incoming}
+use Rattle.dns_asker.specs.declared.incoming.Incoming.TheVariants.{Ended, Ignored}
+use Rattle.dns_asker.specs.declared.refusal.AskRefusal.{AskRefusal}
+use Rattle.dns_asker.specs.declared.refusal.AskRefusal.TheVariants.{IdTaken, Full, Spent, Memory}
+use Rattle.dns_message.specs.declared.question.Question.{Question}
+use Rattle.sip_resolver.specs.Idle.{CannotAsk, IsIdle, IsInWait, IsOut, MayRefuse}
+use Rattle.sip_resolver.specs.Questions.{QuestionsView, asking_over}
+use Rattle.sip_resolver.specs.Requests.{RequestsView}
+use Rattle.sip_resolver.specs.Tasks.{TaskView}
+use Rattle.sip_resolver.specs.declared.transmit.Over.{Over}
+use Rattle.sip_resolver.specs.declared.transmit.Over.TheVariants.{Datagram, Stream}
+
+-- ---- a question that can't be asked
+
+module _ {I : Type 0} (draws : I → ℕ → I → Type 0) (it : QuestionsView) (id : ℕ) where
+  -- under an id that is free
+  pub may-refuse : (over : Over) (refusal : AskRefusal) → Refuses (asking_over over it) id refusal
+      → ticket_of id it.datagrams.tickets ≡ None → ticket_of id it.streams.tickets ≡ None → MayRefuse draws it refusal
+  may-refuse Datagram IdTaken refuses none other = absurd (let it = rw none at refuses in cc)
+  may-refuse Stream IdTaken refuses none other = absurd (let it = rw other at refuses in cc)
+  may-refuse Datagram Full refuses none other = inl refuses.1
+  may-refuse Stream Full refuses none other = inr refuses.1
+  may-refuse Datagram Spent refuses none other = inl refuses.2
+  may-refuse Stream Spent refuses none other = inr refuses.2
+  may-refuse Datagram Memory refuses none other = tt
+  may-refuse Stream Memory refuses none other = tt
+
+  pub may-refuse-all : (over : Over) (result : Result ℕ AskRefusal) → IfErr result (Refuses (asking_over over it) id)
+      → ticket_of id it.datagrams.tickets ≡ None → ticket_of id it.streams.tickets ≡ None → IfErr result (MayRefuse draws it)
+  may-refuse-all over (Ok found) refuses none other = tt
+  may-refuse-all over (Err refusal) refuses none other = may-refuse over refusal refuses none other
+
+pub cannot-ask : {I : Type 0} (draws : I → ℕ → I → Type 0) (it : QuestionsView) (refusal : AskRefusal) → MayRefuse draws it refusal
+    → (refusal ≡ Full) ⊎ (refusal ≡ IdTaken) → CannotAsk draws it
+cannot-ask draws it refusal may (inl full) = inl (rw full at may)
+cannot-ask draws it refusal may (inr taken) = inr (rw taken at may)
+
+none-of : (found : Option Ticket) → (IsSome found → ⊥) → found ≡ None
+none-of None none = refl
+none-of (Some ticket) none = absurd (none refl)
+
+-- no question is out under this id
+pub none-out : (id : ℕ) (it : QuestionsView) → (IsOut id it → ⊥)
+    → (ticket_of id it.datagrams.tickets ≡ None) × (ticket_of id it.streams.tickets ≡ None)
+none-out id it none = (
+  none-of (ticket_of id it.datagrams.tickets) (λ some. none (inl some)),
+  none-of (ticket_of id it.streams.tickets) (λ some. none (inr some)),
+)
+
+-- ---- what is due
+
+-- one more is given up
+pub given-up-few : (now id : ℕ) (question : Question) (old new : Asking) (count : ℕ) → IsGivenUp old new now id question
+    → length old.tickets + count ≤ 256 → length new.tickets + (count + 1) ≤ 256
+given-up-few now id question old new count is few =
+    let whole = ap length is.first in
+    rw is.left (omega (arith, whole, few))
+
+pub given-up-limit : (now id : ℕ) (question : Question) (first : ℕ) (old new : Asking) → IsGivenUp old new now id question
+    → old.limit ≡ first → new.limit ≡ first
+given-up-limit now id question first old new is same = rw is.left same
+
+pub resent-limit : (now id : ℕ) (octets : List ℕ) (first : ℕ) (old new : Asking) → IsResent old new now id octets
+    → old.limit ≡ first → new.limit ≡ first
+resent-limit now id octets first old new is same = rw is.left same
+
+-- after as many as there can be, none is left
+pub none-left : (P : Ticket → Type 0) (tickets : List Ticket) (count : ℕ) → 256 ≤ count → length tickets + count ≤ 256 → All P tickets
+none-left P [] count all few = All-nil P
+none-left P (ticket ∷ tickets) count all few = absurd (omega (arith, all, few))
+
+-- ---- no more can be out than at first
+
+pub asked-few : {E : Type 0} (id : ℕ) (question : Question) (now : ℕ) (old new : Asking) (result : Result ℕ E)
+    → IfOk result (λ found. (found ≡ id) × (new ≡ asked id question now old)) → OnErr result (new ≡ old)
+    → old.limit ≤ 256 → new.limit ≤ 256
+asked-few id question now old new (Ok found) is unchanged few = rw is.1 few
+asked-few id question now old new (Err _) is unchanged few = rw unchanged few
+
+pub heard-few : {E : Type 0} (old new : Asking) (result : Result Incoming E) → IfOk result (λ it. new ≡ left_by it old)
+    → OnErr result (new ≡ old) → old.limit ≤ 256 → new.limit ≤ 256
+heard-few old new (Ok (Ended id question ending)) left unchanged few = rw left few
+heard-few old new (Ok (Ignored why)) left unchanged few = rw left few
+heard-few old new (Err _) left unchanged few = rw unchanged few
+
+-- ---- those that are held
+
+-- after as many turns as there were, none is left
+pub none-held : {X : Type 0} (held : List X) (count first : ℕ) → length held + count ≡ first → first ≤ count → held ≡ []
+none-held [] count first turned all = refl
+none-held (task ∷ held) count first turned all = absurd (omega (arith, turned, all))
+
+module _ {I : Type 0} (draws : I → ℕ → I → Type 0) where
+  -- one more turn
+  pub held-turned : (first count : ℕ) (held middle new : List TaskView) (task : TaskView) (before after : QuestionsView)
+      → (length held + count ≡ first) ⊎ CannotAsk draws before → held ≡ task ∷ middle → (new ≡ middle) ⊎ CannotAsk draws after
+      → after ≡ before → (length new + (count + 1) ≡ first) ⊎ CannotAsk draws after
+  held-turned first count held middle new task before after (inl turned) out (inl same) asking =
+      inl (let whole = ap length out in let same' = ap length same in omega (arith, turned, whole, same'))
+  held-turned first count held middle new task before after (inl turned) out (inr cannot) asking = inr cannot
+  held-turned first count held middle new task before after (inr cannot) out same asking = inr (rw asking cannot)
+
+  pub held-over : (count first : ℕ) (held : List TaskView) (it : QuestionsView) → (length held + count ≡ first) ⊎ CannotAsk draws it
+      → first ≤ count → (held ≡ []) ⊎ CannotAsk draws it
+  held-over count first held it (inl turned) all = inl (none-held held count first turned all)
+  held-over count first held it (inr cannot) all = inr cannot
+
+  -- ---- nothing is left to do
+
+  pub idle-after : (now : ℕ) (requests : RequestsView) (middle new : QuestionsView) (result : Option ℕ) (P : ℕ → Type 0)
+      → All (IsInWait now) middle.datagrams.tickets → All (IsInWait now) middle.streams.tickets → requests.ready ≡ []
+      → IfNone result ((requests.held ≡ []) ⊎ CannotAsk draws new) → MatchOption result (new ≡ middle) P
+      → IfNone result (IsIdle draws now requests new)
+  idle-after now requests middle new None P datagrams streams ready held same =
+      record { datagrams = rw same datagrams; streams = rw same streams; ready = ready; held = held }
+  idle-after now requests middle new (Some id) P datagrams streams ready held same = tt
