@@ -5,6 +5,10 @@
 //! last a hundred lives of the answers: `rolling`, the threads, the milliseconds, the queries, the
 //! most queries of a thread in one life, and the requests with targets. Without a word it does
 //! nothing.
+//!
+//! The word `one` runs 10,000 requests by one worker alone, and `ready` makes all that such a run
+//! takes and ends in front of it: what the two differ by is what the run itself costs
+//! (`bench/compare_workers`).
 #![tactic(auto)]
 
 mod jobs;
@@ -54,14 +58,35 @@ struct Measured {
     targets: usize,
 }
 
+/// What a run takes.
+#[derive(Drop)]
+struct Load<'a> {
+    wires: Vec<ZoneWire<'a>>,
+    jobs: Vec<Job>,
+}
+
+/// What a run of so many requests by so many workers takes.
+fn load_of<'a>(
+    alloc: Global,
+    zone: &'a Zone,
+    sent: &'a AtomicU64,
+    requests: u64,
+    workers: usize,
+) -> Option<Load<'a>> {
+    Some(Load {
+        wires: ZoneWire::several(alloc, zone, sent, workers).ok()?,
+        jobs: jobs_of(alloc, requests)?,
+    })
+}
+
 /// Runs these jobs over a new cache, and gives how many milliseconds that takes, and how many of
 /// them have targets.
 fn run<R: Threads + Wait + Clock + AllocGlobal + Sync>(
     rt: &R,
-    wires: Vec<ZoneWire<'_>>,
-    jobs: Vec<Job>,
+    load: Load<'_>,
 ) -> Option<(u128, usize)> {
     let alloc = rt.alloc();
+    let Load { wires, jobs } = load;
     let clock = StandingClock {
         moment: Moment::new(100).unwrap(),
     };
@@ -86,8 +111,7 @@ fn measure<R: Threads + Wait + Clock + AllocGlobal + Sync>(
 ) -> Option<Measured> {
     let alloc = rt.alloc();
     let sent = AtomicU64::new(0);
-    let wires = ZoneWire::several(alloc, zone, &sent, workers).ok()?;
-    let (milliseconds, targets) = run(rt, wires, jobs_of(alloc, requests)?)?;
+    let (milliseconds, targets) = run(rt, load_of(alloc, zone, &sent, requests, workers)?)?;
     Some(Measured {
         milliseconds,
         sent: sent.load(Ordering::SeqCst),
@@ -138,20 +162,47 @@ fn zone(alloc: Global) -> Option<Zone> {
     Zone::read(alloc, text.as_str()).ok()
 }
 
+/// Makes what a run of 10,000 requests by one worker takes.
+fn make_ready(alloc: Global, zone: &Zone) -> Option<()> {
+    let sent = AtomicU64::new(0);
+    let _load = load_of(alloc, zone, &sent, 10_000, 1)?;
+    Some(())
+}
+
 /// Measures all runs, and prints them.
-fn print_runs<R: Threads + Wait + Clock + Print + AllocGlobal + Sync>(rt: &R) -> Option<()> {
-    let zone = zone(rt.alloc())?;
+fn print_runs<R: Threads + Wait + Clock + Print + AllocGlobal + Sync>(
+    rt: &R,
+    zone: &Zone,
+) -> Option<()> {
     for (requests, workers) in RUNS {
-        print_run(rt, &zone, requests, workers)?;
+        print_run(rt, zone, requests, workers)?;
     }
     for threads in ROLLING {
-        print_rolling(rt, &zone, threads)?;
+        print_rolling(rt, zone, threads)?;
     }
     Some(())
 }
 
-fn main(rt: HostRuntime) {
-    if env::args(&rt).is_ok_and(|words| words.count() > 1) {
-        let _ = print_runs(&rt);
+/// Does what the word asks for.
+fn perform<R: Threads + Wait + Clock + Print + AllocGlobal + Sync>(
+    rt: &R,
+    word: &str,
+) -> Option<()> {
+    let zone = zone(rt.alloc())?;
+    match word {
+        "one" => print_run(rt, &zone, 10_000, 1),
+        "ready" => make_ready(rt.alloc(), &zone),
+        _ => print_runs(rt, &zone),
     }
+}
+
+/// Does what the first word asks for, if there is one.
+fn run_word<R: Env + Threads + Wait + Clock + Print + AllocGlobal + Sync>(rt: &R) -> Option<()> {
+    let words = env::args(rt).ok()?;
+    let words = words.skip(1).collect::<Vec<String>>(rt.alloc()).ok()?;
+    perform(rt, words.first()?.as_str())
+}
+
+fn main(rt: HostRuntime) {
+    let _ = run_word(&rt);
 }

@@ -1,6 +1,4 @@
 mod Collecting
-mod FreeIds
-mod Going
 mod Joining
 mod Moves
 mod NextPut
@@ -10,6 +8,7 @@ mod SameCaps
 mod Sorting
 mod Standing
 mod Taking
+mod Telling
 mod Totals
+mod Weighing
 mod Whole
-mod Working

@@ -1,24 +1,20 @@
 -- What stays so while a worker goes on.
-use Rattle.std.proofs.Common.{◌≡◌, ℕ, ◌<◌, inl, inr, List, [], ◌∷◌, ◌++◌, map, set, get_or, length, take, ◌+◌, refl, sym, ap, ◌∙◌, append_assoc}
-use Rattle.std.proofs.lemmas.List.{append-nil, get_or-map, map-append, map-set, set-get_or, take_more}
-use Rattle.std.proofs.lemmas.List.Elements.{All-nil, All-append, All-set, All-weaker, Contains-append_left}
-use Rattle.std.specs.List.{All}
+use Rattle.std.proofs.Common.{◌≡◌, ℕ, inl, inr, List, [], ◌++◌, refl, sym, ap, ◌∙◌, append_assoc}
+use Rattle.std.proofs.lemmas.List.{append-nil}
+use Rattle.std.proofs.lemmas.List.Elements.{All-nil, All-append, All-weaker, Contains-append_left}
 use mathlib.Core.List.{IsPrefix}
 use Rattle.dns_message.specs.declared.question.Question.{Question}
 use Rattle.answer_log.specs.declared.store.Store.{Store}
 use Rattle.answer_cache.specs.Seats.{GoesOn, SeatView, StoresNothing, offer_of}
 use Rattle.sip_selection.specs.Choice.{Resolution, need, refused, targets}
 use Rattle.sip_selection.specs.Known.{Given}
-use Rattle.sip_workers.specs.Outcomes.{Counts, IsCached, IsChosen, IsLacking, IsOutcome, Says}
-use Rattle.sip_workers.specs.Tasks.{IsAt, IsOf, Stands, job_of}
-use Rattle.sip_workers.specs.Works.{CountsAt, IsHeard, IsOutcomeAt, Works, offer_in}
+use Rattle.sip_resolver.specs.Outcomes.{IsCached, IsLacking}
+use Rattle.sip_resolver.specs.Outcomes.{Counts as CountsAt}
+use Rattle.sip_resolver.specs.Works.{IsHeard, Works, offer_in}
+use Rattle.sip_workers.specs.Outcomes.{Counts, IsChosen, IsOutcome, IsOutcomeAt, Says}
 use Rattle.sip_workers.specs.declared.job.Job.{Job}
-use Rattle.sip_workers.specs.declared.outcome.Outcome.{Outcome}
-use Rattle.sip_workers.specs.declared.outcome.Outcome.TheVariants.{Targets, Refused, NoAnswer, BadReply, Memory}
-use Rattle.sip_workers.specs.declared.task.Stage.TheVariants.{Ready, Held, Waiting, Done}
-use Rattle.sip_workers.specs.declared.task.Stage.{Stage}
-use Rattle.sip_workers.specs.declared.task.Task.{Task}
-use Rattle.sip_selection.specs.Selections.{SelectionValue}
+use Rattle.sip_resolver.specs.declared.outcome.Outcome.{Outcome}
+use Rattle.sip_resolver.specs.declared.outcome.Outcome.TheVariants.{Targets, Refused, NoAnswer, BadReply, Memory}
 
 pub prefix-self : {X : Type 0} (history : List X) → IsPrefix history history
 prefix-self history = ([], append-nil history)
@@ -88,29 +84,6 @@ module _ (gives : List ℕ → Type 0) (shows : ℕ → Type 0) where
     outcome-later job outcome it =
         says-later old.seen new.seen works.goes_on.seen (CountsAt gives shows old) (CountsAt gives shows new) counts-later job outcome it
 
-    pub of-later : (job : Job) (selection : SelectionValue) → IsOf (CountsAt gives shows old) job selection
-        → IsOf (CountsAt gives shows new) job selection
-    of-later job selection it = record {
-      request = it.request;
-      caps = it.caps;
-      words = it.words;
-      counted = All-weaker (CountsAt gives shows old) (CountsAt gives shows new) counts-later selection.given it.counted;
-    }
-
-    at-later : (job : Job) (selection : SelectionValue) (stage : Stage) → IsAt gives shows old job selection stage
-        → IsAt gives shows new job selection stage
-    at-later job selection Ready it = it
-    at-later job selection Held it = it
-    at-later job selection (Waiting id) it =
-        λ question needs. lacking-later old.seen new.seen works.goes_on.seen question (it question needs)
-    at-later job selection (Done outcome) it = outcome-later job outcome it
-
-    pub stands-later : (task : Task) → Stands gives shows old task → Stands gives shows new task
-    stands-later task it = (of-later task.job.now task.locator it.0, at-later task.job.now task.locator task.stage it.1)
-
-    pub all-later : (tasks : List Task) → All (Stands gives shows old) tasks → All (Stands gives shows new) tasks
-    all-later tasks all = All-weaker (Stands gives shows old) (Stands gives shows new) stands-later tasks all
-
   pub works-not : (seat : SeatView) → Works gives shows seat seat
   works-not seat = record {
     goes_on = record { number = refl; seen = prefix-self seat.seen };
@@ -146,30 +119,3 @@ module _ (gives : List ℕ → Type 0) (shows : ℕ → Type 0) where
     own = back.own ∙ ap (λ l. l ++ back.stores) front.own ∙ append_assoc old.own front.stores back.stores;
     kept = All-append (λ store. IsHeard gives shows (offer_in store)) front.stores back.stores front.kept back.kept;
   }
-
--- ---- the jobs of requests
-
--- a change of one request that leaves its job leaves the jobs
-pub same-jobs : (tasks : List Task) (at : ℕ) (task old : Task) → at < length tasks → job_of task ≡ job_of (get_or tasks at old)
-    → map job_of (set tasks at task) ≡ map job_of tasks
-same-jobs tasks at task old within same =
-    map-set job_of tasks at task
-    ∙ ap (set (map job_of tasks) at) (same ∙ sym (get_or-map job_of tasks at old (job_of task) within))
-    ∙ set-get_or (map job_of tasks) at (job_of task)
-
--- all stand on where one has gone on
-pub one-later : (gives : List ℕ → Type 0) (shows : ℕ → Type 0) (old new : SeatView) → Works gives shows old new
-    → (tasks : List Task) (at : ℕ) (task : Task) → All (Stands gives shows old) tasks → Stands gives shows new task
-    → All (Stands gives shows new) (set tasks at task)
-one-later gives shows old new works tasks at task all stands =
-    All-set (Stands gives shows new) tasks at task stands (all-later gives shows old new works tasks all)
-
--- with the request of one job more
-pub begun-more : (jobs : List Job) (tasks : List Task) (index : ℕ) (task : Task) (job : Job) → index < length jobs
-    → job ≡ get_or jobs index job → job_of task ≡ job → map job_of tasks ≡ take index jobs
-    → map job_of (tasks ++ task ∷ []) ≡ take (index + 1) jobs
-begun-more jobs tasks index task job within at same before =
-    map-append job_of tasks (task ∷ [])
-    ∙ ap (λ l. l ++ job_of task ∷ []) before
-    ∙ ap (λ it. take index jobs ++ it ∷ []) (same ∙ at)
-    ∙ sym (take_more jobs index job within)

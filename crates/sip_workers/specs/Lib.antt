@@ -1,7 +1,6 @@
 pub mod Outcomes
 pub mod SameJobs
-pub mod Works
-pub mod Tasks
+pub mod Batches
 pub mod Runs
 pub mod Gathers
 pub mod Slots

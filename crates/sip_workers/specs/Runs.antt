@@ -4,7 +4,7 @@ use Rattle.std.specs.List.{AllZip}
 use Rattle.answer_cache.specs.Shared.{CacheView, Told}
 use Rattle.sip_workers.specs.Outcomes.{IsOutcome}
 use Rattle.sip_workers.specs.declared.job.Job.{Job}
-use Rattle.sip_workers.specs.declared.outcome.Outcome.{Outcome}
+use Rattle.sip_resolver.specs.declared.outcome.Outcome.{Outcome}
 use Rattle.sip_workers.specs.declared.refusal.RunRefusal.{RunRefusal}
 use Rattle.sip_workers.specs.declared.gather_refusal.GatherRefusal.{GatherRefusal}
 use Rattle.sip_workers.specs.declared.gather_refusal.GatherRefusal.TheVariants as gather

@@ -2,10 +2,10 @@
 //! cache.
 //!
 //! A `Job` is a request with what its sender can do. A `Worker` has a seat at a `SharedCache` and a
-//! wire to a DNS server. It takes a batch of jobs at a time and works on all of them at once, so
-//! that their questions are out together: what the cache has is looked up, and what it lacks is
-//! asked, up to three times (`dns_asker`). What a reply has is used for its job and then stored. In
-//! the end each job has its `Outcome`.
+//! wire to a DNS server. It takes a batch of jobs at a time and drives a `sip_resolver` with all of
+//! them at once: what the cache has is looked up, and what it lacks is asked, up to three times. A
+//! question that many of them ask is asked once, and its answer is stored once. In the end each job
+//! has its `Outcome`.
 //!
 //! ```
 //! let Ok((cache, mut seats)) = SharedCache::new(alloc, 1) else {
@@ -29,16 +29,18 @@
 //! job, in order. The batches go through a bounded channel under a rule, from which a worker that
 //! is free takes the next one. `gather` puts results in the order of their jobs.
 //!
-//! Read `specs/Outcomes.antt` first: what an outcome says. Then `specs/Works.antt`: what a worker
-//! hands to the cache, `specs/Runs.antt`: what a run of many workers gives, `specs/Rules.antt`: the
-//! rule of the channel, and `specs/Gathers.antt`: when results are those of some jobs.
+//! Read `specs/Outcomes.antt` first: what an outcome says. Then `specs/Runs.antt`: what a run of
+//! many workers gives, `specs/Rules.antt`: the rule of the channel, and `specs/Gathers.antt`: when
+//! results are those of some jobs.
 #![tactic(auto)]
 
 mod batch;
+mod drive;
 mod gate;
 mod gather_refusal;
 mod gathering;
 mod job;
+mod open_batch;
 mod outcome;
 mod part;
 mod putting;
@@ -46,17 +48,18 @@ mod queue;
 mod refusal;
 mod report;
 mod run;
-mod task;
 mod threads;
+mod wire_origin;
 mod worker;
 
 pub use gate::{Gate, OpenGate};
 pub use gather_refusal::GatherRefusal;
 pub use gathering::gather;
 pub use job::Job;
-pub use outcome::{JobResult, Outcome, TargetList};
+pub use outcome::JobResult;
 pub use refusal::RunRefusal;
 pub use run::run_workers;
+pub use sip_resolver::{Outcome, TargetList};
 pub use worker::Worker;
 
 #[cfg(test)]

@@ -4,9 +4,10 @@ ghost use Rattle.std.specs.List.{All};
 ghost use Rattle.sip_workers.specs.Deals.{IsTold};
 
 use crate::job::Job;
-use crate::outcome::{JobResult, Outcome};
+use crate::outcome::JobResult;
 use answer_cache::Notice;
 use dns_asker::{Clock, Wire};
+use sip_resolver::Outcome;
 use std::alloc::{AllocError, Global};
 use std::marker::Model;
 

@@ -13,6 +13,8 @@ use std::sync::atomic::{AtomicU64, Ordering};
 use std::thread::Threads;
 
 mod allocations;
+mod equal;
+mod faults;
 mod gathered;
 mod ids;
 mod many;

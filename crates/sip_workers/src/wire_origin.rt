@@ -1,0 +1,17 @@
+//! What may be known of what comes over a wire.
+use dns_asker::{Clock, Wire};
+use sip_resolver::Origin;
+use std::marker::PhantomData;
+
+/// Octets that a wire gives, at moments that a clock shows.
+#[derive(Clone, Copy, Debug)]
+pub(crate) struct WireOrigin<W, C> {
+    wire: PhantomData<W>,
+    clock: PhantomData<C>,
+}
+
+impl<W: Wire, C: Clock> Origin for WireOrigin<W, C> {
+    ghost gives = { W.gives };
+
+    ghost shows = { C.shows };
+}
