@@ -6,3 +6,7 @@ pub mod Draws
 pub mod Clocks
 pub mod RequestLines
 pub mod SentQueries
+pub mod QueryForms
+pub mod ReplyBits
+pub mod Wires
+pub mod WireCounts

@@ -1,13 +1,16 @@
 -- The queries that were sent last.
-use Rattle.std.specs.Prelude.{◌≡◌, ℕ, ◌+◌, ◌<◌, take, Bool, true, List, Option, Some, None, slice_get}
+use Rattle.std.specs.Prelude.{◌≡◌, ℕ, ◌+◌, ◌<◌, take, Bool, true, false, List, Option, Some, None, slice_get}
 use Rattle.std.specs.List.{Contains, position_or_len}
 use Rattle.std.specs.Str.{bytes_eq}
 
--- a query, how often it was sent, and whether no reply to it was handed on since
+-- a query, how often it was sent, whether no reply to it was handed on since, whether it went out,
+-- and the server that it went to last, where that was with EDNS and the server did not refuse it
 pub record SentValue : Type 0 where
   pub octets : List ℕ
   pub sends : ℕ
   pub is_out : Bool
+  pub went_out : Bool
+  pub edns_server : Option ℕ
 
 abbrev pub has_octets : List ℕ → SentValue → Bool
 has_octets query sent = bytes_eq sent.octets query
@@ -16,9 +19,29 @@ abbrev pub sends_in : Option SentValue → ℕ
 sends_in None = 0
 sends_in (Some sent) = sent.sends
 
+-- a query as it is kept
+abbrev pub sent_of : List ℕ → List SentValue → Option SentValue
+sent_of query kept = slice_get kept (position_or_len (has_octets query) kept)
+
 -- how often a query was sent, as far as it is kept
 abbrev pub sends_of : List ℕ → List SentValue → ℕ
-sends_of query kept = sends_in (slice_get kept (position_or_len (has_octets query) kept))
+sends_of query kept = sends_in (sent_of query kept)
+
+abbrev pub HasNotGone : Option SentValue → Type 0
+HasNotGone None = ⊥
+HasNotGone (Some sent) = sent.went_out ≡ false
+
+-- a query that is kept did not go out yet
+abbrev pub IsNotOut : List ℕ → List SentValue → Type 0
+IsNotOut query kept = HasNotGone (sent_of query kept)
+
+abbrev pub IsWithEdns : ℕ → Option SentValue → Type 0
+IsWithEdns server None = ⊥
+IsWithEdns server (Some sent) = sent.edns_server ≡ Some server
+
+-- a query that is kept went out to this server last, with EDNS
+abbrev pub WentWithEdns : ℕ → List ℕ → List SentValue → Type 0
+WentWithEdns server query kept = IsWithEdns server (sent_of query kept)
 
 -- it has the first two octets of a message, which are its id, and was sent more often
 pub record HasIdOf (message : List ℕ) (sends : ℕ) (sent : SentValue) : Type 0 where

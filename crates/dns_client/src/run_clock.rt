@@ -35,6 +35,12 @@ impl<'a, R: time::Clock> RunClock<'a, R> {
         let start = Instant::now(rt)?;
         Ok(RunClock { rt, start })
     }
+
+    /// The time since it was started; none where the system's clock can't be read.
+    #[must_use]
+    pub fn elapsed(&self) -> Duration {
+        self.start.elapsed(self.rt).unwrap_or(Duration::ZERO)
+    }
 }
 
 impl<'a, R: time::Clock> Clock for RunClock<'a, R> {
@@ -45,6 +51,6 @@ impl<'a, R: time::Clock> Clock for RunClock<'a, R> {
 
     /// The seconds since the start; 0 where the system's clock can't be read.
     fn now(&self) -> Moment {
-        moment_after(self.start.elapsed(self.rt).unwrap_or(Duration::ZERO))
+        moment_after(self.elapsed())
     }
 }

@@ -1,7 +1,7 @@
 //! The queries that were sent last.
 ghost use Rattle.std.specs.Prelude.{◌≡◌, IfOk, IfSome, IsTrue, length, take};
 ghost use Rattle.std.specs.List.{position};
-ghost use Rattle.dns_client.specs.SentQueries.{CanGoOn, HasIdOf, IsFurther, has_octets, sends_of};
+ghost use Rattle.dns_client.specs.SentQueries.{CanGoOn, HasIdOf, IsFurther, IsNotOut, WentWithEdns, has_octets, sends_of};
 
 use std::alloc::{AllocError, Global};
 use std::marker::Model;
@@ -9,12 +9,15 @@ use std::marker::Model;
 /// How many queries are kept: the last ones.
 const QUERY_LIMIT: usize = 256;
 
-/// A query, how often it was sent, and whether no reply to it was handed on since.
+/// A query, how often it was sent, whether no reply to it was handed on since, whether it went out,
+/// and the server whose refusal of EDNS makes it go out once more.
 #[derive(Drop)]
 struct SentQuery {
     octets: Vec<u8>,
     sends: usize,
     is_out: bool,
+    went_out: bool,
+    edns_server: Option<usize>,
 }
 
 impl Model for SentQuery {
@@ -26,6 +29,8 @@ impl Model for SentQuery {
       octets = it.octets.items;
       sends = it.sends;
       is_out = it.is_out;
+      went_out = it.went_out;
+      edns_server = it.edns_server;
     } };
 }
 
@@ -103,6 +108,8 @@ impl SentQueries {
             octets,
             sends: 1,
             is_out: true,
+            went_out: false,
+            edns_server: None,
         })?;
         Ok(0)
     }
@@ -124,6 +131,35 @@ impl SentQueries {
         if let Some(at) = self.place_of(query) {
             self.items[at].is_out = false;
         }
+    }
+
+    /// Notes that a query goes out, and the server that it goes to with EDNS, if it does. Tells
+    /// whether it goes out for the first time, as far as it is kept.
+    pub(crate) fn note_out(&mut self, query: &[u8], edns_server: Option<usize>) -> bool
+        ensures first { IsTrue result → IsNotOut query.now self.old }
+        ensures count { length self.new ≡ length self.old }
+    {
+        let Some(at) = self.place_of(query) else {
+            return false;
+        };
+        let is_first = !self.items[at].went_out;
+        self.items[at].went_out = true;
+        self.items[at].edns_server = edns_server;
+        is_first
+    }
+
+    /// Whether a query that is out went with EDNS to this server, and to none since. From now on it
+    /// did not.
+    pub(crate) fn take_edns(&mut self, query: &[u8], server: usize) -> bool
+        ensures was { IsTrue result → WentWithEdns server query.now self.old }
+        ensures count { length self.new ≡ length self.old }
+    {
+        let Some(at) = self.place_of(query) else {
+            return false;
+        };
+        let went = self.items[at].is_out && self.items[at].edns_server == Some(server);
+        self.items[at].edns_server = None;
+        went
     }
 
     /// The last query of a message's id that was sent more often than so many times.

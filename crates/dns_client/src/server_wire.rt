@@ -1,97 +1,40 @@
 //! A wire to DNS servers over sockets.
-ghost use Rattle.std.specs.Prelude.{◌≡◌, ◌≤◌, IfOk, IfSome, length};
+ghost use Rattle.std.specs.Prelude.{◌≡◌, ◌≤◌, IfOk, IfSome, IsFalse, length};
+ghost use Rattle.dns_client.specs.Wires.{HandsOn};
 
 use crate::deadline::Deadline;
 use crate::message_wire::MessageWire;
+use crate::query_form::QueryForm;
+use crate::reply_bits::{is_cut, refuses_edns, tells_failure};
 use crate::sent_queries::SentQueries;
+use crate::server::{DATAGRAM_LIMIT, LONG_WAIT, Server, is_wait, wait_for};
 use crate::tcp::ask_over_tcp;
-use crate::udp::socket_to;
-use std::alloc::{AllocError, Global};
+use crate::try_log::TryLog;
+use crate::udp::try_bind;
+use crate::wire_counts::WireCounts;
+use crate::wire_try::{Tracer, Way, WireTry};
+use std::alloc::Global;
 use std::collections::VecDeque;
 use std::io::{self, ErrorKind};
-use std::net::{Net, SocketAddr, UdpSocket};
+use std::net::{IpAddr, Net, SocketAddr};
 use std::time::{Clock, Duration};
-
-/// How long a receive waits where one server was asked, in milliseconds.
-const LONG_WAIT: u64 = 100;
-
-/// Whether a message is a reply that another server may better: its server can't or won't answer.
-fn tells_failure(message: &[u8]) -> bool {
-    message.len() >= HEADER_LENGTH
-        && message[2] & REPLY_BIT != 0
-        && matches!(message[3] & RCODE_BITS, SERVER_FAILURE | REFUSED)
-}
-
-/// How long a receive waits for each server where several were asked, in milliseconds.
-const SHORT_WAIT: u64 = 10;
-
-/// The most octets of a datagram that is taken.
-const DATAGRAM_LIMIT: usize = 4_096;
-
-/// The octets of a header (RFC 1035 4.1.1).
-const HEADER_LENGTH: usize = 12;
-
-/// The bit QR of a header's third octet: a reply.
-const REPLY_BIT: u8 = 0x80;
-
-/// The bits QR and TC of that octet: a reply that was cut.
-const CUT_BITS: u8 = 0x82;
-
-/// The bits RCODE of a header's fourth octet.
-const RCODE_BITS: u8 = 0x0f;
-
-/// The RCODEs of a server that can't, and of one that won't, answer.
-const SERVER_FAILURE: u8 = 2;
-
-const REFUSED: u8 = 5;
 
 /// How many queries leave a server at once at most.
 const LEAVE_LIMIT: usize = 256;
 
-/// A server, its socket where one could be opened, and whether it was asked.
-#[derive(Drop)]
-struct Server {
-    address: SocketAddr,
-    socket: Option<UdpSocket>,
-    asked: bool,
-}
-
-impl Server {
-    /// Sends a query, and tells whether it could be sent.
-    fn send(&mut self, query: &[u8]) -> bool {
-        self.asked = true;
-        match &self.socket {
-            Some(socket) => socket.send(query).is_ok(),
-            None => false,
-        }
-    }
-
-    /// Receives a datagram, if one comes in this time.
-    fn receive(&self, wait: Duration, buffer: &mut [u8; DATAGRAM_LIMIT]) -> io::Result<usize>
-        ensures { IfOk result (λ count. count ≤ length buffer.new) }
-    {
-        let Some(socket) = &self.socket else {
-            return Err(io::Error::from(ErrorKind::NotConnected));
-        };
-        socket.set_read_timeout(Some(wait))?;
-        socket.recv(buffer)
-    }
-}
-
-/// Whether the system says that nothing came in the time that a socket waits.
-fn is_wait(kind: ErrorKind) -> bool {
-    matches!(kind, ErrorKind::WouldBlock | ErrorKind::TimedOut)
-}
-
-/// Whether a message is a reply that was cut.
-fn is_cut(message: &[u8]) -> bool {
-    message.len() >= HEADER_LENGTH && message[2] & CUT_BITS == CUT_BITS
-}
-
-/// How long a receive waits for each server that was asked.
-fn wait_for(servers: &[Server]) -> Duration {
-    let asked = servers.iter().filter(|server| server.asked).count();
-    Duration::from_millis(if asked > 1 { SHORT_WAIT } else { LONG_WAIT })
+/// How a wire asks.
+#[derive(Clone, Copy, Debug)]
+pub struct WireOptions {
+    /// Whether all goes over TCP.
+    pub over_tcp: bool,
+    /// The local address from which datagrams go, where the system is not to choose it.
+    pub local: Option<IpAddr>,
+    /// The form in which queries go out.
+    pub form: QueryForm,
+    /// Whether each query that goes out is kept for `take_tries`.
+    pub keeps_tries: bool,
+    /// After how much its time is over.
+    pub total: Duration,
 }
 
 /// A wire to DNS servers over sockets of the system.
@@ -105,61 +48,134 @@ fn wait_for(servers: &[Server]) -> Duration {
 /// (RFC 1035 4.1.1), the query goes to the next server at once, as long as there is one that was
 /// not asked (RFC 1035 7.2). Where there is none, a send or a receive that fails counts as lost,
 /// and the reply is given.
+///
+/// Where queries have an OPT record and a server refuses that, by FORMERR, NOTIMP or an RCODE
+/// greater than 15, it is asked the same once more without one, and from then on so (RFC 6891
+/// 6.2.2, 7). Such a reply is never given: where it comes again, it is as if the send had failed.
 #[derive(Drop)]
 pub struct ServerWire<'a, R> {
     rt: &'a R,
     alloc: Global,
     servers: Vec<Server>,
-    over_tcp: bool,
+    options: WireOptions,
     sent: SentQueries,
     replies: VecDeque<Vec<u8>>,
-    total: Duration,
+    log: TryLog,
     deadline: Deadline,
 }
 
 impl<'a, R: Net + Clock> ServerWire<'a, R> {
-    /// A wire to these servers, whose time is over after this much. With `over_tcp` all goes over
-    /// TCP.
+    /// A wire to these servers.
     ///
     /// # Errors
     ///
-    /// `OutOfMemory`, and those of the system's clock. A server to which no socket can be opened
-    /// gives no reply.
+    /// `OutOfMemory`, those of the system's clock, and that of the system where no socket can have
+    /// the local address. A server to which no socket can be opened gives no reply.
     pub fn open(
         rt: &'a R,
         alloc: Global,
         addresses: &[SocketAddr],
-        over_tcp: bool,
-        total: Duration,
+        options: WireOptions,
     ) -> io::Result<ServerWire<'a, R>> {
+        if let Some(local) = options.local {
+            try_bind(rt, local)?;
+        }
         let mut servers = Vec::new(alloc);
         'addresses: for address in addresses {
-            servers.push(Server {
-                address: *address,
-                socket: socket_to(rt, *address).ok(),
-                asked: false,
-            })?;
+            servers.push(Server::new(rt, options.local, *address))?;
         }
         Ok(ServerWire {
             rt,
             alloc,
             servers,
-            over_tcp,
+            options,
             sent: SentQueries::new(alloc),
             replies: VecDeque::new(alloc),
-            total,
-            deadline: Deadline::after(rt, total)?,
+            log: TryLog::start(rt, alloc, options.keeps_tries)?,
+            deadline: Deadline::after(rt, options.total)?,
         })
     }
 
-    /// What comes back from a server over TCP.
-    fn over_tcp(&self, server: usize, query: &[u8]) -> Option<Vec<u8>> {
-        let server = self.servers.get(server)?;
-        ask_over_tcp(self.rt, self.alloc, &server.address, query, &self.deadline).ok()
+    /// How much went over it.
+    #[must_use]
+    pub fn counts(&self) -> WireCounts {
+        self.log.counts()
+    }
+
+    /// The form in which a query goes to a server.
+    fn form_for(&self, server: usize) -> QueryForm {
+        match self.servers.get(server) {
+            Some(server) if server.refused_edns => self.options.form.without_edns(),
+            _ => self.options.form,
+        }
+    }
+
+    /// Whether a message refuses the EDNS that is asked for, or memory is refused to look.
+    fn refuses(&self, message: &[u8]) -> bool
+        ensures { IsFalse result → HandsOn self.now.options.form message.now }
+    {
+        self.options.form.edns.is_some() && refuses_edns(self.alloc, message).unwrap_or(true)
+    }
+
+    /// Notes that a query goes out this way, and the server that may refuse its EDNS, if one may.
+    fn note(&mut self, way: Way, query: &[u8], edns_server: Option<usize>)
+        ensures { self.new.options ≡ self.old.options }
+    {
+        let is_first = self.sent.note_out(query, edns_server);
+        self.log.sent(self.rt, way, query, is_first);
+    }
+
+    /// What comes back from a server over TCP for a query in this form.
+    fn ask(&mut self, server: usize, query: &[u8], form: QueryForm) -> Option<Vec<u8>>
+        ensures { self.new.options ≡ self.old.options }
+    {
+        let way = Way {
+            server: self.servers.get(server)?.address,
+            over_tcp: true,
+            has_edns: form.edns.is_some(),
+        };
+        let octets = form.octets(self.alloc, query).ok()?;
+        self.note(way, query, None);
+        let octets = octets.as_slice();
+        let reply = ask_over_tcp(self.rt, self.alloc, &way.server, octets, &self.deadline).ok()?;
+        self.log.came(self.rt, way.server, true, reply.as_slice());
+        Some(reply)
+    }
+
+    /// Notes that a server refused EDNS.
+    fn leave_edns(&mut self, server: usize)
+        ensures { self.new.options ≡ self.old.options }
+    {
+        if let Some(server) = self.servers.get_mut(server) {
+            server.refused_edns = true;
+        }
+    }
+
+    /// What comes back from a server over TCP, if it is no refusal of EDNS.
+    fn over_tcp(&mut self, server: usize, query: &[u8]) -> Option<Vec<u8>>
+        ensures same { self.new.options ≡ self.old.options }
+        ensures given { IfSome result (λ reply. HandsOn self.old.options.form reply.items) }
+    {
+        let form = self.form_for(server);
+        let reply = self.ask(server, query, form)?;
+        if !self.refuses(reply.as_slice()) {
+            return Some(reply);
+        }
+        if form.edns.is_none() {
+            return None;
+        }
+        self.leave_edns(server);
+        let reply = self.ask(server, query, form.without_edns())?;
+        if self.refuses(reply.as_slice()) {
+            return None;
+        }
+        Some(reply)
     }
 
     /// The whole message for one that came from a server, as a reply to this query.
-    fn whole(&self, server: usize, query: &[u8], message: &[u8]) -> Option<Vec<u8>> {
+    fn whole(&mut self, server: usize, query: &[u8], message: &[u8]) -> Option<Vec<u8>>
+        ensures { self.new.options ≡ self.old.options }
+    {
         if is_cut(message) {
             if let Some(whole) = self.over_tcp(server, query) {
                 return Some(whole);
@@ -183,11 +199,59 @@ impl<'a, R: Net + Clock> ServerWire<'a, R> {
         false
     }
 
+    /// Sends a query to a server in a datagram, and tells whether it could be sent.
+    fn send_datagram(&mut self, server: usize, query: &[u8]) -> bool {
+        let form = self.form_for(server);
+        let Ok(octets) = form.octets(self.alloc, query) else {
+            return false;
+        };
+        let Some(to) = self.servers.get_mut(server) else {
+            return false;
+        };
+        let way = Way {
+            server: to.address,
+            over_tcp: false,
+            has_edns: form.edns.is_some(),
+        };
+        let is_sent = to.send(octets.as_slice());
+        let edns_server = if way.has_edns { Some(server) } else { None };
+        self.note(way, query, edns_server);
+        is_sent
+    }
+
+    /// Asks a server that refused EDNS the same without it. Where it was asked so already, the next
+    /// server is asked at once, if there is one that was not.
+    fn ask_plainly(&mut self, server: usize, query: &[u8]) {
+        self.leave_edns(server);
+        if self.sent.take_edns(query, server) {
+            let _is_sent = self.send_datagram(server, query);
+        } else {
+            let _goes_on = self.goes_on(server, query);
+        }
+    }
+
+    /// Notes that a datagram came from a server.
+    fn note_reply(&mut self, server: usize, message: &[u8])
+        ensures { self.new.options ≡ self.old.options }
+    {
+        if let Some(server) = self.servers.get(server) {
+            let address = server.address;
+            self.log.came(self.rt, address, false, message);
+        }
+    }
+
     /// Takes a message that came from a server, and gives what is to be handed on.
-    fn take(&mut self, server: usize, message: &[u8]) -> Option<Vec<u8>> {
+    fn take(&mut self, server: usize, message: &[u8]) -> Option<Vec<u8>>
+        ensures { IfSome result (λ reply. HandsOn self.old.options.form reply.items) }
+    {
         let query = self.sent.query_of(message, server)?;
         let query = Vec::from_slice(self.alloc, query).ok()?;
+        self.note_reply(server, message);
         let whole = self.whole(server, query.as_slice(), message)?;
+        if self.refuses(whole.as_slice()) {
+            self.ask_plainly(server, query.as_slice());
+            return None;
+        }
         if tells_failure(whole.as_slice()) && self.goes_on(server, query.as_slice()) {
             return None;
         }
@@ -232,8 +296,8 @@ impl<'a, R: Net + Clock> ServerWire<'a, R> {
         ensures { IfOk result (λ count. count ≤ length buffer.new) }
     {
         match self.servers.get(server) {
-            Some(server) if server.asked => server.receive(wait, buffer),
-            _ => Err(io::Error::from(ErrorKind::WouldBlock)),
+            Some(server) => server.receive(wait, buffer),
+            None => Err(io::Error::from(ErrorKind::WouldBlock)),
         }
     }
 
@@ -254,11 +318,8 @@ impl<'a, R: Net + Clock> ServerWire<'a, R> {
     /// Sends a query to a server, and tells whether its reply may come. Over TCP the reply comes at
     /// once; one that tells a failure counts as none, but for the last server.
     fn send_to(&mut self, server: usize, query: &[u8], is_last: bool) -> bool {
-        if !self.over_tcp {
-            return match self.servers.get_mut(server) {
-                Some(server) => server.send(query),
-                None => false,
-            };
+        if !self.options.over_tcp {
+            return self.send_datagram(server, query);
         }
         match self.over_tcp(server, query) {
             Some(reply) if is_last || !tells_failure(reply.as_slice()) => {
@@ -266,6 +327,12 @@ impl<'a, R: Net + Clock> ServerWire<'a, R> {
             }
             _ => false,
         }
+    }
+}
+
+impl<'a, R: Net + Clock> Tracer for ServerWire<'a, R> {
+    fn take_tries(&mut self) -> Vec<WireTry> {
+        self.log.take()
     }
 }
 
@@ -280,7 +347,7 @@ impl<'a, R: Net + Clock> MessageWire for ServerWire<'a, R> {
 
     /// Where the system's clock can't be read, its time goes on as it was.
     fn begin(&mut self) {
-        if let Ok(deadline) = Deadline::after(self.rt, self.total) {
+        if let Ok(deadline) = Deadline::after(self.rt, self.options.total) {
             self.deadline = deadline;
         }
     }
@@ -299,7 +366,7 @@ impl<'a, R: Net + Clock> MessageWire for ServerWire<'a, R> {
     }
 
     fn receive(&mut self) -> Option<Vec<u8>> {
-        if !self.over_tcp {
+        if !self.options.over_tcp {
             return self.receive_datagram();
         }
         let reply = self.replies.pop_front();

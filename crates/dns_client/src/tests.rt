@@ -1,4 +1,5 @@
-//! Resolver files.
+//! Resolver files, and the octets that go out and come in.
 mod allocations;
 mod files;
+mod forms;
 mod page;

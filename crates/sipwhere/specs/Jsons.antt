@@ -5,7 +5,7 @@ use Rattle.dns_name.specs.Texts.{text_of}
 use Rattle.dns_answers.specs.declared.refusal.ReplyRefusal.{ReplyRefusal}
 use Rattle.dns_answers.specs.declared.refusal.ReplyRefusal.TheVariants as refusal
 use Rattle.dns_message.specs.declared.question.Question.{Question}
-use Rattle.serde_json.specs.Data.{Data, array, member, no_items, no_members, number, object, string, unsigned}
+use Rattle.serde_json.specs.Data.{Data, array, member, no_members, number, object, string, unsigned}
 use Rattle.serde_json.specs.View.{items_of}
 use Rattle.serde_json.specs.Written.{compact_text}
 use Rattle.sip_resolver.specs.declared.outcome.Outcome.{Outcome}

@@ -1,8 +1,11 @@
 -- What is printed of a text.
 use Rattle.std.specs.Prelude.{ℕ, Bool, true, false, List, [], ◌∷◌, ◌++◌}
+use Rattle.std.specs.List.{flat_map}
+use Rattle.dns_client.specs.declared.wire_try.WireTry.{WireTry}
 use Rattle.sipwhere.specs.Checks.{check_line, check_status}
 use Rattle.sipwhere.specs.Jsons.{json_line}
 use Rattle.sipwhere.specs.Lines.{lines_of, status_of}
+use Rattle.sipwhere.specs.Traces.{trace_line}
 use Rattle.sipwhere.specs.declared.address.AddressForm.{AddressForm}
 use Rattle.sipwhere.specs.declared.fate.Fate.{Fate}
 use Rattle.sipwhere.specs.declared.report.Report.{Report}
@@ -21,6 +24,14 @@ report_as Check form several text fate = check_line form fate
 
 abbrev pub report_of : Style → List ℕ → Fate → List ℕ
 report_of style text fate = report_as style.report style.form style.several text fate
+
+-- the lines of what went over the wire, where they are asked for
+abbrev pub trace_of : Bool → List WireTry → List ℕ
+trace_of true tries = flat_map trace_line tries
+trace_of false tries = []
+
+abbrev pub traced_report : Style → List WireTry → List ℕ → Fate → List ℕ
+traced_report style tries text fate = trace_of style.traced tries ++ report_of style text fate
 
 -- its status: a check has one of its own
 abbrev pub status_in : Report → Fate → ℕ

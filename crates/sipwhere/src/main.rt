@@ -13,10 +13,13 @@ mod output;
 mod plan;
 mod report;
 mod run;
+mod run_fault;
 mod seed;
 mod server_text;
+mod stats;
 #[cfg(test)]
 mod tests;
+mod trace;
 
 use check_line::UNKNOWN_STATUS;
 use clap::Error;

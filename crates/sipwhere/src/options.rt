@@ -4,12 +4,13 @@ ghost use Rattle.std.specs.Prelude.{◌≡◌, ◌≤◌, IfOk};
 use crate::address::AddressForm;
 use crate::report::{Report, Style};
 use crate::seed::key_from_text;
-use crate::server_text::server_from_text;
+use crate::server_text::{local_from_text, server_from_text};
 use clap::{Arg, ArgAction, ArgMatches, Command, value_parser};
+use dns_client::QueryForm;
 use sip_selection::{Caps, Families};
 use sip_uri::Transport;
 use std::alloc::{AllocError, AllocFailed, Global};
-use std::net::SocketAddr;
+use std::net::{IpAddr, SocketAddr};
 use thiserror::Error;
 
 /// What is asked for.
@@ -21,6 +22,10 @@ pub struct Options<'a> {
     pub resolver_file: &'a str,
     /// Whether servers are asked over TCP alone.
     pub over_tcp: bool,
+    /// The local address to ask from, where it is named.
+    pub local: Option<IpAddr>,
+    /// The form in which queries go out.
+    pub query_form: QueryForm,
     /// What can be sent.
     pub caps: Caps,
     /// How long one text may take, in milliseconds.
@@ -31,6 +36,10 @@ pub struct Options<'a> {
     pub report: Report,
     /// The form of addresses.
     pub form: AddressForm,
+    /// Whether each try is printed.
+    pub traced: bool,
+    /// Whether it is told at the end how much was asked.
+    pub stats: bool,
     /// The texts, or `-` for the lines of the standard input.
     pub texts: Vec<&'a str>,
 }
@@ -41,6 +50,9 @@ pub enum OptionFault {
     /// A server that is none.
     #[error("a server is ADDRESS, ADDRESS:PORT or [ADDRESS]:PORT")]
     Server,
+    /// A local address that is none.
+    #[error("a local address is one of IPv4 or IPv6, without a port")]
+    Local,
     /// A transport stands twice.
     #[error("transports are different ones of udp, tcp, tls and sctp")]
     Transports,
@@ -82,6 +94,7 @@ impl<'a> Options<'a> {
             report: self.report,
             form: self.form,
             several,
+            traced: self.traced,
         }
     }
 }
@@ -120,6 +133,29 @@ fn with_servers<'a>(alloc: Global, command: Command<'a>) -> Result<Command<'a>, 
         )
         .default_value("/etc/resolv.conf"))?
         .arg(flag(alloc, "tcp", "Ask over TCP alone"))
+}
+
+/// With the options of how to ask.
+fn with_asking<'a>(alloc: Global, command: Command<'a>) -> Result<Command<'a>, AllocError> {
+    command
+        .arg(
+            value(alloc, "bind", "ADDRESS", "The local address to ask from")
+                .short('b')
+                .conflicts_with("tcp")?,
+        )?
+        .arg(flag(alloc, "norecurse", "Queries without RD"))?
+        .arg(
+            value(
+                alloc,
+                "edns",
+                "SIZE",
+                "Queries with EDNS (RFC 6891) for datagrams of up to SIZE octets",
+            )
+            .num_args(0..=1)
+            .require_equals(true)
+            .default_missing_value("1232")
+            .value_parser(value_parser!(u16).range(512..=4_096)),
+        )
 }
 
 /// With the options of what can be sent.
@@ -174,7 +210,17 @@ fn with_output<'a>(alloc: Global, command: Command<'a>) -> Result<Command<'a>, A
             "IPv6 addresses in their short form (RFC 5952)",
         ))?
         .arg(flag(alloc, "json", "An object of JSON for each URI"))?
-        .arg(flag(alloc, "check", "One line for a monitoring system").conflicts_with("json")?)
+        .arg(flag(alloc, "check", "One line for a monitoring system").conflicts_with("json")?)?
+        .arg(
+            flag(
+                alloc,
+                "trace",
+                "A line for each query in front of what it led to",
+            )
+            .conflicts_with("json")?
+            .conflicts_with("check")?,
+        )?
+        .arg(flag(alloc, "stats", "How much was asked, on standard error"))
 }
 
 /// The command line.
@@ -188,6 +234,7 @@ pub fn command<'a>(alloc: Global) -> Result<Command<'a>, AllocError> {
              3 a bad URI; 4 usage; 5 a fault; the greatest of many",
         );
     let command = with_servers(alloc, command)?;
+    let command = with_asking(alloc, command)?;
     let command = with_sender(alloc, command)?;
     let command = with_limits(alloc, command)?;
     with_output(alloc, command)?.arg(
@@ -209,6 +256,25 @@ fn servers_of(alloc: Global, words: &[&str]) -> Result<Vec<SocketAddr>, OptionFa
         }
     }
     Ok(servers)
+}
+
+/// The local address of a word, where there is one.
+fn local_of(word: Option<&str>) -> Result<Option<IpAddr>, OptionFault> {
+    match word {
+        None => Ok(None),
+        Some(word) => match local_from_text(word) {
+            Some(local) => Ok(Some(local)),
+            None => Err(OptionFault::Local),
+        },
+    }
+}
+
+/// The form in which queries go out.
+fn query_form_of(matches: &ArgMatches<'_>) -> QueryForm {
+    QueryForm {
+        recursion: !matches.get_flag("norecurse"),
+        edns: matches.get_one::<u16>("edns"),
+    }
 }
 
 /// The families of a word.
@@ -299,11 +365,15 @@ pub fn read_options<'a>(
         servers: servers_of(alloc, matches.get_strs("server").unwrap_or(&[]))?,
         resolver_file: matches.get_str("resolver-file").unwrap_or(""),
         over_tcp: matches.get_flag("tcp"),
+        local: local_of(matches.get_str("bind"))?,
+        query_form: query_form_of(matches),
         caps: caps_of(alloc, transports, families)?,
         total: matches.get_one::<u32>("total").unwrap_or(10_000),
         seed: seed_of(matches.get_str("seed"))?,
         report,
         form: form_of(matches),
+        traced: matches.get_flag("trace"),
+        stats: matches.get_flag("stats"),
         texts: Vec::from_slice(alloc, texts)?,
     })
 }

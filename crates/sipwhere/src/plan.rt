@@ -1,5 +1,9 @@
 //! Whom to ask.
+ghost use Rattle.std.specs.Prelude.{◌≡◌, IfOk};
+ghost use Rattle.sipwhere.specs.Servers as spec;
+
 use crate::options::Options;
+use crate::run_fault::RunFault;
 use dns_client::{ResolverFile, SERVER_PORT};
 use sip_uri::Address;
 use std::alloc::{AllocError, Global};
@@ -47,6 +51,45 @@ fn plan_of(alloc: Global, file: &ResolverFile, over_tcp: bool) -> Result<Plan, A
     })
 }
 
+/// Whether a server has the family of a local address.
+fn is_of_family(local: IpAddr, server: SocketAddr) -> bool
+    ensures { result ≡ spec.is_of_family local server }
+{
+    server.is_ipv4() == local.is_ipv4()
+}
+
+/// The servers that can be asked from this local address: those of its family.
+fn servers_from(
+    alloc: Global,
+    local: IpAddr,
+    servers: &[SocketAddr],
+) -> Result<Vec<SocketAddr>, AllocError>
+    ensures { IfOk result (λ kept. kept.items ≡ spec.servers_from local servers.now) }
+{
+    let mut kept = Vec::new(alloc);
+    'servers: for server in servers {
+        if is_of_family(local, *server) {
+            kept.push(*server)?;
+        }
+    }
+    Ok(kept)
+}
+
+/// The same plan from a local address: datagrams to servers of its family.
+fn plan_from(alloc: Global, local: IpAddr, plan: Plan) -> Result<Plan, RunFault> {
+    if plan.over_tcp {
+        return Err(RunFault::LocalOverTcp);
+    }
+    let servers = servers_from(alloc, local, plan.servers.as_slice())?;
+    if servers.is_empty() {
+        return Err(RunFault::Family);
+    }
+    Ok(Plan {
+        servers,
+        over_tcp: false,
+    })
+}
+
 /// Tells on standard error which lines of the resolver file can't be read.
 fn warn<R: Eprint>(rt: &R, path: &str, file: &ResolverFile) {
     'warnings: for warning in file.warnings() {
@@ -54,8 +97,8 @@ fn warn<R: Eprint>(rt: &R, path: &str, file: &ResolverFile) {
     }
 }
 
-/// The plan of the options: the servers that they name, or those of the resolver file.
-pub fn read_plan<R: Files + Eprint + AllocGlobal>(
+/// The servers that the options name, or those of the resolver file.
+fn read_servers<R: Files + Eprint + AllocGlobal>(
     rt: &R,
     options: &Options<'_>,
 ) -> io::Result<Plan> {
@@ -70,4 +113,17 @@ pub fn read_plan<R: Files + Eprint + AllocGlobal>(
     let file = ResolverFile::read(alloc, octets.as_slice())?;
     warn(rt, options.resolver_file, &file);
     Ok(plan_of(alloc, &file, options.over_tcp)?)
+}
+
+/// The plan of the options: the servers that they name, or those of the resolver file; where they
+/// name a local address, those of its family.
+pub fn read_plan<R: Files + Eprint + AllocGlobal>(
+    rt: &R,
+    options: &Options<'_>,
+) -> Result<Plan, RunFault> {
+    let plan = read_servers(rt, options)?;
+    match options.local {
+        Some(local) => plan_from(rt.alloc(), local, plan),
+        None => Ok(plan),
+    }
 }

@@ -8,6 +8,8 @@ use crate::check_line::{check_line, check_status};
 use crate::fate::{Fate, status_of};
 use crate::json::json_line;
 use crate::output::lines_of;
+use crate::trace::trace_lines;
+use dns_client::WireTry;
 use std::alloc::{AllocError, Global};
 
 /// What is printed of a text.
@@ -30,6 +32,8 @@ pub struct Style {
     pub form: AddressForm,
     /// Whether each line begins with the text and a space.
     pub several: bool,
+    /// Whether the lines of what went over the wire stand in front.
+    pub traced: bool,
 }
 
 /// What stands in front of the lines of a text.
@@ -57,6 +61,26 @@ pub fn report_of(alloc: Global, style: Style, text: &str, fate: &Fate) -> Result
         Report::Json => json_line(alloc, style.form, text, fate),
         Report::Check => check_line(alloc, style.form, fate),
     }
+}
+
+/// What is printed of a text, for which this went over the wire, and of which this became.
+pub fn traced_report(
+    alloc: Global,
+    style: Style,
+    tries: &[WireTry],
+    text: &str,
+    fate: &Fate,
+) -> Result<String, AllocError>
+    ensures { IfOk result (λ report.
+        string_bytes report ≡ spec.traced_report style tries.now text.now fate.now) }
+{
+    if !style.traced {
+        return report_of(alloc, style, text, fate);
+    }
+    let report = report_of(alloc, style, text, fate)?;
+    let mut lines = trace_lines(alloc, tries)?;
+    lines.push_str(&report)?;
+    Ok(lines)
 }
 
 /// The status of what became of a text.

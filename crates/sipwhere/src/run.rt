@@ -7,10 +7,14 @@ use crate::fate::Fate;
 use crate::locate::{Sender, locate};
 use crate::options::Options;
 use crate::plan::{Plan, read_plan};
-use crate::report::{Style, report_of, status_in};
+use crate::report::{Style, status_in, traced_report};
+use crate::run_fault::RunFault;
+use crate::stats::tell_stats;
 use answer_cache::{AnswerBook, ListCache};
 use dns_asker::Clock;
-use dns_client::{MessageWire, RunClock, ServerWire, random_key};
+use dns_client::{
+    CountingBook, MessageWire, RunClock, ServerWire, Tracer, WireOptions, WireTry, random_key,
+};
 use std::alloc::Global;
 use std::io::{self, Write};
 use std::net::Net;
@@ -30,13 +34,20 @@ fn write_text<W: Write>(output: &mut W, text: &str) -> io::Result<()>
     output.flush()
 }
 
-/// Prints what became of a text, and gives the status.
-fn tell<O: Write>(alloc: Global, output: &mut O, style: Style, text: &str, fate: &Fate) -> u8
-    ensures told { IsTold (O.contents output.old) (O.contents output.new) style text.now fate.now
-        result }
+/// Prints what went over the wire, and what became of a text, and gives the status.
+fn tell<O: Write>(
+    alloc: Global,
+    output: &mut O,
+    style: Style,
+    tries: &[WireTry],
+    text: &str,
+    fate: &Fate,
+) -> u8
+    ensures told { IsTold (O.contents output.old) (O.contents output.new) style tries.now text.now
+        fate.now result }
     ensures range { result ≤ 5 }
 {
-    let Ok(report) = report_of(alloc, style, text, fate) else {
+    let Ok(report) = traced_report(alloc, style, tries, text, fate) else {
         return FAULT_STATUS;
     };
     match write_text(output, &report) {
@@ -46,7 +57,7 @@ fn tell<O: Write>(alloc: Global, output: &mut O, style: Style, text: &str, fate:
 }
 
 /// Locates the text of a number, prints what became of it, and gives the status.
-fn locate_and_tell<R: Wait, B: AnswerBook + Drop, W: MessageWire, C: Clock, O: Write>(
+fn locate_and_tell<R: Wait, B: AnswerBook + Drop, W: MessageWire + Tracer, C: Clock, O: Write>(
     rt: &R,
     alloc: Global,
     sender: &Sender,
@@ -66,11 +77,12 @@ fn locate_and_tell<R: Wait, B: AnswerBook + Drop, W: MessageWire, C: Clock, O: W
     ensures range { result ≤ 5 }
 {
     let fate = locate(rt, alloc, sender, number, text, book, seat, wire, clock);
-    tell(alloc, output, style, text, &fate)
+    let tries = wire.take_tries();
+    tell(alloc, output, style, tries.as_slice(), text, &fate)
 }
 
 /// Locates texts one after the other, prints what became of each, and gives the greatest status.
-fn locate_texts<R: Wait, B: AnswerBook + Drop, W: MessageWire, C: Clock, O: Write>(
+fn locate_texts<R: Wait, B: AnswerBook + Drop, W: MessageWire + Tracer, C: Clock, O: Write>(
     rt: &R,
     alloc: Global,
     sender: &Sender,
@@ -112,7 +124,7 @@ fn next_line<R: Input>(rt: &R, alloc: Global) -> io::Result<Option<String>> {
 }
 
 /// Locates the lines of the input as they come, and gives the greatest status.
-fn locate_lines<R: Wait + Input, B: AnswerBook + Drop, W: MessageWire, C: Clock, O: Write>(
+fn locate_lines<R: Wait + Input, B: AnswerBook + Drop, W: MessageWire + Tracer, C: Clock, O: Write>(
     rt: &R,
     alloc: Global,
     sender: &Sender,
@@ -142,8 +154,46 @@ fn locate_lines<R: Wait + Input, B: AnswerBook + Drop, W: MessageWire, C: Clock,
     status
 }
 
+/// How the wire asks.
+fn wire_options(options: &Options<'_>, plan: &Plan) -> WireOptions {
+    WireOptions {
+        over_tcp: plan.over_tcp,
+        local: options.local,
+        form: options.query_form,
+        keeps_tries: options.traced,
+        total: Duration::from_millis(u64::from(options.total)),
+    }
+}
+
+/// Locates the texts of the options, or the lines of the input, and gives the greatest status.
+fn locate_all<R: Wait + Input + Print, B: AnswerBook + Drop, W: MessageWire + Tracer, C: Clock>(
+    rt: &R,
+    alloc: Global,
+    options: &Options<'_>,
+    sender: &Sender,
+    book: &B,
+    seat: &mut B::Seat,
+    wire: &mut W,
+    clock: &C,
+) -> u8
+    requires made_here { B.belongs book.now seat.old }
+    ensures range { result ≤ 5 }
+{
+    let mut output = io::writer(rt);
+    let output = &mut output;
+    let texts = options.texts.as_slice();
+    if texts == ["-"].as_slice() {
+        let style = options.style(true);
+        return locate_lines(rt, alloc, sender, style, book, seat, wire, clock, output);
+    }
+    let style = options.style(texts.len() > 1);
+    locate_texts(
+        rt, alloc, sender, style, texts, book, seat, wire, clock, output,
+    )
+}
+
 /// Does what the options ask for, over these servers, and gives the status.
-fn run_over<R: Wait + Input + Print + Net + time::Clock>(
+fn run_over<R: Wait + Input + Print + Eprint + Net + time::Clock>(
     rt: &R,
     alloc: Global,
     options: &Options<'_>,
@@ -156,47 +206,29 @@ fn run_over<R: Wait + Input + Print + Net + time::Clock>(
         caps: options.caps,
         key,
     };
-    let total = Duration::from_millis(u64::from(options.total));
-    let mut wire = ServerWire::open(rt, alloc, plan.servers.as_slice(), plan.over_tcp, total)?;
+    let servers = plan.servers.as_slice();
+    let mut wire = ServerWire::open(rt, alloc, servers, wire_options(options, plan))?;
     let clock = RunClock::start(rt)?;
-    let (book, mut seat) = ListCache::new(alloc);
-    let mut output = io::writer(rt);
-    let texts = options.texts.as_slice();
-    if texts == ["-"].as_slice() {
-        return Ok(locate_lines(
-            rt,
-            alloc,
-            &sender,
-            options.style(true),
-            &book,
-            &mut seat,
-            &mut wire,
-            &clock,
-            &mut output,
-        ));
+    let (book, seat) = ListCache::new(alloc);
+    let (book, mut seat) = CountingBook::new(book, seat);
+    let status = locate_all(
+        rt, alloc, options, &sender, &book, &mut seat, &mut wire, &clock,
+    );
+    if options.stats {
+        tell_stats(rt, wire.counts(), seat.found(), clock.elapsed());
     }
-    Ok(locate_texts(
-        rt,
-        alloc,
-        &sender,
-        options.style(texts.len() > 1),
-        texts,
-        &book,
-        &mut seat,
-        &mut wire,
-        &clock,
-        &mut output,
-    ))
+    Ok(status)
 }
 
 /// Does what the options ask for, and gives the status.
 ///
 /// # Errors
 ///
-/// Those of the resolver file, of the clock and of the system's entropy, and want of memory.
+/// Those of the resolver file, of the local address, of the clock and of the system's entropy, and
+/// want of memory.
 pub fn run<
     R: Wait + Input + Print + Eprint + Files + Net + RandomSource + time::Clock + AllocGlobal,
->(rt: &R, options: &Options<'_>) -> io::Result<u8>
+>(rt: &R, options: &Options<'_>) -> Result<u8, RunFault>
     ensures { IfOk result (λ status. status ≤ 5) }
 {
     let plan = read_plan(rt, options)?;
@@ -204,5 +236,5 @@ pub fn run<
         Some(key) => key,
         None => random_key(rt)?,
     };
-    run_over(rt, rt.alloc(), options, &plan, key)
+    Ok(run_over(rt, rt.alloc(), options, &plan, key)?)
 }

@@ -1,5 +1,6 @@
-//! Name servers in words.
+//! Name servers and local addresses in words.
 ghost use Rattle.std.specs.Prelude.{IfSome};
+ghost use Rattle.std.specs.Net.Grammar.{IsIpText};
 ghost use Rattle.sipwhere.specs.Servers.{ServerText};
 
 use std::net::{IpAddr, SocketAddr};
@@ -16,4 +17,11 @@ pub fn server_from_text(text: &str) -> Option<SocketAddr>
         Ok(address) => Some(SocketAddr::new(address, SERVER_PORT)),
         Err(_) => text.parse::<SocketAddr>().ok(),
     }
+}
+
+/// The local address of a word: an address without a port.
+pub fn local_from_text(text: &str) -> Option<IpAddr>
+    ensures found { IfSome result (IsIpText text.now) }
+{
+    text.parse::<IpAddr>().ok()
 }

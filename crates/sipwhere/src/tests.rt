@@ -1,4 +1,5 @@
 //! What becomes of texts over a wire in memory, and the words of the command line.
 mod act_wire;
 mod fates;
+mod traces;
 mod words;

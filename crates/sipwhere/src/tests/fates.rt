@@ -129,6 +129,7 @@ fn printed<R: Wait>(
         report,
         form: Short,
         several,
+        traced: false,
     };
     report_of(alloc, style, text, &fate).ok()
 }

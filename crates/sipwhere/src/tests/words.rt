@@ -1,6 +1,6 @@
 //! Words of the command line.
 use crate::seed::key_from_text;
-use crate::server_text::server_from_text;
+use crate::server_text::{local_from_text, server_from_text};
 
 /// A word, and the port of its server; 0 where it is none.
 const SERVERS: [(&str, u16); 9] = [
@@ -14,6 +14,21 @@ const SERVERS: [(&str, u16); 9] = [
     ("192.0.2", 0),
     ("name.example", 0),
 ];
+
+/// A word, and whether it is a local address.
+const LOCALS: [(&str, bool); 4] = [
+    ("192.0.2.1", true),
+    ("2001:db8::1", true),
+    ("192.0.2.1:53", false),
+    ("[2001:db8::1]", false),
+];
+
+#[test]
+fn locals(rt: HostRuntime) {
+    for (word, is_local) in &LOCALS {
+        assert_eq!(rt; local_from_text(word).is_some(), *is_local);
+    }
+}
 
 #[test]
 fn servers(rt: HostRuntime) {

@@ -1,0 +1,38 @@
+-- The octets that go out for a query.
+use Rattle.std.specs.Prelude.{ℕ, ◌-◌, ◌%◌, ◌==◌, nat_le, nat_lt, Bool, true, false, ◌&&◌, List, [], ◌∷◌, ◌++◌, length, Option, Some, None, slice_index, slice_set, if◌then◌else◌}
+use Rattle.std.specs.Int.{w16, to_be_bytes}
+use Rattle.dns_client.specs.declared.query_form.QueryForm.{QueryForm}
+
+-- RD is the lowest bit of the third octet (RFC 1035 4.1.1); all else stays
+abbrev pub without_recursion : List ℕ → List ℕ
+without_recursion query =
+    if nat_lt 2 (length query)
+    then slice_set query 2 (slice_index query 2 - slice_index query 2 % 2) else query
+
+-- RD stays as it is where recursion is desired
+abbrev pub with_recursion : Bool → List ℕ → List ℕ
+with_recursion true query = query
+with_recursion false query = without_recursion query
+
+-- the root as NAME, TYPE, CLASS, TTL and RDLENGTH of an OPT record: no upper bits of RCODE, version
+-- 0, no flags and no options (RFC 6891 6.1.2, 6.1.3)
+abbrev pub opt_record : ℕ → List ℕ
+opt_record size =
+    0 ∷ 0 ∷ 41 ∷ to_be_bytes w16 size ++ 0 ∷ 0 ∷ 0 ∷ 0 ∷ 0 ∷ 0 ∷ []
+
+-- a whole header, with ARCOUNT 0 (RFC 1035 4.1.1)
+abbrev pub has_room_for_opt : List ℕ → Bool
+has_room_for_opt query =
+    nat_le 12 (length query) && slice_index query 10 == 0 && slice_index query 11 == 0
+
+-- ARCOUNT is one more, the record stands behind all else, and nothing else changes
+abbrev pub with_opt : ℕ → List ℕ → List ℕ
+with_opt size query =
+    if has_room_for_opt query then slice_set query 11 1 ++ opt_record size else query
+
+abbrev pub with_edns : Option ℕ → List ℕ → List ℕ
+with_edns None query = query
+with_edns (Some size) query = with_opt size query
+
+abbrev pub form_octets : QueryForm → List ℕ → List ℕ
+form_octets form query = with_edns form.edns (with_recursion form.recursion query)

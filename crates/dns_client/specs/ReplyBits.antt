@@ -1,0 +1,39 @@
+-- What the header of a reply tells (RFC 1035 4.1.1), and its OPT record (RFC 6891 6.1.3).
+use Rattle.std.specs.Prelude.{◌≡◌, ◌⊎◌, ℕ, ◌/◌, ◌%◌, ◌^◌, ◌==◌, nat_le, Bool, true, ◌&&◌, ◌||◌, List, length, slice_index}
+use Rattle.std.specs.List.{list_any}
+use Rattle.dns_message.specs.Messages.{Begins}
+use Rattle.dns_message.specs.Written.{rdata_code}
+use Rattle.dns_message.specs.declared.message.Message.{Message}
+use Rattle.dns_message.specs.declared.resource.Record.{Record}
+
+-- a whole header, with QR set
+abbrev pub is_reply : List ℕ → Bool
+is_reply message = nat_le 12 (length message) && nat_le 128 (slice_index message 2)
+
+-- RCODE is the lower half of the fourth octet
+abbrev pub has_rcode : ℕ → List ℕ → Bool
+has_rcode rcode message = is_reply message && slice_index message 3 % 16 == rcode
+
+-- TC is set
+abbrev pub is_cut : List ℕ → Bool
+is_cut message = is_reply message && slice_index message 2 / 2 % 2 == 1
+
+-- SERVFAIL, or REFUSED
+abbrev pub tells_failure : List ℕ → Bool
+tells_failure message = has_rcode 2 message || has_rcode 5 message
+
+-- the upper eight bits of RCODE are the first octet of the TTL of an OPT record
+abbrev pub has_upper_bits : Record → Bool
+has_upper_bits entry = rdata_code entry.rdata == 41 && nat_le (2 ^ 24) entry.ttl
+
+-- its RCODE is greater than 15, as that of BADVERS is
+pub record HasLongRcode (octets : List ℕ) : Type 0 where
+  pub message : Message
+  pub begins : Begins octets message
+  pub upper : list_any has_upper_bits message.additional ≡ true
+
+-- FORMERR, with or without a question, NOTIMP, or an RCODE greater than 15
+abbrev pub RefusesEdns : List ℕ → Type 0
+RefusesEdns octets =
+    (has_rcode 1 octets ≡ true) ⊎ (has_rcode 4 octets ≡ true)
+    ⊎ ((is_reply octets ≡ true) × HasLongRcode octets)

@@ -1,0 +1,8 @@
+-- What a wire over sockets hands on.
+use Rattle.std.specs.Prelude.{◌≡◌, ◌⊎◌, ℕ, List, None}
+use Rattle.dns_client.specs.ReplyBits.{RefusesEdns}
+use Rattle.dns_client.specs.declared.query_form.QueryForm.{QueryForm}
+
+-- where EDNS is asked for, no refusal of it
+abbrev pub HandsOn : QueryForm → List ℕ → Type 0
+HandsOn form octets = (form.edns ≡ None) ⊎ (RefusesEdns octets → ⊥)

@@ -1,0 +1,122 @@
+//! What goes over a wire, as it is noted.
+ghost use Rattle.std.specs.Prelude.{◌≡◌, [], length, OnErr, IfSome, ◌<◌};
+ghost use Rattle.dns_client.specs.WireCounts.{with_query, with_reply};
+
+use crate::reply_bits::rcode_of;
+use crate::wire_counts::WireCounts;
+use crate::wire_try::{Way, WireReply, WireTry, id_of};
+use dns_message::{Asked, message_in};
+use std::alloc::{AllocError, Global};
+use std::net::SocketAddr;
+use std::time::{Clock, Duration, Instant};
+use std::{io, mem};
+
+/// What a query asks.
+fn asked_in(alloc: Global, query: &[u8]) -> Result<Option<Asked>, AllocError> {
+    let Some(message) = message_in(alloc, query)? else {
+        return Ok(None);
+    };
+    match message.questions.as_slice() {
+        [asked, ..] => Ok(Some(asked.try_clone()?)),
+        [] => Ok(None),
+    }
+}
+
+/// How much went over a wire, and each try where tries are kept.
+#[derive(Drop)]
+pub(crate) struct TryLog {
+    alloc: Global,
+    start: Instant,
+    is_kept: bool,
+    tries: Vec<WireTry>,
+    counts: WireCounts,
+}
+
+impl TryLog {
+    /// Nothing went over the wire.
+    pub(crate) fn start<R: Clock>(rt: &R, alloc: Global, is_kept: bool) -> io::Result<TryLog> {
+        Ok(TryLog {
+            alloc,
+            start: Instant::now(rt)?,
+            is_kept,
+            tries: Vec::new(alloc),
+            counts: WireCounts::default(),
+        })
+    }
+
+    /// How much went over the wire.
+    pub(crate) fn counts(&self) -> WireCounts
+        ensures { result ≡ self.now.counts }
+    {
+        self.counts
+    }
+
+    /// The time since the start; none where the clock can't be read.
+    fn now<R: Clock>(&self, rt: &R) -> Duration {
+        self.start.elapsed(rt).unwrap_or(Duration::ZERO)
+    }
+
+    /// Keeps a try.
+    fn keep(&mut self, sent_at: Duration, way: Way, query: &[u8]) -> Result<(), AllocError>
+        ensures { self.new.counts ≡ self.old.counts }
+    {
+        let asked = asked_in(self.alloc, query)?;
+        self.tries.push(WireTry {
+            asked,
+            id: id_of(query),
+            way,
+            sent_at,
+            reply: None,
+        })?;
+        Ok(())
+    }
+
+    /// Notes that a query goes out. One for which memory is refused is counted and not kept.
+    pub(crate) fn sent<R: Clock>(&mut self, rt: &R, way: Way, query: &[u8], is_first: bool)
+        ensures { self.new.counts ≡ with_query is_first way.over_tcp self.old.counts }
+    {
+        self.counts = self.counts.with_query(is_first, way.over_tcp);
+        if self.is_kept {
+            let sent_at = self.now(rt);
+            let _ = self.keep(sent_at, way, query);
+        }
+    }
+
+    /// The last try to which a message of this id may be the reply.
+    fn place_of(&self, id: u16, server: SocketAddr, over_tcp: bool) -> Option<usize>
+        ensures { IfSome result (λ at. at < length self.now.tries.items) }
+    {
+        self.tries
+            .iter()
+            .rposition(|one| one.awaits(id, server, over_tcp))
+    }
+
+    /// Notes that a message came from a server.
+    pub(crate) fn came<R: Clock>(
+        &mut self,
+        rt: &R,
+        server: SocketAddr,
+        over_tcp: bool,
+        message: &[u8],
+    )
+        ensures { self.new.counts ≡ with_reply self.old.counts }
+    {
+        self.counts = self.counts.with_reply();
+        if let Some(at) = self.place_of(id_of(message), server, over_tcp) {
+            let reply = WireReply {
+                rcode: rcode_of(self.alloc, message),
+                octets: message.len(),
+                came_at: self.now(rt),
+            };
+            self.tries[at].reply = Some(reply);
+        }
+    }
+
+    /// Gives the tries that were kept, and keeps those that follow.
+    pub(crate) fn take(&mut self) -> Vec<WireTry>
+        ensures { self.new.counts ≡ self.old.counts }
+    {
+        let none = Vec::new(self.alloc);
+        mem::replace(&mut self.tries, none)
+    }
+}

@@ -1,0 +1,67 @@
+//! Queries that went over a wire, and what came back.
+ghost use Rattle.std.specs.Prelude.{◌≡◌, ◌+◌, ◌*◌, ◌%◌};
+
+use dns_message::Asked;
+use std::net::SocketAddr;
+use std::time::Duration;
+
+/// How a query goes to a server.
+#[derive(Clone, Copy, Debug, PartialEq, Eq)]
+pub struct Way {
+    /// The server.
+    pub server: SocketAddr,
+    /// Whether it goes over TCP, and not over UDP.
+    pub over_tcp: bool,
+    /// Whether it has an OPT record (RFC 6891).
+    pub has_edns: bool,
+}
+
+/// A message that came back.
+#[derive(Clone, Copy, Debug, PartialEq, Eq)]
+pub struct WireReply {
+    /// Its RCODE, with the upper bits of its OPT record (RFC 6891 6.1.3).
+    pub rcode: u16,
+    /// How many octets it has.
+    pub octets: usize,
+    /// When it came, since the wire was opened.
+    pub came_at: Duration,
+}
+
+/// A query that went out, and the message that came back to it.
+#[derive(Debug, Drop)]
+pub struct WireTry {
+    /// What it asks.
+    pub asked: Option<Asked>,
+    /// Its id.
+    pub id: u16,
+    /// How it went.
+    pub way: Way,
+    /// When it went, since the wire was opened.
+    pub sent_at: Duration,
+    /// What came back, if anything did.
+    pub reply: Option<WireReply>,
+}
+
+/// The id of a message; 0 where it has none.
+pub(crate) fn id_of(message: &[u8]) -> u16 {
+    match message {
+        [high, low, ..] => u16::from_be_bytes([*high, *low]),
+        _ => 0,
+    }
+}
+
+impl WireTry {
+    /// Whether a message of this id, which came from this server, may be its reply.
+    pub(crate) fn awaits(&self, id: u16, server: SocketAddr, over_tcp: bool) -> bool {
+        self.reply.is_none()
+            && self.id == id
+            && self.way.server == server
+            && self.way.over_tcp == over_tcp
+    }
+}
+
+/// What keeps the queries that went out.
+pub trait Tracer {
+    /// Gives those that went out since it was asked last, in their order.
+    fn take_tries(&mut self) -> Vec<WireTry>;
+}

@@ -1,0 +1,61 @@
+-- The lines of what went over the wire. Each begins with `;`.
+use Rattle.std.specs.Prelude.{ℕ, ◌-◌, ◌/◌, ◌==◌, Bool, true, false, List, [], ◌∷◌, ◌++◌, codes, Option, Some, None, if◌then◌else◌}
+use Rattle.std.specs.Duration.{as_nanos}
+use Rattle.std.specs.Fmt.{decimal}
+use Rattle.std.specs.Net.Text.{socket_text}
+use Rattle.std.specs.declared.time.Duration.{Duration}
+use Rattle.dns_name.specs.Texts.{text_of}
+use Rattle.dns_message.specs.declared.question.Asked.{Asked}
+use Rattle.dns_client.specs.declared.wire_try.Way.{Way}
+use Rattle.dns_client.specs.declared.wire_try.WireReply.{WireReply}
+use Rattle.dns_client.specs.declared.wire_try.WireTry.{WireTry}
+
+-- the name of a type of records (RFC 1035 3.2.2, 3596 2.1, 2782, 3403 4.1); for others RFC 3597 5
+abbrev pub type_word : ℕ → List ℕ
+type_word code =
+    if code == 1 then codes "A" else
+    (if code == 28 then codes "AAAA" else
+    (if code == 33 then codes "SRV" else
+    (if code == 35 then codes "NAPTR" else codes "TYPE" ++ decimal code)))
+
+abbrev pub asked_words : Asked → List ℕ
+asked_words asked = type_word asked.code ++ 32 ∷ text_of asked.name
+
+abbrev pub words_if : Bool → List ℕ → List ℕ → List ℕ
+words_if true words others = words
+words_if false words others = others
+
+-- the server, over what, and whether with EDNS (RFC 6891)
+abbrev pub way_words : Way → List ℕ
+way_words way =
+    socket_text way.server ++ words_if way.over_tcp (codes " tcp") (codes " udp")
+    ++ words_if way.has_edns (codes " edns") []
+
+-- milliseconds from a time to a later one
+abbrev pub milliseconds : Duration → Duration → ℕ
+milliseconds from until = (as_nanos until - as_nanos from) / 1_000_000
+
+-- RCODE, octets and time
+abbrev pub came_words : Duration → WireReply → List ℕ
+came_words sent_at reply =
+    (codes "rcode " ++ decimal reply.rcode ++ codes ", ")
+    ++ (decimal reply.octets ++ codes " octets, ")
+    ++ decimal (milliseconds sent_at reply.came_at) ++ codes " ms"
+
+abbrev pub reply_words : Duration → Option WireReply → List ℕ
+reply_words sent_at None = codes "no reply"
+reply_words sent_at (Some reply) = came_words sent_at reply
+
+abbrev pub question_words : Option Asked → List ℕ
+question_words (Some asked) = asked_words asked
+question_words None = codes "nothing"
+
+-- what was asked, how it went, and its id
+abbrev pub sent_words : WireTry → List ℕ
+sent_words one =
+    question_words one.asked ++ codes " to " ++ way_words one.way ++ codes " id "
+    ++ decimal one.id
+
+abbrev pub trace_line : WireTry → List ℕ
+trace_line one =
+    codes "; " ++ sent_words one ++ codes ": " ++ reply_words one.sent_at one.reply ++ 10 ∷ []

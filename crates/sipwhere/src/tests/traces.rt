@@ -1,0 +1,85 @@
+//! Lines of queries that went out.
+use crate::trace::trace_lines;
+use dns_client::{Way, WireReply, WireTry};
+use dns_message::Asked;
+use dns_name::Name;
+use std::alloc::Global;
+use std::net::SocketAddr;
+use std::time::Duration;
+
+/// The type of what is asked, the server, over what and whether with EDNS, and RCODE, octets and
+/// milliseconds of the reply; and its line. The query has the id 7, and goes after a second.
+struct Row {
+    code: u16,
+    server: &'static str,
+    over_tcp: bool,
+    has_edns: bool,
+    reply: Option<(u16, usize, u64)>,
+    line: &'static str,
+}
+
+const ROWS: [Row; 3] = [
+    Row {
+        code: 33,
+        server: "192.0.2.53:53",
+        over_tcp: false,
+        has_edns: true,
+        reply: Some((16, 49, 1_003)),
+        line: "; SRV _sip._udp.example. to 192.0.2.53:53 udp edns id 7: \
+            rcode 16, 49 octets, 3 ms\n",
+    },
+    Row {
+        code: 28,
+        server: "[2001:db8::53]:5353",
+        over_tcp: true,
+        has_edns: false,
+        reply: None,
+        line: "; AAAA _sip._udp.example. to [2001:db8::53]:5353 tcp id 7: no reply\n",
+    },
+    // RFC 3597 5; its reply did not come before it
+    Row {
+        code: 65,
+        server: "192.0.2.53:53",
+        over_tcp: false,
+        has_edns: false,
+        reply: Some((0, 512, 0)),
+        line: "; TYPE65 _sip._udp.example. to 192.0.2.53:53 udp id 7: rcode 0, 512 octets, 0 ms\n",
+    },
+];
+
+/// The line of a row.
+fn line_of(alloc: Global, row: &Row) -> Option<String> {
+    let way = Way {
+        server: row.server.parse::<SocketAddr>().ok()?,
+        over_tcp: row.over_tcp,
+        has_edns: row.has_edns,
+    };
+    let asked = Asked {
+        name: Name::from_text(alloc, "_sip._udp.example").ok()?,
+        code: row.code,
+        class_code: 1,
+    };
+    let reply = row.reply.map(|(rcode, octets, time)| WireReply {
+        rcode,
+        octets,
+        came_at: Duration::from_millis(time),
+    });
+    let mut tries = Vec::new(alloc);
+    let one = WireTry {
+        asked: Some(asked),
+        id: 7,
+        way,
+        sent_at: Duration::from_secs(1),
+        reply,
+    };
+    tries.push(one).ok()?;
+    trace_lines(alloc, tries.as_slice()).ok()
+}
+
+#[test]
+fn lines(rt: HostRuntime) {
+    for row in &ROWS {
+        let line = line_of(rt.alloc(), row);
+        assert_eq!(rt; line.as_deref(), Some(row.line));
+    }
+}

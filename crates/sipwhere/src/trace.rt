@@ -1,0 +1,120 @@
+//! The lines of what went over the wire.
+ghost use Rattle.std.specs.Prelude.{◌≡◌, IfOk};
+ghost use Rattle.std.specs.List.{flat_map};
+ghost use Rattle.std.specs.String.{string_bytes};
+ghost use Rattle.sipwhere.specs.Traces as spec;
+
+use dns_client::{Way, WireReply, WireTry};
+use dns_message::Asked;
+use std::alloc::{AllocError, Global};
+use std::time::Duration;
+
+/// The word of a type of records (RFC 1035 3.2.2, 3596 2.1, 2782, 3403 4.1); for others RFC 3597 5.
+fn type_word(alloc: Global, code: u16) -> Result<String, AllocError>
+    ensures { IfOk result (λ word. string_bytes word ≡ spec.type_word code) }
+{
+    match code {
+        1 => String::from_str(alloc, "A"),
+        28 => String::from_str(alloc, "AAAA"),
+        33 => String::from_str(alloc, "SRV"),
+        35 => String::from_str(alloc, "NAPTR"),
+        _ => format!(in alloc; "TYPE{code}"),
+    }
+}
+
+/// What is asked.
+fn asked_words(alloc: Global, asked: &Asked) -> Result<String, AllocError>
+    ensures { IfOk result (λ words. string_bytes words ≡ spec.asked_words asked.now) }
+{
+    let name = asked.name.text()?;
+    let mut words = type_word(alloc, asked.code)?;
+    words.push_str(" ")?;
+    words.push_str(&name)?;
+    Ok(words)
+}
+
+/// How a query went.
+fn way_words(alloc: Global, way: Way) -> Result<String, AllocError>
+    ensures { IfOk result (λ words. string_bytes words ≡ spec.way_words way) }
+{
+    let server = way.server;
+    let mut words = format!(in alloc; "{server}")?;
+    words.push_str(if way.over_tcp { " tcp" } else { " udp" })?;
+    words.push_str(if way.has_edns { " edns" } else { "" })?;
+    Ok(words)
+}
+
+/// How many milliseconds there are from a time to a later one.
+fn milliseconds(from: Duration, until: Duration) -> u128
+    ensures { result ≡ spec.milliseconds from until }
+{
+    until.saturating_sub(from).as_millis()
+}
+
+/// What came back, and after how many milliseconds.
+fn came_words(alloc: Global, sent_at: Duration, reply: WireReply) -> Result<String, AllocError>
+    ensures { IfOk result (λ words. string_bytes words ≡ spec.came_words sent_at reply) }
+{
+    let rcode = reply.rcode;
+    let octets = reply.octets;
+    let time = milliseconds(sent_at, reply.came_at);
+    let mut words = format!(in alloc; "rcode {rcode}, ")?;
+    words.push_str(&format!(in alloc; "{octets} octets, ")?)?;
+    words.push_str(&format!(in alloc; "{time} ms")?)?;
+    Ok(words)
+}
+
+/// What came back, if anything did.
+fn reply_words(
+    alloc: Global,
+    sent_at: Duration,
+    reply: Option<WireReply>,
+) -> Result<String, AllocError>
+    ensures { IfOk result (λ words. string_bytes words ≡ spec.reply_words sent_at reply) }
+{
+    match reply {
+        None => String::from_str(alloc, "no reply"),
+        Some(reply) => came_words(alloc, sent_at, reply),
+    }
+}
+
+/// What stands in front of the reply: what was asked, how it went, and its id.
+fn sent_words(alloc: Global, one: &WireTry) -> Result<String, AllocError>
+    ensures { IfOk result (λ words. string_bytes words ≡ spec.sent_words one.now) }
+{
+    let id = one.id;
+    let way = way_words(alloc, one.way)?;
+    let mut words = match &one.asked {
+        Some(asked) => asked_words(alloc, asked)?,
+        None => String::from_str(alloc, "nothing")?,
+    };
+    words.push_str(" to ")?;
+    words.push_str(&way)?;
+    words.push_str(&format!(in alloc; " id {id}")?)?;
+    Ok(words)
+}
+
+/// The line of a query that went out.
+fn trace_line(alloc: Global, one: &WireTry) -> Result<String, AllocError>
+    ensures { IfOk result (λ line. string_bytes line ≡ spec.trace_line one.now) }
+{
+    let sent = sent_words(alloc, one)?;
+    let reply = reply_words(alloc, one.sent_at, one.reply)?;
+    let mut line = String::from_str(alloc, "; ")?;
+    line.push_str(&sent)?;
+    line.push_str(": ")?;
+    line.push_str(&reply)?;
+    line.push_str("\n")?;
+    Ok(line)
+}
+
+/// The lines of queries that went out.
+pub fn trace_lines(alloc: Global, tries: &[WireTry]) -> Result<String, AllocError>
+    ensures { IfOk result (λ lines. string_bytes lines ≡ flat_map spec.trace_line tries.now) }
+{
+    let mut lines = String::new(alloc);
+    'tries: for one in tries {
+        lines.push_str(&trace_line(alloc, one)?)?;
+    }
+    Ok(lines)
+}
