@@ -5,8 +5,8 @@ use Rattle.std.specs.List.{flat_map, list_any, list_all}
 use Rattle.dns_name.specs.Texts.{text_of}
 use Rattle.dns_message.specs.declared.question.Question.{Question}
 use Rattle.sip_selection.specs.declared.target.Target.{Target}
-use Rattle.sip_workers.specs.declared.outcome.Outcome.{Outcome}
-use Rattle.sip_workers.specs.declared.outcome.Outcome.TheVariants as outcome
+use Rattle.sip_resolver.specs.declared.outcome.Outcome.{Outcome}
+use Rattle.sip_resolver.specs.declared.outcome.Outcome.TheVariants as outcome
 use Rattle.siplocate.specs.Words.{target_line, reason_word, kind_word, refusal_word, request_word}
 use Rattle.siplocate.specs.declared.fate.Fate.{Fate}
 use Rattle.siplocate.specs.declared.fate.Fate.TheVariants as fate

@@ -1,0 +1,16 @@
+//! Calls that are made twice, where memory is refused at most once.
+mod choices;
+mod messages;
+mod names;
+mod uris;
+mod zones;
+
+/// Whether two equal calls, one after the other, have the right answer, of which one at most has
+/// none for want of memory. What a call says is whether its answer is right, and `None` where it
+/// wants memory.
+fn are_right(first: Option<bool>, again: Option<bool>) -> bool {
+    matches!(
+        (first, again),
+        (Some(true), Some(true)) | (Some(true), None) | (None, Some(true))
+    )
+}

@@ -1,0 +1,71 @@
+//! Zones, and what they reply to a query (RFC 1034 4.3.2).
+use super::are_right;
+use dns_zone::{Zone, ZoneRefusal};
+use std::alloc::Global;
+
+/// The calls.
+#[derive(Clone, Copy, Debug)]
+enum Call {
+    Read,
+    /// The reply of this many octets to a query of this type.
+    Reply(u8, usize),
+}
+
+/// An alias, and records where it leads.
+const ZONE: &str = "\
+a.example. 60 CNAME b.example.
+b.example. 300 A 192.0.2.7
+b.example. 300 SRV 1 2 3 c.example.
+b.example. 300 NAPTR 1 2 s SIPS+D2T - c.example.
+example. 900 SOA ns.example. h.example. 1 2 3 4 60
+";
+
+/// Types are A, SRV, NAPTR, and TXT, of which there is none (RFC 2308 2.2).
+const CALLS: [Call; 5] = [
+    Call::Read,
+    Call::Reply(1, 84),
+    Call::Reply(33, 97),
+    Call::Reply(35, 107),
+    Call::Reply(16, 89),
+];
+
+/// A query for records of a.example, whose type stands at its 25th octet.
+const QUERY: [u8; 27] =
+    *b"\x12\x34\x01\x00\x00\x01\x00\x00\x00\x00\x00\x00\x01a\x07example\x00\x00\x00\x00\x01";
+
+/// Whether a zone has all records and replies by so many octets.
+fn replies(alloc: Global, zone: &Zone, code: u8, length: usize) -> Option<bool> {
+    let mut query = QUERY;
+    query[24] = code;
+    let reply = zone.answer_datagram(alloc, &query).ok()?;
+    Some(reply.is_some_and(|reply| reply.len() == length))
+}
+
+/// `Zone::read`
+fn read(alloc: Global) -> Option<bool> {
+    match Zone::read(alloc, ZONE) {
+        Ok(zone) => replies(alloc, &zone, 1, 84),
+        Err(ZoneRefusal::Memory) => None,
+        Err(_) => Some(false),
+    }
+}
+
+/// What a call says.
+fn says(alloc: Global, call: Call) -> Option<bool> {
+    match call {
+        Call::Read => read(alloc),
+        Call::Reply(code, length) => {
+            let zone = Zone::read(alloc, ZONE).ok()?;
+            replies(alloc, &zone, code, length)
+        }
+    }
+}
+
+#[test]
+fn zones(rt: HostRuntime) {
+    for call in CALLS {
+        let first = says(rt.alloc(), call);
+        let again = says(rt.alloc(), call);
+        assert!(rt; are_right(first, again), "{call:?} {first:?} {again:?}");
+    }
+}

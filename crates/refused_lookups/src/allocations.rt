@@ -1,0 +1,79 @@
+//! Calls that are made twice, where memory is refused at most once.
+ghost use Rattle.std.specs.Prelude.{◌≡◌, IfSome};
+ghost use Rattle.std.specs.Arc.{arc_value};
+ghost use Rattle.dns_answers.specs.Records.{kind_of};
+ghost use Rattle.dns_message.specs.declared.kind.Kind.TheVariants.{A};
+
+use dns_answers::{Answer, Moment, Records};
+use dns_message::{Kind, Question, Section};
+use dns_name::Name;
+use sip_selection::{Caps, Families, Request};
+use sip_uri::{Transport, read_uri};
+use srv_choice::{WORD_COUNT, Words};
+use std::alloc::Global;
+use std::sync::Arc;
+
+mod caches;
+mod locators;
+
+/// Whether two equal calls, one after the other, have the right answer, of which one at most has
+/// none for want of memory. What a call says is whether its answer is right, and `None` where it
+/// wants memory.
+fn are_right(first: Option<bool>, again: Option<bool>) -> bool {
+    matches!(
+        (first, again),
+        (Some(true), Some(true)) | (Some(true), None) | (None, Some(true))
+    )
+}
+
+/// The question for addresses of a.example.
+fn question(alloc: Global) -> Option<Question>
+    ensures { IfSome result (λ made. made.kind ≡ A) }
+{
+    Some(Question {
+        name: Name::from_text(alloc, "a.example").ok()?,
+        kind: Kind::A,
+    })
+}
+
+/// Its answer of one address, with this life.
+fn answer(alloc: Global, life: u32) -> Option<Arc<Answer>>
+    ensures { IfSome result (λ made. kind_of (arc_value made).records ≡ A) }
+{
+    let mut addresses = Vec::new(alloc);
+    addresses.push([192, 0, 2, 7]).ok()?;
+    let records = Records::V4(Section::from_vec(addresses));
+    Arc::new(alloc, Answer::new(records, life)?).ok()
+}
+
+/// The life of an answer that was found; 0 where none was.
+fn life_of(found: Option<Arc<Answer>>) -> u32 {
+    match found {
+        None => 0,
+        Some(answer) => answer.life(),
+    }
+}
+
+/// The moment of all calls.
+fn now() -> Moment {
+    Moment::new(100).unwrap()
+}
+
+/// A request to port 5070 of a.example.
+fn request(alloc: Global) -> Option<Request> {
+    Some(Request::Uri(read_uri(alloc, "sip:a.example:5070").ok()?))
+}
+
+/// A sender over UDP and IPv4.
+fn caps() -> Option<Caps> {
+    Caps::new(&[Transport::Udp], Families::V4)
+}
+
+/// Random words, of which the request uses none.
+const WORDS: Words = Words([0; WORD_COUNT]);
+
+/// The octets of a reply with the address and a TTL of 60, under the id 0 (RFC 1035 4.1).
+const REPLY: [u8; 43] = [
+    0, 0, 0x81, 0x80, 0, 1, 0, 1, 0, 0, 0, 0, 1, b'a', 7, b'e', b'x', b'a', b'm', b'p', b'l', b'e',
+    0, 0, 1, 0, 1, 0xc0, 12, 0, 1, 0, 1, 0, 0, 0, 60, 0, 4, 192, 0, 2, 7,
+];

@@ -1,0 +1,6 @@
+//! What the calls of caches, locators and resolvers do where memory is refused, one allocation
+//! after the other. This crate has tests alone, in the way of `refused_formats`.
+#![tactic(auto)]
+
+#[cfg(test)]
+mod allocations;
