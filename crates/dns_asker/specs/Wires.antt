@@ -23,6 +23,12 @@ receipt (Err _) buffer = fault
 receipt (Ok None) buffer = nothing
 receipt (Ok (Some (count, peer))) buffer = received (take count buffer) peer
 
+-- what a receive did on a wire to one peer
+abbrev pub receipt_of_one : {E : Type 0} → Result (Option ℕ) E → List ℕ → Event (Unit {0})
+receipt_of_one (Err _) buffer = fault
+receipt_of_one (Ok None) buffer = nothing
+receipt_of_one (Ok (Some count)) buffer = received (take count buffer) tt
+
 -- what a send did
 abbrev pub dispatch : {Peer E : Type 0} → Result Unit E → List ℕ → Peer → Event Peer
 dispatch (Err _) octets peer = fault

@@ -1,6 +1,6 @@
 //! What datagrams are sent and received through.
 ghost use Rattle.std.specs.Prelude.{◌≡◌, ℕ, ◌+◌, ◌-◌, ◌^◌, ◌<◌, IfOk, IfSome, OnErr, OnOk, List};
-ghost use Rattle.dns_asker.specs.Wires.{Event, IsGiven, dispatch, receipt};
+ghost use Rattle.dns_asker.specs.Wires.{Event, IsGiven, dispatch, receipt, receipt_of_one};
 
 use thiserror::Error;
 
@@ -23,11 +23,15 @@ pub trait Wire {
     // How often it has failed.
     ghost failed: { Self → ℕ };
 
+    // What a call does takes it from one state to another. Of most wires nothing is known.
+    ghost does: { Self → Event (Unit {0}) → Self → Type 0 } = { λ _ _ _. Unit {0} };
+
     /// Sends a datagram to the peer.
     fn send(&mut self, octets: &[u8]) -> Result<(), WireFault>
         requires { failed self.old < 2 ^ 64 - 1 }
         ensures fault { OnErr result (failed self.new ≡ failed self.old + 1) }
-        ensures no_fault { OnOk result (failed self.new ≡ failed self.old) };
+        ensures no_fault { OnOk result (failed self.new ≡ failed self.old) }
+        ensures did { does self.old (dispatch result octets.now tt) self.new };
 
     /// Receives a datagram: it stands in front of the buffer, and the result is the number of its
     /// octets. `None`: none came in the time that the wire waits.
@@ -36,7 +40,8 @@ pub trait Wire {
         ensures fault { OnErr result (failed self.new ≡ failed self.old + 1) }
         ensures no_fault { OnOk result (failed self.new ≡ failed self.old) }
         ensures given { IfOk result
-            (λ given. IfSome given (λ count. IsGiven gives count buffer.new)) };
+            (λ given. IfSome given (λ count. IsGiven gives count buffer.new)) }
+        ensures did { does self.old (receipt_of_one result buffer.new) self.new };
 
     /// How often a call has failed.
     fn failures(&self) -> u64
