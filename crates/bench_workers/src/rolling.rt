@@ -75,7 +75,7 @@ fn next_reply(
     ensures at { IsAt seat.new }
     ensures stand { Stand (λ _. ⊤) (λ _. ⊤) seat.new.seat.seat resolver.new.requests }
 {
-    let transmit = resolver.poll_transmit(cache, seat, now)?;
+    let transmit = resolver.poll_transmit(cache, seat, now, now)?;
     zone.answer_datagram(alloc, transmit.octets).ok()?
 }
 

@@ -9,7 +9,7 @@ use crate::message_wire::MessageWire;
 use crate::wire_origin::WireOrigin;
 use answer_cache::AnswerBook;
 use dns_asker::Clock;
-use sip_resolver::{Ids, Over, Resolved, Resolver};
+use sip_resolver::{Ids, Over, Resolved, Resolver, rounded_up};
 use std::sync::Wait;
 
 /// How many queries are sent in one round at most, before something is received.
@@ -29,7 +29,8 @@ fn send_next<B: AnswerBook, W: MessageWire, C: Clock, I: Ids + Drop>(
     ensures stand { Stand W.gives C.shows (B.shown seat.new) resolver.new.requests }
     ensures same { AreSame resolver.old.requests resolver.new.requests }
 {
-    match resolver.poll_transmit(book, seat, clock.now()) {
+    let now = clock.now();
+    match resolver.poll_transmit(book, seat, now, rounded_up(now)) {
         Some(query) => {
             wire.send(query.octets);
             true

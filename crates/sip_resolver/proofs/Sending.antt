@@ -10,7 +10,7 @@ use Rattle.dns_asker.specs.Events.{IsGivenUp, IsResent, again}
 use Rattle.dns_asker.specs.Tickets.{Asking, Ticket, has_id, waiting_too}
 use Rattle.dns_message.specs.declared.question.Question.{Question}
 use Rattle.sip_resolver.specs.Questions.{QuestionsView, IsSent, asked_over, asking_over}
-use Rattle.sip_resolver.specs.Sends.{GivesUp, GivesUpBoth, IsInVain, IsUnanswered, SendsAfter, SendsOne, Sends, first, again as again-sent, with_over}
+use Rattle.sip_resolver.specs.Sends.{GivesUp, GivesUpBoth, IsInVain, IsUnanswered, SendsAfter, SendsFirst, SendsOne, Sends, first, again as again-sent, with_over}
 use Rattle.sip_resolver.specs.Tasks.{WaitingView, over_of}
 use Rattle.sip_resolver.specs.Waits.{Resends}
 use Rattle.sip_resolver.specs.declared.transmit.Over.{Over}
@@ -48,19 +48,19 @@ unanswered now id question old middle new gives is = record {
 -- ---- what is sent
 
 -- one over datagrams
-pub sends-datagram : (now id : ℕ) (waiting : List WaitingView) (old : QuestionsView) (new : Asking) → Resends now id old.datagrams new
-    → SendsAfter now id waiting old (with_over Datagram new old)
-sends-datagram now id waiting old new it = record {
+pub sends-datagram : (now id asked : ℕ) (waiting : List WaitingView) (old : QuestionsView) (new : Asking)
+    → Resends now id old.datagrams new → SendsAfter now asked id waiting old (with_over Datagram new old)
+sends-datagram now id asked waiting old new it = record {
   middle = with_over Datagram it.middle old;
   gives_up = record { datagrams = it.gives_up; streams = gives-up-not now old.streams };
   sends = again-sent Datagram new it.octets it.resent refl;
 }
 
 -- one over streams, after some over datagrams were given up
-pub sends-stream : (now id : ℕ) (waiting : List WaitingView) (old : QuestionsView) (datagrams streams : Asking)
+pub sends-stream : (now id asked : ℕ) (waiting : List WaitingView) (old : QuestionsView) (datagrams streams : Asking)
     → GivesUp now old.datagrams datagrams → Resends now id old.streams streams
-    → SendsAfter now id waiting old (record { datagrams = datagrams; streams = streams })
-sends-stream now id waiting old datagrams streams gives it = record {
+    → SendsAfter now asked id waiting old (record { datagrams = datagrams; streams = streams })
+sends-stream now id asked waiting old datagrams streams gives it = record {
   middle = record { datagrams = datagrams; streams = it.middle };
   gives_up = record { datagrams = gives; streams = it.gives_up };
   sends = again-sent Stream streams it.octets it.resent refl;
@@ -69,21 +69,22 @@ sends-stream now id waiting old datagrams streams gives it = record {
 pub sends-both : (now : ℕ) (waiting : List WaitingView) (old : QuestionsView) (datagrams streams : Asking) (found : Option ℕ)
     → GivesUp now old.datagrams datagrams → MatchOption found (GivesUp now old.streams streams) (λ id. Resends now id old.streams streams)
     → MatchOption found (GivesUpBoth now old (record { datagrams = datagrams; streams = streams }))
-    (λ id. SendsAfter now id waiting old (record { datagrams = datagrams; streams = streams }))
+    (λ id. (asked : ℕ) → SendsAfter now asked id waiting old (record { datagrams = datagrams; streams = streams }))
 sends-both now waiting old datagrams streams None gives it = record { datagrams = gives; streams = it }
-sends-both now waiting old datagrams streams (Some id) gives it = sends-stream now id waiting old datagrams streams gives it
+sends-both now waiting old datagrams streams (Some id) gives it = λ asked.
+    sends-stream now id asked waiting old datagrams streams gives it
 
 -- some are given up, and then one is sent or none
-pub sends-then : (now : ℕ) (waiting : List WaitingView) (old middle new : QuestionsView) (found : Option ℕ) → GivesUpBoth now old middle
-    → MatchOption found (new ≡ middle) (λ id. SendsOne now id waiting middle new)
-    → MatchOption found (GivesUpBoth now old new) (λ id. SendsAfter now id waiting old new)
-sends-then now waiting old middle new None gives it = rw it gives
-sends-then now waiting old middle new (Some id) gives it = record { middle = middle; gives_up = gives; sends = it }
+pub sends-then : (now asked : ℕ) (waiting : List WaitingView) (old middle new : QuestionsView) (found : Option ℕ)
+    → GivesUpBoth now old middle → MatchOption found (new ≡ middle) (λ id. SendsFirst asked id waiting middle new)
+    → MatchOption found (GivesUpBoth now old new) (λ id. SendsAfter now asked id waiting old new)
+sends-then now asked waiting old middle new None gives it = rw it gives
+sends-then now asked waiting old middle new (Some id) gives it = record { middle = middle; gives_up = gives; sends = first it }
 
 -- ---- the one that is sent is out
 
 abbrev ticket-of : ℕ → Question → ℕ → Ticket
-ticket-of id question now = record { sent = record { id = id; question = question; sends = 1 }; deadline = now + 1 }
+ticket-of id question asked = record { sent = record { id = id; question = question; sends = 1 }; deadline = asked + 1 }
 
 module _ (p : Ticket → Bool) (ticket : Ticket) (back : List Ticket) (is : p ticket ≡ true) where
   found-by : (before : Option Ticket) → option_or before (find p (ticket ∷ back)) ≡ None → ⊥
@@ -93,7 +94,7 @@ module _ (p : Ticket → Bool) (ticket : Ticket) (back : List Ticket) (is : p ti
   found-in : (front : List Ticket) → find p (front ++ ticket ∷ back) ≡ None → ⊥
   found-in front none = found-by (find p front) (sym (find-append p front (ticket ∷ back)) ∙ none)
 
-module _ (now id : ℕ) (waiting : List WaitingView) (old new : QuestionsView) (none : IsSent id new None) where
+module _ (now asked id : ℕ) (waiting : List WaitingView) (old new : QuestionsView) (none : IsSent id new None) where
   -- a ticket of this id is among these
   is-there : (over : Over) (ticket : Ticket) (others : List Ticket) → has_id id ticket ≡ true
       → (asking_over over new).tickets ≡ waiting_too ticket others → ⊥
@@ -102,11 +103,11 @@ module _ (now id : ℕ) (waiting : List WaitingView) (old new : QuestionsView) (
   is-there Stream ticket others is there =
       found-in (has_id id) ticket _ is _ (rw there at none.1)
 
-  asked-there : (over : Over) (question : Question) → new ≡ asked_over over id question now old → ⊥
+  asked-there : (over : Over) (question : Question) → new ≡ asked_over over id question asked old → ⊥
   asked-there Datagram question is =
-      is-there Datagram (ticket-of id question now) old.datagrams.tickets (search rules) (rw is refl)
+      is-there Datagram (ticket-of id question asked) old.datagrams.tickets (search rules) (rw is refl)
   asked-there Stream question is =
-      is-there Stream (ticket-of id question now) old.streams.tickets (search rules) (rw is refl)
+      is-there Stream (ticket-of id question asked) old.streams.tickets (search rules) (rw is refl)
 
   again-there : (over : Over) (asking : Asking) (octets : List ℕ) → IsResent (asking_over over old) asking now id octets
       → new ≡ with_over over asking old → ⊥
@@ -116,18 +117,18 @@ module _ (now id : ℕ) (waiting : List WaitingView) (old new : QuestionsView) (
       is-there Stream (again now it.ticket) it.others (search rules) (rw is (rw it.left refl))
 
   -- so its octets are there
-  pub sent-there : SendsOne now id waiting old new → ⊥
-  sent-there (first task question needs waits is) = asked-there (over_of task) question is
+  pub sent-there : SendsOne now asked id waiting old new → ⊥
+  sent-there (first it) = asked-there (over_of it.task) it.question it.is_asked
   sent-there (again-sent over asking octets it is) = again-there over asking octets it is
 
 -- what is sent is what was counted as sent
-pub sends-octets : (now id : ℕ) (waiting : List WaitingView) (old new : QuestionsView) (transmit : Option Transmit)
-    → SendsAfter now id waiting old new → IsSent id new transmit → Sends now waiting old new transmit
-sends-octets now id waiting old new None it sent = absurd (sent-there now id waiting it.middle new sent it.sends)
-sends-octets now id waiting old new (Some transmit) it sent = (id, it, sent)
+pub sends-octets : (now asked id : ℕ) (waiting : List WaitingView) (old new : QuestionsView) (transmit : Option Transmit)
+    → SendsAfter now asked id waiting old new → IsSent id new transmit → Sends now asked waiting old new transmit
+sends-octets now asked id waiting old new None it sent = absurd (sent-there now asked id waiting it.middle new sent it.sends)
+sends-octets now asked id waiting old new (Some transmit) it sent = (id, it, sent)
 
 -- so there are octets
-pub sends-some : (now id : ℕ) (waiting : List WaitingView) (old new : QuestionsView) (transmit : Option Transmit)
-    → SendsAfter now id waiting old new → IsSent id new transmit → (P : Type 0) → IfNone transmit P
-sends-some now id waiting old new None it sent P = absurd (sent-there now id waiting it.middle new sent it.sends)
-sends-some now id waiting old new (Some transmit) it sent P = tt
+pub sends-some : (now asked id : ℕ) (waiting : List WaitingView) (old new : QuestionsView) (transmit : Option Transmit)
+    → SendsAfter now asked id waiting old new → IsSent id new transmit → (P : Type 0) → IfNone transmit P
+sends-some now asked id waiting old new None it sent P = absurd (sent-there now asked id waiting it.middle new sent it.sends)
+sends-some now asked id waiting old new (Some transmit) it sent P = tt

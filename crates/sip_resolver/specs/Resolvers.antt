@@ -127,14 +127,16 @@ pub record IsTaken (ended : Ended) (old new : ResolverView) : Type 0 where
 -- The requests are the same, and what is so of them goes on to be so. A request ends by its choice,
 -- or as a question was in vain, or for want of memory. What is sent are the octets of a question
 -- that is out, under an id of its own. Where nothing is sent, nothing is left to do at this moment.
+-- What is due is due by the first moment, and what is sent for the first time is asked at the
+-- second one.
 pub record Polls (gives : List ℕ → Type 0) (shows : ℕ → Type 0) {I : Type 0}
-    (draws : I → ℕ → I → Type 0) (seat : SeatView) (now : ℕ) (old new : ResolverView)
+    (draws : I → ℕ → I → Type 0) (seat : SeatView) (now asked : ℕ) (old new : ResolverView)
     (result : Option Transmit) : Type 0 where
   pub stand : Stand gives shows seat new.requests
   pub same : AreSame old.requests new.requests
   pub ends : EndsMore (IsInTime (tickets_of old.questions) now)
       old.requests.ended new.requests.ended
-  pub sends : Sends now new.requests.waiting old.questions new.questions result
+  pub sends : Sends now asked new.requests.waiting old.questions new.questions result
   pub idle : IfNone result (IsIdle draws now new.requests new.questions)
   pub awaited : AreAwaited old.requests old.questions → AreAwaited new.requests new.questions
   pub distinct : AreDistinct new.questions

@@ -59,29 +59,38 @@ abbrev pub with_over : Over → Asking → QuestionsView → QuestionsView
 with_over Datagram asking it = record it { datagrams = asking }
 with_over Stream asking it = record it { streams = asking }
 
--- One question is sent, under this id, and counted as sent. It is sent for the first time for a
+-- A question is sent for the first time, under this id, and counted as asked at this moment, for a
 -- request that needs its answer and now waits for it: over a stream where the reply in a datagram
--- was cut. Or it is sent once more, as no reply came in time.
-pub data SendsOne (now id : ℕ) (waiting : List WaitingView) (old new : QuestionsView)
+-- was cut.
+pub record SendsFirst (asked id : ℕ) (waiting : List WaitingView) (old new : QuestionsView)
     : Type 0 where
-  first : (task : TaskView) (question : Question) → now_of task.selection ≡ need question
-      → Contains waiting (record { id = id; task = task })
-      → new ≡ asked_over (over_of task) id question now old → SendsOne now id waiting old new
+  pub task : TaskView
+  pub question : Question
+  pub needs : now_of task.selection ≡ need question
+  pub waits : Contains waiting (record { id = id; task = task })
+  pub is_asked : new ≡ asked_over (over_of task) id question asked old
+
+-- One question is sent, under this id, and counted as sent: for the first time, as asked at the one
+-- moment, or once more, as no reply came in time for the other.
+pub data SendsOne (now asked id : ℕ) (waiting : List WaitingView) (old new : QuestionsView)
+    : Type 0 where
+  first : SendsFirst asked id waiting old new → SendsOne now asked id waiting old new
   again : (over : Over) (asking : Asking) (octets : List ℕ)
       → IsResent (asking_over over old) asking now id octets → new ≡ with_over over asking old
-      → SendsOne now id waiting old new
+      → SendsOne now asked id waiting old new
 
 -- some are given up, and then one is sent
-pub record SendsAfter (now id : ℕ) (waiting : List WaitingView) (old new : QuestionsView)
+pub record SendsAfter (now asked id : ℕ) (waiting : List WaitingView) (old new : QuestionsView)
     : Type 0 where
   pub middle : QuestionsView
   pub gives_up : GivesUpBoth now old middle
-  pub sends : SendsOne now id waiting middle new
+  pub sends : SendsOne now asked id waiting middle new
 
 -- The octets are those of the one question that is sent. Where there are none, none is sent, and
 -- none is counted as sent.
-abbrev pub Sends : ℕ → List WaitingView → QuestionsView → QuestionsView → Option Transmit → Type 0
-Sends now waiting old new None = GivesUpBoth now old new
-Sends now waiting old new (Some transmit) =
-    (id : ℕ) × SendsAfter now id waiting old new
+abbrev pub Sends : ℕ → ℕ → List WaitingView → QuestionsView → QuestionsView → Option Transmit
+    → Type 0
+Sends now asked waiting old new None = GivesUpBoth now old new
+Sends now asked waiting old new (Some transmit) =
+    (id : ℕ) × SendsAfter now asked id waiting old new
     × IsOctetsOf transmit.octets.now id (asking_over transmit.over new).tickets

@@ -4,7 +4,7 @@ ghost use Rattle.answer_cache.specs.Seats.{SeatView};
 ghost use Rattle.sip_resolver.specs.Ends.{EndsMore, IsByChoice};
 ghost use Rattle.sip_resolver.specs.Idle.{AreAwaited, CannotAsk};
 ghost use Rattle.sip_resolver.specs.Requests.{IsBack, Stand, count_of};
-ghost use Rattle.sip_resolver.specs.Sends.{SendsOne};
+ghost use Rattle.sip_resolver.specs.Sends.{SendsFirst};
 ghost use Rattle.sip_resolver.specs.Tasks.{IsCounted, Lacks, sought_of};
 
 use crate::ids::Ids;
@@ -17,14 +17,15 @@ use answer_cache::AnswerBook;
 use dns_answers::Moment;
 use dns_asker::AskRefusal;
 
-/// Lets a request wait for the answer that it needs. Where its question is not out it is sent, and
-/// the result is its id; where as many are out as can be, the request is held.
+/// Lets a request wait for the answer that it needs. Where its question is not out it is sent, as
+/// asked at this moment, and the result is its id; where as many are out as can be, the request is
+/// held.
 pub(crate) fn wait_for_answer<B: AnswerBook, F: Origin, I: Ids>(
     requests: &mut Requests<B>,
     questions: &mut Questions,
     ids: &mut I,
     task: Task<B>,
-    now: Moment,
+    asked: Moment,
 ) -> Option<u16>
     requires room { count_of requests.old < requests.old.limit }
     ensures stand { (seat : SeatView) → IsCounted F.gives F.shows seat task
@@ -34,7 +35,7 @@ pub(crate) fn wait_for_answer<B: AnswerBook, F: Origin, I: Ids>(
     ensures ready { requests.new.ready ≡ requests.old.ready }
     ensures ends { EndsMore IsByChoice requests.old.ended requests.new.ended }
     ensures sends { MatchOption result (questions.new ≡ questions.old)
-        (λ id. SendsOne now id requests.new.waiting questions.old questions.new) }
+        (λ id. SendsFirst asked id requests.new.waiting questions.old questions.new) }
     ensures awaited { AreAwaited requests.old questions.old
         → AreAwaited requests.new questions.new }
     ensures held { (requests.new.held ≡ requests.old.held) ⊎ CannotAsk I.draws questions.new }
@@ -47,7 +48,7 @@ pub(crate) fn wait_for_answer<B: AnswerBook, F: Origin, I: Ids>(
         requests.wait(id, task);
         return None;
     }
-    let refusal = match questions.ask(task.over(), ids, question, now) {
+    let refusal = match questions.ask(task.over(), ids, question, asked) {
         Ok(id) => {
             requests.wait(id, task);
             return Some(id);

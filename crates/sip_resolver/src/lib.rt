@@ -14,12 +14,17 @@
 //!     .submit(1, request, caps, Words([0; WORD_COUNT]))
 //!     .ok()?;
 //! // the octets of a query, which begin with its id
-//! let query = resolver.poll_transmit(book, seat, now)?.octets;
+//! let asked = rounded_up(now);
+//! let query = resolver.poll_transmit(book, seat, now, asked)?.octets;
 //! // the octets of its reply, and what they meant
 //! let heard = resolver.handle(rt, book, seat, now, Over::Datagram, &REPLY);
 //! // the request's number, and what became of it
 //! let ended = resolver.poll_outcome()?;
 //! ```
+//!
+//! Moments are whole seconds. `now` is the time rounded down: what was due by then is sent again or
+//! given up. `asked` is the time rounded up, at which a question that is sent for the first time
+//! counts as asked: so no query is sent again before a full second is over.
 //!
 //! A loop over it goes on so: `submit` what is to be resolved; call `poll_transmit` until it gives
 //! nothing, and send what it gives; take what `poll_outcome` gives; wait for a datagram until the
@@ -45,6 +50,7 @@ mod queue;
 mod refusal;
 mod requests;
 mod resolver;
+mod rounding;
 mod task;
 mod transmit;
 mod waits;
@@ -55,6 +61,7 @@ pub use origin::{Anything, Origin};
 pub use outcome::{Outcome, Resolved, TargetList};
 pub use refusal::SubmitRefusal;
 pub use resolver::{Heard, Limits, Resolver};
+pub use rounding::rounded_up;
 pub use transmit::{Over, Transmit};
 
 #[cfg(test)]

@@ -1,5 +1,5 @@
 //! The questions that are out, over datagrams and over streams.
-ghost use Rattle.std.specs.Prelude.{◌≡◌, ◌≤◌, ◌↔◌, [], None, Err, IfErr, IfNone, IfOk, IfSome, IsTrue, MatchOption, OnErr};
+ghost use Rattle.std.specs.Prelude.{◌≡◌, ℕ, ◌≤◌, ◌↔◌, [], None, Err, IfErr, IfNone, IfOk, IfSome, IsTrue, MatchOption, OnErr};
 ghost use Rattle.answer_cache.specs.Seats.{SeatView};
 ghost use Rattle.std.specs.List.{All};
 ghost use Rattle.dns_asker.specs.Events.{Means, Refuses, asked as asked_too};
@@ -176,7 +176,7 @@ impl Questions {
         ensures ends { EndsMore (IsInTime (tickets_of self.old) now)
             requests.old.ended requests.new.ended }
         ensures sends { MatchOption result (GivesUpBoth now self.old self.new)
-            (λ id. SendsAfter now id requests.new.waiting self.old self.new) }
+            (λ id. (asked : ℕ) → SendsAfter now asked id requests.new.waiting self.old self.new) }
         ensures datagrams { IfNone result (All (IsInWait now) self.new.datagrams.tickets) }
         ensures streams { IfNone result (All (IsInWait now) self.new.streams.tickets) }
         ensures awaited { AreAwaited requests.old self.old → AreAwaited requests.new self.new }

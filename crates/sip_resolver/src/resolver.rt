@@ -11,7 +11,7 @@ ghost use Rattle.sip_resolver.specs.Outcomes.{IsOutcome};
 ghost use Rattle.sip_resolver.specs.Questions.{IsLeast, deadlines_of};
 ghost use Rattle.sip_resolver.specs.Requests.{AreSame, IsBack, Stand, count_of};
 ghost use Rattle.sip_resolver.specs.Resolvers.{HasRoomFor, Hears, IsCut, IsEnded, IsTaken, Polls, RefusesSubmit, begun_of, with_request};
-ghost use Rattle.sip_resolver.specs.Sends.{GivesUpBoth, IsInTime, SendsAfter, SendsOne, tickets_of};
+ghost use Rattle.sip_resolver.specs.Sends.{GivesUpBoth, IsInTime, SendsAfter, SendsFirst, tickets_of};
 ghost use Rattle.sip_resolver.specs.Settles.{GetsAnswer, GoesByReply, SettlesAll};
 ghost use Rattle.sip_resolver.specs.Tasks.{IsCounted, sought_of};
 ghost use Rattle.sip_resolver.specs.Works.{IsAtMostOne, Works};
@@ -159,11 +159,18 @@ impl<B: AnswerBook, F: Origin, I: Ids + Drop> Resolver<B, F, I> {
     ///
     /// Questions whose replies did not come in time are given up after three sends, or sent once
     /// more; then each request that can goes on, by what the book has.
+    ///
+    /// Moments are whole seconds, and most calls come between two of them. `now` is the time
+    /// rounded down: what was due by then is due, and the book is read at it. `asked` is the time
+    /// rounded up (`rounded_up`): a question that is sent for the first time counts as asked then,
+    /// and is due one second later. So it is not sent again in less than a full second. One that is
+    /// sent again is due one second after `now`.
     pub fn poll_transmit(
         &mut self,
         book: &B,
         seat: &mut B::Seat,
         now: Moment,
+        asked: Moment,
     ) -> Option<Transmit<'_>>
         requires made_here { B.belongs book.now seat.old }
         requires shown { F.shows now }
@@ -172,9 +179,9 @@ impl<B: AnswerBook, F: Origin, I: Ids + Drop> Resolver<B, F, I> {
         ensures goes_on { GoesOn (B.shown seat.old) (B.shown seat.new) }
         ensures stores_nothing { StoresNothing (B.shown seat.old) (B.shown seat.new) }
         ensures* polls { sem 𝓛 (Rests (the_row B.row F.row I.row) self.entry (λ ended.
-            Polls F.gives F.shows I.draws (B.shown seat.new) now self.old ended result)) }
+            Polls F.gives F.shows I.draws (B.shown seat.new) now asked self.old ended result)) }
     {
-        let id = self.next_transmit(book, seat, now);
+        let id = self.next_transmit(book, seat, now, asked);
         self.questions.are_distinct();
         self.questions.transmit_of(id?)
     }
@@ -253,7 +260,13 @@ impl<B: AnswerBook, F: Origin, I: Ids + Drop> Resolver<B, F, I> {
     }
 
     /// The id of the question to send next.
-    fn next_transmit(&mut self, book: &B, seat: &mut B::Seat, now: Moment) -> Option<u16>
+    fn next_transmit(
+        &mut self,
+        book: &B,
+        seat: &mut B::Seat,
+        now: Moment,
+        asked: Moment,
+    ) -> Option<u16>
         requires made_here { B.belongs book.now seat.old }
         requires shown { F.shows now }
         requires stand { Stand F.gives F.shows (B.shown seat.old) self.old.requests }
@@ -266,7 +279,7 @@ impl<B: AnswerBook, F: Origin, I: Ids + Drop> Resolver<B, F, I> {
             self.old.requests.ended self.new.requests.ended }
         ensures sends { MatchOption result
             (GivesUpBoth now self.old.questions self.new.questions)
-            (λ id. SendsAfter now id self.new.requests.waiting
+            (λ id. SendsAfter now asked id self.new.requests.waiting
             self.old.questions self.new.questions) }
         ensures awaited { AreAwaited self.old.requests self.old.questions
             → AreAwaited self.new.requests self.new.questions }
@@ -276,14 +289,14 @@ impl<B: AnswerBook, F: Origin, I: Ids + Drop> Resolver<B, F, I> {
         if let Some(id) = self.questions.next_resend::<B, F>(&mut self.requests, now) {
             return Some(id);
         }
-        if let Some(id) = self.run_ready(book, seat, now) {
+        if let Some(id) = self.run_ready(book, seat, now, asked) {
             return Some(id);
         }
-        self.run_held(book, seat, now)
+        self.run_held(book, seat, now, asked)
     }
 
     /// Lets each request go on that is ready, until a question is sent for one, and gives its id.
-    fn run_ready(&mut self, book: &B, seat: &mut B::Seat, now: Moment) -> Option<u16>
+    fn run_ready(&mut self, book: &B, seat: &mut B::Seat, now: Moment, asked: Moment) -> Option<u16>
         requires made_here { B.belongs book.now seat.old }
         requires shown { F.shows now }
         requires stand { Stand F.gives F.shows (B.shown seat.old) self.old.requests }
@@ -295,14 +308,14 @@ impl<B: AnswerBook, F: Origin, I: Ids + Drop> Resolver<B, F, I> {
         ensures ends { EndsMore IsByChoice
             self.old.requests.ended self.new.requests.ended }
         ensures sends { MatchOption result (self.new.questions ≡ self.old.questions)
-            (λ id. SendsOne now id self.new.requests.waiting
+            (λ id. SendsFirst asked id self.new.requests.waiting
             self.old.questions self.new.questions) }
         ensures awaited { AreAwaited self.old.requests self.old.questions
             → AreAwaited self.new.requests self.new.questions }
         ensures ready { IfNone result (self.new.requests.ready ≡ []) }
     {
         'tasks: while let Some(task) = self.requests.next_ready() {
-            if let Some(id) = self.advance(book, seat, now, task) {
+            if let Some(id) = self.advance(book, seat, now, asked, task) {
                 return Some(id);
             }
         }
@@ -311,7 +324,7 @@ impl<B: AnswerBook, F: Origin, I: Ids + Drop> Resolver<B, F, I> {
 
     /// Lets each request go on that is held, while there is room for another question, until one is
     /// sent, and gives its id.
-    fn run_held(&mut self, book: &B, seat: &mut B::Seat, now: Moment) -> Option<u16>
+    fn run_held(&mut self, book: &B, seat: &mut B::Seat, now: Moment, asked: Moment) -> Option<u16>
         requires made_here { B.belongs book.now seat.old }
         requires shown { F.shows now }
         requires stand { Stand F.gives F.shows (B.shown seat.old) self.old.requests }
@@ -323,7 +336,7 @@ impl<B: AnswerBook, F: Origin, I: Ids + Drop> Resolver<B, F, I> {
         ensures ends { EndsMore IsByChoice
             self.old.requests.ended self.new.requests.ended }
         ensures sends { MatchOption result (self.new.questions ≡ self.old.questions)
-            (λ id. SendsOne now id self.new.requests.waiting
+            (λ id. SendsFirst asked id self.new.requests.waiting
             self.old.questions self.new.questions) }
         ensures ready { self.new.requests.ready ≡ self.old.requests.ready }
         ensures awaited { AreAwaited self.old.requests self.old.questions
@@ -338,7 +351,7 @@ impl<B: AnswerBook, F: Origin, I: Ids + Drop> Resolver<B, F, I> {
             let Some(task) = self.requests.next_held() else {
                 return None;
             };
-            if let Some(id) = self.advance(book, seat, now, task) {
+            if let Some(id) = self.advance(book, seat, now, asked, task) {
                 return Some(id);
             }
         }
@@ -352,6 +365,7 @@ impl<B: AnswerBook, F: Origin, I: Ids + Drop> Resolver<B, F, I> {
         book: &B,
         seat: &mut B::Seat,
         now: Moment,
+        asked: Moment,
         mut task: Task<B>,
     ) -> Option<u16>
         requires made_here { B.belongs book.now seat.old }
@@ -368,7 +382,7 @@ impl<B: AnswerBook, F: Origin, I: Ids + Drop> Resolver<B, F, I> {
         ensures ends { EndsMore IsByChoice
             self.old.requests.ended self.new.requests.ended }
         ensures sends { MatchOption result (self.new.questions ≡ self.old.questions)
-            (λ id. SendsOne now id self.new.requests.waiting
+            (λ id. SendsFirst asked id self.new.requests.waiting
             self.old.questions self.new.questions) }
         ensures awaited { AreAwaited self.old.requests self.old.questions
             → AreAwaited self.new.requests self.new.questions }
@@ -385,7 +399,7 @@ impl<B: AnswerBook, F: Origin, I: Ids + Drop> Resolver<B, F, I> {
                 &mut self.questions,
                 &mut self.ids,
                 task,
-                now,
+                asked,
             ),
         }
     }

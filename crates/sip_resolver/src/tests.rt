@@ -100,12 +100,13 @@ fn id_of(octets: &[u8]) -> Option<u16> {
     }
 }
 
-/// What is sent next at a moment, if anything is.
+/// What is sent next, if anything is, at a time that is `now` rounded down and `asked` rounded up.
 pub(crate) fn send_next<B: AnswerBook, F: Origin, I: Ids + Drop>(
     resolver: &mut Resolver<B, F, I>,
     book: &B,
     seat: &mut B::Seat,
     now: Moment,
+    asked: Moment,
 ) -> Option<Sent>
     requires made_here { B.belongs book.now seat.old }
     requires shown { F.shows now }
@@ -113,7 +114,7 @@ pub(crate) fn send_next<B: AnswerBook, F: Origin, I: Ids + Drop>(
     ensures stays { B.belongs book.now seat.new }
     ensures stand { Stand F.gives F.shows (B.shown seat.new) resolver.new.requests }
 {
-    let transmit = resolver.poll_transmit(book, seat, now)?;
+    let transmit = resolver.poll_transmit(book, seat, now, asked)?;
     let id = id_of(transmit.octets)?;
     let over = transmit.over;
     Some(Sent { id, over })

@@ -37,8 +37,8 @@ fn both_ids<B: AnswerBook, F: Origin, I: Ids + Drop>(
     requires shown { F.shows now }
     requires stand { Stand F.gives F.shows (B.shown seat.old) resolver.old.requests }
 {
-    let first = send_next(resolver, book, seat, now)?.id;
-    let second = send_next(resolver, book, seat, now)?.id;
+    let first = send_next(resolver, book, seat, now, now)?.id;
+    let second = send_next(resolver, book, seat, now, now)?.id;
     Some([first, second])
 }
 

@@ -56,7 +56,8 @@ fn sends<B: AnswerBook, F: Origin>(
     ensures stand { Stand F.gives F.shows (B.shown seat.new) resolver.new.requests }
 {
     // the octets of a query, which begin with its id
-    let query = resolver.poll_transmit(book, seat, now)?.octets;
+    let asked = rounded_up(now);
+    let query = resolver.poll_transmit(book, seat, now, asked)?.octets;
     Some(query.starts_with(b"\x00\x00"))
 }
 

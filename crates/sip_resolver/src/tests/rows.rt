@@ -57,7 +57,7 @@ fn next_reply<B: AnswerBook, F: Origin>(
     ensures stays { B.belongs book.now seat.new }
     ensures stand { Stand F.gives F.shows (B.shown seat.new) resolver.new.requests }
 {
-    let query = resolver.poll_transmit(book, seat, now)?.octets;
+    let query = resolver.poll_transmit(book, seat, now, now)?.octets;
     let Ok(reply) = zone.answer_datagram(alloc, query) else {
         return None;
     };
@@ -84,7 +84,7 @@ fn asks_once<B: AnswerBook, F: Origin>(
     let Some(reply) = next_reply(alloc, resolver, book, seat, zone, now) else {
         return 0;
     };
-    let alone = send_next(resolver, book, seat, now).is_none();
+    let alone = send_next(resolver, book, seat, now, now).is_none();
     let heard = resolver.handle(rt, book, seat, now, Over::Datagram, reply.as_slice());
     u32::from(alone && heard == Ok(Heard::Reply))
 }

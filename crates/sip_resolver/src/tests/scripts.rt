@@ -65,6 +65,10 @@ enum Call {
     Sends(u64, u16, Over),
     /// `poll_transmit` gives nothing.
     Rests(u64),
+    /// `poll_transmit` gives the query of this id, between this second and the next one.
+    SendsBehind(u64, u16, Over),
+    /// `poll_transmit` gives nothing between this second and the next one.
+    RestsBehind(u64),
     /// `handle` takes the reply that came so.
     Hears(u64, Over, Reply, Heard),
     /// `next_timeout` gives this.
@@ -75,7 +79,7 @@ enum Call {
     Submits(u64),
 }
 
-use Call::{Ends, Hears, Rests, Sends, Submits, Waits};
+use Call::{Ends, Hears, Rests, RestsBehind, Sends, SendsBehind, Submits, Waits};
 use Over::{Datagram, Stream};
 use Reply::{But, Whole};
 
@@ -117,6 +121,24 @@ const LATE_REPLY: [Call; 11] = [
     Ends(1, End::NoAnswer),
     Ends(2, End::NoAnswer),
     Hears(103, Datagram, Whole(0), Heard::Ignored(Why::UnknownId)),
+];
+
+/// A question that is asked between two seconds is not sent again at the second of these, since no
+/// full second is over. One that is sent again comes again with the next second.
+const BETWEEN_SECONDS: [Call; 13] = [
+    SendsBehind(100, 0, Datagram),
+    Waits(Some(102)),
+    Rests(101),
+    RestsBehind(101),
+    Sends(102, 0, Datagram),
+    RestsBehind(102),
+    Waits(Some(103)),
+    SendsBehind(103, 0, Datagram),
+    RestsBehind(103),
+    Waits(Some(104)),
+    Rests(104),
+    Ends(1, End::NoAnswer),
+    Ends(2, End::NoAnswer),
 ];
 
 /// What is no reply to the question leaves it out, and the true reply ends it.
@@ -205,12 +227,13 @@ fn ends<B: AnswerBook, F: Origin>(
     ended.number() == number && end_of(ended.outcome()) == end
 }
 
-/// Whether `poll_transmit` gives this.
+/// Whether `poll_transmit` gives this at a second, or between it and the next one.
 fn sends<B: AnswerBook, F: Origin>(
     resolver: &mut Resolver<B, F, CountingIds>,
     book: &B,
     seat: &mut B::Seat,
     second: u64,
+    is_behind: bool,
     sent: Option<Sent>,
 ) -> bool
     requires made_here { B.belongs book.now seat.old }
@@ -222,7 +245,8 @@ fn sends<B: AnswerBook, F: Origin>(
     let Some(now) = Moment::new(second) else {
         return false;
     };
-    send_next(resolver, book, seat, now) == sent
+    let asked = if is_behind { rounded_up(now) } else { now };
+    send_next(resolver, book, seat, now, asked) == sent
 }
 
 /// Whether `handle` takes this reply so.
@@ -267,8 +291,12 @@ fn does<B: AnswerBook, F: Origin>(
     ensures stand { Stand F.gives F.shows (B.shown seat.new) resolver.new.requests }
 {
     match *call {
-        Sends(now, id, over) => sends(resolver, book, seat, now, Some(Sent { id, over })),
-        Rests(now) => sends(resolver, book, seat, now, None),
+        Sends(now, id, over) => sends(resolver, book, seat, now, false, Some(Sent { id, over })),
+        Rests(now) => sends(resolver, book, seat, now, false, None),
+        SendsBehind(now, id, over) => {
+            sends(resolver, book, seat, now, true, Some(Sent { id, over }))
+        }
+        RestsBehind(now) => sends(resolver, book, seat, now, true, None),
         Hears(now, over, reply, heard) => {
             hears(rt, resolver, book, seat, now, over, reply, heard)
         }
@@ -312,6 +340,11 @@ fn plays(rt: &impl Wait, alloc: Global, calls: &[Call]) -> Option<bool> {
 fn an_answer_lives(rt: HostRuntime) {
     assert_eq!(rt; plays(&rt, rt.alloc(), &LIFE_OF_NOTHING), Some(true));
     assert_eq!(rt; plays(&rt, rt.alloc(), &LIFE_OF_A_MINUTE), Some(true));
+}
+
+#[test]
+fn no_query_is_sent_again_within_a_second(rt: HostRuntime) {
+    assert_eq!(rt; plays(&rt, rt.alloc(), &BETWEEN_SECONDS), Some(true));
 }
 
 #[test]

@@ -113,8 +113,8 @@ fn sends_one<B: AnswerBook, F: Origin>(
     ensures stays { B.belongs book.now seat.new }
     ensures stand { Stand F.gives F.shows (B.shown seat.new) resolver.new.requests }
 {
-    let is_sent = is_this(send_next(resolver, book, seat, now), sent);
-    let rests = send_next(resolver, book, seat, now).is_none();
+    let is_sent = is_this(send_next(resolver, book, seat, now, now), sent);
+    let rests = send_next(resolver, book, seat, now, now).is_none();
     is_sent && rests
 }
 
@@ -130,7 +130,7 @@ fn both_end<B: AnswerBook, F: Origin>(
     requires shown { F.shows now }
     requires stand { Stand F.gives F.shows (B.shown seat.old) resolver.old.requests }
 {
-    let rests = send_next(resolver, book, seat, now).is_none();
+    let rests = send_next(resolver, book, seat, now, now).is_none();
     rests && ends(resolver, 1, end) && ends(resolver, 2, end)
 }
 

@@ -5,7 +5,6 @@ use Rattle.sip_resolver.proofs.Idling.{cannot-ask}
 use Rattle.sip_resolver.proofs.Inside.{ended-too, held-too, waiting-too}
 use Rattle.sip_resolver.proofs.asks.wait_for_answer.Goals as goal
 use Rattle.sip_resolver.specs.Idle.{IsIn}
-use Rattle.sip_resolver.specs.Sends.{first}
 
 pub returns-in_default-clause-stand : goal.returns-in_default-clause-stand
 returns-in_default-clause-stand g c = λ seat counted lacks stand. rw c.end.ensures (ended-too _ _ seat _ _ stand tt)
@@ -23,10 +22,13 @@ pub returns-clause-stand : goal.returns-clause-stand
 returns-clause-stand g c = λ seat counted lacks stand. rw c.end-2.ensures (ended-too _ _ seat _ _ stand tt)
 
 pub returns-in-Ok-clause-sends : goal.returns-in-Ok-clause-sends
-returns-in-Ok-clause-sends g c =
-    first c.args.task c.in-Some.question.now c.in-Some.ensures
-    (rw c.wait-in-Ok.ensures (Contains-push _ _))
-    (rw (← c.over.ensures) c.in-Ok.ensures.asked)
+returns-in-Ok-clause-sends g c = record {
+  task = c.args.task;
+  question = c.in-Some.question.now;
+  needs = c.in-Some.ensures;
+  waits = rw c.wait-in-Ok.ensures (Contains-push _ _);
+  is_asked = rw (← c.over.ensures) c.in-Ok.ensures.asked;
+}
 
 pub returns-in_default-clause-held : goal.returns-in_default-clause-held
 returns-in_default-clause-held g c = inl (rw c.end.ensures refl)
@@ -60,7 +62,7 @@ returns-in-Some-id_of-clause-awaited g c = λ it.
 pub returns-in-Ok-clause-awaited : goal.returns-in-Ok-clause-awaited
 returns-in-Ok-clause-awaited g c = λ it.
     rw (c.wait-in-Ok.ensures, c.in-Ok.ensures.asked)
-    (asked-in c.over.result c.in-Ok.id c.in-Some.question.now c.args.now c.args.questions.now c.args.requests.now.waiting c.args.task it)
+    (asked-in c.over.result c.in-Ok.id c.in-Some.question.now c.args.asked c.args.questions.now c.args.requests.now.waiting c.args.task it)
 
 pub returns-then-is_for_now-clause-awaited : goal.returns-then-is_for_now-clause-awaited
 returns-then-is_for_now-clause-awaited g c = λ it. rw (c.hold.ensures, c.in-Err.ensures.unchanged) it

@@ -32,7 +32,7 @@ pub returns-in-Some-clause-sends : goal.returns-in-Some-clause-sends
 returns-in-Some-clause-sends g c =
     let old : QuestionsView = record { datagrams = c.self.inside.datagrams; streams = c.self.inside.streams } in
     rw (← c.self.view_is)
-    (sends-datagram _ _ _ old _ (rw c.in-Some.is at c.next_resend.ensures.sends))
+    (λ asked. sends-datagram _ _ asked _ old _ (rw c.in-Some.is at c.next_resend.ensures.sends))
 
 pub returns-clause-ends : goal.returns-clause-ends
 returns-clause-ends g c =

@@ -3,7 +3,7 @@ use Rattle.sip_resolver.proofs.Ending.{choice-in-time, ends-as, ends-through}
 use Rattle.sip_resolver.proofs.Idling.{idle-after}
 use Rattle.sip_resolver.proofs.Sending.{sends-then}
 use Rattle.sip_resolver.specs.Ends.{IsByChoice}
-use Rattle.sip_resolver.specs.Sends.{IsInTime, SendsOne, tickets_of}
+use Rattle.sip_resolver.specs.Sends.{IsInTime, SendsFirst, first, tickets_of}
 use Rattle.sip_resolver.proofs.resolver.Resolver.next_transmit.Goals as goal
 
 pub returns-in-Some-clause-stand : goal.returns-in-Some-clause-stand
@@ -22,10 +22,13 @@ returns-in-Some-run_ready-clause-ends g c =
     (ends-through kind _ _ _ c.next_resend.ensures.ends
     (ends-as IsByChoice kind (choice-in-time tickets c.args.now) _ _ c.run_ready.ensures.ends))
 
+pub returns-in-Some-clause-sends : goal.returns-in-Some-clause-sends
+returns-in-Some-clause-sends g c = rw (← c.self.view_is) (c.in-Some.ensures.sends c.args.asked)
+
 pub returns-in-Some-run_ready-clause-sends : goal.returns-in-Some-run_ready-clause-sends
 returns-in-Some-run_ready-clause-sends g c =
     rw (← c.self.view_is)
-    (record { middle = c.next_resend.new.self; gives_up = c.in_default.ensures.sends; sends = c.in-Some-run_ready.ensures.sends })
+    (record { middle = c.next_resend.new.self; gives_up = c.in_default.ensures.sends; sends = first c.in-Some-run_ready.ensures.sends })
 
 pub returns-clause-ends : goal.returns-clause-ends
 returns-clause-ends g c =
@@ -40,9 +43,9 @@ pub returns-clause-sends : goal.returns-clause-sends
 returns-clause-sends g c =
     let new = c.run_held.new.self.questions in
     rw (← c.self.view_is)
-    (sends-then c.args.now c.run_held.new.self.requests.waiting c.self.inside.questions c.next_resend.new.self new c.run_held.result
-    c.in_default.ensures.sends
-    (subst (λ it. MatchOption c.run_held.result (new ≡ it) (λ id. SendsOne c.args.now id c.run_held.new.self.requests.waiting it new))
+    (sends-then c.args.now c.args.asked c.run_held.new.self.requests.waiting c.self.inside.questions c.next_resend.new.self new
+    c.run_held.result c.in_default.ensures.sends
+    (subst (λ it. MatchOption c.run_held.result (new ≡ it) (λ id. SendsFirst c.args.asked id c.run_held.new.self.requests.waiting it new))
     c.in_default-run_ready.ensures.sends
     c.run_held.ensures.sends))
 
@@ -50,9 +53,9 @@ pub returns-clause-idle : goal.returns-clause-idle
 returns-clause-idle g c =
     let new = c.run_held.new.self.questions in
     idle-after g.I.Ids.draws c.args.now c.run_held.new.self.requests c.next_resend.new.self new c.run_held.result
-    (λ id. SendsOne c.args.now id c.run_held.new.self.requests.waiting c.next_resend.new.self new) c.in_default.ensures.datagrams
+    (λ id. SendsFirst c.args.asked id c.run_held.new.self.requests.waiting c.next_resend.new.self new) c.in_default.ensures.datagrams
     c.in_default.ensures.streams (c.run_held.ensures.ready ∙ c.in_default-run_ready.ensures.ready) c.run_held.ensures.held
-    (subst (λ it. MatchOption c.run_held.result (new ≡ it) (λ id. SendsOne c.args.now id c.run_held.new.self.requests.waiting it new))
+    (subst (λ it. MatchOption c.run_held.result (new ≡ it) (λ id. SendsFirst c.args.asked id c.run_held.new.self.requests.waiting it new))
     c.in_default-run_ready.ensures.sends c.run_held.ensures.sends)
 
 pub returns-in-Some-clause-awaited : goal.returns-in-Some-clause-awaited

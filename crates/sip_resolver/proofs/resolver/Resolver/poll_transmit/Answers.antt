@@ -12,9 +12,9 @@ returns g c =
           stand = told.stand;
           same = told.same;
           ends = told.ends;
-          sends = sends-octets c.args.now c.in_ok-id.field-0 c.self.inside.requests.waiting c.args.self.now.questions
+          sends = sends-octets c.args.now c.args.asked c.in_ok-id.field-0 c.self.inside.requests.waiting c.args.self.now.questions
               c.self.inside.questions c.transmit_of.result told.sends c.transmit_of.ensures;
-          idle = sends-some c.args.now c.in_ok-id.field-0 c.self.inside.requests.waiting c.args.self.now.questions
+          idle = sends-some c.args.now c.args.asked c.in_ok-id.field-0 c.self.inside.requests.waiting c.args.self.now.questions
               c.self.inside.questions c.transmit_of.result told.sends c.transmit_of.ensures _;
           awaited = told.awaited;
           distinct = c.are_distinct.ensures;

@@ -5,7 +5,7 @@ use Rattle.sip_resolver.proofs.Turns.{went-not, went-too}
 use Rattle.sip_resolver.proofs.Weighing.{ready-back}
 use Rattle.sip_resolver.specs.Ends.{IsByChoice}
 use Rattle.sip_resolver.specs.Requests.{RequestsView}
-use Rattle.sip_resolver.specs.Sends.{SendsOne}
+use Rattle.sip_resolver.specs.Sends.{SendsFirst}
 use Rattle.sip_resolver.proofs.resolver.Resolver.run_ready.Goals as goal
 
 pub tasks-init : goal.tasks-init
@@ -34,7 +34,7 @@ returns-in-Some-advance-clause-ends g c =
 pub returns-in-Some-advance-clause-sends : goal.returns-in-Some-advance-clause-sends
 returns-in-Some-advance-clause-sends g c =
     let same = rw (← c.self.view_is) at c.tasks.invariant.went.questions in
-    subst (λ it. SendsOne c.args.now c.in-Some-advance.id c.advance.new.self.requests.waiting it c.advance.new.self.questions) same
+    subst (λ it. SendsFirst c.args.asked c.in-Some-advance.id c.advance.new.self.requests.waiting it c.advance.new.self.questions) same
     c.in-Some-advance.ensures.sends
 
 pub tasks-preserved : goal.tasks-preserved
