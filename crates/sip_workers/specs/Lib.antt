@@ -1,6 +1,7 @@
 pub mod Outcomes
 pub mod SameJobs
 pub mod Batches
+pub mod Drives
 pub mod Runs
 pub mod Gathers
 pub mod Slots

@@ -242,6 +242,6 @@ impl<'a, W: Wire, C: Clock> OpenBatch<'a, W, C> {
         if self.begun < self.jobs.len() && self.resolver.has_room() {
             return;
         }
-        receive_once(rt, &mut self.resolver, cache, seat, wire, clock, buffer);
+        let _ = receive_once(rt, &mut self.resolver, cache, seat, wire, clock, buffer);
     }
 }

@@ -95,7 +95,7 @@ fn deaf_run<R: Wait + AllocGlobal + time::Clock>(rt: &R) -> Option<(bool, u64)> 
     Some((ended, receives.load(Ordering::SeqCst)))
 }
 
-/// In its three seconds the worker receives some hundreds of times, and not as often as it can.
+/// In its four seconds the worker receives some hundreds of times, and not as often as it can.
 #[test]
 fn faults_keep_no_processor_at_work(rt: HostRuntime) {
     let seen = deaf_run(&rt);
