@@ -6,6 +6,7 @@
 #![tactic(auto)]
 
 mod answers;
+mod choices;
 mod messages;
 mod orders;
 mod texts;

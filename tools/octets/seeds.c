@@ -1,0 +1,56 @@
+/* Writes what the fuzzers begin with to the folder that is named: a file for each vector of the benchmarks, and requests
+   with replies behind them, as bench_choose takes them. */
+#include "../../bench/vectors.h"
+
+#include <stdio.h>
+#include <stdlib.h>
+
+static FILE *file_in(const char *folder, const char *kind, int number) {
+    char path[4096];
+    snprintf(path, sizeof path, "%s/%s/%d", folder, kind, number);
+    FILE *file = fopen(path, "wb");
+    if (file == NULL) abort();
+    return file;
+}
+
+static void write_vectors(const char *folder, const char *kind, const struct vector *list, int count) {
+    for (int number = 0; number < count; number++) {
+        FILE *file = file_in(folder, kind, number);
+        fwrite(list[number].octets, 1, list[number].length, file);
+        fclose(file);
+    }
+}
+
+static void put_reply(const struct vector *reply, FILE *file) {
+    fputc((int)(reply->length >> 8), file);
+    fputc((int)(reply->length & 255), file);
+    fwrite(reply->octets, 1, reply->length, file);
+}
+
+/* Requests whose first question has a reply among the vectors: A, A with a CNAME, SRV, NAPTR. */
+static void write_choices(const char *folder) {
+    static const struct { const char *text; int reply; } choices[] = {
+        { "sip:b.example:5070\n", 0 },
+        { "sip:b.example;transport=udp\n", 1 },
+        { "sip:b.example:5070\n", 2 },
+        { "sip:b.example\n", 3 },
+        { "SIP/2.0/UDP b.example:5070;branch=z9hG4bK87asdks7\n", 0 },
+    };
+    for (int number = 0; number < (int)(sizeof choices / sizeof choices[0]); number++) {
+        FILE *file = file_in(folder, "choices", number);
+        fputs(choices[number].text, file);
+        put_reply(&reply_vectors[choices[number].reply], file);
+        put_reply(&reply_vectors[0], file);
+        fclose(file);
+    }
+}
+
+int main(int count, char **words_given) {
+    if (count != 2) return 2;
+    make_vectors();
+    write_vectors(words_given[1], "replies", reply_vectors, REPLY_COUNT);
+    write_vectors(words_given[1], "uris", uri_vectors, URI_COUNT);
+    write_vectors(words_given[1], "vias", via_vectors, VIA_COUNT);
+    write_choices(words_given[1]);
+    return 0;
+}
