@@ -1,3 +1,5 @@
 pub mod WordParts
 pub mod Taken
 mod Colons
+mod CnameLinks
+mod SameQueries

@@ -10,3 +10,5 @@ pub mod QueryForms
 pub mod ReplyBits
 pub mod Wires
 pub mod WireCounts
+pub mod CnameChains
+pub mod Steps

@@ -29,13 +29,17 @@
 //! of a resolver file says, and `specs/ResolverFiles.antt` what a file says in all.
 #![tactic(auto)]
 
+mod cname_chain;
 mod counting_book;
 mod deadline;
 mod draw;
 mod drive;
 mod ids;
 mod key;
+mod message_octets;
 mod message_wire;
+mod open_chain;
+mod open_chains;
 mod query_form;
 mod reply_bits;
 mod request_line;

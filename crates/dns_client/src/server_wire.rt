@@ -1,9 +1,11 @@
 //! A wire to DNS servers over sockets.
 ghost use Rattle.std.specs.Prelude.{◌≡◌, ◌≤◌, IfOk, IfSome, IsFalse, length};
+ghost use Rattle.dns_client.specs.CnameChains.{IsHandedOn};
 ghost use Rattle.dns_client.specs.Wires.{HandsOn};
 
 use crate::deadline::Deadline;
 use crate::message_wire::MessageWire;
+use crate::open_chains::OpenChains;
 use crate::query_form::QueryForm;
 use crate::reply_bits::{is_cut, refuses_edns, tells_failure};
 use crate::sent_queries::SentQueries;
@@ -21,6 +23,9 @@ use std::time::{Clock, Duration};
 
 /// How many queries leave a server at once at most.
 const LEAVE_LIMIT: usize = 256;
+
+/// How many queries that ask a chain on are sent at once at most.
+const FURTHER_LIMIT: usize = 256;
 
 /// How a wire asks.
 #[derive(Clone, Copy, Debug)]
@@ -52,6 +57,12 @@ pub struct WireOptions {
 /// Where queries have an OPT record and a server refuses that, by FORMERR, NOTIMP or an RCODE
 /// greater than 15, it is asked the same once more without one, and from then on so (RFC 6891
 /// 6.2.2, 7). Such a reply is never given: where it comes again, it is as if the send had failed.
+///
+/// Where a reply without a fault has CNAME records that lead from the name that is asked to one
+/// about which it says nothing, the server cut a chain short (RFC 1034 5.2.2, RFC 2308 2.2). The
+/// same is then asked of that name, of the same servers and by the same rules, and what is given is
+/// one reply to the first question, put together from all replies: up to eight CNAME records.
+/// Where memory is refused for it, the first reply is given as it came, and a further one is lost.
 #[derive(Drop)]
 pub struct ServerWire<'a, R> {
     rt: &'a R,
@@ -59,6 +70,7 @@ pub struct ServerWire<'a, R> {
     servers: Vec<Server>,
     options: WireOptions,
     sent: SentQueries,
+    chains: OpenChains,
     replies: VecDeque<Vec<u8>>,
     log: TryLog,
     deadline: Deadline,
@@ -90,6 +102,7 @@ impl<'a, R: Net + Clock> ServerWire<'a, R> {
             servers,
             options,
             sent: SentQueries::new(alloc),
+            chains: OpenChains::new(alloc),
             replies: VecDeque::new(alloc),
             log: TryLog::start(rt, alloc, options.keeps_tries)?,
             deadline: Deadline::after(rt, options.total)?,
@@ -186,14 +199,16 @@ impl<'a, R: Net + Clock> ServerWire<'a, R> {
 
     /// Whether a query that this server failed to answer is with another server: with one that was
     /// asked since, or with the next one, which is asked now.
-    fn goes_on(&mut self, server: usize, query: &[u8]) -> bool {
+    fn goes_on(&mut self, server: usize, query: &[u8]) -> bool
+        ensures { IsFalse result → self.new.options ≡ self.old.options }
+    {
         let servers = self.servers.len();
         let sends = self.sent.sends_of(query);
         if servers == 0 || sends == 0 || (sends - 1) % servers != server {
             return true;
         }
         if sends < servers {
-            self.send(query);
+            self.send_on(query);
             return true;
         }
         false
@@ -240,6 +255,20 @@ impl<'a, R: Net + Clock> ServerWire<'a, R> {
         }
     }
 
+    /// What is to be handed on for the reply to a query: nothing yet where a chain is asked on.
+    fn hand_on(&mut self, query: &[u8], reply: Vec<u8>) -> Option<Vec<u8>>
+        ensures same { self.new.options ≡ self.old.options }
+        ensures put_together { IfSome result
+            (λ octets. IsHandedOn self.old.chains reply.items octets.items) }
+        ensures given { IfSome result (λ octets. HandsOn self.old.options.form octets.items) }
+    {
+        let reply = self.chains.take(query, reply)?;
+        if self.refuses(reply.as_slice()) {
+            return None;
+        }
+        Some(reply)
+    }
+
     /// Takes a message that came from a server, and gives what is to be handed on.
     fn take(&mut self, server: usize, message: &[u8]) -> Option<Vec<u8>>
         ensures { IfSome result (λ reply. HandsOn self.old.options.form reply.items) }
@@ -256,7 +285,7 @@ impl<'a, R: Net + Clock> ServerWire<'a, R> {
             return None;
         }
         self.sent.settle(query.as_slice());
-        Some(whole)
+        self.hand_on(query.as_slice(), whole)
     }
 
     /// Sends one of the queries that were sent to this server, and to none behind it, to the next
@@ -268,7 +297,7 @@ impl<'a, R: Net + Clock> ServerWire<'a, R> {
         let Ok(query) = Vec::from_slice(self.alloc, query) else {
             return false;
         };
-        self.send(query.as_slice());
+        self.send_on(query.as_slice());
         true
     }
 
@@ -323,10 +352,42 @@ impl<'a, R: Net + Clock> ServerWire<'a, R> {
         }
         match self.over_tcp(server, query) {
             Some(reply) if is_last || !tells_failure(reply.as_slice()) => {
-                self.replies.push_back(reply).is_ok()
+                match self.hand_on(query, reply) {
+                    Some(reply) => self.replies.push_back(reply).is_ok(),
+                    None => true,
+                }
             }
             _ => false,
         }
+    }
+
+    /// Sends a query to the next server, or to one behind it that it can be sent to.
+    fn send_on(&mut self, query: &[u8]) {
+        let servers = self.servers.len();
+        'servers: for _server in 0..servers {
+            let Ok(before) = self.sent.keep(query) else {
+                return;
+            };
+            let is_last = before >= servers - 1;
+            if self.send_to(before % servers, query, is_last) || is_last {
+                return;
+            }
+        }
+    }
+
+    /// Sends the queries that ask chains on.
+    fn send_further(&mut self) {
+        'queries: for _query in 0..FURTHER_LIMIT {
+            let Some(query) = self.chains.next_query() else {
+                return;
+            };
+            self.send_on(query.as_slice());
+        }
+    }
+
+    /// A copy of what asks on for this query, if a chain that it began is open.
+    fn further_of(&self, query: &[u8]) -> Option<Vec<u8>> {
+        Vec::from_slice(self.alloc, self.chains.further_of(query)?).ok()
     }
 }
 
@@ -345,27 +406,25 @@ impl<'a, R: Net + Clock> MessageWire for ServerWire<'a, R> {
     // Nor of time.
     ghost over = { λ _. ⊤ };
 
-    /// Where the system's clock can't be read, its time goes on as it was.
+    /// Where the system's clock can't be read, its time goes on as it was. What was asked on for
+    /// chains is forgotten.
     fn begin(&mut self) {
+        self.chains.clear();
         if let Ok(deadline) = Deadline::after(self.rt, self.options.total) {
             self.deadline = deadline;
         }
     }
 
+    /// Where it began a chain that is open, what asks this on is sent.
     fn send(&mut self, query: &[u8]) {
-        let servers = self.servers.len();
-        'servers: for _server in 0..servers {
-            let Ok(before) = self.sent.keep(query) else {
-                return;
-            };
-            let is_last = before >= servers - 1;
-            if self.send_to(before % servers, query, is_last) || is_last {
-                return;
-            }
+        match self.further_of(query) {
+            Some(further) => self.send_on(further.as_slice()),
+            None => self.send_on(query),
         }
     }
 
     fn receive(&mut self) -> Option<Vec<u8>> {
+        self.send_further();
         if !self.options.over_tcp {
             return self.receive_datagram();
         }
