@@ -4,7 +4,7 @@ use Rattle.std.specs.List.{AllByRecursion, flat_map, join_with_byte}
 use Rattle.std.specs.Option.{option_or}
 use Rattle.std.proofs.lemmas.List.Splits.{length-slice_split, join_with_byte-slice_split}
 use Rattle.std.proofs.lemmas.Bool.Decides.{nat_tests}
-use Rattle.std.proofs.lemmas.List.{length-append, length-map, append-nil, map-append, drop_more, take_more, take_all, drop_all}
+use Rattle.std.proofs.lemmas.List.{length-append, length-map, append-nil, map-append, drop_more, take_more, take_all, drop_all, take-append-drop}
 use Rattle.std.specs.Char.{to_ascii_lowercase}
 use Rattle.dns_name.specs.Labels.{IsLabel, IsName, small_letters, wire_of}
 use Rattle.dns_name.specs.Texts.{IsTextLabel, label_text, label_fault, labels_fault, length_fault, dotted_fault, parted}
@@ -110,6 +110,17 @@ length-small (label ∷ labels) =
       length-small labels,
     )
 
+-- the octets of the first labels are among those of all
+length-spelled-first : (labels : List (List ℕ)) (count : ℕ)
+    → length (spelled (map small_letters (take count labels))) ≤ length (spelled (map small_letters labels))
+length-spelled-first labels count =
+    let first : List (List ℕ) = map small_letters (take count labels) in
+    let rest : List (List ℕ) = map small_letters (drop count labels) in
+    let all : spelled (map small_letters labels) ≡ spelled first ++ spelled rest =
+    ap (λ (ls : List (List ℕ)). spelled (map small_letters ls)) (sym (take-append-drop count labels)) ∙ ap spelled
+    (map-append small_letters (take count labels) (drop count labels)) ∙ spelled-append first rest in
+    omega (arith, ap length all, length-append (spelled first) (spelled rest))
+
 one_spelled : (label : List ℕ) → spelled (label ∷ []) ≡ length label ∷ label
 one_spelled label = append-nil (length label ∷ label)
 
@@ -147,6 +158,23 @@ module _ (labels : List (List ℕ)) (count : ℕ) (label : List ℕ) (within : c
       ap spelled mapped ∙ spelled-append (map small_letters (take count labels)) (small_letters label ∷ []) ∙ ap
       (λ (octets : List ℕ). spelled (map small_letters (take count labels)) ++ octets)
       (one_spelled (small_letters label) ∙ ap (λ (n : ℕ). n ∷ small_letters label) (length-map label to_ascii_lowercase))
+
+  -- the label leaves room for the closing 0
+  pub has_room : length (wire_of (map small_letters labels)) ≤ 255
+      → length (spelled (map small_letters (take count labels))) + length label + 2 ≤ 255
+  has_room short =
+      let first : List (List ℕ) = map small_letters (take count labels) in
+      let all : List (List ℕ) = map small_letters labels in
+      omega (
+        arith,
+        short,
+        ap length (spelled-closed all),
+        length-append (spelled all) (0 ∷ []),
+        length-spelled-first labels (count + 1),
+        ap length spelled-more,
+        length-append (spelled first) (length label ∷ small_letters label),
+        length-map label to_ascii_lowercase,
+      )
 
   pub good_label : labels_fault (drop count labels) ≡ None → label_fault label ≡ None
   good_label faultless = (no_fault_here label (drop (count + 1) labels) (sym (ap labels_fault here) ∙ faultless)).0

@@ -52,12 +52,12 @@ IsWire-from_name octets labels name e =
       whole = ap wire_of back ∙ sym e;
     }
 
-pub root_has_one : (octets : List ℕ) (labels : List (List ℕ)) → IsWire octets → labels_of octets ≡ labels
-    → (length octets ≡ 1 → labels ≡ []) × (labels ≡ [] → length octets ≡ 1)
-root_has_one octets [] wire e = (λ _. refl, λ _. omega (arith, ap length (sym wire.whole ∙ ap wire_of e)))
-root_has_one octets (label ∷ labels) wire e =
-    let long = sym wire.whole ∙ ap wire_of e in
-    (λ one. absurd (omega (arith, ap length long, length-append label (wire_of labels), wire_of-some labels)), λ none. absurd cc)
+pub root_has_one : (labels : List (List ℕ)) → (length (wire_of labels) ≡ 1 → labels ≡ []) × (labels ≡ [] → length (wire_of labels) ≡ 1)
+root_has_one [] = (λ _. refl, λ _. refl)
+root_has_one (label ∷ labels) = (
+  λ one. absurd (omega (arith, one, length-append label (wire_of labels), wire_of-some labels)),
+  λ none. absurd cc,
+)
 
 pub same_name-decides : (a b : List (List ℕ)) → Decides (same_name a b) (a ≡ b)
 same_name-decides a b = slice_eq-Decides bytes_eq-Decides a b (same_name a b) refl

@@ -1,4 +1,5 @@
 pub mod Labels
+pub mod Octets
 pub mod Pieces
 pub mod Places
 pub mod Texts

@@ -3,6 +3,7 @@ ghost use Rattle.std.specs.Prelude.{◌≡◌, ◌+◌, ◌≤◌, ◌<◌, List
 ghost use Rattle.dns_name.specs.Labels.{small_letters, wire_of, IsName};
 
 use crate::name::Name;
+use crate::octets::Octets;
 use arrayvec::ArrayVec;
 use std::alloc::{AllocError, Global};
 
@@ -62,9 +63,7 @@ impl Draft {
             × (self.now.octets.items ++ others.now ≡ wire_of labels) }
         ensures { IfOk result (λ name. wire_of name ≡ self.now.octets.items ++ others.now) }
     {
-        let mut octets = Vec::with_capacity(alloc, self.octets.len() + others.len())?;
-        octets.extend_from_slice(self.octets.as_slice())?;
-        octets.extend_from_slice(others)?;
+        let octets = Octets::joined(alloc, self.octets.as_slice(), others)?;
         Ok(Name::from_wire(octets))
     }
 }

@@ -19,6 +19,7 @@ mod draft;
 mod laws;
 mod message;
 mod name;
+mod octets;
 mod refusal;
 mod text;
 

@@ -6,6 +6,7 @@ ghost use Rattle.dns_name.specs.Places.{NameAt};
 
 use crate::draft::NAME_LIMIT;
 use crate::name::Name;
+use crate::octets::{INLINE_LIMIT, Octets};
 use crate::refusal::NameReadRefusal;
 use std::alloc::{AllocError, Global};
 
@@ -57,6 +58,33 @@ fn write_small(octets: &mut [u8], run: &[u8])
     }
 }
 
+/// Writes the runs that were passed and then the last one over octets, as many, with capitals as
+/// small letters.
+fn write_runs(octets: &mut [u8], passed: &[u8], last: &[u8])
+    requires { length octets.old ≡ length passed.now + length last.now }
+    ensures { octets.new ≡ small_letters (passed.now ++ last.now) }
+{
+    let (front, behind) = octets.split_at_mut(passed.len());
+    write_small(front, passed);
+    write_small(behind, last);
+}
+
+/// The octets of the runs that were passed and of the last one, with capitals as small letters.
+fn small_octets(alloc: Global, passed: &[u8], last: &[u8]) -> Result<Octets, AllocError>
+    requires { length passed.now + length last.now ≤ 255 }
+    ensures { IfOk result (λ octets. octets ≡ small_letters (passed.now ++ last.now)) }
+{
+    let count = passed.len() + last.len();
+    if count > INLINE_LIMIT {
+        let mut octets = Vec::from_elem(alloc, 0, count)?;
+        write_runs(octets.as_mut_slice(), passed, last);
+        return Ok(Octets::from_vec(octets));
+    }
+    let mut octets = [0; INLINE_LIMIT];
+    write_runs(&mut octets[..count], passed, last);
+    Ok(Octets::inline(alloc, octets, count))
+}
+
 /// The name of the runs that were passed and of the last one, with capitals as small letters.
 fn small_name(alloc: Global, passed: &[u8], last: &[u8]) -> Result<Name, AllocError>
     requires short { length passed.now + length last.now ≤ 255 }
@@ -64,11 +92,7 @@ fn small_name(alloc: Global, passed: &[u8], last: &[u8]) -> Result<Name, AllocEr
         × (small_letters (passed.now ++ last.now) ≡ wire_of labels) }
     ensures { IfOk result (λ name. wire_of name ≡ small_letters (passed.now ++ last.now)) }
 {
-    let mut octets = Vec::from_elem(alloc, 0, passed.len() + last.len())?;
-    let (front, behind) = octets.as_mut_slice().split_at_mut(passed.len());
-    write_small(front, passed);
-    write_small(behind, last);
-    Ok(Name::from_wire(octets))
+    Ok(Name::from_wire(small_octets(alloc, passed, last)?))
 }
 
 /// Reads the name at place `at` of a message, and gives the place after it: after its closing 0, or

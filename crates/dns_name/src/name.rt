@@ -2,6 +2,7 @@
 ghost use Rattle.std.specs.Prelude.{◌≡◌, ◌↔◌, ◌<◌, List, [], ◌∷◌, ℕ, length, IsTrue, IfOk, IfSome, IsSomeAnd, Ok, None};
 ghost use Rattle.dns_name.specs.Labels.{wire_of, same_name, parent_of, IsLabel, IsName};
 
+use crate::octets::Octets;
 use std::alloc::{AllocError, Global};
 use std::hash::{Hash, Hasher};
 use std::marker::Model;
@@ -13,7 +14,7 @@ use std::marker::Model;
 /// labels: each label after its length, and a closing 0.
 #[derive(Debug, Drop)]
 pub struct Name {
-    octets: Vec<u8>,
+    octets: Octets,
 }
 
 impl Model for Name {
@@ -23,9 +24,9 @@ impl Model for Name {
 
     ghost use Rattle.dns_name.specs.Labels.{labels_of, IsWire};
 
-    ghost view = { λ name. labels_of name.octets.items };
+    ghost view = { λ name. labels_of name.octets };
 
-    ghost invariant = { λ name. IsWire name.octets.items };
+    ghost invariant = { λ name. IsWire name.octets };
 }
 
 /// The first label of the octets of a name and the octets after it, or None at the root.
@@ -45,16 +46,16 @@ pub(crate) fn first_label(octets: &[u8]) -> Option<(&[u8], &[u8])>
 
 impl Name {
     /// The name that these octets spell.
-    pub(crate) fn from_wire(octets: Vec<u8>) -> Name
-        requires { (labels : List (List ℕ)) × IsName labels × (octets.items ≡ wire_of labels) }
-        ensures { wire_of result ≡ octets.items }
+    pub(crate) fn from_wire(octets: Octets) -> Name
+        requires { (labels : List (List ℕ)) × IsName labels × (octets ≡ wire_of labels) }
+        ensures { wire_of result ≡ octets }
     {
         Name { octets }
     }
 
-    /// What its octets were allocated with.
+    /// What memory for its octets is taken from.
     pub(crate) fn allocator(&self) -> Global {
-        *self.octets.allocator()
+        self.octets.allocator()
     }
 
     /// The octets without pointers (RFC 1035 3.1).
@@ -62,21 +63,21 @@ impl Name {
         ensures value { result.now ≡ wire_of self.now }
         ensures name { IsName self.now }
     {
-        &self.octets
+        self.octets.as_slice()
     }
 
     /// Whether it is the root, which has no label.
     pub fn is_root(&self) -> bool
         ensures { IsTrue result ↔ (self.now ≡ []) }
     {
-        self.octets.len() == 1
+        self.wire().len() == 1
     }
 
     /// A copy.
     pub fn try_clone(&self) -> Result<Name, AllocError>
         ensures { IfOk result (λ copy. copy ≡ self.now) }
     {
-        let octets = Vec::from_slice(self.allocator(), self.octets.as_slice())?;
+        let octets = self.octets.try_clone()?;
         Ok(Name { octets })
     }
 
@@ -89,7 +90,7 @@ impl Name {
         let Some((_, others)) = first_label(self.wire()) else {
             return Ok(None);
         };
-        let octets = Vec::from_slice(self.allocator(), others)?;
+        let octets = Octets::joined(self.allocator(), others, &[])?;
         Ok(Some(Name::from_wire(octets)))
     }
 }

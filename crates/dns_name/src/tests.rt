@@ -17,6 +17,15 @@ const TEXTS: &[TextRow] = &[
     ),
     (".", Ok(b"\x00")),
     ("7", Ok(b"\x017\x00")),
+    // 30 octets, which lie in the value itself, and 31
+    (
+        "abcdefgh.abcdefgh.abcdefghij",
+        Ok(b"\x08abcdefgh\x08abcdefgh\x0aabcdefghij\x00"),
+    ),
+    (
+        "abcdefgh.abcdefgh.abcdefghijk",
+        Ok(b"\x08abcdefgh\x08abcdefgh\x0babcdefghijk\x00"),
+    ),
     ("", Err(NameRefusal::EmptyLabel)),
     ("a..b", Err(NameRefusal::EmptyLabel)),
     ("..", Err(NameRefusal::EmptyLabel)),

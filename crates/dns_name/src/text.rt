@@ -81,29 +81,17 @@ fn check_labels(text: &[u8]) -> Result<(), NameRefusal>
     Ok(())
 }
 
-/// Adds octets, with capitals as small letters.
-fn push_small(octets: &mut Vec<u8>, label: &[u8]) -> Result<(), AllocError>
-    ensures { OnOk result (octets.new.items ≡ octets.old.items ++ small_letters label.now) }
-{
-    for octet in label {
-        octets.push(octet.to_ascii_lowercase())?;
-    }
-    Ok(())
-}
-
-/// The octets of a name of labels with dots between them.
-fn wire_octets(alloc: Global, text: &[u8]) -> Result<Vec<u8>, AllocError>
+/// The labels with dots between them.
+fn draft_of(text: &[u8]) -> Draft
     requires { spec.dotted_fault (spec.parted text.now) ≡ None }
-    ensures { IfOk result
-        (λ octets. octets.items ≡ wire_of (map small_letters (spec.parted text.now))) }
+    ensures { result.octets.items ++ 0 ∷ []
+        ≡ wire_of (map small_letters (spec.parted text.now)) }
 {
-    let mut octets = Vec::with_capacity(alloc, text.len() + 2)?;
+    let mut draft = Draft::new();
     for label in text.split(|octet| *octet == b'.') {
-        octets.push(label.len() as u8)?;
-        push_small(&mut octets, label)?;
+        draft.push(label);
     }
-    octets.push(0)?;
-    Ok(octets)
+    draft
 }
 
 /// A text without its closing dot, if it has one.
@@ -161,11 +149,11 @@ impl Name {
     {
         let text = text.as_bytes();
         if text == b".".as_slice() {
-            return Ok(Name::from_wire(Vec::from_slice(alloc, &[0])?));
+            return Ok(Draft::new().finish(alloc, &[0])?);
         }
         let dotted = without_closing_dot(text);
         check_labels(dotted)?;
-        Ok(Name::from_wire(wire_octets(alloc, dotted)?))
+        Ok(draft_of(dotted).finish(alloc, &[0])?)
     }
 
     /// The name with two labels in front, as `_sip` and `_udp` in front of a domain (RFC 2782).

@@ -2,17 +2,17 @@
 use crate::*;
 use std::alloc::Global;
 
-/// b.example.
-const WIRE: &[u8] = b"\x01b\x07example\x00";
+/// proxy-1.west.voice.example.com., which is too long to lie in the value itself.
+const WIRE: &[u8] = b"\x07proxy-1\x04west\x05voice\x07example\x03com\x00";
 
 /// That name, where there is memory for it.
-fn b_example(alloc: Global) -> Option<Name> {
-    Name::from_text(alloc, "b.example").ok()
+fn long_name(alloc: Global) -> Option<Name> {
+    Name::from_text(alloc, "proxy-1.west.voice.example.com").ok()
 }
 
 #[test]
 fn from_text_refused(rt: HostRuntime) {
-    match Name::from_text(rt.alloc(), "B.example.") {
+    match Name::from_text(rt.alloc(), "Proxy-1.West.voice.example.com.") {
         Ok(name) => assert_eq!(rt; name.wire(), WIRE),
         Err(refusal) => assert_eq!(rt; refusal, NameRefusal::Memory),
     }
@@ -31,11 +31,11 @@ fn read_refused(rt: HostRuntime) {
 
 #[test]
 fn prefixed_refused(rt: HostRuntime) {
-    if let Some(name) = b_example(rt.alloc()) {
+    if let Some(name) = long_name(rt.alloc()) {
         match name.prefixed("_sip", "_udp") {
             Ok(service) => assert_eq!(rt;
                 service.wire(),
-                b"\x04_sip\x04_udp\x01b\x07example\x00".as_slice()
+                b"\x04_sip\x04_udp\x07proxy-1\x04west\x05voice\x07example\x03com\x00".as_slice()
             ),
             Err(refusal) => assert_eq!(rt; refusal, NameRefusal::Memory),
         }
@@ -44,24 +44,22 @@ fn prefixed_refused(rt: HostRuntime) {
 
 #[test]
 fn copy_and_text_refused(rt: HostRuntime) {
-    if let Some(name) = b_example(rt.alloc()) {
+    if let Some(name) = long_name(rt.alloc()) {
         if let Ok(copy) = name.try_clone() {
             assert!(rt; copy == name);
         }
         if let Ok(text) = name.text() {
-            assert_eq!(rt; text.as_str(), "b.example.");
+            assert_eq!(rt; text.as_str(), "proxy-1.west.voice.example.com.");
         }
         if let Ok(parent) = name.parent() {
-            assert!(rt;
-                parent.is_some_and(|parent| parent.wire() == b"\x07example\x00".as_slice())
-            );
+            assert!(rt; parent.is_some_and(|parent| parent.wire() == &WIRE[8..]));
         }
     }
 }
 
 #[test]
 fn write_refused(rt: HostRuntime) {
-    if let Some(name) = b_example(rt.alloc()) {
+    if let Some(name) = long_name(rt.alloc()) {
         let mut out = Vec::new(rt.alloc());
         if write_name(&name, &mut out).is_err() {
             assert!(rt; out.is_empty());

@@ -1,4 +1,4 @@
-use Rattle.std.proofs.Common.{◌≡◌, true, false, List, [], ◌∷◌, ℕ, map, Some, None, sym, ap, ◌∙◌, inl, inr, lit≤}
+use Rattle.std.proofs.Common.{◌≡◌, true, false, List, [], ◌∷◌, ℕ, map, Some, None, sym, ap, ◌∙◌, inl, inr}
 use Rattle.std.specs.Str.{bytes_eq}
 use Rattle.std.proofs.lemmas.Slice.Eq.{bytes_eq-Decides}
 use Rattle.dns_name.specs.Labels.{small_letters}
@@ -6,28 +6,27 @@ use Rattle.dns_name.specs.Texts.{root, parted, dotted_fault, without_closing_dot
 use Rattle.dns_name.proofs.Wire.{same_labels}
 use Rattle.dns_name.proofs.TextNames.{IsName-small, TextOf-parted, named}
 use Rattle.dns_name.proofs.name.Name.from_text.Goals as goal
-use Rattle.dns_name.proofs.name.Name.from_text.Goals.{In_ok-from_slice, In_ok-check_labels, Else-eq, After-from_wire-2}
-
-pub from_wire-requires : goal.from_wire-requires
-from_wire-requires c = ([], record { each = tt; short = lit≤ tt }, c.in_ok-from_slice.ensures.items)
+use Rattle.dns_name.proofs.name.Name.from_text.Goals.{In_ok-finish, In_ok-finish-2, In_ok-check_labels, Else-eq}
 
 -- ---- a dot alone
 
-is_dot : (c : In_ok-from_slice) → bytes_eq c.args.text.now (46 ∷ []) ≡ true
+is_dot : (c : In_ok-finish) → bytes_eq c.args.text.now (46 ∷ []) ≡ true
 is_dot c = rw (c.as_bytes-text.ensures.value, c.as_slice.ensures) at (sym c.if-eq.ensures)
+
+is_root : (c : In_ok-finish) → c.in_ok-finish.field-0 ≡ []
+is_root c = same_labels c.in_ok-finish.field-0 [] (rw c.new.ensures at c.in_ok-finish.ensures)
 
 pub returns-then-eq-clause-found : goal.returns-then-eq-clause-found
 returns-then-eq-clause-found c =
-    let lone = is_dot (goal.at.returns-then-eq-clause-found c).In_ok-from_slice in
-    let none : c.from_wire.result ≡ [] = same_labels c.from_wire.result [] (c.from_wire.ensures ∙ c.in_ok-from_slice.ensures.items) in
-    rw none (root ((bytes_eq-Decides c.args.text.now (46 ∷ [])).0 lone))
+    let here = (goal.at.returns-then-eq-clause-found c).In_ok-finish in
+    rw (is_root here) (root ((bytes_eq-Decides c.args.text.now (46 ∷ [])).0 (is_dot here)))
 
 pub returns-then-eq-clause-read : goal.returns-then-eq-clause-read
 returns-then-eq-clause-read c = λ name text_of.
-    let lone = is_dot (goal.at.returns-then-eq-clause-read c).In_ok-from_slice in
+    let here = (goal.at.returns-then-eq-clause-read c).In_ok-finish in
     elim (named name c.args.text.now text_of) [
-      | inl none ↦ same_labels c.from_wire.result [] (c.from_wire.ensures ∙ c.in_ok-from_slice.ensures.items) ∙ sym none.0
-      | inr n ↦ (let dot : true ≡ false = sym lone ∙ n.no_dot in absurd cc)
+      | inl none ↦ is_root here ∙ sym none.0
+      | inr n ↦ (let dot : true ≡ false = sym (is_dot here) ∙ n.no_dot in absurd cc)
     ]
 
 -- ---- labels and dots
@@ -54,22 +53,23 @@ faultless c =
     c.without_closing_dot-dotted.ensures ∙ ap without_closing_dot c.as_bytes-text.ensures.value in
     (dotted', sym (rw dotted' at c.in_ok-check_labels.ensures))
 
-pub wire_octets-requires : goal.wire_octets-requires
-wire_octets-requires c =
-    let k = faultless (goal.at.wire_octets-requires c).In_ok-check_labels in
+pub draft_of-requires : goal.draft_of-requires
+draft_of-requires c =
+    let k = faultless (goal.at.draft_of-requires c).In_ok-check_labels in
     rw k.0 k.1
 
-pub from_wire-requires-2 : goal.from_wire-requires-2
-from_wire-requires-2 c =
-    let k = faultless (goal.at.from_wire-requires-2 c).In_ok-check_labels in
+pub finish-requires-2 : goal.finish-requires-2
+finish-requires-2 c =
+    let k = faultless (goal.at.finish-requires-2 c).In_ok-check_labels in
     let parts : List (List ℕ) = parted (without_closing_dot c.args.text.now) in
-    (map small_letters parts, IsName-small parts k.1, rw k.0 at c.in_ok-wire_octets.ensures)
+    (map small_letters parts, IsName-small parts k.1, rw k.0 at c.draft_of.ensures)
 
-found : (c : After-from_wire-2) → c.from_wire-2.result ≡ map small_letters (parted (without_closing_dot c.args.text.now))
+found : (c : In_ok-finish-2) → c.in_ok-finish-2.field-0 ≡ map small_letters (parted (without_closing_dot c.args.text.now))
 found c =
     let k = faultless (goal.at.returns-clause-found c).In_ok-check_labels in
-    let spelled = rw k.0 at c.in_ok-wire_octets.ensures in
-    same_labels c.from_wire-2.result (map small_letters (parted (without_closing_dot c.args.text.now))) (c.from_wire-2.ensures ∙ spelled)
+    let spelled = rw k.0 at c.draft_of.ensures in
+    same_labels c.in_ok-finish-2.field-0 (map small_letters (parted (without_closing_dot c.args.text.now)))
+    (c.in_ok-finish-2.ensures ∙ spelled)
 
 pub returns-clause-found : goal.returns-clause-found
 returns-clause-found c =

@@ -6,5 +6,5 @@ invariant_of-result c = IsWire-from_name _ c.requires.0 c.requires.1 c.requires.
 
 pub returns : goal.returns
 returns c =
-    let wire = IsWire-from_name c.args.octets.items c.requires.0 c.requires.1 c.requires.2 in
+    let wire = IsWire-from_name c.args.octets c.requires.0 c.requires.1 c.requires.2 in
     wire.whole

@@ -1,12 +1,13 @@
-use Rattle.std.proofs.Common.{◌≡◌, ◌==◌, ◌<◌, List, ◌∷◌, ◌++◌, ℕ, None, length, map, take, get_or, append_assoc, [], rules, tests, arith, ap, sym, ◌∙◌}
+use Rattle.std.proofs.Common.{◌≡◌, ◌==◌, ◌<◌, List, ◌∷◌, ◌++◌, ℕ, None, length, get_or, rules, tests, ap, sym, ◌∙◌}
 use Rattle.std.proofs.lemmas.Iterator.Splits.{YieldsList-from_slice_split}
 use Rattle.std.proofs.lemmas.Iterator.Consumers.{YieldsList-turn, YieldsList-end}
 use Rattle.std.proofs.lemmas.List.{length_push}
 use Rattle.dns_name.specs.Labels.{small_letters}
 use Rattle.dns_name.specs.Texts.{label_fault, parted}
-use Rattle.dns_name.proofs.TextLabels.{spelled, IsTextLabel-from_none, faultless_labels, good_label, goes_on, spelled-more, spelled-whole}
-use Rattle.dns_name.proofs.text.wire_octets.Goals as goal
-use Rattle.dns_name.proofs.text.wire_octets.Goals.{In-Some, In-None, In_ok-push_small}
+use Rattle.dns_name.proofs.TextLabels.{IsTextLabel-from_none, faultless_labels, good_label, goes_on, spelled-more, spelled-whole, has_room}
+use Rattle.dns_name.proofs.TextNames.{IsName-small}
+use Rattle.dns_name.proofs.text.draft_of.Goals as goal
+use Rattle.dns_name.proofs.text.draft_of.Goals.{In-Some, In-None}
 
 -- the label of this turn
 turn : (c : In-Some) → (length c.loop-label.yielded < length (parted c.args.text.now))
@@ -31,20 +32,17 @@ good c =
     good_label (parted c.args.text.now) (length c.loop-label.yielded) c.in-Some.label.now this.0 this.1
     (c.loop-label.invariant.faultless ∙ faultless_labels (parted c.args.text.now) c.requires)
 
-pub overflow_cast-label : goal.overflow_cast-label
-overflow_cast-label c =
-    let short = (IsTextLabel-from_none c.in-Some.label.now (good (goal.at.overflow_cast-label c).In-Some)).short in
-    omega arith
+pub push-requires-clause-short : goal.push-requires-clause-short
+push-requires-clause-short c =
+    (IsTextLabel-from_none c.in-Some.label.now (good (goal.at.push-requires-clause-short c).In-Some)).short
 
-added : (c : In_ok-push_small) → c.push_small.new.octets.items
-    ≡ spelled (map small_letters (take (length c.loop-label.yielded) (parted c.args.text.now)))
-    ++ length c.in-Some.label.now ∷ small_letters c.in-Some.label.now
-added c =
-    let octets : List ℕ = c.loop-label.octets.items in
-    let label : List ℕ = c.in-Some.label.now in
-    c.in_ok-push_small.ensures ∙ ap (λ (front : List ℕ). front ++ small_letters label) c.in_ok-push.ensures.items
-    ∙ append_assoc octets (length label ∷ []) (small_letters label)
-    ∙ ap (λ (front : List ℕ). front ++ length label ∷ small_letters label) c.loop-label.invariant.octets
+pub push-requires-clause-room : goal.push-requires-clause-room
+push-requires-clause-room c =
+    let labels : List (List ℕ) = parted c.args.text.now in
+    let count : ℕ = length c.loop-label.yielded in
+    let this = turn (goal.at.push-requires-clause-room c).In-Some in
+    rw c.loop-label.invariant.octets
+    (has_room labels count c.in-Some.label.now this.0 this.1 (IsName-small labels c.requires).short)
 
 pub loop-label-preserved : goal.loop-label-preserved
 loop-label-preserved c =
@@ -59,11 +57,12 @@ loop-label-preserved c =
       is_finite = search rules;
       faultless = rw next (goes_on labels count label this.0 this.1 l.invariant.faultless (good (goal.at.loop-label-preserved c).In-Some));
       octets = rw next
-          (added c ∙ sym (spelled-more labels count label this.0 this.1));
+          (c.push.ensures ∙ ap (λ (front : List ℕ). front ++ length label ∷ small_letters label) l.invariant.octets
+          ∙ sym (spelled-more labels count label this.0 this.1));
     }
 
 pub returns : goal.returns
 returns c =
     let all = all_turns (goal.at.returns c).In-None in
-    c.in_ok-push-2.ensures.items
-    ∙ spelled-whole (parted c.args.text.now) (length c.loop-label.yielded) c.loop-label.octets.items all c.loop-label.invariant.octets
+    spelled-whole (parted c.args.text.now) (length c.loop-label.yielded) c.loop-label.draft.octets.items all
+    c.loop-label.invariant.octets
