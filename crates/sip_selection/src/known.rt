@@ -46,6 +46,9 @@ impl Model for Known {
     ghost view = { λ it. map given_of it.answers.entries };
 }
 
+/// How many answers there is room for once there is one: few requests use more.
+const FIRST_ROOM: usize = 16;
+
 impl Known {
     /// None.
     pub(crate) fn new(alloc: Global) -> Known
@@ -81,10 +84,23 @@ impl Known {
         ensures unchanged { OnErr result (self.new ≡ self.old) }
         ensures given_back { IfErr result (λ it. it ≡ question) }
     {
+        if self.make_room().is_err() {
+            return Err(question);
+        }
         match self.answers.insert(question, answer) {
             Ok(_) => Ok(()),
             Err(failed) => Err(failed.value.0),
         }
+    }
+
+    /// Makes room for the first answers.
+    fn make_room(&mut self) -> Result<(), AllocError>
+        ensures { self.new ≡ self.old }
+    {
+        if self.answers.is_empty() {
+            self.answers.reserve(FIRST_ROOM)?;
+        }
+        Ok(())
     }
 
     /// Adds an answer, in the place of one to the same question.

@@ -58,6 +58,8 @@ pub struct Selection {
     words: Words,
     known: Known,
     targets: Vec<Target>,
+    /// What the last step found: kept for its memory.
+    found: Vec<Target>,
     turn: Turn,
 }
 
@@ -85,7 +87,12 @@ impl Model for Selection {
 
 /// Goes on from a stage with one answer more, and adds the targets that are found, or gives the
 /// stage back where memory was refused.
-fn advance(targets: &mut Vec<Target>, basis: &Basis<'_>, stage: Stage) -> Result<Turn, Stage>
+fn advance(
+    targets: &mut Vec<Target>,
+    found: &mut Vec<Target>,
+    basis: &Basis<'_>,
+    stage: Stage,
+) -> Result<Turn, Stage>
     requires { StageFits stage }
     ensures goes { IfOk result (λ turn. Comes basis.now
         (stage_left basis.now.secure basis.now.caps.now basis.now.words.now.0
@@ -94,14 +101,19 @@ fn advance(targets: &mut Vec<Target>, basis: &Basis<'_>, stage: Stage) -> Result
     ensures unchanged { OnErr result (targets.new.items ≡ targets.old.items) }
     ensures given_back { IfErr result (λ it. it ≡ stage) }
 {
-    match go_on(targets, basis, &stage) {
+    match go_on(targets, found, basis, &stage) {
         Ok(turn) => Ok(turn),
         Err(AllocError) => Err(stage),
     }
 }
 
 /// Goes on from a stage with one answer more, and adds the targets that are found.
-fn go_on(targets: &mut Vec<Target>, basis: &Basis<'_>, stage: &Stage) -> Result<Turn, AllocError>
+fn go_on(
+    targets: &mut Vec<Target>,
+    found: &mut Vec<Target>,
+    basis: &Basis<'_>,
+    stage: &Stage,
+) -> Result<Turn, AllocError>
     requires { StageFits stage.now }
     ensures goes { IfOk result (λ turn. Comes basis.now
         (stage_left basis.now.secure basis.now.caps.now basis.now.words.now.0 basis.now.name.now
@@ -109,8 +121,8 @@ fn go_on(targets: &mut Vec<Target>, basis: &Basis<'_>, stage: &Stage) -> Result<
         turn targets.new.items) }
     ensures unchanged { OnErr result (targets.new.items ≡ targets.old.items) }
 {
-    let mut found = Vec::new(basis.alloc);
-    let turn = resume(&mut found, basis, stage)?;
+    found.clear();
+    let turn = resume(found, basis, stage)?;
     targets.extend_from_slice(found.as_slice())?;
     Ok(turn)
 }
@@ -136,6 +148,7 @@ impl Selection {
             words,
             known,
             targets,
+            found: Vec::new(alloc),
             turn,
         })
     }
@@ -228,7 +241,7 @@ impl Selection {
             name,
             known: &self.known,
         };
-        match advance(&mut self.targets, &basis, stage) {
+        match advance(&mut self.targets, &mut self.found, &basis, stage) {
             Ok(turn) => {
                 self.turn = turn;
                 Ok(())
