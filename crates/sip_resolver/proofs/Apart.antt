@@ -62,7 +62,7 @@ module _ (ticket : Ticket) (tickets : List Ticket) where
   abbrev behind : Ticket → Bool
   behind it = not (in-front it)
 
-  all-too : (P : Ticket → Type 0) → P ticket → All P tickets → All P (waiting_too ticket tickets)
+  pub all-too : (P : Ticket → Type 0) → P ticket → All P tickets → All P (waiting_too ticket tickets)
   all-too P here all =
       All-append P (filter in-front tickets) (ticket ∷ filter behind tickets) (All-filter in-front P tickets all)
       (All-cons P ticket (filter behind tickets) here (All-filter behind P tickets all))

@@ -66,12 +66,12 @@ module _ (P : Ticket → Type 0) (p : Ticket → Bool) where
   parted (x ∷ xs) front back = parted-by x xs (p x) refl front back (parted xs)
 
 module _ (P : Ticket → Type 0) where
-  split-front : (xs ys : List Ticket) → All P (xs ++ ys) → All P xs
+  pub split-front : (xs ys : List Ticket) → All P (xs ++ ys) → All P xs
   split-front [] ys all = All-nil P
   split-front (x ∷ xs) ys all =
       All-cons P x xs (All-head P x (xs ++ ys) all) (split-front xs ys (All-tail P x (xs ++ ys) all))
 
-  split-back : (xs ys : List Ticket) → All P (xs ++ ys) → All P ys
+  pub split-back : (xs ys : List Ticket) → All P (xs ++ ys) → All P ys
   split-back [] ys all = all
   split-back (x ∷ xs) ys all = split-back xs ys (All-tail P x (xs ++ ys) all)
 
@@ -85,10 +85,10 @@ module _ (P : Ticket → Type 0) (ticket : Ticket) (tickets : List Ticket) (all 
   of-back : All P (ticket ∷ filter behind tickets)
   of-back = split-back P (filter in-front tickets) (ticket ∷ filter behind tickets) all
 
-  of-ticket : P ticket
+  pub of-ticket : P ticket
   of-ticket = All-head P ticket (filter behind tickets) of-back
 
-  of-others : All P tickets
+  pub of-others : All P tickets
   of-others =
       parted P in-front tickets (split-front P (filter in-front tickets) (ticket ∷ filter behind tickets) all)
       (All-tail P ticket (filter behind tickets) of-back)

@@ -1,11 +1,13 @@
 -- The least deadline of open questions.
-use Rattle.std.proofs.Common.{◌≡◌, ℕ, ◌≤◌, List, [], ◌∷◌, ◌++◌, map, slice_get, Option, Some, None, refl, arith}
-use Rattle.std.specs.List.{All}
+use Rattle.std.proofs.Common.{◌≡◌, ℕ, ◌<◌, ◌≤◌, List, [], ◌∷◌, ◌++◌, map, slice_get, Option, Some, None, refl, arith}
+use Rattle.std.specs.List.{All, Contains}
 use Rattle.std.specs.Option.{IfSome, option_map}
-use Rattle.std.proofs.lemmas.List.Elements.{All-append, All-map, Contains-append_left, Contains-append_right}
+use Rattle.std.proofs.lemmas.List.Elements.{All-append, All-cons, All-contains, All-contains_itself, All-head, All-map, All-nil, All-tail, All-weaker, Contains-append_left, Contains-append_right}
 use Rattle.std.proofs.lemmas.List.{append-nil}
-use Rattle.dns_asker.specs.Tickets.{Ticket}
-use Rattle.sip_resolver.specs.Questions.{IsLeast}
+use Rattle.dns_asker.specs.Tickets.{Asking, Ticket}
+use Rattle.sip_resolver.specs.Idle.{IsInWait}
+use Rattle.sip_resolver.specs.Questions.{IsLeast, QuestionsView, deadlines_of}
+use Rattle.sip_resolver.specs.Sends.{IsOverdue, tickets_of}
 
 abbrev pub deadline : Ticket → ℕ
 deadline ticket = ticket.deadline
@@ -43,3 +45,82 @@ module _ (front back : List ℕ) where
 
   pub none-behind : (one : ℕ) → IsLeast front (Some one) → back ≡ [] → IsLeast (front ++ back) (Some one)
   none-behind one it none = rw (none, append-nil front) it
+
+-- ---- whether the least deadline is over
+
+overdue-in : (asking : Asking) (tickets : List Ticket) (now due : ℕ) → asking.tickets ≡ tickets
+    → Some due ≡ option_map deadline (slice_get tickets 0) → due ≤ now → IsOverdue now asking
+overdue-in asking [] now due same first over = absurd cc
+overdue-in asking (x ∷ xs) now due same first over =
+    let is : due ≡ x.deadline = cc in
+    record { ticket = x; others = xs; first = same; over = rw (← is) over }
+
+pub overdue : (asking : Asking) (now due : ℕ) → Some due ≡ option_map deadline (slice_get asking.tickets 0) → due ≤ now
+    → IsOverdue now asking
+overdue asking now due first over = overdue-in asking asking.tickets now due refl first over
+
+pub in-wait : (tickets : List Ticket) (now due : ℕ) → All (λ (ticket : Ticket). due ≤ ticket.deadline) tickets → (due ≤ now → ⊥)
+    → All (IsInWait now) tickets
+in-wait tickets now due least not = λ k d small.
+    let more = least k d small in let less : now < due = omega (arith, not) in omega (arith, more, less)
+
+-- until a later moment, so until an earlier one
+pub wait-longer : (now later : ℕ) (tickets : List Ticket) → now ≤ later → All (IsInWait later) tickets → All (IsInWait now) tickets
+wait-longer now later tickets less all = λ k d small. let more = all k d small in omega (arith, more, less)
+
+pub none-in-wait : (tickets : List Ticket) (now : ℕ) → None ≡ option_map deadline (slice_get tickets 0) → All (IsInWait now) tickets
+none-in-wait [] now first = All-nil (IsInWait now)
+none-in-wait (x ∷ xs) now first = absurd cc
+
+-- ---- the deadlines, as those of tickets
+
+of-map : (least : ℕ) (tickets : List Ticket) → All (λ number. least ≤ number) (map deadline tickets)
+    → All (λ (ticket : Ticket). least ≤ ticket.deadline) tickets
+of-map least [] all = All-nil (λ (ticket : Ticket). least ≤ ticket.deadline)
+of-map least (x ∷ xs) all =
+    All-cons (λ (ticket : Ticket). least ≤ ticket.deadline) x xs (All-head (λ number. least ≤ number) x.deadline (map deadline xs) all)
+    (of-map least xs (All-tail (λ number. least ≤ number) x.deadline (map deadline xs) all))
+
+module _ (P : ℕ → Type 0) where
+  front-of : (xs ys : List ℕ) → All P (xs ++ ys) → All P xs
+  front-of [] ys all = All-nil P
+  front-of (x ∷ xs) ys all = All-cons P x xs (All-head P x (xs ++ ys) all) (front-of xs ys (All-tail P x (xs ++ ys) all))
+
+  back-of : (xs ys : List ℕ) → All P (xs ++ ys) → All P ys
+  back-of [] ys all = all
+  back-of (x ∷ xs) ys all = back-of xs ys (All-tail P x (xs ++ ys) all)
+
+-- none has a lesser deadline than the least one
+pub at-least : (it : QuestionsView) (least : ℕ) → All (λ number. least ≤ number) (deadlines_of it)
+    → All (λ (ticket : Ticket). least ≤ ticket.deadline) (tickets_of it)
+at-least it least all =
+    let datagrams = map deadline it.datagrams.tickets in
+    let streams = map deadline it.streams.tickets in
+    All-append (λ (ticket : Ticket). least ≤ ticket.deadline) it.datagrams.tickets it.streams.tickets
+    (of-map least it.datagrams.tickets (front-of (λ number. least ≤ number) datagrams streams all))
+    (of-map least it.streams.tickets (back-of (λ number. least ≤ number) datagrams streams all))
+
+-- one has it
+pub record HasDeadline (tickets : List Ticket) (due : ℕ) : Type 0 where
+  pub ticket : Ticket
+  pub there : Contains tickets ticket
+  pub is : ticket.deadline ≡ due
+
+have-deadlines : (few many : List Ticket) → All (Contains many) few → All (HasDeadline many) (map deadline few)
+have-deadlines few many all =
+    All-map (HasDeadline many) deadline few
+    (All-weaker (Contains many) (λ (ticket : Ticket). HasDeadline many ticket.deadline)
+    (λ ticket there. record { ticket = ticket; there = there; is = refl }) few all)
+
+pub one-of : (it : QuestionsView) (least : ℕ) → Contains (deadlines_of it) least → HasDeadline (tickets_of it) least
+one-of it least there =
+    let datagrams = it.datagrams.tickets in
+    let streams = it.streams.tickets in
+    All-contains (HasDeadline (tickets_of it)) (deadlines_of it) least
+    (All-append (HasDeadline (tickets_of it)) (map deadline datagrams) (map deadline streams)
+    (have-deadlines datagrams (tickets_of it)
+    (All-weaker (Contains datagrams) (Contains (tickets_of it)) (Contains-append_left datagrams streams) datagrams
+    (All-contains_itself datagrams)))
+    (have-deadlines streams (tickets_of it)
+    (All-weaker (Contains streams) (Contains (tickets_of it)) (Contains-append_right datagrams streams) streams
+    (All-contains_itself streams)))) there

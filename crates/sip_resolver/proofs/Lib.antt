@@ -13,3 +13,4 @@ pub mod Turns
 pub mod Sending
 pub mod Idling
 pub mod Awaiting
+pub mod Dealing

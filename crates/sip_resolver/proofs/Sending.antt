@@ -1,5 +1,5 @@
 -- Questions that are given up, and the one that is sent.
-use Rattle.std.proofs.Common.{◌≡◌, ℕ, Bool, true, List, [], ◌∷◌, ◌++◌, Option, Some, None, refl, sym, ap, ◌∙◌, ◌+◌, rules, arith, MatchOption}
+use Rattle.std.proofs.Common.{◌≡◌, ℕ, max, Bool, true, List, [], ◌∷◌, ◌++◌, Option, Some, None, refl, sym, ap, ◌∙◌, ◌+◌, rules, arith, MatchOption}
 use Rattle.std.specs.Prelude.{IfNone}
 use Rattle.std.specs.List.{find}
 use Rattle.std.specs.Option.{option_or}
@@ -10,7 +10,7 @@ use Rattle.dns_asker.specs.Events.{IsGivenUp, IsResent, again}
 use Rattle.dns_asker.specs.Tickets.{Asking, Ticket, has_id, waiting_too}
 use Rattle.dns_message.specs.declared.question.Question.{Question}
 use Rattle.sip_resolver.specs.Questions.{QuestionsView, IsSent, asked_over, asking_over}
-use Rattle.sip_resolver.specs.Sends.{GivesUp, GivesUpBoth, IsInVain, IsUnanswered, SendsAfter, SendsFirst, SendsOne, Sends, first, again as again-sent, with_over}
+use Rattle.sip_resolver.specs.Sends.{GivesUp, GivesUpBoth, IsInVain, IsOverdue, IsUnanswered, SendsAfter, SendsFirst, SendsOne, Sends, first, again as again-sent, with_over}
 use Rattle.sip_resolver.specs.Tasks.{WaitingView, over_of}
 use Rattle.sip_resolver.specs.Waits.{Resends}
 use Rattle.sip_resolver.specs.declared.transmit.Over.{Over}
@@ -23,6 +23,22 @@ gives-up-not now asking = record { gone = []; were = refl; in_vain = All-nil (Is
 pub gives-up-none : (now : ℕ) (questions : QuestionsView) → GivesUpBoth now questions questions
 gives-up-none now questions =
     record { datagrams = gives-up-not now questions.datagrams; streams = gives-up-not now questions.streams }
+
+-- The deadline of the one that is given up is over.
+pub given-up-by : (now sent id : ℕ) (question : Question) (old new : Asking) → IsOverdue now old → IsGivenUp old new sent id question
+    → IsGivenUp old new now id question
+given-up-by now sent id question old new due is =
+    let same : due.ticket ≡ is.ticket = let front = due.first in let back = is.first in cc in
+    record {
+      ticket = is.ticket;
+      others = is.others;
+      first = is.first;
+      over = rw (← same) due.over;
+      enough = is.enough;
+      id_is = is.id_is;
+      question_is = is.question_is;
+      left = is.left;
+    }
 
 -- one more is given up
 pub gives-up-too : (now id : ℕ) (question : Question) (old middle new : Asking) → GivesUp now old middle
@@ -49,29 +65,30 @@ unanswered now id question old middle new gives is = record {
 
 -- one over datagrams
 pub sends-datagram : (now id asked : ℕ) (waiting : List WaitingView) (old : QuestionsView) (new : Asking)
-    → Resends now id old.datagrams new → SendsAfter now asked id waiting old (with_over Datagram new old)
+    → Resends now (max now asked) id old.datagrams new → SendsAfter now asked id waiting old (with_over Datagram new old)
 sends-datagram now id asked waiting old new it = record {
   middle = with_over Datagram it.middle old;
   gives_up = record { datagrams = it.gives_up; streams = gives-up-not now old.streams };
-  sends = again-sent Datagram new it.octets it.resent refl;
+  sends = again-sent Datagram new it.octets it.over it.resent refl;
 }
 
 -- one over streams, after some over datagrams were given up
 pub sends-stream : (now id asked : ℕ) (waiting : List WaitingView) (old : QuestionsView) (datagrams streams : Asking)
-    → GivesUp now old.datagrams datagrams → Resends now id old.streams streams
+    → GivesUp now old.datagrams datagrams → Resends now (max now asked) id old.streams streams
     → SendsAfter now asked id waiting old (record { datagrams = datagrams; streams = streams })
 sends-stream now id asked waiting old datagrams streams gives it = record {
   middle = record { datagrams = datagrams; streams = it.middle };
   gives_up = record { datagrams = gives; streams = it.gives_up };
-  sends = again-sent Stream streams it.octets it.resent refl;
+  sends = again-sent Stream streams it.octets it.over it.resent refl;
 }
 
-pub sends-both : (now : ℕ) (waiting : List WaitingView) (old : QuestionsView) (datagrams streams : Asking) (found : Option ℕ)
-    → GivesUp now old.datagrams datagrams → MatchOption found (GivesUp now old.streams streams) (λ id. Resends now id old.streams streams)
+pub sends-both : (now asked : ℕ) (waiting : List WaitingView) (old : QuestionsView) (datagrams streams : Asking) (found : Option ℕ)
+    → GivesUp now old.datagrams datagrams
+    → MatchOption found (GivesUp now old.streams streams) (λ id. Resends now (max now asked) id old.streams streams)
     → MatchOption found (GivesUpBoth now old (record { datagrams = datagrams; streams = streams }))
-    (λ id. (asked : ℕ) → SendsAfter now asked id waiting old (record { datagrams = datagrams; streams = streams }))
-sends-both now waiting old datagrams streams None gives it = record { datagrams = gives; streams = it }
-sends-both now waiting old datagrams streams (Some id) gives it = λ asked.
+    (λ id. SendsAfter now asked id waiting old (record { datagrams = datagrams; streams = streams }))
+sends-both now asked waiting old datagrams streams None gives it = record { datagrams = gives; streams = it }
+sends-both now asked waiting old datagrams streams (Some id) gives it =
     sends-stream now id asked waiting old datagrams streams gives it
 
 -- some are given up, and then one is sent or none
@@ -109,17 +126,17 @@ module _ (now asked id : ℕ) (waiting : List WaitingView) (old new : QuestionsV
   asked-there Stream question is =
       is-there Stream (ticket-of id question asked) old.streams.tickets (search rules) (rw is refl)
 
-  again-there : (over : Over) (asking : Asking) (octets : List ℕ) → IsResent (asking_over over old) asking now id octets
+  again-there : (over : Over) (asking : Asking) (octets : List ℕ) → IsResent (asking_over over old) asking (max now asked) id octets
       → new ≡ with_over over asking old → ⊥
   again-there Datagram asking octets it is =
-      is-there Datagram (again now it.ticket) it.others (search rules) (rw is (rw it.left refl))
+      is-there Datagram (again (max now asked) it.ticket) it.others (search rules) (rw is (rw it.left refl))
   again-there Stream asking octets it is =
-      is-there Stream (again now it.ticket) it.others (search rules) (rw is (rw it.left refl))
+      is-there Stream (again (max now asked) it.ticket) it.others (search rules) (rw is (rw it.left refl))
 
   -- so its octets are there
   pub sent-there : SendsOne now asked id waiting old new → ⊥
   sent-there (first it) = asked-there (over_of it.task) it.question it.is_asked
-  sent-there (again-sent over asking octets it is) = again-there over asking octets it is
+  sent-there (again-sent over asking octets due it is) = again-there over asking octets it is
 
 -- what is sent is what was counted as sent
 pub sends-octets : (now asked id : ℕ) (waiting : List WaitingView) (old new : QuestionsView) (transmit : Option Transmit)

@@ -11,3 +11,4 @@ pub mod Works
 pub mod Waits
 pub mod Resolvers
 pub mod Runs
+pub mod Dues

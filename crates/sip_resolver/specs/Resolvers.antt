@@ -18,7 +18,7 @@ use Rattle.sip_resolver.specs.Idle.{AreAwaited, IsIdle}
 use Rattle.sip_resolver.specs.Outcomes.{Ended}
 use Rattle.sip_resolver.specs.Questions.{AreDistinct, QuestionsView, asking_over, closed_over, none_out}
 use Rattle.sip_resolver.specs.Requests.{AreSame, RequestsView, Stand, count_of, numbers_of, requests_of}
-use Rattle.sip_resolver.specs.Sends.{IsInTime, Sends, tickets_of}
+use Rattle.sip_resolver.specs.Sends.{AreSpaced, IsInTime, Sends, tickets_of}
 use Rattle.sip_resolver.specs.Settles.{GoesByReply, GoesOverStream, SettlesAll}
 use Rattle.sip_resolver.specs.Tasks.{TaskView}
 use Rattle.sip_resolver.specs.declared.outcome.Outcome.{Outcome}
@@ -127,8 +127,8 @@ pub record IsTaken (ended : Ended) (old new : ResolverView) : Type 0 where
 -- The requests are the same, and what is so of them goes on to be so. A request ends by its choice,
 -- or as a question was in vain, or for want of memory. What is sent are the octets of a question
 -- that is out, under an id of its own. Where nothing is sent, nothing is left to do at this moment.
--- What is due is due by the first moment, and what is sent for the first time is asked at the
--- second one.
+-- What is due is due by the first moment, and what is sent waits until a full second behind the
+-- second one, at least.
 pub record Polls (gives : List ℕ → Type 0) (shows : ℕ → Type 0) {I : Type 0}
     (draws : I → ℕ → I → Type 0) (seat : SeatView) (now asked : ℕ) (old new : ResolverView)
     (result : Option Transmit) : Type 0 where
@@ -137,6 +137,7 @@ pub record Polls (gives : List ℕ → Type 0) (shows : ℕ → Type 0) {I : Typ
   pub ends : EndsMore (IsInTime (tickets_of old.questions) now)
       old.requests.ended new.requests.ended
   pub sends : Sends now asked new.requests.waiting old.questions new.questions result
+  pub spaced : AreSpaced asked old.questions new.questions
   pub idle : IfNone result (IsIdle draws now new.requests new.questions)
   pub awaited : AreAwaited old.requests old.questions → AreAwaited new.requests new.questions
   pub distinct : AreDistinct new.questions

@@ -1,5 +1,5 @@
 -- What is sent at a moment, and what is given up.
-use Rattle.std.specs.Prelude.{◌≡◌, ⊤, ℕ, ◌≤◌, List, ◌++◌, Option, Some, None}
+use Rattle.std.specs.Prelude.{◌≡◌, ◌⊎◌, ⊤, ℕ, ◌<◌, ◌≤◌, max, List, ◌∷◌, ◌++◌, Option, Some, None}
 use Rattle.std.specs.List.{All, Contains}
 use Rattle.dns_message.specs.declared.question.Question.{Question}
 use Rattle.dns_asker.specs.Events.{IsResent}
@@ -70,14 +70,23 @@ pub record SendsFirst (asked id : ℕ) (waiting : List WaitingView) (old new : Q
   pub waits : Contains waiting (record { id = id; task = task })
   pub is_asked : new ≡ asked_over (over_of task) id question asked old
 
+-- the deadline of the first question is over, which is the least one
+pub record IsOverdue (now : ℕ) (asking : Asking) : Type 0 where
+  pub ticket : Ticket
+  pub others : List Ticket
+  pub first : asking.tickets ≡ ticket ∷ others
+  pub over : ticket.deadline ≤ now
+
 -- One question is sent, under this id, and counted as sent: for the first time, as asked at the one
--- moment, or once more, as no reply came in time for the other.
+-- moment, or once more, as no reply came in time for the other. What is sent once more counts as
+-- sent at the later one of them.
 pub data SendsOne (now asked id : ℕ) (waiting : List WaitingView) (old new : QuestionsView)
     : Type 0 where
   first : SendsFirst asked id waiting old new → SendsOne now asked id waiting old new
   again : (over : Over) (asking : Asking) (octets : List ℕ)
-      → IsResent (asking_over over old) asking now id octets → new ≡ with_over over asking old
-      → SendsOne now asked id waiting old new
+      → IsOverdue now (asking_over over old)
+      → IsResent (asking_over over old) asking (max now asked) id octets
+      → new ≡ with_over over asking old → SendsOne now asked id waiting old new
 
 -- some are given up, and then one is sent
 pub record SendsAfter (now asked id : ℕ) (waiting : List WaitingView) (old new : QuestionsView)
@@ -94,3 +103,9 @@ Sends now asked waiting old new None = GivesUpBoth now old new
 Sends now asked waiting old new (Some transmit) =
     (id : ℕ) × SendsAfter now asked id waiting old new
     × IsOctetsOf transmit.octets.now id (asking_over transmit.over new).tickets
+
+-- Each that is out now was out before and waits as long as it did; or it was sent, and its deadline
+-- is a full second behind the moment rounded up, at least.
+abbrev pub AreSpaced : ℕ → QuestionsView → QuestionsView → Type 0
+AreSpaced asked old new =
+    All (λ ticket. Contains (tickets_of old) ticket ⊎ (asked < ticket.deadline)) (tickets_of new)

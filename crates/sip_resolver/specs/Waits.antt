@@ -13,7 +13,7 @@ use Rattle.sip_selection.specs.Selections.{now_of}
 use Rattle.sip_resolver.specs.Ends.{IsByFault, IsBySilence, IsMemory}
 use Rattle.sip_resolver.specs.Outcomes.{Counts, IsFaulty, IsOutcome}
 use Rattle.sip_resolver.specs.Requests.{RequestsView}
-use Rattle.sip_resolver.specs.Sends.{GivesUp}
+use Rattle.sip_resolver.specs.Sends.{GivesUp, IsOverdue}
 use Rattle.sip_resolver.specs.Settles.{GetsAnswer, GoesOverStream, NeedsOther}
 use Rattle.sip_resolver.specs.Tasks.{IsCounted, TaskView, WaitingView, sought_of}
 use Rattle.sip_resolver.specs.declared.outcome.Outcome.{Outcome}
@@ -99,9 +99,10 @@ pub data SettlesOne (id : ℕ) (goes : TaskView → TaskView → Type 0) (kind :
         ended = old.ended ++ record { sought = sought_of waiting.task; outcome = outcome } ∷ [];
       } → SettlesOne id goes kind waiting old new
 
--- some are given up, and then the question of this id is sent once more
-pub record Resends (now id : ℕ) (old new : Asking) : Type 0 where
+-- some are given up, and then the question of this id is sent once more, as its deadline is over
+pub record Resends (now sent id : ℕ) (old new : Asking) : Type 0 where
   pub middle : Asking
   pub gives_up : GivesUp now old middle
+  pub over : IsOverdue now middle
   pub octets : List ℕ
-  pub resent : IsResent middle new now id octets
+  pub resent : IsResent middle new sent id octets

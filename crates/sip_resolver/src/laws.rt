@@ -1,8 +1,13 @@
 //! Laws of resolvers. A call of one does nothing: its contract tells its caller the law.
-ghost use Rattle.std.specs.Prelude.{List};
+ghost use Rattle.std.specs.Prelude.{◌<◌, ◌≤◌, ℕ, List, Some};
+ghost use Rattle.sip_resolver.specs.Dues.{AreAsBefore, AreDealtWith, IsOneDue, PollsAll};
 ghost use Rattle.sip_resolver.specs.Idle.{AreAwaited};
+ghost use Rattle.sip_resolver.specs.Questions.{IsLeast, deadlines_of};
 ghost use Rattle.sip_resolver.specs.Resolvers.{ResolverView};
 ghost use Rattle.sip_resolver.specs.Runs.{AreKept, Event, Runs};
+
+use crate::ids::Ids;
+use crate::origin::Origin;
 
 /// Along any calls no request is lost, and none ends twice: those that are inside at last, with
 /// those whose outcomes were taken, are those that were submitted, each as often.
@@ -17,4 +22,23 @@ pub fn requests_are_kept()
 pub fn requests_are_awaited()
     ensures { (first last : ResolverView) (events : List Event) → Runs first events last
         → AreAwaited first.requests first.questions → AreAwaited last.requests last.questions }
+{}
+
+/// Where `poll_transmit` is called at a moment until it gives nothing, each question that was out
+/// is dealt with by its deadline: before it, it is as it was; from it on, it is sent again, or is
+/// given up where it was sent three times. So before the second that `next_timeout` named nothing
+/// is sent again and nothing given up, and from that second on a question is that had waited for
+/// it.
+pub fn questions_are_dealt_with<F: Origin, I: Ids>()
+    ensures dealt { (now asked : ℕ) (first last : ResolverView)
+        → PollsAll F.gives F.shows I.draws now asked first last
+        → AreDealtWith now asked first last }
+    ensures before { (now asked least : ℕ) (first last : ResolverView)
+        → PollsAll F.gives F.shows I.draws now asked first last
+        → IsLeast (deadlines_of first.questions) (Some least) → now < least
+        → AreAsBefore first last }
+    ensures due { (now asked least : ℕ) (first last : ResolverView)
+        → PollsAll F.gives F.shows I.draws now asked first last
+        → IsLeast (deadlines_of first.questions) (Some least) → least ≤ now
+        → IsOneDue least first last }
 {}

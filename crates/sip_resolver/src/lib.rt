@@ -23,8 +23,8 @@
 //! ```
 //!
 //! Moments are whole seconds. `now` is the time rounded down: what was due by then is sent again or
-//! given up. `asked` is the time rounded up, at which a question that is sent for the first time
-//! counts as asked: so no query is sent again before a full second is over.
+//! given up. `asked` is the time rounded up, at which a question that is sent counts as sent: so no
+//! query is sent again before a full second is over.
 //!
 //! A loop over it goes on so: `submit` what is to be resolved; call `poll_transmit` until it gives
 //! nothing, and send what it gives; take what `poll_outcome` gives; wait for a datagram until the
@@ -56,7 +56,7 @@ mod transmit;
 mod waits;
 
 pub use ids::{CountingIds, Ids, RandomIds};
-pub use laws::{requests_are_awaited, requests_are_kept};
+pub use laws::{questions_are_dealt_with, requests_are_awaited, requests_are_kept};
 pub use origin::{Anything, Origin};
 pub use outcome::{Outcome, Resolved, TargetList};
 pub use refusal::SubmitRefusal;

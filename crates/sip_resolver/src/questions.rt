@@ -14,6 +14,7 @@ ghost use Rattle.sip_resolver.specs.Sends.{GivesUpBoth, IsInTime, SendsAfter, ti
 use crate::ids::Ids;
 use crate::origin::Origin;
 use crate::requests::Requests;
+use crate::rounding::later_of;
 use crate::transmit::{Over, Transmit};
 use crate::waits::next_resend;
 use answer_cache::AnswerBook;
@@ -164,11 +165,13 @@ impl Questions {
     }
 
     /// Gives up the questions that were sent three times and whose replies did not come in time,
-    /// until one is to be sent once more, and gives its id.
+    /// until one is to be sent once more, and gives its id. It counts as sent at the later one of
+    /// the moments.
     pub(crate) fn next_resend<B: AnswerBook, F: Origin>(
         &mut self,
         requests: &mut Requests<B>,
         now: Moment,
+        asked: Moment,
     ) -> Option<u16>
         ensures stand { (seat : SeatView) → Stand F.gives F.shows seat requests.old
             → Stand F.gives F.shows seat requests.new }
@@ -176,17 +179,18 @@ impl Questions {
         ensures ends { EndsMore (IsInTime (tickets_of self.old) now)
             requests.old.ended requests.new.ended }
         ensures sends { MatchOption result (GivesUpBoth now self.old self.new)
-            (λ id. (asked : ℕ) → SendsAfter now asked id requests.new.waiting self.old self.new) }
+            (λ id. SendsAfter now asked id requests.new.waiting self.old self.new) }
         ensures datagrams { IfNone result (All (IsInWait now) self.new.datagrams.tickets) }
         ensures streams { IfNone result (All (IsInWait now) self.new.streams.tickets) }
         ensures awaited { AreAwaited requests.old self.old → AreAwaited requests.new self.new }
     {
         self.datagrams.stands_in_order();
         self.streams.stands_in_order();
-        if let Some(id) = next_resend::<B, F>(&mut self.datagrams, requests, now) {
+        let sent = later_of(now, asked);
+        if let Some(id) = next_resend::<B, F>(&mut self.datagrams, requests, now, sent) {
             return Some(id);
         }
-        next_resend::<B, F>(&mut self.streams, requests, now)
+        next_resend::<B, F>(&mut self.streams, requests, now, sent)
     }
 
     /// The octets of the question that is out under this id, and over what it is.

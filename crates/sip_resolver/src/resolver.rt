@@ -162,9 +162,9 @@ impl<B: AnswerBook, F: Origin, I: Ids + Drop> Resolver<B, F, I> {
     ///
     /// Moments are whole seconds, and most calls come between two of them. `now` is the time
     /// rounded down: what was due by then is due, and the book is read at it. `asked` is the time
-    /// rounded up (`rounded_up`): a question that is sent for the first time counts as asked then,
-    /// and is due one second later. So it is not sent again in less than a full second. One that is
-    /// sent again is due one second after `now`.
+    /// rounded up (`rounded_up`): a question that is sent counts as sent then, and is due one
+    /// second later. So it is not sent again in less than a full second. Where `asked` comes before
+    /// `now`, one that is sent again counts as sent at `now`.
     pub fn poll_transmit(
         &mut self,
         book: &B,
@@ -286,7 +286,10 @@ impl<B: AnswerBook, F: Origin, I: Ids + Drop> Resolver<B, F, I> {
         ensures idle { IfNone result
             (IsIdle I.draws now self.new.requests self.new.questions) }
     {
-        if let Some(id) = self.questions.next_resend::<B, F>(&mut self.requests, now) {
+        if let Some(id) = self
+            .questions
+            .next_resend::<B, F>(&mut self.requests, now, asked)
+        {
             return Some(id);
         }
         if let Some(id) = self.run_ready(book, seat, now, asked) {

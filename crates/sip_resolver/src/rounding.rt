@@ -1,5 +1,5 @@
 //! Moments of a clock that gives whole seconds.
-ghost use Rattle.std.specs.Prelude.{◌≡◌, ◌+◌, ◌^◌, ◌<◌, ◌≤◌};
+ghost use Rattle.std.specs.Prelude.{◌≡◌, ◌+◌, ◌^◌, ◌<◌, ◌≤◌, max};
 
 use dns_answers::Moment;
 
@@ -11,4 +11,13 @@ pub fn rounded_up(now: Moment) -> Moment
     ensures last { 2 ^ 48 ≤ now + 1 → result ≡ now }
 {
     Moment::new(now.get() + 1).unwrap_or(now)
+}
+
+/// The later of two moments.
+pub(crate) fn later_of(one: Moment, other: Moment) -> Moment
+    ensures later { result ≡ max one other }
+    ensures behind_one { one ≤ result }
+    ensures behind_other { other ≤ result }
+{
+    if one.is_before(other) { other } else { one }
 }

@@ -1,5 +1,5 @@
 //! How the wait for a reply ends, for the requests that share it.
-ghost use Rattle.std.specs.Prelude.{◌≡◌, ◌<◌, ◌≤◌, IfNone, List, MatchOption, length};
+ghost use Rattle.std.specs.Prelude.{◌≡◌, ◌<◌, ◌≤◌, false, IfNone, IsTrue, List, MatchOption, length};
 ghost use Rattle.std.specs.Arc.{arc_value};
 ghost use Rattle.std.specs.List.{All};
 ghost use Rattle.answer_cache.specs.Seats.{SeatView};
@@ -10,7 +10,7 @@ ghost use Rattle.sip_resolver.specs.Ends.{EndsMore};
 ghost use Rattle.sip_resolver.specs.Idle.{AreIn, IsInWait};
 ghost use Rattle.sip_resolver.specs.Questions.{Fewer};
 ghost use Rattle.sip_resolver.specs.Requests.{AreSame, IsBack, Stand, count_of};
-ghost use Rattle.sip_resolver.specs.Sends.{GivesUp, IsInTime};
+ghost use Rattle.sip_resolver.specs.Sends.{GivesUp, IsInTime, IsOverdue};
 ghost use Rattle.sip_resolver.specs.Tasks.{IsCounted, Lacks, sought_of};
 ghost use Rattle.sip_resolver.specs.Settles.{SettlesAll};
 ghost use Rattle.sip_resolver.specs.Waits.{EndsAs, Fits, GoesAs, IsFailed, IsGivenUp, IsKnown, MayEnd, MayGoOn, Resends, SettlesOne};
@@ -54,14 +54,27 @@ pub(crate) enum Fate {
     Ended(Outcome),
 }
 
+/// Whether the least deadline of the questions is over.
+fn is_overdue(asker: &Asker, now: Moment) -> bool
+    ensures over { IsTrue result → IsOverdue now asker.now }
+    ensures in_wait { result ≡ false → All (IsInWait now) asker.now.tickets }
+{
+    match asker.next_due() {
+        Some(due) => due <= now.get(),
+        None => false,
+    }
+}
+
 /// Gives up the questions that were sent three times and whose replies did not come in time, until
-/// one is to be sent once more, and gives its id.
+/// one is to be sent once more, and gives its id. It counts as sent at `sent`.
 pub(crate) fn next_resend<B: AnswerBook, F: Origin>(
     asker: &mut Asker,
     requests: &mut Requests<B>,
     now: Moment,
+    sent: Moment,
 ) -> Option<u16>
     requires few { length asker.old.tickets ≤ 256 }
+    requires later { now ≤ sent }
     ensures in_wait { IfNone result (All (IsInWait now) asker.new.tickets) }
     ensures limit { asker.new.limit ≡ asker.old.limit }
     ensures awaited { (others : List ticket) → AreIn asker.old.tickets others requests.old.waiting
@@ -73,10 +86,13 @@ pub(crate) fn next_resend<B: AnswerBook, F: Origin>(
     ensures ends { EndsMore (IsInTime asker.old.tickets now)
         requests.old.ended requests.new.ended }
     ensures sends { MatchOption result (GivesUp now asker.old asker.new)
-        (λ id. Resends now id asker.old asker.new) }
+        (λ id. Resends now sent id asker.old asker.new) }
 {
     'dues: for _due in 0..QUESTION_LIMIT {
-        match asker.due(now) {
+        if !is_overdue(asker, now) {
+            return None;
+        }
+        match asker.due(sent) {
             None => return None,
             Some(Due::Resend(id, _)) => return Some(id),
             Some(Due::GaveUp(id, question)) => {

@@ -51,10 +51,20 @@ fn ids_of<I: Ids + Drop>(alloc: Global, ids: I) -> Option<[u16; 2]> {
     both_ids(&mut resolver, &book, &mut seat, now)
 }
 
-/// An id that is open is skipped.
+/// Ids that count up, of which the last one comes next.
+fn at_last_id() -> CountingIds {
+    let mut ids = CountingIds::new();
+    for _ in 0..65_535u32 {
+        ids.draw();
+    }
+    ids
+}
+
+/// An id that is open is skipped. Behind the last id comes the first one.
 #[test]
 fn drawn_ids(rt: HostRuntime) {
     assert_eq!(rt; ids_of(rt.alloc(), CountingIds::new()), Some([0, 1]));
+    assert_eq!(rt; ids_of(rt.alloc(), at_last_id()), Some([65_535, 0]));
     assert_eq!(rt; ids_of(rt.alloc(), EachTwice { draws: 0 }), Some([0, 1]));
 }
 

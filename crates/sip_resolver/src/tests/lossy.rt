@@ -104,7 +104,8 @@ fn sends_one<B: AnswerBook, F: Origin>(
     ensures stays { B.belongs book.now seat.new }
     ensures stand { Stand F.gives F.shows (B.shown seat.new) resolver.new.requests }
 {
-    let Some(query) = resolver.poll_transmit(book, seat, now, now) else {
+    let asked = rounded_up(now);
+    let Some(query) = resolver.poll_transmit(book, seat, now, asked) else {
         return false;
     };
     if let Some(reply) = wire.carries(alloc, query.octets) {

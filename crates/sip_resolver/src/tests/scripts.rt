@@ -123,20 +123,23 @@ const LATE_REPLY: [Call; 11] = [
     Hears(103, Datagram, Whole(0), Heard::Ignored(Why::UnknownId)),
 ];
 
-/// A question that is asked between two seconds is not sent again at the second of these, since no
-/// full second is over. One that is sent again comes again with the next second.
-const BETWEEN_SECONDS: [Call; 13] = [
+/// A question that is sent between two seconds is not sent again at the second of these, since no
+/// full second is over: each of its three sends counts as sent at the second one. Then it is given
+/// up.
+const BETWEEN_SECONDS: [Call; 15] = [
     SendsBehind(100, 0, Datagram),
     Waits(Some(102)),
     Rests(101),
     RestsBehind(101),
-    Sends(102, 0, Datagram),
-    RestsBehind(102),
-    Waits(Some(103)),
-    SendsBehind(103, 0, Datagram),
-    RestsBehind(103),
+    SendsBehind(102, 0, Datagram),
     Waits(Some(104)),
-    Rests(104),
+    Rests(103),
+    RestsBehind(103),
+    SendsBehind(104, 0, Datagram),
+    Waits(Some(106)),
+    RestsBehind(105),
+    Rests(106),
+    Waits(None),
     Ends(1, End::NoAnswer),
     Ends(2, End::NoAnswer),
 ];

@@ -3,7 +3,8 @@ use Rattle.sip_resolver.proofs.Apart.{fewer-due, fewer-not, fewer-through}
 use Rattle.sip_resolver.proofs.Awaiting.{given-up-in, resent-in}
 use Rattle.sip_resolver.proofs.Ending.{ends-as, ends-not, ends-through, silence-in-time}
 use Rattle.sip_resolver.proofs.Idling.{given-up-few, given-up-limit, none-left, resent-limit}
-use Rattle.sip_resolver.proofs.Sending.{gives-up-not, gives-up-too, unanswered}
+use Rattle.sip_resolver.proofs.Deadlines.{wait-longer}
+use Rattle.sip_resolver.proofs.Sending.{given-up-by, gives-up-not, gives-up-too, unanswered}
 use Rattle.sip_resolver.proofs.Settling.{settles-ends}
 use Rattle.sip_resolver.proofs.Weighing.{same-not, same-through}
 use Rattle.sip_resolver.specs.Idle.{IsInWait}
@@ -29,24 +30,29 @@ dues-preserved g c = record {
   stand = λ seat it. c.settle_all.ensures.stand seat tt (c.dues.invariant.stand seat it);
   ends =
       let tickets = c.args.asker.now.tickets in
-      let is = rw c.in-Some-GaveUp.field-0-is at (rw c.in-Some-GaveUp.is at c.due.follows.holds-at-none) in
+      let due = rw c.in-Some-GaveUp.field-0-is at (rw c.in-Some-GaveUp.is at c.due.follows.holds-at-none) in
+      let is = given-up-by c.args.now c.args.sent _ _ c.dues.asker _ (c.is_overdue.ensures.over c.if-not-is_overdue.false) due in
       let in-vain = unanswered _ _ _ c.args.asker.now _ _ c.dues.invariant.gives_up is in
       ends-through (IsInTime tickets c.args.now) c.args.requests.now.ended c.dues.requests.ended c.settle_all.new.requests.ended
       c.dues.invariant.ends
       (ends-as _ (IsInTime tickets c.args.now) (silence-in-time tickets c.args.now _ in-vain) c.dues.requests.ended
       c.settle_all.new.requests.ended (settles-ends _ _ _ c.settle_all.ensures.settles));
   few =
-      let is = rw c.in-Some-GaveUp.field-0-is at (rw c.in-Some-GaveUp.is at c.due.follows.holds-at-none) in
+      let due = rw c.in-Some-GaveUp.field-0-is at (rw c.in-Some-GaveUp.is at c.due.follows.holds-at-none) in
+      let is = given-up-by c.args.now c.args.sent _ _ c.dues.asker _ (c.is_overdue.ensures.over c.if-not-is_overdue.false) due in
       given-up-few _ _ _ c.dues.asker _ c.dues._due is c.dues.invariant.few;
   awaited = λ others it.
-      let is = rw c.in-Some-GaveUp.field-0-is at (rw c.in-Some-GaveUp.is at c.due.follows.holds-at-none) in
+      let due = rw c.in-Some-GaveUp.field-0-is at (rw c.in-Some-GaveUp.is at c.due.follows.holds-at-none) in
+      let is = given-up-by c.args.now c.args.sent _ _ c.dues.asker _ (c.is_overdue.ensures.over c.if-not-is_overdue.false) due in
       rw (ap (λ (v : RequestsView). v.waiting) c.settle_all.ensures.settles.new_is)
       (given-up-in _ _ _ c.dues.asker _ others c.dues.requests.waiting is (c.dues.invariant.awaited others it));
   limit =
-      let is = rw c.in-Some-GaveUp.field-0-is at (rw c.in-Some-GaveUp.is at c.due.follows.holds-at-none) in
+      let due = rw c.in-Some-GaveUp.field-0-is at (rw c.in-Some-GaveUp.is at c.due.follows.holds-at-none) in
+      let is = given-up-by c.args.now c.args.sent _ _ c.dues.asker _ (c.is_overdue.ensures.over c.if-not-is_overdue.false) due in
       given-up-limit _ _ _ c.args.asker.now.limit c.dues.asker _ is c.dues.invariant.limit;
   gives_up =
-      let is = rw c.in-Some-GaveUp.field-0-is at (rw c.in-Some-GaveUp.is at c.due.follows.holds-at-none) in
+      let due = rw c.in-Some-GaveUp.field-0-is at (rw c.in-Some-GaveUp.is at c.due.follows.holds-at-none) in
+      let is = given-up-by c.args.now c.args.sent _ _ c.dues.asker _ (c.is_overdue.ensures.over c.if-not-is_overdue.false) due in
       gives-up-too _ _ _ c.args.asker.now _ _ c.dues.invariant.gives_up is;
   same = same-through c.args.requests.now c.dues.requests c.settle_all.new.requests c.dues.invariant.same c.settle_all.ensures.same;
 }
@@ -71,7 +77,13 @@ returns-in-Some-Resend-clause-ends g c = c.dues.invariant.ends
 pub returns-in-Some-Resend-clause-sends : goal.returns-in-Some-Resend-clause-sends
 returns-in-Some-Resend-clause-sends g c =
     let is = rw c.in-Some-Resend.field-0-is at (rw c.in-Some-Resend.is at c.due.follows.holds-at-none) in
-    record { middle = c.dues.asker; gives_up = c.dues.invariant.gives_up; octets = _; resent = is }
+    record {
+      middle = c.dues.asker;
+      gives_up = c.dues.invariant.gives_up;
+      over = c.is_overdue.ensures.over c.if-not-is_overdue.false;
+      octets = _;
+      resent = is;
+    }
 
 pub returns-clause-ends : goal.returns-clause-ends
 returns-clause-ends g c = c.dues.invariant.ends
@@ -79,7 +91,7 @@ returns-clause-ends g c = c.dues.invariant.ends
 pub returns-in-None-clause-in_wait : goal.returns-in-None-clause-in_wait
 returns-in-None-clause-in_wait g c =
     let is = rw c.in-None.is at c.due.follows.holds-at-none in
-    rw is.0 is.1
+    rw is.0 (wait-longer c.args.now c.args.sent _ c.requires.later is.1)
 
 pub returns-in-None-clause-awaited : goal.returns-in-None-clause-awaited
 returns-in-None-clause-awaited g c =
@@ -112,3 +124,21 @@ returns-clause-limit g c = c.dues.invariant.limit
 
 pub returns-clause-sends : goal.returns-clause-sends
 returns-clause-sends g c = c.dues.invariant.gives_up
+
+pub returns-then-not-is_overdue-clause-ends : goal.returns-then-not-is_overdue-clause-ends
+returns-then-not-is_overdue-clause-ends g c = c.dues.invariant.ends
+
+pub returns-then-not-is_overdue-clause-awaited : goal.returns-then-not-is_overdue-clause-awaited
+returns-then-not-is_overdue-clause-awaited g c = c.dues.invariant.awaited
+
+pub returns-then-not-is_overdue-clause-limit : goal.returns-then-not-is_overdue-clause-limit
+returns-then-not-is_overdue-clause-limit g c = c.dues.invariant.limit
+
+pub returns-then-not-is_overdue-clause-in_wait : goal.returns-then-not-is_overdue-clause-in_wait
+returns-then-not-is_overdue-clause-in_wait g c = c.is_overdue.ensures.in_wait c.if-not-is_overdue.true
+
+pub returns-then-not-is_overdue-clause-sends : goal.returns-then-not-is_overdue-clause-sends
+returns-then-not-is_overdue-clause-sends g c = c.dues.invariant.gives_up
+
+pub returns-then-not-is_overdue-clause-fewer : goal.returns-then-not-is_overdue-clause-fewer
+returns-then-not-is_overdue-clause-fewer g c = c.dues.invariant.fewer

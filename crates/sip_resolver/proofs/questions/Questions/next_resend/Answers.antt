@@ -32,7 +32,7 @@ pub returns-in-Some-clause-sends : goal.returns-in-Some-clause-sends
 returns-in-Some-clause-sends g c =
     let old : QuestionsView = record { datagrams = c.self.inside.datagrams; streams = c.self.inside.streams } in
     rw (← c.self.view_is)
-    (λ asked. sends-datagram _ _ asked _ old _ (rw c.in-Some.is at c.next_resend.ensures.sends))
+    (sends-datagram _ _ c.args.asked _ old _ (rw c.later_of-sent.ensures.later at (rw c.in-Some.is at c.next_resend.ensures.sends)))
 
 pub returns-clause-ends : goal.returns-clause-ends
 returns-clause-ends g c =
@@ -51,8 +51,9 @@ pub returns-clause-sends : goal.returns-clause-sends
 returns-clause-sends g c =
     let old : QuestionsView = record { datagrams = c.self.inside.datagrams; streams = c.self.inside.streams } in
     rw (← c.self.view_is)
-    (sends-both c.args.now c.next_resend-2.new.requests.waiting old c.next_resend.new.asker c.next_resend-2.new.asker c.next_resend-2.result
-    (rw c.in_default.is at c.next_resend.ensures.sends) c.next_resend-2.ensures.sends)
+    (sends-both c.args.now c.args.asked c.next_resend-2.new.requests.waiting old c.next_resend.new.asker c.next_resend-2.new.asker
+    c.next_resend-2.result (rw c.in_default.is at c.next_resend.ensures.sends)
+    (rw c.later_of-sent.ensures.later at c.next_resend-2.ensures.sends))
 
 pub returns-in-Some-clause-awaited : goal.returns-in-Some-clause-awaited
 returns-in-Some-clause-awaited g c =

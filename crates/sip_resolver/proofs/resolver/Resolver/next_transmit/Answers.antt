@@ -23,7 +23,7 @@ returns-in-Some-run_ready-clause-ends g c =
     (ends-as IsByChoice kind (choice-in-time tickets c.args.now) _ _ c.run_ready.ensures.ends))
 
 pub returns-in-Some-clause-sends : goal.returns-in-Some-clause-sends
-returns-in-Some-clause-sends g c = rw (← c.self.view_is) (c.in-Some.ensures.sends c.args.asked)
+returns-in-Some-clause-sends g c = rw (← c.self.view_is) c.in-Some.ensures.sends
 
 pub returns-in-Some-run_ready-clause-sends : goal.returns-in-Some-run_ready-clause-sends
 returns-in-Some-run_ready-clause-sends g c =

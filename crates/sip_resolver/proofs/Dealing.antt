@@ -1,0 +1,292 @@
+-- What becomes of the questions that are out, as a moment is polled.
+use Rattle.std.proofs.Common.{◌≡◌, ◌⊎◌, inl, inr, ℕ, ◌+◌, ◌<◌, ◌≤◌, max, List, ◌∷◌, ◌++◌, Option, Some, None, MatchOption, refl, arith}
+use Rattle.std.proofs.Math.Nat.{le-max_left, le-max_right}
+use Rattle.std.specs.List.{All, Contains}
+use Rattle.std.proofs.lemmas.List.Elements.{All-append, All-cons, All-contains, All-contains_itself, All-tail, All-weaker, Contains-append_left, Contains-append_right}
+use Rattle.dns_asker.specs.Events.{IsResent, again}
+use Rattle.dns_asker.specs.Tickets.{Asking, Ticket, waiting_too}
+use Rattle.dns_message.specs.declared.question.Question.{Question}
+use Rattle.sip_resolver.proofs.Apart.{all-too}
+use Rattle.sip_resolver.proofs.Awaiting.{of-others, of-ticket, split-back, split-front}
+use Rattle.sip_resolver.proofs.Deadlines.{at-least, one-of}
+use Rattle.sip_resolver.specs.Dues.{AreAsBefore, AreDealtWith, IsDealtWith, IsOneDue, PollsAll, PollsMany, begun, further, given_up, sent_again, waits_on}
+use Rattle.sip_resolver.specs.Idle.{IsInWait}
+use Rattle.sip_resolver.specs.Questions.{IsLeast, QuestionsView, asked_over, asking_over, deadlines_of}
+use Rattle.sip_resolver.specs.Resolvers.{ResolverView}
+use Rattle.sip_resolver.specs.Sends.{AreSpaced, GivesUp, GivesUpBoth, IsInVain, IsOverdue, SendsAfter, SendsOne, first, again as again-sent, tickets_of, with_over}
+use Rattle.sip_resolver.specs.Tasks.{WaitingView, over_of}
+use Rattle.sip_resolver.specs.declared.transmit.Over.{Over}
+use Rattle.sip_resolver.specs.declared.transmit.Over.TheVariants.{Datagram, Stream}
+
+-- ---- what is so of those over datagrams and of those over streams
+
+module _ (P : Ticket → Type 0) (it : QuestionsView) where
+  both : All P it.datagrams.tickets → All P it.streams.tickets → All P (tickets_of it)
+  both front back = All-append P it.datagrams.tickets it.streams.tickets front back
+
+-- each of them is one of all
+datagrams-in : (it : QuestionsView) → All (Contains (tickets_of it)) it.datagrams.tickets
+datagrams-in it =
+    All-weaker (Contains it.datagrams.tickets) (Contains (tickets_of it))
+    (Contains-append_left it.datagrams.tickets it.streams.tickets) it.datagrams.tickets (All-contains_itself it.datagrams.tickets)
+
+streams-in : (it : QuestionsView) → All (Contains (tickets_of it)) it.streams.tickets
+streams-in it =
+    All-weaker (Contains it.streams.tickets) (Contains (tickets_of it))
+    (Contains-append_right it.datagrams.tickets it.streams.tickets) it.streams.tickets (All-contains_itself it.streams.tickets)
+
+datagrams-are : (it : QuestionsView) (tickets : List Ticket) → it.datagrams.tickets ≡ tickets → All (Contains (tickets_of it)) tickets
+datagrams-are it tickets same = rw (← same) (datagrams-in it)
+
+streams-are : (it : QuestionsView) (tickets : List Ticket) → it.streams.tickets ≡ tickets → All (Contains (tickets_of it)) tickets
+streams-are it tickets same = rw (← same) (streams-in it)
+
+-- ---- one more among some
+
+module _ (ticket : Ticket) (tickets many : List Ticket) (all : All (Contains many) (waiting_too ticket tickets)) where
+  others-in : All (Contains many) tickets
+  others-in = of-others (Contains many) ticket tickets all
+
+  one-in : Contains many ticket
+  one-in = of-ticket (Contains many) ticket tickets all
+
+-- ---- how long a question waits
+
+module _ (now asked : ℕ) where
+  -- each that is left was out
+  left-of : (old new : Asking) (many : List Ticket) → GivesUp now old new → All (Contains many) old.tickets
+      → All (Contains many) new.tickets
+  left-of old new many it all =
+      let whole : All (Contains many) (it.gone ++ new.tickets) = rw it.were at all in
+      split-back (Contains many) it.gone new.tickets whole
+
+  left-of-both : (old new : QuestionsView) → GivesUpBoth now old new → All (Contains (tickets_of old)) (tickets_of new)
+  left-of-both old new it =
+      both (Contains (tickets_of old)) new (left-of old.datagrams new.datagrams (tickets_of old) it.datagrams (datagrams-in old))
+      (left-of old.streams new.streams (tickets_of old) it.streams (streams-in old))
+
+  abbrev is-spaced : List Ticket → Ticket → Type 0
+  is-spaced old ticket = Contains old ticket ⊎ (asked < ticket.deadline)
+
+  spaced-as : (old : List Ticket) (new : List Ticket) → All (Contains old) new → All (is-spaced old) new
+  spaced-as old new all = All-weaker (Contains old) (is-spaced old) (λ ticket is. inl is) new all
+
+  abbrev ticket-of : ℕ → Question → Ticket
+  ticket-of id question = record { sent = record { id = id; question = question; sends = 1 }; deadline = asked + 1 }
+
+  -- those that were there, and one that was sent
+  spaced-too : (old : List Ticket) (ticket : Ticket) (tickets : List Ticket) → asked < ticket.deadline → All (Contains old) tickets
+      → All (is-spaced old) (waiting_too ticket tickets)
+  spaced-too old ticket tickets late all = all-too ticket tickets (is-spaced old) (inr late) (spaced-as old tickets all)
+
+  -- of the questions in between some are the old ones, and one is sent
+  module _ (id : ℕ) (waiting : List WaitingView) (old middle new : QuestionsView)
+      (all : All (Contains (tickets_of old)) (tickets_of middle)) where
+    datagrams-were : All (Contains (tickets_of old)) middle.datagrams.tickets
+    datagrams-were = split-front (Contains (tickets_of old)) middle.datagrams.tickets middle.streams.tickets all
+
+    streams-were : All (Contains (tickets_of old)) middle.streams.tickets
+    streams-were = split-back (Contains (tickets_of old)) middle.datagrams.tickets middle.streams.tickets all
+
+    spaced-datagrams : (ticket : Ticket) (tickets : List Ticket) → asked < ticket.deadline → All (Contains (tickets_of old)) tickets
+        → new.datagrams.tickets ≡ waiting_too ticket tickets → new.streams ≡ middle.streams → AreSpaced asked old new
+    spaced-datagrams ticket tickets late were is others =
+        both (is-spaced (tickets_of old)) new (rw is (spaced-too (tickets_of old) ticket tickets late were))
+        (rw others (spaced-as (tickets_of old) middle.streams.tickets streams-were))
+
+    spaced-streams : (ticket : Ticket) (tickets : List Ticket) → asked < ticket.deadline → All (Contains (tickets_of old)) tickets
+        → new.streams.tickets ≡ waiting_too ticket tickets → new.datagrams ≡ middle.datagrams → AreSpaced asked old new
+    spaced-streams ticket tickets late were is others =
+        both (is-spaced (tickets_of old)) new (rw others (spaced-as (tickets_of old) middle.datagrams.tickets datagrams-were))
+        (rw is (spaced-too (tickets_of old) ticket tickets late were))
+
+    spaced-first : (over : Over) (question : Question) → new ≡ asked_over over id question asked middle → AreSpaced asked old new
+    spaced-first Datagram question is =
+        let late : asked < asked + 1 = omega arith in
+        spaced-datagrams (ticket-of id question) middle.datagrams.tickets late datagrams-were (rw is refl) (rw is refl)
+    spaced-first Stream question is =
+        let late : asked < asked + 1 = omega arith in
+        spaced-streams (ticket-of id question) middle.streams.tickets late streams-were (rw is refl) (rw is refl)
+
+    spaced-again : (over : Over) (asking : Asking) (octets : List ℕ)
+        → IsResent (asking_over over middle) asking (max now asked) id octets → new ≡ with_over over asking middle
+        → AreSpaced asked old new
+    spaced-again Datagram asking octets it is =
+        let most = le-max_right now asked in
+        let late : asked < max now asked + 1 = omega (arith, most) in
+        let front : All (Contains (tickets_of old)) (it.ticket ∷ it.others) = rw it.first at datagrams-were in
+        spaced-datagrams (again (max now asked) it.ticket) it.others late
+        (All-tail (Contains (tickets_of old)) it.ticket it.others front) (rw is (rw it.left refl)) (rw is refl)
+    spaced-again Stream asking octets it is =
+        let most = le-max_right now asked in
+        let late : asked < max now asked + 1 = omega (arith, most) in
+        let front : All (Contains (tickets_of old)) (it.ticket ∷ it.others) = rw it.first at streams-were in
+        spaced-streams (again (max now asked) it.ticket) it.others late
+        (All-tail (Contains (tickets_of old)) it.ticket it.others front) (rw is (rw it.left refl)) (rw is refl)
+
+    spaced-one : SendsOne now asked id waiting middle new → AreSpaced asked old new
+    spaced-one (first it) = spaced-first (over_of it.task) it.question it.is_asked
+    spaced-one (again-sent over asking octets due it is) = spaced-again over asking octets it is
+
+  -- whether or not one is sent
+  pub spaced : (waiting : List WaitingView) (old new : QuestionsView) (found : Option ℕ)
+      → MatchOption found (GivesUpBoth now old new) (λ id. SendsAfter now asked id waiting old new) → AreSpaced asked old new
+  spaced waiting old new None it = spaced-as (tickets_of old) (tickets_of new) (left-of-both old new it)
+  spaced waiting old new (Some id) it = spaced-one id waiting old it.middle new (left-of-both old it.middle it.gives_up) it.sends
+
+  -- ---- where a question that was out is
+
+  data IsOnWay (new : List Ticket) (ticket : Ticket) : Type 0 where
+    stays : Contains new ticket → IsOnWay new ticket
+    resent : ticket.deadline ≤ now → ticket.sent.sends < 3 → Contains new (again (max now asked) ticket) → IsOnWay new ticket
+    gone : IsInVain now ticket → IsOnWay new ticket
+
+  -- some are given up
+  on-way-left : (old new : Asking) (many : List Ticket) → GivesUp now old new → All (Contains many) new.tickets
+      → All (IsOnWay many) old.tickets
+  on-way-left old new many it there =
+      rw it.were
+      (All-append (IsOnWay many) it.gone new.tickets
+      (All-weaker (IsInVain now) (IsOnWay many) (λ ticket vain. gone vain) it.gone it.in_vain)
+      (All-weaker (Contains many) (IsOnWay many) (λ ticket is. stays is) new.tickets there))
+
+  on-way-given : (old new : QuestionsView) → GivesUpBoth now old new → All (IsOnWay (tickets_of new)) (tickets_of old)
+  on-way-given old new it =
+      both (IsOnWay (tickets_of new)) old
+      (on-way-left old.datagrams new.datagrams (tickets_of new) it.datagrams (datagrams-in new))
+      (on-way-left old.streams new.streams (tickets_of new) it.streams (streams-in new))
+
+  -- one is sent
+  module _ (id : ℕ) (waiting : List WaitingView) (old new : QuestionsView) where
+    abbrev is-there : List Ticket → Type 0
+    is-there tickets = All (Contains (tickets_of new)) tickets
+
+    on-way-all : (tickets : List Ticket) → is-there tickets → All (IsOnWay (tickets_of new)) tickets
+    on-way-all tickets there = All-weaker (Contains (tickets_of new)) (IsOnWay (tickets_of new)) (λ ticket is. stays is) tickets there
+
+    on-way-first : (over : Over) (question : Question) → new ≡ asked_over over id question asked old
+        → All (IsOnWay (tickets_of new)) (tickets_of old)
+    on-way-first Datagram question is =
+        let there = datagrams-are new (waiting_too (ticket-of id question) old.datagrams.tickets) (rw is refl) in
+        both (IsOnWay (tickets_of new)) old
+        (on-way-all old.datagrams.tickets (others-in (ticket-of id question) old.datagrams.tickets (tickets_of new) there))
+        (on-way-all old.streams.tickets (streams-are new old.streams.tickets (rw is refl)))
+    on-way-first Stream question is =
+        let there = streams-are new (waiting_too (ticket-of id question) old.streams.tickets) (rw is refl) in
+        both (IsOnWay (tickets_of new)) old
+        (on-way-all old.datagrams.tickets (datagrams-are new old.datagrams.tickets (rw is refl)))
+        (on-way-all old.streams.tickets (others-in (ticket-of id question) old.streams.tickets (tickets_of new) there))
+
+    on-way-again : (asking : Asking) (octets : List ℕ) (before : Asking) → IsOverdue now before
+        → IsResent before asking (max now asked) id octets → is-there asking.tickets → All (IsOnWay (tickets_of new)) before.tickets
+    on-way-again asking octets before due it there =
+        let same : due.ticket ≡ it.ticket = let front = due.first in let back = it.first in cc in
+        let whole : is-there (waiting_too (again (max now asked) it.ticket) it.others) = rw it.left at there in
+        rw it.first
+        (All-cons (IsOnWay (tickets_of new)) it.ticket it.others
+        (resent (rw (← same) due.over) it.more (one-in (again (max now asked) it.ticket) it.others (tickets_of new) whole))
+        (on-way-all it.others (others-in (again (max now asked) it.ticket) it.others (tickets_of new) whole)))
+
+    on-way-sent : SendsOne now asked id waiting old new → All (IsOnWay (tickets_of new)) (tickets_of old)
+    on-way-sent (first it) = on-way-first (over_of it.task) it.question it.is_asked
+    on-way-sent (again-sent Datagram asking octets due it is) =
+        both (IsOnWay (tickets_of new)) old
+        (on-way-again asking octets old.datagrams due it (datagrams-are new asking.tickets (rw is refl)))
+        (on-way-all old.streams.tickets (streams-are new old.streams.tickets (rw is refl)))
+    on-way-sent (again-sent Stream asking octets due it is) =
+        both (IsOnWay (tickets_of new)) old
+        (on-way-all old.datagrams.tickets (datagrams-are new old.datagrams.tickets (rw is refl)))
+        (on-way-again asking octets old.streams due it (streams-are new asking.tickets (rw is refl)))
+
+  -- ---- one step after the other
+
+  -- one that was sent again isn't due any more
+  not-due : max now asked + 1 ≤ now → ⊥
+  not-due over = let late = le-max_left now asked in omega (arith, late, over)
+
+  kept-again : (new : List Ticket) (ticket : Ticket) → IsOnWay new (again (max now asked) ticket)
+      → Contains new (again (max now asked) ticket)
+  kept-again new ticket (stays is) = is
+  kept-again new ticket (resent over more is) = absurd (not-due over)
+  kept-again new ticket (gone vain) = absurd (not-due vain.1)
+
+  on-way-further : (middle new : List Ticket) → All (IsOnWay new) middle → (ticket : Ticket) → IsOnWay middle ticket → IsOnWay new ticket
+  on-way-further middle new all ticket (stays is) = All-contains (IsOnWay new) middle ticket all is
+  on-way-further middle new all ticket (resent over more is) =
+      resent over more (kept-again new ticket (All-contains (IsOnWay new) middle (again (max now asked) ticket) all is))
+  on-way-further middle new all ticket (gone vain) = gone vain
+
+  on-way-through : (old middle new : List Ticket) → All (IsOnWay middle) old → All (IsOnWay new) middle → All (IsOnWay new) old
+  on-way-through old middle new front back = All-weaker (IsOnWay middle) (IsOnWay new) (on-way-further middle new back) old front
+
+  on-way-after : (id : ℕ) (waiting : List WaitingView) (old new : QuestionsView) → SendsAfter now asked id waiting old new
+      → All (IsOnWay (tickets_of new)) (tickets_of old)
+  on-way-after id waiting old new it =
+      on-way-through (tickets_of old) (tickets_of it.middle) (tickets_of new) (on-way-given old it.middle it.gives_up)
+      (on-way-sent id waiting it.middle new it.sends)
+
+  on-way-not : (it : List Ticket) → All (IsOnWay it) it
+  on-way-not it = All-weaker (Contains it) (IsOnWay it) (λ ticket is. stays is) it (All-contains_itself it)
+
+  module _ (gives : List ℕ → Type 0) (shows : ℕ → Type 0) {I : Type 0} (draws : I → ℕ → I → Type 0) where
+    on-way-along : (first-one last : ResolverView) → PollsMany gives shows draws now asked first-one last
+        → All (IsOnWay (tickets_of last.questions)) (tickets_of first-one.questions)
+    on-way-along first-one last begun = on-way-not (tickets_of first-one.questions)
+    on-way-along first-one last (further seat old new transmit along polls) =
+        on-way-through (tickets_of first-one.questions) (tickets_of old.questions) (tickets_of last.questions)
+        (on-way-along first-one old along)
+        (on-way-after polls.sends.0 last.requests.waiting old.questions last.questions polls.sends.1)
+
+    -- nothing is left to do
+    dealt : (last : QuestionsView) → All (IsInWait now) (tickets_of last) → (ticket : Ticket) → IsOnWay (tickets_of last) ticket
+        → IsDealtWith now asked last ticket
+    dealt last idle ticket (stays is) = waits_on (All-contains (IsInWait now) (tickets_of last) ticket idle is) is
+    dealt last idle ticket (resent over more is) = sent_again over more is
+    dealt last idle ticket (gone vain) =
+        given_up vain
+        (λ is.
+        let wait : now < ticket.deadline = All-contains (IsInWait now) (tickets_of last) ticket idle is in
+        let over = vain.1 in omega (arith, wait, over))
+
+    pub all-dealt : (first-one last : ResolverView) → PollsAll gives shows draws now asked first-one last
+        → AreDealtWith now asked first-one last
+    all-dealt first-one last it =
+        let idle = both (IsInWait now) last.questions it.none.idle.datagrams it.none.idle.streams in
+        All-weaker (IsOnWay (tickets_of last.questions)) (IsDealtWith now asked last.questions) (dealt last.questions idle)
+        (tickets_of first-one.questions)
+        (on-way-through (tickets_of first-one.questions) (tickets_of it.middle.questions) (tickets_of last.questions)
+        (on-way-along first-one it.middle it.many) (on-way-given it.middle.questions last.questions it.none.sends))
+
+    -- ---- with the least deadline
+
+    as-before : (last : QuestionsView) (least : ℕ) → now < least → (ticket : Ticket) → least ≤ ticket.deadline
+        → IsDealtWith now asked last ticket → Contains (tickets_of last) ticket
+    as-before last least early ticket late (waits_on wait is) = is
+    as-before last least early ticket late (sent_again over more is) = absurd (omega (arith, early, late, over))
+    as-before last least early ticket late (given_up vain not) =
+        absurd (let over = vain.1 in omega (arith, early, late, over))
+
+    pub all-before : (least : ℕ) (first-one last : ResolverView) → PollsAll gives shows draws now asked first-one last
+        → IsLeast (deadlines_of first-one.questions) (Some least) → now < least → AreAsBefore first-one last
+    all-before least first-one last it is early =
+        let late = at-least first-one.questions least is.1 in
+        let dealt-with = all-dealt first-one last it in
+        λ k d small. as-before last.questions least early _ (late k d small) (dealt-with k d small)
+
+    not-left : (last : QuestionsView) → All (IsInWait now) (tickets_of last) → (ticket : Ticket) → ticket.deadline ≤ now
+        → Contains (tickets_of last) ticket → ⊥
+    not-left last idle ticket over is =
+        let wait : now < ticket.deadline = All-contains (IsInWait now) (tickets_of last) ticket idle is in
+        omega (arith, wait, over)
+
+    pub one-due : (least : ℕ) (first-one last : ResolverView) → PollsAll gives shows draws now asked first-one last
+        → IsLeast (deadlines_of first-one.questions) (Some least) → least ≤ now → IsOneDue least first-one last
+    one-due least first-one last it is over =
+        let idle = both (IsInWait now) last.questions it.none.idle.datagrams it.none.idle.streams in
+        let one = one-of first-one.questions least is.0 in
+        record {
+          ticket = one.ticket;
+          was = one.there;
+          due = one.is;
+          left = not-left last.questions idle one.ticket (rw one.is over);
+        }

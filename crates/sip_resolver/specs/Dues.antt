@@ -1,0 +1,60 @@
+-- What becomes of the questions that are out, as a moment is polled.
+use Rattle.std.specs.Prelude.{◌≡◌, ℕ, ◌<◌, ◌≤◌, max, List, Some, None}
+use Rattle.std.specs.List.{All, Contains}
+use Rattle.dns_asker.specs.Events.{again}
+use Rattle.dns_asker.specs.Tickets.{Ticket}
+use Rattle.answer_cache.specs.Seats.{SeatView}
+use Rattle.sip_resolver.specs.Questions.{QuestionsView}
+use Rattle.sip_resolver.specs.Resolvers.{Polls, ResolverView}
+use Rattle.sip_resolver.specs.Sends.{IsInVain, tickets_of}
+use Rattle.sip_resolver.specs.declared.transmit.Transmit.{Transmit}
+
+-- ---- a moment is polled
+
+-- `poll_transmit` was called at a moment, and each call gave something to send
+pub data PollsMany (gives : List ℕ → Type 0) (shows : ℕ → Type 0) {I : Type 0}
+    (draws : I → ℕ → I → Type 0) (now asked : ℕ) (first : ResolverView) : ResolverView → Type 0
+  where
+    begun : PollsMany gives shows draws now asked first first
+    further : (seat : SeatView) (old new : ResolverView) (transmit : Transmit)
+        → PollsMany gives shows draws now asked first old
+        → Polls gives shows draws seat now asked old new (Some transmit)
+        → PollsMany gives shows draws now asked first new
+
+-- and the last call gave nothing
+pub record PollsAll (gives : List ℕ → Type 0) (shows : ℕ → Type 0) {I : Type 0}
+    (draws : I → ℕ → I → Type 0) (now asked : ℕ) (first last : ResolverView) : Type 0 where
+  pub middle : ResolverView
+  pub many : PollsMany gives shows draws now asked first middle
+  pub seat : SeatView
+  pub none : Polls gives shows draws seat now asked middle last None
+
+-- ---- what becomes of a question
+
+-- Before its deadline it is as it was. From its deadline on it is sent once more, where it was sent
+-- once or twice, and counts as sent at the later moment. Where it was sent three times it is given
+-- up.
+pub data IsDealtWith (now asked : ℕ) (last : QuestionsView) (ticket : Ticket) : Type 0 where
+  waits_on : now < ticket.deadline → Contains (tickets_of last) ticket
+      → IsDealtWith now asked last ticket
+  sent_again : ticket.deadline ≤ now → ticket.sent.sends < 3
+      → Contains (tickets_of last) (again (max now asked) ticket)
+      → IsDealtWith now asked last ticket
+  given_up : IsInVain now ticket → (Contains (tickets_of last) ticket → ⊥)
+      → IsDealtWith now asked last ticket
+
+abbrev pub AreDealtWith : ℕ → ℕ → ResolverView → ResolverView → Type 0
+AreDealtWith now asked first last =
+    All (IsDealtWith now asked last.questions) (tickets_of first.questions)
+
+-- each is as it was
+abbrev pub AreAsBefore : ResolverView → ResolverView → Type 0
+AreAsBefore first last =
+    All (λ ticket. Contains (tickets_of last.questions) ticket) (tickets_of first.questions)
+
+-- one of this deadline is sent again or given up
+pub record IsOneDue (deadline : ℕ) (first last : ResolverView) : Type 0 where
+  pub ticket : Ticket
+  pub was : Contains (tickets_of first.questions) ticket
+  pub due : ticket.deadline ≡ deadline
+  pub left : Contains (tickets_of last.questions) ticket → ⊥
