@@ -14,7 +14,7 @@ use std::alloc::Global;
 use std::sync::Arc;
 
 mod caches;
-mod locators;
+pub(crate) mod locators;
 
 /// Whether two equal calls, one after the other, have the right answer, of which one at most has
 /// none for want of memory. What a call says is whether its answer is right, and `None` where it
@@ -27,7 +27,7 @@ fn are_right(first: Option<bool>, again: Option<bool>) -> bool {
 }
 
 /// The question for addresses of a.example.
-fn question(alloc: Global) -> Option<Question>
+pub(crate) fn question(alloc: Global) -> Option<Question>
     ensures { IfSome result (λ made. made.kind ≡ A) }
 {
     Some(Question {
@@ -37,7 +37,7 @@ fn question(alloc: Global) -> Option<Question>
 }
 
 /// Its answer of one address, with this life.
-fn answer(alloc: Global, life: u32) -> Option<Arc<Answer>>
+pub(crate) fn answer(alloc: Global, life: u32) -> Option<Arc<Answer>>
     ensures { IfSome result (λ made. kind_of (arc_value made).records ≡ A) }
 {
     let mut addresses = Vec::new(alloc);
@@ -55,7 +55,7 @@ fn life_of(found: Option<Arc<Answer>>) -> u32 {
 }
 
 /// The moment of all calls.
-fn now() -> Moment {
+pub(crate) fn now() -> Moment {
     Moment::new(100).unwrap()
 }
 
@@ -73,7 +73,7 @@ fn caps() -> Option<Caps> {
 const WORDS: Words = Words([0; WORD_COUNT]);
 
 /// The octets of a reply with the address and a TTL of 60, under the id 0 (RFC 1035 4.1).
-const REPLY: [u8; 43] = [
+pub(crate) const REPLY: [u8; 43] = [
     0, 0, 0x81, 0x80, 0, 1, 0, 1, 0, 0, 0, 0, 1, b'a', 7, b'e', b'x', b'a', b'm', b'p', b'l', b'e',
     0, 0, 1, 0, 1, 0xc0, 12, 0, 1, 0, 1, 0, 0, 0, 60, 0, 4, 192, 0, 2, 7,
 ];

@@ -10,6 +10,7 @@ use Rattle.boxcar.proofs.tag.Tag.TheSendSync as tag
 use Rattle.answer_log.proofs.tally.Tally.TheSendSync as tally
 use Rattle.answer_log.proofs.spent.Spent.TheLaws.TheKnot.{send-Spent}
 use Rattle.answer_cache.proofs.notes.Notes.TheLaws.TheKnot.{send-Notes}
+use Rattle.dns_name.specs.contracts.name.Name as Name
 use Rattle.answer_cache.specs.contracts.seat.Seat as Seat
 use Rattle.answer_cache.specs.contracts.shared_cache.SharedCache as SharedCache
 use Rattle.rolling_cache.proofs.lineage.Lineage.TheLaws.TheKnot.{send-Lineage, sync-Lineage}
@@ -17,9 +18,17 @@ use Rattle.rolling_cache.specs.contracts.generation.Generation as Generation
 use Rattle.rolling_cache.specs.contracts.generation.Present as Present
 use Rattle.rolling_cache.specs.contracts.rolling.RollingCache as RollingCache
 
+name_send : IsSend Name.the_row
+name_send = search (sendable, crosses) depth 100 fits 100000
+
+name_sync : IsSync Name.the_row
+name_sync = search (sendable, crosses) depth 100 fits 100000
+
 ruleset parts = (
   sendable,
   crosses,
+  name_send,
+  name_sync,
   word.the_send,
   word.the_sync,
   seen.the_send,

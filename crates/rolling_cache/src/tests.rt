@@ -13,6 +13,7 @@ use dns_name::Name;
 use std::alloc::Global;
 use std::sync::{Arc, Wait};
 
+mod allocations;
 mod page;
 mod parts;
 mod threads;

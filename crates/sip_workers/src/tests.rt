@@ -21,6 +21,7 @@ mod many;
 mod page;
 mod slow;
 mod successor;
+mod targets;
 mod threads_refused;
 
 /// A zone with one address.

@@ -35,7 +35,7 @@ const CALLS: [Call; 6] = [
 ];
 
 /// The life of the answer that a look-up finds, if not at once, then the second time.
-pub(super) fn found<B: AnswerBook>(book: &B, seat: &mut B::Seat, question: &Question) -> Option<u32>
+fn found<B: AnswerBook>(book: &B, seat: &mut B::Seat, question: &Question) -> Option<u32>
     requires { B.belongs book.now seat.old }
     ensures { B.belongs book.now seat.new }
 {
@@ -43,6 +43,26 @@ pub(super) fn found<B: AnswerBook>(book: &B, seat: &mut B::Seat, question: &Ques
         Ok(found) => Some(life_of(found)),
         Err(_) => Some(life_of(book.lookup(seat, question, now()).ok()?)),
     }
+}
+
+/// Whether this life was found.
+fn is_life(found: Option<u32>, life: u32) -> bool {
+    found == Some(life)
+}
+
+/// Whether a look-up finds an answer of this life, or of 0 none, if not at once, then the second
+/// time.
+pub(super) fn finds<B: AnswerBook>(
+    book: &B,
+    seat: &mut B::Seat,
+    question: &Question,
+    life: u32,
+) -> bool
+    requires { B.belongs book.now seat.old }
+    ensures { B.belongs book.now seat.new }
+{
+    let found = found(book, seat, question);
+    is_life(found, life)
 }
 
 /// Whether an answer is stored, if not at once, then the second time, and whether after the first
@@ -62,7 +82,7 @@ fn stores<B: AnswerBook, R: Wait>(
     match book.store(rt, seat, question, answer, now()) {
         Ok(()) => true,
         Err(StoreRefusal::Memory) => {
-            found(book, seat, question) == Some(before)
+            finds(book, seat, question, before)
                 && book.store(rt, seat, question, answer, now()).is_ok()
         }
         Err(_) => false,
@@ -84,7 +104,7 @@ pub(super) fn stores_two<B: AnswerBook, R: Wait>(
     let second = answer(alloc, 20)?;
     let stored = stores(rt, book, seat, &question, &first, 0)
         && stores(rt, book, seat, &question, &second, 10);
-    Some(stored && found(book, seat, &question) == Some(20))
+    Some(stored && finds(book, seat, &question, 20))
 }
 
 /// The same of a book for one thread.
@@ -131,24 +151,59 @@ impl Rival for Tries {
     }
 }
 
+/// Whether `store_against` stores, if not at once, then the second time, and nothing is found
+/// between the two.
+fn stores_against<R: Wait>(
+    rt: &R,
+    cache: &SharedCache,
+    seat: &mut Seat,
+    question: &Question,
+    answer: &Arc<Answer>,
+    tries: &mut Tries,
+) -> bool
+    requires made_here { Belongs cache.now seat.old }
+    requires kind { kind_of (arc_value answer.now).records ≡ question.now.kind }
+    ensures { Belongs cache.now seat.new }
+{
+    match cache.store_against(rt, seat, question, answer, now(), tries) {
+        Ok(()) => true,
+        Err(StoreRefusal::Memory) => {
+            finds(cache, seat, question, 0)
+                && cache
+                    .store_against(rt, seat, question, answer, now(), tries)
+                    .is_ok()
+        }
+        Err(_) => false,
+    }
+}
+
 /// `store_against`, which is tried once, and where it is refused once more.
 fn store_against<R: Wait>(rt: &R, alloc: Global) -> Option<bool> {
     let (cache, mut seat) = one_seat(alloc)?;
     let question = question(alloc)?;
     let answer = answer(alloc, 10)?;
     let mut tries = Tries { count: 0 };
-    match cache.store_against(rt, &mut seat, &question, &answer, now(), &mut tries) {
-        Ok(()) => {}
-        Err(StoreRefusal::Memory) => {
-            if found(&cache, &mut seat, &question) != Some(0) {
-                return Some(false);
-            }
-            let again = cache.store_against(rt, &mut seat, &question, &answer, now(), &mut tries);
-            again.ok()?;
-        }
-        Err(_) => return Some(false),
+    let stored = stores_against(rt, &cache, &mut seat, &question, &answer, &mut tries);
+    Some(stored && tries.count == 1 && finds(&cache, &mut seat, &question, 10))
+}
+
+/// What `carry` hands on, if not at once, then the second time. Between the two the answer is
+/// found.
+fn carries(
+    alloc: Global,
+    cache: &SharedCache,
+    seat: &mut Seat,
+    question: &Question,
+) -> Option<Carried>
+    requires { Belongs cache.now seat.old }
+{
+    if let Ok(carried) = cache.carry(alloc, seat, now()) {
+        return Some(carried);
     }
-    Some(tries.count == 1 && found(&cache, &mut seat, &question) == Some(10))
+    if !finds(cache, seat, question, 10) {
+        return None;
+    }
+    cache.carry(alloc, seat, now()).ok()
 }
 
 /// What a cache with one store hands on, where `carry` is done again where memory is refused.
@@ -158,15 +213,7 @@ fn carried<R: Wait>(rt: &R, alloc: Global, question: &Question) -> Option<Carrie
     let (cache, mut seat) = one_seat(alloc)?;
     let answer = answer(alloc, 10)?;
     cache.store(rt, &mut seat, question, &answer, now()).ok()?;
-    match cache.carry(alloc, &mut seat, now()) {
-        Ok(carried) => Some(carried),
-        Err(_) => {
-            if found(&cache, &mut seat, question) != Some(10) {
-                return None;
-            }
-            cache.carry(alloc, &mut seat, now()).ok()
-        }
-    }
+    carries(alloc, &cache, &mut seat, question)
 }
 
 /// `carry`
@@ -201,7 +248,7 @@ fn successor<R: Wait>(rt: &R, alloc: Global) -> Option<bool> {
     let question = question(alloc)?;
     let carried = carried(rt, alloc, &question)?;
     let (cache, mut seat) = next(rt, alloc, &carried)?;
-    Some(carried.len() == 1 && found(&cache, &mut seat, &question) == Some(10))
+    Some(carried.len() == 1 && finds(&cache, &mut seat, &question, 10))
 }
 
 /// What a call says.

@@ -1,6 +1,6 @@
 //! Locators and the questions that are out.
 
-use super::caches::found;
+use super::caches::finds;
 use super::{REPLY, WORDS, answer, are_right, caps, now, question, request};
 use answer_cache::{AnswerBook, ListCache, StoreRefusal};
 use dns_asker::{AskRefusal, Asker, Ending, Incoming};
@@ -27,12 +27,12 @@ fn asks(next: Next<'_>) -> bool {
 }
 
 /// Whether there is one target.
-fn goes(next: Next<'_>) -> bool {
+pub(crate) fn goes(next: Next<'_>) -> bool {
     matches!(next, Next::Targets([_]))
 }
 
 /// A locator of the request.
-fn locator<B: AnswerBook>(alloc: Global) -> Option<Locator<B>> {
+pub(crate) fn locator<B: AnswerBook>(alloc: Global) -> Option<Locator<B>> {
     Locator::new(alloc, request(alloc)?, caps()?, WORDS).ok()
 }
 
@@ -78,6 +78,15 @@ fn replies<B: AnswerBook, R: Wait>(
     }
 }
 
+/// The life of the answer that a book has then: none where memory was refused for it.
+fn life_kept(kept: Option<Kept>) -> Option<u32> {
+    match kept {
+        Some(Kept::Yes) => Some(60),
+        Some(Kept::No(StoreRefusal::Memory)) => Some(0),
+        _ => None,
+    }
+}
+
 /// `reply`, after which there is the target, whether its answer was stored or memory was refused
 /// for that.
 fn reply<R: Wait>(rt: &R, alloc: Global) -> Option<bool> {
@@ -85,12 +94,10 @@ fn reply<R: Wait>(rt: &R, alloc: Global) -> Option<bool> {
     let (book, mut seat) = ListCache::new(alloc);
     let question = question(alloc)?;
     let kept = replies(rt, &mut locator, &book, &mut seat);
-    let life = match kept {
-        Some(Kept::Yes) => 60,
-        Some(Kept::No(StoreRefusal::Memory)) => 0,
-        _ => return Some(false),
+    let Some(life) = life_kept(kept) else {
+        return Some(false);
     };
-    Some(goes(locator.next()) && found(&book, &mut seat, &question) == Some(life))
+    Some(goes(locator.next()) && finds(&book, &mut seat, &question, life))
 }
 
 /// `Locator::give`, after which the question is open where memory is refused, and given again it

@@ -2,6 +2,7 @@
 ghost use Rattle.answer_cache.specs.Shared.{Belongs};
 
 use super::job_of;
+use super::many::counting_gate;
 use super::page::one_worker;
 use crate::*;
 use answer_cache::SharedCache;
@@ -62,24 +63,25 @@ impl<'a, R: time::Clock> Clock for RunningClock<'a, R> {
 }
 
 /// Whether the one job has no answer.
-fn has_no_answer<R: Wait + AllocGlobal, C: Clock>(
+fn has_no_answer<R: Wait + AllocGlobal, C: Clock, G: Gate>(
     rt: &R,
     cache: &SharedCache,
     worker: &mut Worker<DeafWire<'_>>,
     jobs: &[Job],
     clock: &C,
+    gate: &G,
 ) -> bool
     requires { Belongs cache.now worker.old }
 {
-    let Ok(made) = worker.batch(rt, cache, jobs, clock, &OpenGate) else {
+    let Ok(made) = worker.batch(rt, cache, jobs, clock, gate) else {
         return false;
     };
     made.iter()
         .all(|it| matches!(it.outcome(), Outcome::NoAnswer(_)))
 }
 
-/// Whether one job over such a wire has no answer, and how often something was to be received.
-fn deaf_run<R: Wait + AllocGlobal + time::Clock>(rt: &R) -> Option<(bool, u64)> {
+/// Whether job 1 over such a wire has no answer, and how often something was to be received.
+fn deaf_run<R: Wait + AllocGlobal + time::Clock, G: Gate>(rt: &R, gate: &G) -> Option<(bool, u64)> {
     let alloc = rt.alloc();
     let receives = AtomicU64::new(0);
     let wire = DeafWire {
@@ -91,13 +93,18 @@ fn deaf_run<R: Wait + AllocGlobal + time::Clock>(rt: &R) -> Option<(bool, u64)> 
     let (cache, mut worker) = one_worker(alloc, wire)?;
     let mut jobs = Vec::new(alloc);
     jobs.push(job_of(alloc, 1, "sip:a.example:5070")?).ok()?;
-    let ended = has_no_answer(rt, &cache, &mut worker, jobs.as_slice(), &clock);
+    let ended = has_no_answer(rt, &cache, &mut worker, jobs.as_slice(), &clock, gate);
     Some((ended, receives.load(Ordering::SeqCst)))
 }
 
-/// In its four seconds the worker receives some hundreds of times, and not as often as it can.
+/// In its six seconds the worker receives some hundreds of times, and not as often as it can. The
+/// gate is told once that the job began, and once that it was answered, though it was given up.
 #[test]
 fn faults_keep_no_processor_at_work(rt: HostRuntime) {
-    let seen = deaf_run(&rt);
+    let gate = counting_gate();
+    let seen = deaf_run(&rt, &gate);
     assert!(rt; matches!(seen, Some((true, receives)) if receives < 1_000));
+    assert_eq!(rt; gate.begun.load(Ordering::SeqCst), 0x10);
+    assert_eq!(rt; gate.answered.load(Ordering::SeqCst), 0x10);
+    assert_eq!(rt; gate.early.load(Ordering::SeqCst), 0);
 }

@@ -10,11 +10,20 @@ use std::thread::Threads;
 
 /// A gate that counts the calls for the numbers 0 to 7, in four bits for each number.
 #[derive(Drop)]
-struct Counts {
-    begun: AtomicU64,
-    answered: AtomicU64,
+pub(super) struct Counts {
+    pub(super) begun: AtomicU64,
+    pub(super) answered: AtomicU64,
     /// How many were answered before they had begun.
-    early: AtomicU64,
+    pub(super) early: AtomicU64,
+}
+
+/// A gate that has counted nothing.
+pub(super) fn counting_gate() -> Counts {
+    Counts {
+        begun: AtomicU64::new(0),
+        answered: AtomicU64::new(0),
+        early: AtomicU64::new(0),
+    }
 }
 
 /// One, in the four bits of a number.
@@ -126,11 +135,7 @@ fn forty_jobs_by_any_workers(rt: HostRuntime) {
 
 #[test]
 fn each_begins_and_is_answered_once(rt: HostRuntime) {
-    let gate = Counts {
-        begun: AtomicU64::new(0),
-        answered: AtomicU64::new(0),
-        early: AtomicU64::new(0),
-    };
+    let gate = counting_gate();
     assert_eq!(rt; all_go_by(&rt, 2, 8, &gate), Some(true));
     assert_eq!(rt; gate.begun.load(Ordering::SeqCst), 0x1111_1111);
     assert_eq!(rt; gate.answered.load(Ordering::SeqCst), 0x1111_1111);

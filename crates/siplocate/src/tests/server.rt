@@ -6,6 +6,7 @@ use crate::server::{local_wire, run_to_server};
 use crate::udp::UdpServerWire;
 use dns_asker::{DATAGRAM_LIMIT, PeerWire, Zone, serve};
 use std::alloc::Global;
+use std::net::{Ipv6Addr, SocketAddr};
 use std::sync::atomic::{AtomicBool, Ordering};
 use std::sync::{Arc, Wait};
 use std::test::Fail;
@@ -56,24 +57,36 @@ fn serve_from_the_second<R: Wait>(
     }
 }
 
-/// What is lost is sent again, and answered then.
+/// What is lost is sent again, and answered then, by a server over each family of addresses.
 #[test]
 fn first_query_lost(rt: HostRuntime) -> Result<(), Fail> {
     let (zone, requests) = parts(TEXT);
-    let mut wire = local_wire(&rt)?;
-    let Ok(zone) = Zone::read(rt.alloc(), zone) else {
-        return Err(Fail::new(format_args!("the zone was not read")));
-    };
-    let address = wire.address()?;
-    let stop = Arc::new(rt.alloc(), AtomicBool::new(false))?;
-    let seen = Arc::try_clone(&stop)?;
-    let server = thread::spawn(&rt, move || {
-        serve_from_the_second(&rt, rt.alloc(), &mut wire, &zone, &seen)
-    })?;
-    let ran = run_to_server(&rt, rt.alloc(), address, 1, requests);
-    stop.store(true, Ordering::SeqCst);
-    // two names are asked for, of which one was asked for twice
-    assert!(rt; server.join(&rt).is_some_and(|count| count >= 2));
-    assert!(rt; matches!(&ran, Ok((lines, 2)) if lines.as_str() == LINES));
+    // A host without IPv6 has no such address.
+    let sixth = UdpServerWire::bind(&rt, SocketAddr::from((Ipv6Addr::LOCALHOST, 0)));
+    for wire in [Ok(local_wire(&rt)?), sixth] {
+        let Ok(mut wire) = wire else {
+            continue;
+        };
+        let Ok(zone) = Zone::read(rt.alloc(), zone) else {
+            return Err(Fail::new(format_args!("the zone was not read")));
+        };
+        let address = wire.address()?;
+        let stop = Arc::new(rt.alloc(), AtomicBool::new(false))?;
+        let seen = Arc::try_clone(&stop)?;
+        let server = thread::spawn(&rt, move || {
+            serve_from_the_second(&rt, rt.alloc(), &mut wire, &zone, &seen)
+        })?;
+        let ran = run_to_server(&rt, rt.alloc(), address, 1, requests);
+        stop.store(true, Ordering::SeqCst);
+        // two names are asked for, of which one was asked for twice
+        assert!(rt;
+            server.join(&rt).is_some_and(|count| count >= 2),
+            "{address}"
+        );
+        assert!(rt;
+            matches!(&ran, Ok((lines, 2)) if lines.as_str() == LINES),
+            "{address}"
+        );
+    }
     Ok(())
 }
