@@ -3,3 +3,4 @@ pub mod Taken
 mod Colons
 mod CnameLinks
 mod SameQueries
+mod Works

@@ -12,3 +12,4 @@ pub mod Wires
 pub mod WireCounts
 pub mod CnameChains
 pub mod Steps
+pub mod WireTries

@@ -1,6 +1,7 @@
 -- The queries that were sent last.
-use Rattle.std.specs.Prelude.{◌≡◌, ℕ, ◌+◌, ◌<◌, take, Bool, true, false, List, Option, Some, None, slice_get}
-use Rattle.std.specs.List.{Contains, position_or_len}
+use Rattle.std.specs.Prelude.{◌≡◌, ℕ, ◌+◌, ◌<◌, take, Bool, true, false, List, Option, Some, None, not, slice_get}
+use Rattle.std.specs.List.{Contains, position, position_or_len}
+use Rattle.std.specs.Option.{unwrap_or}
 use Rattle.std.specs.Str.{bytes_eq}
 
 -- a query, how often it was sent, whether no reply to it was handed on since, whether it went out,
@@ -60,3 +61,10 @@ pub record IsFurther (server servers : ℕ) (query : List ℕ) (kept : List Sent
   pub stands : Contains kept sent
   pub octets : sent.octets ≡ query
   pub can : CanGoOn server servers sent
+
+abbrev pub is_answered : SentValue → Bool
+is_answered sent = not sent.is_out
+
+-- the place of the first query that is not out, or the first place of all
+abbrev pub place_to_leave : List SentValue → ℕ
+place_to_leave kept = unwrap_or (position is_answered kept) 0

@@ -4,6 +4,7 @@ ghost use Rattle.dns_client.specs.Driven.{GivesOut};
 ghost use Rattle.sip_resolver.specs.Outcomes.{IsOutcome};
 ghost use Rattle.sip_resolver.specs.Questions.{deadlines_of};
 ghost use Rattle.sip_resolver.specs.Requests.{AreSame, Stand};
+ghost use Rattle.sip_resolver.specs.Works.{Works};
 
 use crate::message_wire::MessageWire;
 use crate::wire_origin::WireOrigin;
@@ -26,6 +27,7 @@ fn send_next<B: AnswerBook, W: MessageWire, C: Clock, I: Ids + Drop>(
     requires made_here { B.belongs book.now seat.old }
     requires stand { Stand W.gives C.shows (B.shown seat.old) resolver.old.requests }
     ensures stays { B.belongs book.now seat.new }
+    ensures works { Works W.gives C.shows (B.shown seat.old) (B.shown seat.new) }
     ensures stand { Stand W.gives C.shows (B.shown seat.new) resolver.new.requests }
     ensures same { AreSame resolver.old.requests resolver.new.requests }
 {
@@ -50,6 +52,7 @@ fn send_all<B: AnswerBook, W: MessageWire, C: Clock, I: Ids + Drop>(
     requires made_here { B.belongs book.now seat.old }
     requires stand { Stand W.gives C.shows (B.shown seat.old) resolver.old.requests }
     ensures stays { B.belongs book.now seat.new }
+    ensures works { Works W.gives C.shows (B.shown seat.old) (B.shown seat.new) }
     ensures stand { Stand W.gives C.shows (B.shown seat.new) resolver.new.requests }
     ensures same { AreSame resolver.old.requests resolver.new.requests }
 {
@@ -72,6 +75,7 @@ fn receive_once<R: Wait, B: AnswerBook, W: MessageWire, C: Clock, I: Ids + Drop>
     requires made_here { B.belongs book.now seat.old }
     requires stand { Stand W.gives C.shows (B.shown seat.old) resolver.old.requests }
     ensures stays { B.belongs book.now seat.new }
+    ensures works { Works W.gives C.shows (B.shown seat.old) (B.shown seat.new) }
     ensures stand { Stand W.gives C.shows (B.shown seat.new) resolver.new.requests }
     ensures same { AreSame resolver.old.requests resolver.new.requests }
 {
@@ -85,6 +89,40 @@ fn receive_once<R: Wait, B: AnswerBook, W: MessageWire, C: Clock, I: Ids + Drop>
             message.as_slice(),
         );
     }
+}
+
+/// Goes on with a resolver over a wire: sends what there is to send, and gives the next request
+/// that ended, with what became of it. Where none did, it receives once, if a question is out, and
+/// hands on what came.
+///
+/// It is what `next_outcome` does again and again, for a caller that submits requests in between,
+/// or counts the time of each by itself.
+pub fn poll_over<R: Wait, B: AnswerBook, W: MessageWire, C: Clock, I: Ids + Drop>(
+    rt: &R,
+    resolver: &mut Resolver<B, WireOrigin<W, C>, I>,
+    book: &B,
+    seat: &mut B::Seat,
+    wire: &mut W,
+    clock: &C,
+) -> Option<Resolved<B>>
+    requires made_here { B.belongs book.now seat.old }
+    requires stand { Stand W.gives C.shows (B.shown seat.old) resolver.old.requests }
+    ensures stays { B.belongs book.now seat.new }
+    ensures works { Works W.gives C.shows (B.shown seat.old) (B.shown seat.new) }
+    ensures stand { Stand W.gives C.shows (B.shown seat.new) resolver.new.requests }
+    ensures outcome { IfSome result (λ ended.
+        IsOutcome W.gives C.shows (B.shown seat.new) ended.sought ended.outcome) }
+    ensures once { GivesOut result resolver.old.requests resolver.new.requests }
+{
+    send_all(resolver, book, seat, wire, clock);
+    if let Some(ended) = resolver.poll_outcome() {
+        return Some(ended);
+    }
+    if resolver.next_timeout().is_none() {
+        return None;
+    }
+    receive_once(rt, resolver, book, seat, wire, clock);
+    None
 }
 
 /// Drives a resolver over a wire until a request ends, and gives it with what became of it.
@@ -102,6 +140,7 @@ pub fn next_outcome<R: Wait, B: AnswerBook, W: MessageWire, C: Clock, I: Ids + D
     requires made_here { B.belongs book.now seat.old }
     requires stand { Stand W.gives C.shows (B.shown seat.old) resolver.old.requests }
     ensures stays { B.belongs book.now seat.new }
+    ensures works { Works W.gives C.shows (B.shown seat.old) (B.shown seat.new) }
     ensures stand { Stand W.gives C.shows (B.shown seat.new) resolver.new.requests }
     // What became of it is the choice of RFC 3263 over the book's history and what the wire gave,
     // or the question whose answer is missing.

@@ -1,13 +1,13 @@
 //! What a DNS client on this host needs from outside.
 //!
 //! `next_outcome` drives a resolver (`sip_resolver`) over a wire to DNS servers until a request
-//! ends: it sends what the resolver has to send, and hands it what comes back. It works over any
-//! `MessageWire` and any `Clock`. `ServerWire` is a wire over the system's sockets: UDP, TCP for
-//! replies that were cut, and several servers in turn. `QueryForm` says in which form queries go
-//! out: whether recursion is desired, and with EDNS or without. `WireCounts` and `WireTry` tell
-//! what went over such a wire. `RunClock` is a clock that counts from its start. `random_ids` and
-//! `draw_words` make ids of queries and random words of a key, which `random_key` takes from the
-//! system's entropy. `read_request` reads the request of a line.
+//! ends: it sends what the resolver has to send, and hands it what comes back; `poll_over` does so
+//! once. They work over any `MessageWire` and any `Clock`. `ServerWire` is a wire over the system's
+//! sockets: UDP, TCP for replies that were cut, and several servers in turn. `QueryForm` says in
+//! which form queries go out: whether recursion is desired, and with EDNS or without. `WireCounts`
+//! and `WireTry` tell what went over such a wire. `RunClock` is a clock that counts from its start,
+//! and a `Timer`. `random_ids` and `draw_words` make ids of queries and random words of a key,
+//! which `random_key` takes from the system's entropy. `read_request` reads the request of a line.
 //!
 //! `ResolverFile` is what the system's resolver file (resolv.conf(5)) says: the name servers, how
 //! long and how often each is asked, and whether over TCP alone. Its octets are handed in: nothing
@@ -61,14 +61,14 @@ mod words;
 
 pub use counting_book::{CountingBook, CountingSeat};
 pub use draw::draw_words;
-pub use drive::next_outcome;
+pub use drive::{next_outcome, poll_over};
 pub use ids::random_ids;
 pub use key::random_key;
 pub use message_wire::MessageWire;
 pub use query_form::QueryForm;
 pub use request_line::read_request;
 pub use resolver_file::{ResolverFile, SERVER_LIMIT, SERVER_PORT};
-pub use run_clock::RunClock;
+pub use run_clock::{RunClock, Timer};
 pub use server_wire::{ServerWire, WireOptions};
 pub use warning::{LineFault, LineWarning};
 pub use wire_counts::WireCounts;

@@ -42,14 +42,6 @@ impl OpenChains {
         }
     }
 
-    /// From now on none is open.
-    pub(crate) fn clear(&mut self)
-        ensures { self.new ≡ [] }
-    {
-        self.items.clear();
-        self.waiting.clear();
-    }
-
     /// The query that is asked on for this one, if it began a chain.
     pub(crate) fn further_of(&self, query: &[u8]) -> Option<&[u8]>
         ensures { IfSome result (λ further. Any (AsksFor query.now further.now) self.now) }

@@ -8,6 +8,12 @@ use dns_asker::Clock;
 use std::io;
 use std::time::{self, Duration, Instant};
 
+/// What tells how much time went by since it was started.
+pub trait Timer {
+    /// The time since it was started.
+    fn elapsed(&self) -> Duration;
+}
+
 /// A clock whose moments are the whole seconds since it was started. It never goes back.
 #[derive(Drop)]
 pub struct RunClock<'a, R> {
@@ -35,10 +41,11 @@ impl<'a, R: time::Clock> RunClock<'a, R> {
         let start = Instant::now(rt)?;
         Ok(RunClock { rt, start })
     }
+}
 
-    /// The time since it was started; none where the system's clock can't be read.
-    #[must_use]
-    pub fn elapsed(&self) -> Duration {
+impl<'a, R: time::Clock> Timer for RunClock<'a, R> {
+    /// None where the system's clock can't be read.
+    fn elapsed(&self) -> Duration {
         self.start.elapsed(self.rt).unwrap_or(Duration::ZERO)
     }
 }

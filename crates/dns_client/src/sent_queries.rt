@@ -1,12 +1,12 @@
 //! The queries that were sent last.
-ghost use Rattle.std.specs.Prelude.{◌≡◌, IfOk, IfSome, IsTrue, length, take};
+ghost use Rattle.std.specs.Prelude.{◌≡◌, ◌<◌, IfOk, IfSome, IsTrue, length, take};
 ghost use Rattle.std.specs.List.{position};
-ghost use Rattle.dns_client.specs.SentQueries.{CanGoOn, HasIdOf, IsFurther, IsNotOut, WentWithEdns, has_octets, sends_of};
+ghost use Rattle.dns_client.specs.SentQueries.{CanGoOn, HasIdOf, IsFurther, IsNotOut, WentWithEdns, has_octets, is_answered, place_to_leave, sends_of};
 
 use std::alloc::{AllocError, Global};
 use std::marker::Model;
 
-/// How many queries are kept: the last ones.
+/// How many queries are kept: the last ones, and those that are out before others.
 const QUERY_LIMIT: usize = 256;
 
 /// A query, how often it was sent, whether no reply to it was handed on since, whether it went out,
@@ -40,6 +40,13 @@ impl SentQuery {
         ensures { result ≡ has_octets query.now self.now }
     {
         self.octets.as_slice() == query
+    }
+
+    /// Whether it is not out.
+    fn is_answered(&self) -> bool
+        ensures { result ≡ is_answered self.now }
+    {
+        !self.is_out
     }
 
     /// Whether a message has its id, and it was sent more often than so many times.
@@ -90,6 +97,25 @@ impl SentQueries {
         self.items.iter().position(|sent| sent.is(query))
     }
 
+    /// The place of the first query that is not out.
+    fn answered_place(&self) -> Option<usize>
+        ensures { result ≡ position is_answered self.now }
+    {
+        self.items.iter().position(|sent| sent.is_answered())
+    }
+
+    /// The query that another one takes the place of: the first one that is not out, or the first.
+    fn place_to_leave(&self) -> usize
+        requires { 0 < length self.now }
+        ensures place { result ≡ place_to_leave self.now }
+        ensures inside { result < length self.now }
+    {
+        match self.answered_place() {
+            Some(place) => place,
+            None => 0,
+        }
+    }
+
     /// Keeps a query that is sent, and tells how often it was sent before.
     pub(crate) fn keep(&mut self, query: &[u8]) -> Result<usize, AllocError>
         ensures { IfOk result (λ before. before ≡ sends_of query.now self.old) }
@@ -101,7 +127,8 @@ impl SentQueries {
             return Ok(sends);
         }
         if self.items.len() >= QUERY_LIMIT {
-            self.items.remove(0);
+            let place = self.place_to_leave();
+            self.items.remove(place);
         }
         let octets = Vec::from_slice(self.alloc, query)?;
         self.items.push(SentQuery {

@@ -406,10 +406,8 @@ impl<'a, R: Net + Clock> MessageWire for ServerWire<'a, R> {
     // Nor of time.
     ghost over = { λ _. ⊤ };
 
-    /// Where the system's clock can't be read, its time goes on as it was. What was asked on for
-    /// chains is forgotten.
+    /// Where the system's clock can't be read, its time goes on as it was.
     fn begin(&mut self) {
-        self.chains.clear();
         if let Ok(deadline) = Deadline::after(self.rt, self.options.total) {
             self.deadline = deadline;
         }

@@ -1,24 +1,37 @@
 //! What goes over a wire, as it is noted.
-ghost use Rattle.std.specs.Prelude.{◌≡◌, [], length, OnErr, IfSome, ◌<◌};
+ghost use Rattle.std.specs.Prelude.{◌≡◌, [], length, IfOk, IfSome, ◌<◌};
+ghost use Rattle.std.specs.List.{All, HoldsAt};
 ghost use Rattle.dns_client.specs.WireCounts.{with_query, with_reply};
+ghost use Rattle.dns_client.specs.WireTries.{Asks, IsFirst, IsTry};
 
 use crate::reply_bits::rcode_of;
 use crate::wire_counts::WireCounts;
 use crate::wire_try::{Way, WireReply, WireTry, id_of};
-use dns_message::{Asked, message_in};
+use dns_message::{Asked, message_in, one_message_in_front};
 use std::alloc::{AllocError, Global};
+use std::marker::Model;
 use std::net::SocketAddr;
 use std::time::{Clock, Duration, Instant};
 use std::{io, mem};
 
-/// What a query asks.
-fn asked_in(alloc: Global, query: &[u8]) -> Result<Option<Asked>, AllocError> {
-    let Some(message) = message_in(alloc, query)? else {
-        return Ok(None);
-    };
-    match message.questions.as_slice() {
+/// A copy of the first of these questions, if there is one.
+fn first_of(questions: &[Asked]) -> Result<Option<Asked>, AllocError>
+    ensures { IfOk result (IsFirst questions.now) }
+{
+    match questions {
         [asked, ..] => Ok(Some(asked.try_clone()?)),
         [] => Ok(None),
+    }
+}
+
+/// What a query asks.
+fn asked_in(alloc: Global, query: &[u8]) -> Result<Option<Asked>, AllocError>
+    ensures { IfOk result (Asks query.now) }
+{
+    one_message_in_front();
+    match message_in(alloc, query)? {
+        Some(message) => first_of(message.questions.as_slice()),
+        None => Ok(None),
     }
 }
 
@@ -30,6 +43,17 @@ pub(crate) struct TryLog {
     is_kept: bool,
     tries: Vec<WireTry>,
     counts: WireCounts,
+}
+
+impl Model for TryLog {
+    ghost use Rattle.std.specs.List.{All};
+    ghost use Rattle.dns_client.specs.WireTries.{IsTry, LogValue};
+
+    ghost Value = { LogValue };
+
+    ghost view = { λ it. record { counts = it.counts; tries = it.tries.items } };
+
+    ghost invariant = { λ it. All IsTry it.tries.items };
 }
 
 impl TryLog {
@@ -84,7 +108,8 @@ impl TryLog {
 
     /// The last try to which a message of this id may be the reply.
     fn place_of(&self, id: u16, server: SocketAddr, over_tcp: bool) -> Option<usize>
-        ensures { IfSome result (λ at. at < length self.now.tries.items) }
+        ensures inside { IfSome result (λ at. at < length self.now.tries) }
+        ensures of_id { IfSome result (HoldsAt (λ one. one.id ≡ id) self.now.tries) }
     {
         self.tries
             .iter()
@@ -114,7 +139,10 @@ impl TryLog {
 
     /// Gives the tries that were kept, and keeps those that follow.
     pub(crate) fn take(&mut self) -> Vec<WireTry>
-        ensures { self.new.counts ≡ self.old.counts }
+        ensures counts { self.new.counts ≡ self.old.counts }
+        ensures taken { result.items ≡ self.old.tries }
+        ensures none { self.new.tries ≡ [] }
+        ensures tries { All IsTry result.items }
     {
         let none = Vec::new(self.alloc);
         mem::replace(&mut self.tries, none)

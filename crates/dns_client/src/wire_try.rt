@@ -1,5 +1,7 @@
 //! Queries that went over a wire, and what came back.
-ghost use Rattle.std.specs.Prelude.{◌≡◌, ◌+◌, ◌*◌, ◌%◌};
+ghost use Rattle.std.specs.Prelude.{◌≡◌, IsTrue};
+ghost use Rattle.std.specs.List.{All};
+ghost use Rattle.dns_client.specs.WireTries as spec;
 
 use dns_message::Asked;
 use std::net::SocketAddr;
@@ -43,7 +45,9 @@ pub struct WireTry {
 }
 
 /// The id of a message; 0 where it has none.
-pub(crate) fn id_of(message: &[u8]) -> u16 {
+pub(crate) fn id_of(message: &[u8]) -> u16
+    ensures { result ≡ spec.id_of message.now }
+{
     match message {
         [high, low, ..] => u16::from_be_bytes([*high, *low]),
         _ => 0,
@@ -52,7 +56,9 @@ pub(crate) fn id_of(message: &[u8]) -> u16 {
 
 impl WireTry {
     /// Whether a message of this id, which came from this server, may be its reply.
-    pub(crate) fn awaits(&self, id: u16, server: SocketAddr, over_tcp: bool) -> bool {
+    pub(crate) fn awaits(&self, id: u16, server: SocketAddr, over_tcp: bool) -> bool
+        ensures { IsTrue result → self.now.id ≡ id }
+    {
         self.reply.is_none()
             && self.id == id
             && self.way.server == server
@@ -63,5 +69,6 @@ impl WireTry {
 /// What keeps the queries that went out.
 pub trait Tracer {
     /// Gives those that went out since it was asked last, in their order.
-    fn take_tries(&mut self) -> Vec<WireTry>;
+    fn take_tries(&mut self) -> Vec<WireTry>
+        ensures { All spec.IsTry result.items };
 }

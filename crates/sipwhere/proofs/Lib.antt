@@ -1,2 +1,3 @@
-mod Alone
 mod Floats
+mod Later
+mod Meant

@@ -1,6 +1,7 @@
 -- What becomes of a text.
 use Rattle.std.specs.Prelude.{◌≡◌, ℕ, List}
 use Rattle.answer_cache.specs.Seats.{SeatView}
+use Rattle.dns_client.specs.Draws.{drawn}
 use Rattle.dns_client.specs.RequestLines.{RequestText}
 use Rattle.sip_resolver.specs.Outcomes.{IsOutcome, Sought}
 use Rattle.sip_selection.specs.declared.caps.Caps.{Caps}
@@ -9,6 +10,9 @@ use Rattle.sip_uri.specs.declared.refusal.UriRefusal.{UriRefusal}
 use Rattle.sip_uri.specs.declared.refusal.UriRefusal.TheVariants as uri
 use Rattle.sipwhere.specs.declared.fate.Fate.{Fate}
 use Rattle.sipwhere.specs.declared.fate.Fate.TheVariants.{Became, TimeOver, Bad, Memory}
+use Rattle.sipwhere.specs.declared.line.Line.{Line}
+use Rattle.sipwhere.specs.declared.sender.Sender.{Sender}
+use Rattle.sip_resolver.specs.declared.outcome.Outcome.{Outcome}
 
 -- no number that is made of a request tells one from the other
 abbrev pub AreAlike : Sought → Sought → Type 0
@@ -29,16 +33,49 @@ abbrev pub IsNoRequest : List ℕ → UriRefusal → Type 0
 IsNoRequest text refusal =
     (request : Request) → RequestText text request → refusal ≡ uri.Memory
 
--- a text is a request, of which this may become
-pub record IsLocated (gives : List ℕ → Type 0) (shows : ℕ → Type 0) (seat : SeatView) (number : ℕ)
-    (caps : Caps) (words text : List ℕ) (fate : Fate) : Type 0 where
+-- A text is a request, of which this may become, under whatever number a resolver had it. Its words
+-- are those of its own number.
+pub record IsLocated (gives : List ℕ → Type 0) (shows : ℕ → Type 0) (seat : SeatView) (caps : Caps)
+    (words text : List ℕ) (fate : Fate) : Type 0 where
   pub request : Request
   pub is : RequestText text request
+  pub place : ℕ
   pub became : MayBecome gives shows seat
-      (record { number = number; request = request; caps = caps; words = words }) fate
+      (record { number = place; request = request; caps = caps; words = words }) fate
 
-abbrev pub IsFate : (List ℕ → Type 0) → (ℕ → Type 0) → SeatView → ℕ → Caps → List ℕ → List ℕ → Fate
-    → Type 0
-IsFate gives shows seat number caps words text (Bad refusal) = IsNoRequest text refusal
-IsFate gives shows seat number caps words text fate =
-    IsLocated gives shows seat number caps words text fate
+abbrev pub IsFate : (List ℕ → Type 0) → (ℕ → Type 0) → SeatView → Sender → Line → Fate → Type 0
+IsFate gives shows seat sender line (Bad refusal) = IsNoRequest line.text.now refusal
+IsFate gives shows seat sender line fate =
+    IsLocated gives shows seat sender.caps (drawn sender.key line.number) line.text.now fate
+
+-- ---- where a fate comes from
+
+-- what is submitted of a line, under whatever number
+pub record IsOfLine (sender : Sender) (line : Line) (sought : Sought) : Type 0 where
+  pub is : RequestText line.text.now sought.request
+  pub caps : sought.caps ≡ sender.caps
+  pub words : sought.words ≡ drawn sender.key line.number
+
+-- a text is a request
+pub record IsRequest (text : List ℕ) : Type 0 where
+  pub request : Request
+  pub is : RequestText text request
+
+-- it is no request, or one of which nothing came back
+abbrev pub NeedsNoReply : List ℕ → Fate → Type 0
+NeedsNoReply text (Became outcome) = ⊥
+NeedsNoReply text TimeOver = IsRequest text
+NeedsNoReply text (Bad refusal) = IsNoRequest text refusal
+NeedsNoReply text Memory = IsRequest text
+
+-- a text is this request, and no other
+pub record IsOnly (text : List ℕ) (request : Request) : Type 0 where
+  pub is : RequestText text request
+  pub only : (other : Request) → RequestText text other → request ≡ other
+
+-- its request ended so; or it is none
+abbrev pub EndsAs : List ℕ → Outcome → Fate → Type 0
+EndsAs text outcome (Became it) = (it ≡ outcome) × (request : Request) × IsOnly text request
+EndsAs text outcome TimeOver = ⊥
+EndsAs text outcome (Bad refusal) = IsNoRequest text refusal
+EndsAs text outcome Memory = ⊥

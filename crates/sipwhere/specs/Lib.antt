@@ -1,6 +1,7 @@
 pub mod Servers
 pub mod Addresses
 pub mod Lines
+pub mod OpenLines
 pub mod Traces
 pub mod Fates
 pub mod Checks

@@ -2,13 +2,13 @@
 use Rattle.std.specs.Prelude.{◌≡◌, ◌⊎◌, ℕ, List, Option}
 use Rattle.std.specs.Io.KnownBytes.{Appends}
 use Rattle.answer_cache.specs.Seats.{SeatView}
-use Rattle.dns_client.specs.Draws.{drawn}
 use Rattle.dns_client.specs.declared.wire_try.WireTry.{WireTry}
 use Rattle.sipwhere.specs.Fates.{IsFate}
 use Rattle.sipwhere.specs.Reports.{status_in, traced_report}
 use Rattle.sipwhere.specs.declared.fate.Fate.{Fate}
-use Rattle.sipwhere.specs.declared.locate.Sender.{Sender}
+use Rattle.sipwhere.specs.declared.line.Line.{Line}
 use Rattle.sipwhere.specs.declared.report.Style.{Style}
+use Rattle.sipwhere.specs.declared.sender.Sender.{Sender}
 
 -- Its report was printed, and the status is that of what became of it; or the status is 5.
 abbrev pub IsTold : Option (List ℕ) → Option (List ℕ) → Style → List WireTry → List ℕ → Fate → ℕ
@@ -17,11 +17,10 @@ IsTold old new style tries text fate status =
     (Appends old new (traced_report style tries text fate) × (status ≡ status_in style.report fate))
     ⊎ (status ≡ 5)
 
--- what became of the text of a number is told, and in front of it what went over the wire
-pub record Tells (gives : List ℕ → Type 0) (shows : ℕ → Type 0) (seat : SeatView) (number : ℕ)
-    (sender : Sender) (style : Style) (text : List ℕ) (old new : Option (List ℕ)) (status : ℕ)
-    : Type 0 where
+-- what became of a line is told, and in front of it what went over the wire
+pub record Tells (gives : List ℕ → Type 0) (shows : ℕ → Type 0) (seat : SeatView) (sender : Sender)
+    (style : Style) (line : Line) (old new : Option (List ℕ)) (status : ℕ) : Type 0 where
   pub tries : List WireTry
   pub fate : Fate
-  pub became : IsFate gives shows seat number sender.caps (drawn sender.key number) text fate
-  pub told : IsTold old new style tries text fate status
+  pub became : IsFate gives shows seat sender line fate
+  pub told : IsTold old new style tries line.text.now fate status

@@ -7,7 +7,9 @@ mod address;
 mod check_line;
 mod fate;
 mod json;
-mod locate;
+mod line;
+mod line_input;
+mod open_lines;
 mod options;
 mod output;
 mod plan;
@@ -15,17 +17,21 @@ mod report;
 mod run;
 mod run_fault;
 mod seed;
+mod sender;
 mod server_text;
 mod stats;
+mod tell;
 #[cfg(test)]
 mod tests;
+mod text_fates;
 mod trace;
 
 use check_line::UNKNOWN_STATUS;
 use clap::Error;
-use options::{Options, command, read_options};
+use clap::error::ErrorKind;
+use options::{OptionFault, Options, command, read_options};
 use report::Report;
-use run::{FAULT_STATUS, run};
+use run::run;
 use std::net::Net;
 use std::process::ExitCode;
 use std::random::RandomSource;
@@ -33,18 +39,30 @@ use std::rt::{Env, Files};
 use std::sync::Wait;
 use std::time::Clock;
 use std::{env, io};
+use tell::FAULT_STATUS;
 
 /// The status where the words are none that the program knows.
 const USAGE_STATUS: u8 = 4;
 
-/// Tells how the program is used, or its version, or what is wrong with its words.
+/// Tells how the program is used, or its version, or what is wrong with its words, or that memory
+/// was refused for them.
 fn tell_usage<R: Print + Eprint>(rt: &R, error: &Error) -> u8
     ensures { result ≤ 5 }
 {
-    if error.print(rt).is_err() {
+    if error.print(rt).is_err() || error.kind() == ErrorKind::OutOfMemory {
         return FAULT_STATUS;
     }
     if error.use_stderr() { USAGE_STATUS } else { 0 }
+}
+
+/// The status where an option is wrong, or memory was refused for the options.
+fn option_status(fault: OptionFault) -> u8
+    ensures { result ≤ 5 }
+{
+    match fault {
+        OptionFault::Memory => FAULT_STATUS,
+        _ => USAGE_STATUS,
+    }
 }
 
 /// The status where there is a fault: a check is UNKNOWN then.
@@ -90,7 +108,7 @@ fn perform<
         Ok(options) => Ok(run_as(rt, &options)),
         Err(fault) => {
             let _ = eprintln!(rt; "sipwhere: {fault}");
-            Ok(USAGE_STATUS)
+            Ok(option_status(fault))
         }
     }
 }

@@ -1,19 +1,20 @@
-//! Texts one after the other, from their words to what is printed.
-ghost use Rattle.std.specs.Prelude.{◌≡◌, ◌≤◌, IfOk, OnOk};
-ghost use Rattle.std.specs.Io.KnownBytes.{Appends};
-ghost use Rattle.sipwhere.specs.Runs.{IsTold, Tells};
+//! Texts, from their words to what is printed.
+ghost use Rattle.std.specs.Prelude.{◌<◌, ◌≤◌, IfOk};
 
-use crate::fate::Fate;
-use crate::locate::{Sender, locate};
+use crate::line::{Line, lines_in, numbered};
+use crate::line_input::LineInput;
+use crate::open_lines::OpenLines;
 use crate::options::Options;
 use crate::plan::{Plan, read_plan};
-use crate::report::{Style, status_in, traced_report};
+use crate::report::Style;
 use crate::run_fault::RunFault;
+use crate::sender::Sender;
 use crate::stats::tell_stats;
+use crate::tell::FAULT_STATUS;
 use answer_cache::{AnswerBook, ListCache};
 use dns_asker::Clock;
 use dns_client::{
-    CountingBook, MessageWire, RunClock, ServerWire, Tracer, WireOptions, WireTry, random_key,
+    CountingBook, MessageWire, RunClock, ServerWire, Timer, Tracer, WireOptions, random_key,
 };
 use std::alloc::Global;
 use std::io::{self, Write};
@@ -23,47 +24,27 @@ use std::rt::Files;
 use std::sync::Wait;
 use std::time::{self, Duration};
 
-/// The status where memory, input, output, a clock or a socket failed.
-pub const FAULT_STATUS: u8 = 5;
-
-/// Writes a text.
-fn write_text<W: Write>(output: &mut W, text: &str) -> io::Result<()>
-    ensures { OnOk result (Appends (W.contents output.old) (W.contents output.new) text.now) }
+/// The greater of two statuses.
+fn greater_of(status: u8, other: u8) -> u8
+    ensures { status ≤ 5 → other ≤ 5 → result ≤ 5 }
 {
-    output.write_all(text.as_bytes())?;
-    output.flush()
+    status.max(other)
 }
 
-/// Prints what went over the wire, and what became of a text, and gives the status.
-fn tell<O: Write>(
-    alloc: Global,
-    output: &mut O,
-    style: Style,
-    tries: &[WireTry],
-    text: &str,
-    fate: &Fate,
-) -> u8
-    ensures told { IsTold (O.contents output.old) (O.contents output.new) style tries.now text.now
-        fate.now result }
-    ensures range { result ≤ 5 }
-{
-    let Ok(report) = traced_report(alloc, style, tries, text, fate) else {
-        return FAULT_STATUS;
-    };
-    match write_text(output, &report) {
-        Ok(()) => status_in(style.report, fate),
-        Err(_) => FAULT_STATUS,
-    }
-}
-
-/// Locates the text of a number, prints what became of it, and gives the status.
-fn locate_and_tell<R: Wait, B: AnswerBook + Drop, W: MessageWire + Tracer, C: Clock, O: Write>(
+/// Locates lines side by side, prints what became of each, in their order, and gives the greatest
+/// status.
+fn locate_side_by_side<
+    R: Wait,
+    B: AnswerBook + Drop,
+    W: MessageWire + Tracer,
+    C: Clock + Timer,
+    O: Write,
+>(
     rt: &R,
     alloc: Global,
     sender: &Sender,
     style: Style,
-    number: u64,
-    text: &str,
+    lines: &[Line<'_>],
     book: &B,
     seat: &mut B::Seat,
     wire: &mut W,
@@ -72,22 +53,50 @@ fn locate_and_tell<R: Wait, B: AnswerBook + Drop, W: MessageWire + Tracer, C: Cl
 ) -> u8
     requires made_here { B.belongs book.now seat.old }
     ensures stays { B.belongs book.now seat.new }
-    ensures tells { Tells W.gives C.shows (B.shown seat.new) number sender.now style text.now
-        (O.contents output.old) (O.contents output.new) result }
     ensures range { result ≤ 5 }
 {
-    let fate = locate(rt, alloc, sender, number, text, book, seat, wire, clock);
-    let tries = wire.take_tries();
-    tell(alloc, output, style, tries.as_slice(), text, &fate)
+    let Ok(mut open) = OpenLines::<B, W, C>::new(alloc, *sender, lines) else {
+        return FAULT_STATUS;
+    };
+    let mut status = 0;
+    'rounds: for _ in rt.forever() {
+        let now = clock.elapsed();
+        if open
+            .begin_all(wire, now.saturating_add(sender.total))
+            .is_err()
+        {
+            return FAULT_STATUS;
+        }
+        status = greater_of(status, open.tell_all(now, style, wire, output));
+        if open.is_done() {
+            return status;
+        }
+        open.advance(rt, book, seat, wire, clock);
+    }
+    unreachable!()
 }
 
-/// Locates texts one after the other, prints what became of each, and gives the greatest status.
-fn locate_texts<R: Wait, B: AnswerBook + Drop, W: MessageWire + Tracer, C: Clock, O: Write>(
+/// How many lines are located side by side at most: one where what goes over the wire is printed,
+/// so that each line has its own.
+fn width_of(style: Style) -> usize
+    ensures { 0 < result }
+{
+    if style.traced { 1 } else { usize::MAX }
+}
+
+/// Locates lines, prints what became of each, and gives the greatest status.
+pub fn locate_lines<
+    R: Wait,
+    B: AnswerBook + Drop,
+    W: MessageWire + Tracer,
+    C: Clock + Timer,
+    O: Write,
+>(
     rt: &R,
     alloc: Global,
     sender: &Sender,
     style: Style,
-    texts: &[&str],
+    lines: &[Line<'_>],
     book: &B,
     seat: &mut B::Seat,
     wire: &mut W,
@@ -95,36 +104,27 @@ fn locate_texts<R: Wait, B: AnswerBook + Drop, W: MessageWire + Tracer, C: Clock
     output: &mut O,
 ) -> u8
     requires made_here { B.belongs book.now seat.old }
+    ensures stays { B.belongs book.now seat.new }
     ensures range { result ≤ 5 }
 {
     let mut status = 0;
-    'texts: for (at, text) in texts.iter().enumerate() {
-        let number = at as u64 + 1;
-        let told = locate_and_tell(
-            rt, alloc, sender, style, number, text, book, seat, wire, clock, output,
+    'parts: for part in lines.chunks(width_of(style)) {
+        let told = locate_side_by_side(
+            rt, alloc, sender, style, part, book, seat, wire, clock, output,
         );
         status = status.max(told);
     }
     status
 }
 
-/// The next line of the input that has more than blanks, without its end; none at the end.
-fn next_line<R: Input>(rt: &R, alloc: Global) -> io::Result<Option<String>> {
-    for _ in 0..u64::MAX {
-        let mut line = String::new(alloc);
-        if rt.read_line(&mut line)? == 0 {
-            return Ok(None);
-        }
-        let text = line.trim();
-        if !text.is_empty() {
-            return Ok(Some(String::from_str(alloc, text)?));
-        }
-    }
-    Ok(None)
-}
-
 /// Locates the lines of the input as they come, and gives the greatest status.
-fn locate_lines<R: Wait + Input, B: AnswerBook + Drop, W: MessageWire + Tracer, C: Clock, O: Write>(
+fn locate_input<
+    R: Wait + Input,
+    B: AnswerBook + Drop,
+    W: MessageWire + Tracer,
+    C: Clock + Timer,
+    O: Write,
+>(
     rt: &R,
     alloc: Global,
     sender: &Sender,
@@ -138,20 +138,34 @@ fn locate_lines<R: Wait + Input, B: AnswerBook + Drop, W: MessageWire + Tracer, 
     requires made_here { B.belongs book.now seat.old }
     ensures range { result ≤ 5 }
 {
+    let Ok(mut input) = LineInput::new(alloc, rt.reader()) else {
+        return FAULT_STATUS;
+    };
+    let mut first = 1;
     let mut status = 0;
-    'lines: for number in 1..u64::MAX {
-        match next_line(rt, alloc) {
-            Ok(None) => return status,
-            Ok(Some(line)) => {
-                let told = locate_and_tell(
-                    rt, alloc, sender, style, number, &line, book, seat, wire, clock, output,
-                );
-                status = status.max(told);
-            }
-            Err(_) => return FAULT_STATUS,
+    'parts: for _ in 0..u64::MAX {
+        let Ok(text) = input.next_lines() else {
+            return FAULT_STATUS;
+        };
+        if text.is_empty() {
+            break;
         }
+        let Ok(lines) = lines_in(alloc, first, &text) else {
+            return FAULT_STATUS;
+        };
+        let lines = lines.as_slice();
+        first = first.saturating_add(lines.len() as u64);
+        let told = locate_lines(
+            rt, alloc, sender, style, lines, book, seat, wire, clock, output,
+        );
+        status = status.max(told);
     }
     status
+}
+
+/// How long one text may take.
+fn total_of(options: &Options<'_>) -> Duration {
+    Duration::from_millis(u64::from(options.total))
 }
 
 /// How the wire asks.
@@ -161,12 +175,17 @@ fn wire_options(options: &Options<'_>, plan: &Plan) -> WireOptions {
         local: options.local,
         form: options.query_form,
         keeps_tries: options.traced,
-        total: Duration::from_millis(u64::from(options.total)),
+        total: total_of(options),
     }
 }
 
 /// Locates the texts of the options, or the lines of the input, and gives the greatest status.
-fn locate_all<R: Wait + Input + Print, B: AnswerBook + Drop, W: MessageWire + Tracer, C: Clock>(
+fn locate_all<
+    R: Wait + Input + Print,
+    B: AnswerBook + Drop,
+    W: MessageWire + Tracer,
+    C: Clock + Timer,
+>(
     rt: &R,
     alloc: Global,
     options: &Options<'_>,
@@ -184,11 +203,23 @@ fn locate_all<R: Wait + Input + Print, B: AnswerBook + Drop, W: MessageWire + Tr
     let texts = options.texts.as_slice();
     if texts == ["-"].as_slice() {
         let style = options.style(true);
-        return locate_lines(rt, alloc, sender, style, book, seat, wire, clock, output);
+        return locate_input(rt, alloc, sender, style, book, seat, wire, clock, output);
     }
     let style = options.style(texts.len() > 1);
-    locate_texts(
-        rt, alloc, sender, style, texts, book, seat, wire, clock, output,
+    let Ok(lines) = numbered(alloc, 1, texts) else {
+        return FAULT_STATUS;
+    };
+    locate_lines(
+        rt,
+        alloc,
+        sender,
+        style,
+        lines.as_slice(),
+        book,
+        seat,
+        wire,
+        clock,
+        output,
     )
 }
 
@@ -205,6 +236,7 @@ fn run_over<R: Wait + Input + Print + Eprint + Net + time::Clock>(
     let sender = Sender {
         caps: options.caps,
         key,
+        total: total_of(options),
     };
     let servers = plan.servers.as_slice();
     let mut wire = ServerWire::open(rt, alloc, servers, wire_options(options, plan))?;

@@ -1,10 +1,11 @@
 //! A wire in memory, and its clock.
 use dns_answers::Moment;
 use dns_asker::Clock;
-use dns_client::MessageWire;
+use dns_client::{MessageWire, Timer, Tracer, WireTry};
 use std::alloc::Global;
 use std::collections::VecDeque;
 use std::sync::atomic::{AtomicU64, Ordering};
+use std::time::Duration;
 
 /// What the wire does with a query that is sent.
 #[derive(Clone, Copy, Debug)]
@@ -88,6 +89,12 @@ impl<'a> MessageWire for ActWire<'a> {
     }
 }
 
+impl<'a> Tracer for ActWire<'a> {
+    fn take_tries(&mut self) -> Vec<WireTry> {
+        Vec::new(self.alloc)
+    }
+}
+
 /// The clock of those seconds.
 #[derive(Drop)]
 pub(super) struct ActClock<'a> {
@@ -104,5 +111,11 @@ impl<'a> Clock for ActClock<'a> {
             Some(moment) => moment,
             None => Moment::new(0).unwrap(),
         }
+    }
+}
+
+impl<'a> Timer for ActClock<'a> {
+    fn elapsed(&self) -> Duration {
+        Duration::from_secs(self.seconds.load(Ordering::SeqCst))
     }
 }

@@ -2,8 +2,10 @@
 use super::act_wire::Act::{Answers, Cut, Fails, Loses, OtherId};
 use super::act_wire::{Act, ActClock, ActWire};
 use crate::address::AddressForm::Short;
-use crate::locate::{Sender, locate};
-use crate::report::{Report, Style, report_of};
+use crate::line::Line;
+use crate::report::{Report, Style};
+use crate::run::locate_lines;
+use crate::sender::Sender;
 use answer_cache::ListCache;
 use sip_selection::{Caps, Families};
 use sip_uri::Transport::{Tcp, Udp};
@@ -11,6 +13,7 @@ use std::alloc::Global;
 use std::collections::VecDeque;
 use std::sync::Wait;
 use std::sync::atomic::AtomicU64;
+use std::time::Duration;
 
 /// What the wire does with each query, a text, and what is printed of it.
 const ROWS: [(&[Act], &str, &str); 10] = [
@@ -111,6 +114,7 @@ fn printed<R: Wait>(
     let sender = Sender {
         caps: Caps::new(&[Udp, Tcp], Families::V4)?,
         key: [7; 32],
+        total: Duration::from_secs(10),
     };
     let seconds = AtomicU64::new(0);
     let mut wire = ActWire {
@@ -122,16 +126,27 @@ fn printed<R: Wait>(
     };
     let clock = ActClock { seconds: &seconds };
     let (book, mut seat) = ListCache::new(alloc);
-    let fate = locate(
-        rt, alloc, &sender, 1, text, &book, &mut seat, &mut wire, &clock,
-    );
     let style = Style {
         report,
         form: Short,
         several,
         traced: false,
     };
-    report_of(alloc, style, text, &fate).ok()
+    let lines = [Line { number: 1, text }];
+    let mut output = Vec::new(alloc);
+    let _status = locate_lines(
+        rt,
+        alloc,
+        &sender,
+        style,
+        &lines,
+        &book,
+        &mut seat,
+        &mut wire,
+        &clock,
+        &mut output,
+    );
+    String::from_utf8(output).ok()
 }
 
 #[test]

@@ -1,8 +1,8 @@
 use Rattle.std.proofs.Common.{◌≤◌}
 use Rattle.sipwhere.proofs.run.locate_lines.Given as goal
 
-abbrev pub invariant-lines : goal.invariant-lines
-invariant-lines g l = record {
+abbrev pub invariant-parts : goal.invariant-parts
+invariant-parts g l = record {
   stays : g.B.AnswerBook.belongs l.book l.seat;
   range : l.status ≤ 5;
 }

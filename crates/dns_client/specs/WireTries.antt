@@ -1,0 +1,47 @@
+-- Queries that went over a wire, and what came back.
+use Rattle.std.specs.Prelude.{◌≡◌, ℕ, ◌+◌, ◌*◌, ◌%◌, List, [], ◌∷◌, Option, Some, None, IfSome, length, slice_get}
+use Rattle.dns_message.specs.Messages.{Begins}
+use Rattle.dns_message.specs.declared.message.Message.{Message}
+use Rattle.dns_message.specs.declared.question.Asked.{Asked}
+use Rattle.dns_client.specs.declared.wire_counts.WireCounts.{WireCounts}
+use Rattle.dns_client.specs.declared.wire_try.WireReply.{WireReply}
+use Rattle.dns_client.specs.declared.wire_try.WireTry.{WireTry}
+
+-- the id of a message is its first two octets (RFC 1035 4.1.1); 0 where it has fewer
+abbrev pub id_of : List ℕ → ℕ
+id_of [] = 0
+id_of (high ∷ []) = 0
+id_of (high ∷ low ∷ others) = high * 256 + low
+
+-- the first of questions; none where there is none
+abbrev pub IsFirst : List Asked → Option Asked → Type 0
+IsFirst questions None = questions ≡ []
+IsFirst questions (Some asked) = (others : List Asked) × (questions ≡ asked ∷ others)
+
+-- what the octets of a query ask: its first question; none where they are no message, or one of no
+-- question
+abbrev pub Asks : List ℕ → Option Asked → Type 0
+Asks query None = (it : Message) → Begins query it → it.questions ≡ []
+Asks query (Some asked) =
+    (it : Message) × (others : List Asked) × Begins query it × (it.questions ≡ asked ∷ others)
+
+-- a message of this id came back: so many octets it had, and its RCODE but for the upper bits is in
+-- the fourth of them
+pub record IsReplyTo (id : ℕ) (reply : WireReply) : Type 0 where
+  pub message : List ℕ
+  pub is : id_of message ≡ id
+  pub octets : reply.octets ≡ length message
+  pub rcode : IfSome (slice_get message 3) (λ octet. reply.rcode % 16 ≡ octet % 16)
+
+-- A query was sent, of this id and with this question; and if something is said to have come back,
+-- a message of this id did.
+pub record IsTry (one : WireTry) : Type 0 where
+  pub query : List ℕ
+  pub id : one.id ≡ id_of query
+  pub asks : Asks query one.asked
+  pub reply : IfSome one.reply (IsReplyTo one.id)
+
+-- how much went over a wire, and the tries that were kept
+pub record LogValue : Type 0 where
+  pub counts : WireCounts
+  pub tries : List WireTry

@@ -1,0 +1,192 @@
+-- Whose requests are inside a resolver, and what became of lines.
+use Rattle.std.proofs.Common.{◌≡◌, ℕ, zero, suc, false, ◌+◌, ◌-◌, ◌<◌, List, [], ◌∷◌, Option, Some, None, get_or, length, set, refl, sym, ap, subst, ◌∙◌, arith}
+use Rattle.std.specs.List.{AllZip}
+use Rattle.std.specs.Prelude.{IfSome}
+use Rattle.std.proofs.lemmas.List.Elements.{at_read}
+use Rattle.std.proofs.lemmas.List.Sums.{sum_by_push}
+use Rattle.answer_cache.specs.Seats.{SeatView}
+use Rattle.dns_client.specs.Draws.{drawn}
+use Rattle.sip_resolver.specs.Outcomes.{IsOutcome, Sought}
+use Rattle.sip_resolver.specs.Requests.{AreSame, IsBack, RequestsView, weight}
+use Rattle.sip_resolver.specs.Resolvers.{ResolverView, with_request}
+use Rattle.sip_resolver.specs.Tasks.{TaskView, sought_of}
+use Rattle.sip_resolver.specs.declared.outcome.Outcome.{Outcome}
+use Rattle.sip_selection.specs.Selections.{begun}
+use Rattle.sip_selection.specs.declared.caps.Caps.{Caps}
+use Rattle.sip_selection.specs.declared.request.Request.{Request}
+use Rattle.sipwhere.specs.Fates.{AreAlike, EndsAs, IsFate, IsOfLine, IsOnly, NeedsNoReply}
+use Rattle.sipwhere.proofs.Later.{zip-set}
+use Rattle.sipwhere.specs.OpenLines.{AreMeant, IsFateOf, IsMeant, IsOwn, OpenView, TellsFirst}
+use Rattle.sipwhere.specs.declared.fate.Fate.{Fate}
+use Rattle.sipwhere.specs.declared.fate.Fate.TheVariants.{Became, TimeOver, Bad, Memory}
+use Rattle.sipwhere.specs.declared.line.Line.{Line}
+use Rattle.sipwhere.specs.declared.report.Style.{Style}
+use Rattle.sipwhere.specs.declared.sender.Sender.{Sender}
+
+-- ---- numbers that are 0
+
+abbrev apart : ℕ → ℕ → ℕ
+apart a b = a - b + (b - a)
+
+-- a number where another one is 0, and else 0
+abbrev where_none : ℕ → ℕ → ℕ
+where_none zero x = x
+where_none (suc k) x = 0
+
+none-where : (k x : ℕ) → (k ≡ 0 → x ≡ 0) → where_none k x ≡ 0
+none-where zero x is = is refl
+none-where (suc k) x is = refl
+
+where-none : (k x : ℕ) → k ≡ 0 → where_none k x ≡ 0 → x ≡ 0
+where-none zero x none is = is
+where-none (suc k) x none is = absurd (omega (arith, none))
+
+-- ---- what stands at a place
+
+at-itself : {X : Type 0} (xs : List X) (k : ℕ) (d : X) → get_or xs k d ≡ get_or xs k (get_or xs k d)
+at-itself [] k d = refl
+at-itself (x ∷ xs) zero d = refl
+at-itself (x ∷ xs) (suc k) d = at-itself xs k d
+
+-- ---- what is submitted
+
+pub weighs-more : (h : Sought → ℕ) (old new : ResolverView) (number : ℕ) (request : Request) (caps : Caps) (words : List ℕ)
+    → new ≡ with_request number request caps words old
+    → weight h new.requests
+    ≡ weight h old.requests + h (record { number = number; request = request; caps = caps; words = words })
+weighs-more h old new number request caps words is =
+    let task : TaskView = record { number = number; selection = begun request caps words; cut = false } in
+    let more = sum_by_push (λ (it : TaskView). h (sought_of it)) old.requests.ready task in
+    rw is (omega (arith, more))
+
+-- ---- what is inside
+
+module _ (sender : Sender) (lines : List Line) where
+  pub meant-same : (old new : RequestsView) → AreSame old new → AreMeant sender lines old → AreMeant sender lines new
+  meant-same old new same own h none = same.1 h ∙ own h none
+
+  pub meant-one : (ended : Sought) (old new : RequestsView) → IsBack ended new old → AreMeant sender lines old → IsMeant sender lines ended
+  meant-one ended old new back own h none =
+      let all = own h none in
+      let weighs = back.weighs h in
+      omega (arith, all, weighs)
+
+  pub meant-others : (ended : Sought) (old new : RequestsView) → IsBack ended new old → AreMeant sender lines old
+      → AreMeant sender lines new
+  meant-others ended old new back own h none =
+      let all = own h none in
+      let weighs = back.weighs h in
+      omega (arith, all, weighs)
+
+  -- one more is submitted, of the line at a place
+  pub meant-more : (place : ℕ) (line : Line) → place < length lines → line ≡ get_or lines place line → (old new : RequestsView)
+      → ((h : Sought → ℕ) → ((it : Sought) → it.number ≡ place → IsOfLine sender line it → h it ≡ 0) → weight h new ≡ weight h old)
+      → AreMeant sender lines old → AreMeant sender lines new
+  meant-more place line inside at old new weighs own h none =
+      weighs h (λ it number of. none it (record {
+        inside = omega (arith, inside, number);
+        of = λ d. subst (λ n. IsOfLine sender (get_or lines n d) it) (sym number)
+            (at_read lines (λ l. IsOfLine sender l it) place line inside at of d);
+      })) ∙ own h none
+
+  pub meant-next : (place : ℕ) (d : Line) → place < length lines → (old new : RequestsView)
+      → ((h : Sought → ℕ) → ((it : Sought) → it.number ≡ place → IsOfLine sender (get_or lines place d) it → h it ≡ 0)
+      → weight h new ≡ weight h old)
+      → AreMeant sender lines old → AreMeant sender lines new
+  meant-next place d inside old new weighs own = meant-more place (get_or lines place d) inside (at-itself lines place d) old new weighs own
+
+  pub meant-inside : (sought : Sought) → IsMeant sender lines sought → sought.number < length lines
+  meant-inside sought meant =
+      let none = meant (λ (it : Sought). it.number + 1 - length lines)
+      (λ it own. (let inside = own.inside in omega (arith, inside))) in
+      omega (arith, none)
+
+  -- the one request of a line, under its place
+  module _ (place : ℕ) (line : Line) (at : line ≡ get_or lines place line) (request : Request) (only : IsOnly line.text.now request) where
+    abbrev one : Sought
+    one = record { number = place; request = request; caps = sender.caps; words = drawn sender.key line.number }
+
+    is-one : (it : Sought) → IsOwn sender lines it → it.number ≡ place → it ≡ one
+    is-one it own number =
+        let here = ap (λ n. get_or lines n line) number ∙ sym at in
+        let of : IsOfLine sender line it = subst (λ l. IsOfLine sender l it) here (own.of line) in
+        let same = sym (only.only it.request of.is) in
+        λ i. record { number = number i; request = same i; caps = of.caps i; words = of.words i }
+
+    pub meant-alike : (it : Sought) → it.number ≡ place → IsMeant sender lines it → AreAlike it one
+    meant-alike it number meant measure =
+        let far = λ (each : Sought). apart each.number place in
+        let other = λ (each : Sought). apart (measure each) (measure one) in
+        let none = meant (λ (each : Sought). where_none (far each) (other each))
+        (λ each own. none-where (far each) (other each)
+        (λ here. (let same = ap measure (is-one each own (omega (arith, here))) in omega (arith, same)))) in
+        let here : far it ≡ 0 = omega (arith, number) in
+        let nothing = where-none (far it) (other it) here none in
+        omega (arith, nothing)
+
+-- ---- what became of a line
+
+module _ (gives : List ℕ → Type 0) (shows : ℕ → Type 0) (seat : SeatView) (sender : Sender) where
+  pub fate-needless : (line : Line) (fate : Fate) → NeedsNoReply line.text.now fate → IsFate gives shows seat sender line fate
+  fate-needless line (Became outcome) it = absurd it
+  fate-needless line TimeOver it = record { request = it.request; is = it.is; place = 0; became = tt }
+  fate-needless line (Bad refusal) it = it
+  fate-needless line Memory it = record { request = it.request; is = it.is; place = 0; became = tt }
+
+  pub fate-ended : (lines : List Line) (line : Line) (ended : Sought) (outcome : Outcome) (fate : Fate)
+      → line ≡ get_or lines ended.number line → IsMeant sender lines ended → EndsAs line.text.now outcome fate
+      → IsOutcome gives shows seat ended outcome → IsFate gives shows seat sender line fate
+  fate-ended lines line ended outcome (Became it) at meant ends is = record {
+    request = ends.1;
+    is = ends.2.is;
+    place = ended.number;
+    became = (
+      ended,
+      meant-alike sender lines ended.number line at ends.1 ends.2 ended refl meant,
+      rw ends.0 is,
+    );
+  }
+  fate-ended lines line ended outcome TimeOver at meant ends is = absurd ends
+  fate-ended lines line ended outcome (Bad refusal) at meant ends is = ends
+  fate-ended lines line ended outcome Memory at meant ends is = absurd ends
+
+  -- what became of the line at a place is kept
+  pub fates-set : (lines : List Line) (fates : List (Option Fate)) (place : ℕ) (line : Line) (fate : Option Fate) → place < length lines
+      → line ≡ get_or lines place line → AllZip (IsFateOf gives shows seat sender) lines fates → IsFateOf gives shows seat sender line fate
+      → AllZip (IsFateOf gives shows seat sender) lines (set fates place fate)
+  fates-set lines fates place line fate inside at all it =
+      zip-set (IsFateOf gives shows seat sender) lines fates place fate inside all
+      (at_read lines (λ l. IsFateOf gives shows seat sender l fate) place line inside at it)
+
+  pub fate-submitted : (line : Line) (fate : Option Fate) → IfSome fate (NeedsNoReply line.text.now)
+      → IsFateOf gives shows seat sender line fate
+  fate-submitted line None it = tt
+  fate-submitted line (Some fate) it = fate-needless line fate it
+
+  pub fates-submitted : (lines : List Line) (fates : List (Option Fate)) (place : ℕ) (d : Line) (fate : Option Fate) → place < length lines
+      → AllZip (IsFateOf gives shows seat sender) lines fates → IfSome fate (NeedsNoReply (get_or lines place d).text.now)
+      → AllZip (IsFateOf gives shows seat sender) lines (set fates place fate)
+  fates-submitted lines fates place d fate inside all it =
+      let line = get_or lines place d in
+      fates-set lines fates place line fate inside (at-itself lines place d) all (fate-submitted line fate it)
+
+  pub fates-ended : (lines : List Line) (fates : List (Option Fate)) (place : ℕ) (d : Line) (ended : Sought) (outcome got : Outcome)
+      (fate : Fate) → place < length lines → place ≡ ended.number → got ≡ outcome → IsMeant sender lines ended
+      → EndsAs (get_or lines place d).text.now got fate → IsOutcome gives shows seat ended outcome
+      → AllZip (IsFateOf gives shows seat sender) lines fates
+      → AllZip (IsFateOf gives shows seat sender) lines (set fates place (Some fate))
+  fates-ended lines fates place d ended outcome got fate inside number same meant ends is all =
+      let line = get_or lines place d in
+      let at : line ≡ get_or lines place line = at-itself lines place d in
+      let here : line ≡ get_or lines ended.number line = subst (λ n. line ≡ get_or lines n line) number at in
+      let so : EndsAs line.text.now outcome fate = subst (λ o. EndsAs line.text.now o fate) same ends in
+      fates-set lines fates place line (Some fate) inside at all (fate-ended lines line ended outcome fate here meant so is)
+
+-- what is told of the first line is told of that of lines as before
+pub tells-same : (gives : List ℕ → Type 0) (shows : ℕ → Type 0) (seat : SeatView) (style : Style) (old new : OpenView)
+    (written printed : Option (List ℕ)) (status : ℕ) → new.told ≡ old.told → new.lines ≡ old.lines → new.sender ≡ old.sender
+    → TellsFirst gives shows seat style new written printed status → TellsFirst gives shows seat style old written printed status
+tells-same gives shows seat style old new written printed status told lines sender it = record {
+  inside = rw (← told, ← lines) it.inside;
+  tells = λ line. rw (← told, ← lines, ← sender) (it.tells line);
+}

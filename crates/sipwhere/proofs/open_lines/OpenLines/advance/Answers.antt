@@ -1,0 +1,29 @@
+use Rattle.sipwhere.proofs.Later.{fates-later}
+use Rattle.sipwhere.proofs.Meant.{meant-inside, meant-one}
+use Rattle.sipwhere.proofs.open_lines.OpenLines.advance.Goals as goal
+
+pub settle-requires : goal.settle-requires
+settle-requires g c =
+    let own = meant-one c.self.inside.sender c.self.inside.lines.now _ _ _ c.in-Some.ensures.once c.self.invariant.own in
+    record {
+      inside = meant-inside c.self.inside.sender c.self.inside.lines.now c.in-Some.ended.sought own;
+      own = own;
+    }
+
+pub returns-in-Some-clause-stands : goal.returns-in-Some-clause-stands
+returns-in-Some-clause-stands g c =
+    let before = rw (← c.self.view_is) at c.requires.stands in
+    let lines = c.self.inside.lines.now in
+    c.settle.ensures.stands _ (record {
+      requests = c.in-Some.ensures.stand;
+      fates = fates-later _ _ _ _ c.in-Some.ensures.works c.self.inside.sender lines c.self.inside.fates.items before.fates;
+    }) c.in-Some.ensures.outcome
+
+pub returns-in_default-clause-stands : goal.returns-in_default-clause-stands
+returns-in_default-clause-stands g c =
+    let before = rw (← c.self.view_is) at c.requires.stands in
+    let lines = c.self.inside.lines.now in
+    record {
+      requests = c.poll_over.ensures.stand;
+      fates = fates-later _ _ _ _ c.poll_over.ensures.works c.self.inside.sender lines c.self.inside.fates.items before.fates;
+    }

@@ -1,0 +1,27 @@
+use Rattle.std.proofs.Common.{◌<◌, length, arith, ◌∙◌}
+use Rattle.std.proofs.Math.ListN.{length-set}
+use Rattle.sipwhere.proofs.Meant.{fates-submitted, meant-next}
+use Rattle.sipwhere.proofs.open_lines.OpenLines.begin_next.Goals as goal
+
+pub invariant_of-self-2 : goal.invariant_of-self-2
+invariant_of-self-2 g c =
+    let lines = c.self.inside.lines.now in
+    let inside : c.len-place.result < length lines = omega arith in
+    record {
+      few = omega (arith, inside, c.in_ok-push.ensures.len);
+      own = meant-next c.self.inside.sender lines c.len-place.result _ inside c.self.inside.resolver.requests
+          c.submit.new.resolver.requests c.submit.ensures.weighs c.self.invariant.own;
+      as_many = length-set _ _ _ ∙ c.self.invariant.as_many;
+    }
+
+pub returns : goal.returns
+returns g c = record {
+  stands = λ seat was.
+      let before = rw (← c.self.view_is) at was in
+      let lines = c.self.inside.lines.now in
+      let inside : c.len-place.result < length lines = omega arith in
+      record {
+        requests = c.submit.ensures.stand seat before.requests;
+        fates = fates-submitted _ _ seat c.self.inside.sender lines _ _ _ _ inside before.fates c.submit.ensures.fate;
+      };
+}

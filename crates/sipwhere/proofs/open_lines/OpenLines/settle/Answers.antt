@@ -1,0 +1,18 @@
+use Rattle.std.proofs.Common.{◌<◌, length, arith}
+use Rattle.sipwhere.proofs.Meant.{fates-ended}
+use Rattle.sipwhere.proofs.open_lines.OpenLines.settle.Goals as goal
+
+pub returns : goal.returns
+returns g c = record {
+  stands = λ seat was is.
+      let before = rw (← c.self.view_is) at was in
+      let own = rw (← c.self.view_is) at c.requires.own in
+      let within = rw (← c.self.view_is) at c.requires.inside in
+      let lines = c.self.inside.lines.now in
+      let inside : c.number-place.result < length lines = omega (arith, within) in
+      record {
+        requests = before.requests;
+        fates = fates-ended _ _ seat c.self.inside.sender lines _ c.number-place.result _ c.args.ended.sought c.args.ended.outcome _ _
+            inside c.number-place.ensures c.into_outcome.ensures own c.fate_of.ensures is before.fates;
+      };
+}

@@ -1,0 +1,8 @@
+use Rattle.std.proofs.Common.{◌≤◌}
+use Rattle.sipwhere.proofs.run.locate_input.Given as goal
+
+abbrev pub invariant-parts : goal.invariant-parts
+invariant-parts g l = record {
+  stays : g.B.AnswerBook.belongs l.book l.seat;
+  range : l.status ≤ 5;
+}

@@ -1,0 +1,70 @@
+-- Lines that are located side by side.
+use Rattle.std.specs.Prelude.{◌≡◌, ◌<◌, ◌≤◌, ℕ, List, Option, Some, None, length, slice_index_or}
+use Rattle.std.specs.List.{AllZip}
+use Rattle.answer_cache.specs.Seats.{SeatView}
+use Rattle.sip_resolver.specs.Outcomes.{Sought}
+use Rattle.sip_resolver.specs.Requests.{RequestsView, Stand, weight}
+use Rattle.sipwhere.specs.Fates.{IsFate, IsOfLine}
+use Rattle.sipwhere.specs.Runs.{Tells}
+use Rattle.sipwhere.specs.declared.fate.Fate.{Fate}
+use Rattle.sipwhere.specs.declared.line.Line.{Line}
+use Rattle.sipwhere.specs.declared.report.Style.{Style}
+use Rattle.sipwhere.specs.declared.sender.Sender.{Sender}
+
+-- who wants to send, the lines, of how many of them it was told what became of them, the requests
+-- that are inside, and what became of each line, as far as it is known
+pub record OpenView : Type 0 where
+  pub sender : Sender
+  pub lines : List Line
+  pub told : ℕ
+  pub requests : RequestsView
+  pub fates : List (Option Fate)
+
+-- ---- whose request is whose
+
+-- it is what is submitted of a line, under the place of the line
+pub record IsOwn (sender : Sender) (lines : List Line) (sought : Sought) : Type 0 where
+  pub inside : sought.number < length lines
+  pub of : (line : Line) → IsOfLine sender (slice_index_or lines sought.number line) sought
+
+-- a number that is made of requests is 0 for what is submitted of a line
+abbrev pub VanishesOn : Sender → List Line → (Sought → ℕ) → Type 0
+VanishesOn sender lines h = (sought : Sought) → IsOwn sender lines sought → h sought ≡ 0
+
+-- A request is that of a line, under the place of the line: no number that is made of requests
+-- tells it from all that are.
+abbrev pub IsMeant : Sender → List Line → Sought → Type 0
+IsMeant sender lines sought = (h : Sought → ℕ) → VanishesOn sender lines h → h sought ≡ 0
+
+-- the same of each request inside
+abbrev pub AreMeant : Sender → List Line → RequestsView → Type 0
+AreMeant sender lines requests =
+    (h : Sought → ℕ) → VanishesOn sender lines h → weight h requests ≡ 0
+
+-- So many of the lines were begun; each request inside is that of a line; and each line has a place
+-- for what becomes of it.
+pub record Fits (sender : Sender) (lines : List Line) (begun : ℕ) (requests : RequestsView)
+    (fates : List (Option Fate)) : Type 0 where
+  pub few : begun ≤ length lines
+  pub own : AreMeant sender lines requests
+  pub as_many : length fates ≡ length lines
+
+-- ---- what is so at a seat
+
+-- what became of a line, where it is known
+abbrev pub IsFateOf : (List ℕ → Type 0) → (ℕ → Type 0) → SeatView → Sender → Line → Option Fate
+    → Type 0
+IsFateOf gives shows seat sender line None = Unit {0}
+IsFateOf gives shows seat sender line (Some fate) = IsFate gives shows seat sender line fate
+
+pub record Stands (gives : List ℕ → Type 0) (shows : ℕ → Type 0) (seat : SeatView)
+    (it : OpenView) : Type 0 where
+  pub requests : Stand gives shows seat it.requests
+  pub fates : AllZip (IsFateOf gives shows seat it.sender) it.lines it.fates
+
+-- what became of the first line of which it was not told was told, with this status
+pub record TellsFirst (gives : List ℕ → Type 0) (shows : ℕ → Type 0) (seat : SeatView)
+    (style : Style) (it : OpenView) (old new : Option (List ℕ)) (status : ℕ) : Type 0 where
+  pub inside : it.told < length it.lines
+  pub tells : (line : Line) → Tells gives shows seat it.sender style
+      (slice_index_or it.lines it.told line) old new status

@@ -1,0 +1,253 @@
+//! Texts that are located side by side.
+ghost use Rattle.std.specs.Prelude.{◌≡◌, ◌+◌, ◌<◌, ◌≤◌, IfOk, IfSome, None, length, replicate};
+ghost use Rattle.answer_cache.specs.Seats.{SeatView};
+ghost use Rattle.sip_resolver.specs.Outcomes.{IsOutcome};
+ghost use Rattle.sipwhere.specs.OpenLines.{IsMeant, Stands, TellsFirst};
+
+use crate::fate::Fate;
+use crate::line::Line;
+use crate::report::Style;
+use crate::sender::Sender;
+use crate::tell::tell;
+use crate::text_fates::{fate_in_vain, fate_of, submit};
+use answer_cache::AnswerBook;
+use dns_asker::Clock;
+use dns_client::{MessageWire, Tracer, WireOrigin, poll_over, random_ids};
+use rand_chacha::ChaCha20Rng;
+use sip_resolver::{Limits, RandomIds, Resolved, Resolver};
+use std::alloc::{AllocError, Global};
+use std::io::Write;
+use std::marker::Model;
+use std::sync::Wait;
+use std::time::Duration;
+
+/// How many requests are inside at once. A resolver goes through all that wait at each reply.
+const REQUEST_LIMIT: usize = 64;
+
+/// How many questions are out at once. So all of them are among those that a wire keeps.
+const QUESTION_LIMIT: usize = 64;
+
+/// What is inside a resolver at most for so many lines. The wire asks again over TCP by itself, so
+/// no question goes over a stream here.
+fn limits_for(lines: usize) -> Limits
+    ensures requests { (1 ≤ result.requests) × (result.requests ≤ 1024) }
+    ensures questions { (1 ≤ result.questions) × (result.questions ≤ 256) }
+{
+    Limits {
+        requests: lines.min(REQUEST_LIMIT).max(1),
+        questions: QUESTION_LIMIT,
+        streams: false,
+    }
+}
+
+/// So many fates of which none is known.
+fn unknown(alloc: Global, count: usize) -> Result<Vec<Option<Fate>>, AllocError>
+    ensures { IfOk result (λ made. made.items ≡ replicate count None) }
+{
+    let mut made = Vec::with_capacity(alloc, count)?;
+    'fates: for _fate in 0..count {
+        made.push(None)?;
+    }
+    Ok(made)
+}
+
+/// Lines that are located side by side. The request of each that was begun is inside a resolver
+/// under the place of its line, or came out.
+#[derive(Drop)]
+pub struct OpenLines<'a, B, W, C> {
+    alloc: Global,
+    sender: Sender,
+    lines: &'a [Line<'a>],
+    /// When the time of each line is over that was begun.
+    ends: Vec<Duration>,
+    /// Of how many it was told what became of them.
+    told: usize,
+    resolver: Resolver<B, WireOrigin<W, C>, RandomIds<ChaCha20Rng>>,
+    /// What became of each line, as far as it is known.
+    fates: Vec<Option<Fate>>,
+}
+
+impl<'a, B, W, C> Model for OpenLines<'a, B, W, C> {
+    ghost use Rattle.std.specs.Prelude.{length};
+    ghost use Rattle.sipwhere.specs.OpenLines.{Fits, OpenView};
+
+    ghost Value = { OpenView };
+
+    ghost view = { λ it. record {
+      sender = it.sender;
+      lines = it.lines.now;
+      told = it.told;
+      requests = it.resolver.requests;
+      fates = it.fates.items;
+    } };
+
+    ghost invariant = { λ it.
+        Fits it.sender it.lines.now (length it.ends.items) it.resolver.requests it.fates.items };
+}
+
+impl<'a, B: AnswerBook + Drop, W: MessageWire, C: Clock> OpenLines<'a, B, W, C> {
+    /// None of the lines was begun.
+    pub fn new(
+        alloc: Global,
+        sender: Sender,
+        lines: &'a [Line<'a>],
+    ) -> Result<OpenLines<'a, B, W, C>, AllocError>
+        ensures lines { IfOk result (λ it. it.lines ≡ lines.now) }
+        ensures stands { IfOk result (λ it. (seat : SeatView) → Stands W.gives C.shows seat it) }
+    {
+        let first = lines.first().map_or(0, |line| line.number);
+        let ids = random_ids(sender.key, first);
+        Ok(OpenLines {
+            alloc,
+            sender,
+            lines,
+            ends: Vec::with_capacity(alloc, lines.len())?,
+            told: 0,
+            resolver: Resolver::new(alloc, limits_for(lines.len()), ids)?,
+            fates: unknown(alloc, lines.len())?,
+        })
+    }
+
+    /// Whether it was told of each line what became of it.
+    pub fn is_done(&self) -> bool {
+        self.told == self.lines.len()
+    }
+
+    /// Begins the next line, if there is one and there is room for its request, and tells whether
+    /// there was. Its time is over at this moment.
+    fn begin_next(&mut self, end: Duration) -> Result<bool, AllocError>
+        ensures stands { (seat : SeatView) → Stands W.gives C.shows seat self.old
+            → Stands W.gives C.shows seat self.new }
+    {
+        let place = self.ends.len();
+        if place == self.lines.len() || !self.resolver.has_room() {
+            return Ok(false);
+        }
+        let lines = self.lines;
+        self.ends.push(end)?;
+        self.fates[place] = submit(
+            self.alloc,
+            &mut self.resolver,
+            place as u64,
+            &self.sender,
+            &lines[place],
+        );
+        Ok(true)
+    }
+
+    /// Begins as many lines as there is room for. Their time is over at this moment.
+    pub fn begin_all(&mut self, wire: &mut W, end: Duration) -> Result<(), AllocError>
+        ensures stands { (seat : SeatView) → Stands W.gives C.shows seat self.old
+            → Stands W.gives C.shows seat self.new }
+    {
+        'lines: for _line in 0..self.lines.len() {
+            if !self.begin_next(end)? {
+                break;
+            }
+            wire.begin();
+        }
+        Ok(())
+    }
+
+    /// Takes what became of a request, unless the time of its line was over.
+    fn settle(&mut self, ended: Resolved<B>)
+        requires inside { ended.sought.number < length self.old.lines }
+        requires own { IsMeant self.old.sender self.old.lines ended.sought }
+        ensures stands { (seat : SeatView) → Stands W.gives C.shows seat self.old
+            → IsOutcome W.gives C.shows seat ended.sought ended.outcome
+            → Stands W.gives C.shows seat self.new }
+    {
+        let place = ended.number() as usize;
+        if self.fates[place].is_some() {
+            return;
+        }
+        let text = self.lines[place].text;
+        self.fates[place] = Some(fate_of(self.alloc, text, ended.into_outcome()));
+    }
+
+    /// Goes on with the requests inside, until one comes out or something came over the wire.
+    pub fn advance<R: Wait>(
+        &mut self,
+        rt: &R,
+        book: &B,
+        seat: &mut B::Seat,
+        wire: &mut W,
+        clock: &C,
+    )
+        requires made_here { B.belongs book.now seat.old }
+        requires stands { Stands W.gives C.shows (B.shown seat.old) self.old }
+        ensures stays { B.belongs book.now seat.new }
+        ensures stands { Stands W.gives C.shows (B.shown seat.new) self.new }
+    {
+        if let Some(ended) = poll_over(rt, &mut self.resolver, book, seat, wire, clock) {
+            self.settle(ended);
+        }
+    }
+
+    /// Gives the first line up of which it is not known what became of it, where its time is over
+    /// by now.
+    fn give_up(&mut self, now: Duration)
+        ensures same { (self.new.told ≡ self.old.told) × (self.new.lines ≡ self.old.lines)
+            × (self.new.sender ≡ self.old.sender) }
+        ensures stands { (seat : SeatView) → Stands W.gives C.shows seat self.old
+            → Stands W.gives C.shows seat self.new }
+    {
+        let place = self.told;
+        if place < self.ends.len() && self.ends[place] <= now && self.fates[place].is_none() {
+            self.fates[place] = Some(fate_in_vain(self.alloc, self.lines[place].text));
+        }
+    }
+}
+
+impl<'a, B: AnswerBook + Drop, W: MessageWire + Tracer, C: Clock> OpenLines<'a, B, W, C> {
+    /// Tells what became of the first line of which that was not told, if it is known or the time
+    /// of the line is over by now, and gives the status.
+    fn tell_first<O: Write>(
+        &mut self,
+        now: Duration,
+        style: Style,
+        wire: &mut W,
+        output: &mut O,
+    ) -> Option<u8>
+        ensures stands { (seat : SeatView) → Stands W.gives C.shows seat self.old
+            → Stands W.gives C.shows seat self.new }
+        ensures tells { (seat : SeatView) → Stands W.gives C.shows seat self.old
+            → IfSome result (TellsFirst W.gives C.shows seat style self.old
+            (O.contents output.old) (O.contents output.new)) }
+        ensures next { IfSome result (λ status. self.new.told ≡ self.old.told + 1) }
+        ensures none { result ≡ None → O.contents output.new ≡ O.contents output.old }
+        ensures range { IfSome result (λ status. status ≤ 5) }
+    {
+        self.give_up(now);
+        let place = self.told;
+        let line = self.lines.get(place)?;
+        let fate = self.fates[place].as_ref()?;
+        let tries = wire.take_tries();
+        let status = tell(self.alloc, output, style, tries.as_slice(), line.text, fate);
+        self.told = place + 1;
+        Some(status)
+    }
+
+    /// Tells what became of lines in their order, as far as it is known, and gives the greatest
+    /// status.
+    pub fn tell_all<O: Write>(
+        &mut self,
+        now: Duration,
+        style: Style,
+        wire: &mut W,
+        output: &mut O,
+    ) -> u8
+        ensures stands { (seat : SeatView) → Stands W.gives C.shows seat self.old
+            → Stands W.gives C.shows seat self.new }
+        ensures range { result ≤ 5 }
+    {
+        let mut status = 0;
+        'lines: for _line in 0..self.lines.len() {
+            match self.tell_first(now, style, wire, output) {
+                Some(told) => status = status.max(told),
+                None => break,
+            }
+        }
+        status
+    }
+}
