@@ -147,7 +147,7 @@ static bool host(struct text text, struct host *host) {
     return true;
 }
 
-/* The host and the port in front. */
+/* The host and the port in front; 0 where there is none. */
 static bool host_port(struct text *text, struct host *to, unsigned *port) {
     struct text front = *text;
     if (skip(text, '[')) {
@@ -157,7 +157,7 @@ static bool host_port(struct text *text, struct host *to, unsigned *port) {
         while (text->at < text->end && (classes[(uint8_t)*text->at] & HOST || *text->at == '.')) text->at++;
     }
     front.end = text->at;
-    *port = DEFAULT_PORT;
+    *port = 0;
     return host(front, to) && (!skip(text, ':') || (number(text, 65535, port) && *port > 0));
 }
 
@@ -265,12 +265,12 @@ size_t minimal_uri(const uint8_t *octets, size_t length) {
     bool read = read_uri((struct text){ (const char *)octets, (const char *)octets + length }, &uri);
     free(uri.host.name);
     free(uri.maddr.name);
-    return read ? uri.port : 0;
+    return !read ? 0 : uri.port > 0 ? uri.port : DEFAULT_PORT;
 }
 
 size_t minimal_via(const uint8_t *octets, size_t length) {
     struct via via = { 0 };
     bool read = read_via((struct text){ (const char *)octets, (const char *)octets + length }, &via);
     free(via.host.name);
-    return read ? via.port : 0;
+    return !read ? 0 : via.port > 0 ? via.port : DEFAULT_PORT;
 }
