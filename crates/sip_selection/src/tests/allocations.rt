@@ -8,10 +8,16 @@ use std::alloc::Global;
 
 const WORDS: Words = Words([0; WORD_COUNT]);
 
+/// A name that is too long to lie in the value itself.
+const HOST: &str = "proxy-1.west.voice.example.com";
+
+/// URIs with that host, the second one with a port.
+const URI: &str = "sip:proxy-1.west.voice.example.com;transport=tcp";
+const PORT_URI: &str = "sip:proxy-1.west.voice.example.com:5070";
+
 /// Whether a new choice asks, where there is memory for it.
 fn new_asks(alloc: Global) -> Option<bool> {
-    let request = "sip:b.example;transport=tcp";
-    let selection = begun(alloc, request, &[Udp, Tcp], Families::V4, WORDS)?;
+    let selection = begun(alloc, URI, &[Udp, Tcp], Families::V4, WORDS)?;
     Some(matches!(selection.next(), Next::Ask(_)))
 }
 
@@ -22,7 +28,7 @@ fn new_refused(rt: HostRuntime) {
 
 /// Whether a copy of a request is equal to it, where there is memory for it.
 fn copy_is_equal(alloc: Global) -> Option<bool> {
-    let request = request_of(alloc, "sip:b.example;maddr=m.example")?;
+    let request = request_of(alloc, URI)?;
     let copy = request.try_clone().ok()?;
     Some(copy == request)
 }
@@ -45,7 +51,7 @@ fn is_after(given: Result<(), GiveRefusal>, selection: &Selection, question: &Qu
 /// Whether the answer to its question is taken, or left for want of memory, where there is memory
 /// for both.
 fn is_given(alloc: Global, selection: &mut Selection) -> Option<bool> {
-    let question = question_of(alloc, Kind::A, "b.example")?;
+    let question = question_of(alloc, Kind::A, HOST)?;
     let answer = answer_of(alloc, Kind::A, Says::A(&[[192, 0, 2, 5]]))?;
     let given = selection.give(alloc, &question, answer);
     Some(is_after(given, selection, &question))
@@ -53,7 +59,7 @@ fn is_given(alloc: Global, selection: &mut Selection) -> Option<bool> {
 
 /// As `is_given`, with a new choice, where there is memory for it.
 fn answer_is_given(alloc: Global) -> Option<bool> {
-    let mut selection = begun(alloc, "sip:b.example:5070", &[Udp], Families::V4, WORDS)?;
+    let mut selection = begun(alloc, PORT_URI, &[Udp], Families::V4, WORDS)?;
     is_given(alloc, &mut selection)
 }
 

@@ -2,6 +2,10 @@
 use crate::*;
 use std::alloc::Global;
 
+/// Hosts that are too long to lie in the values themselves.
+const URI: &str = "sips:proxy-1.west.voice.example.com;maddr=proxy-2.west.voice.example.com";
+const VIA: &str = "SIP/2.0/TLS proxy-2.west.voice.example.com";
+
 /// Whether the copy of a URI has its scheme and its `maddr`, or memory was refused for it.
 fn is_copied(uri: &SipUri) -> bool {
     match uri.try_clone() {
@@ -12,7 +16,7 @@ fn is_copied(uri: &SipUri) -> bool {
 
 /// Whether a URI is read, or memory was refused for it.
 fn is_read(alloc: Global) -> bool {
-    match read_uri(alloc, "sips:c.example;maddr=d.example") {
+    match read_uri(alloc, URI) {
         Ok(uri) => uri.secure && is_copied(&uri),
         Err(refusal) => refusal == UriRefusal::Memory,
     }
@@ -33,7 +37,7 @@ fn is_via_copied(via: &Via) -> bool {
 
 /// Whether a Via is read, or memory was refused for it.
 fn is_via_read(alloc: Global) -> bool {
-    match read_via(alloc, "SIP/2.0/TLS d.example") {
+    match read_via(alloc, VIA) {
         Ok(via) => via.transport == Spoken::Known(Transport::Tls) && is_via_copied(&via),
         Err(refusal) => refusal == UriRefusal::Memory,
     }
