@@ -13,6 +13,7 @@ const HOST: &str = "proxy-1.west.voice.example.com";
 
 /// URIs with that host, the second one with a port.
 const URI: &str = "sip:proxy-1.west.voice.example.com;transport=tcp";
+
 const PORT_URI: &str = "sip:proxy-1.west.voice.example.com:5070";
 
 /// Whether a new choice asks, where there is memory for it.

@@ -4,6 +4,7 @@ use std::alloc::Global;
 
 /// Hosts that are too long to lie in the values themselves.
 const URI: &str = "sips:proxy-1.west.voice.example.com;maddr=proxy-2.west.voice.example.com";
+
 const VIA: &str = "SIP/2.0/TLS proxy-2.west.voice.example.com";
 
 /// Whether the copy of a URI has its scheme and its `maddr`, or memory was refused for it.
