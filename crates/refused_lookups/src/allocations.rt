@@ -26,12 +26,13 @@ fn are_right(first: Option<bool>, again: Option<bool>) -> bool {
     )
 }
 
-/// The question for addresses of a.example.
+/// The question for addresses of proxy-1.west.voice.example.com., a name that is too long to lie in
+/// the value itself.
 pub(crate) fn question(alloc: Global) -> Option<Question>
     ensures { IfSome result (λ made. made.kind ≡ A) }
 {
     Some(Question {
-        name: Name::from_text(alloc, "a.example").ok()?,
+        name: Name::from_text(alloc, "proxy-1.west.voice.example.com").ok()?,
         kind: Kind::A,
     })
 }
@@ -59,9 +60,10 @@ pub(crate) fn now() -> Moment {
     Moment::new(100).unwrap()
 }
 
-/// A request to port 5070 of a.example.
+/// A request to port 5070 of that host.
 fn request(alloc: Global) -> Option<Request> {
-    Some(Request::Uri(read_uri(alloc, "sip:a.example:5070").ok()?))
+    let uri = "sip:proxy-1.west.voice.example.com:5070";
+    Some(Request::Uri(read_uri(alloc, uri).ok()?))
 }
 
 /// A sender over UDP and IPv4.
@@ -73,7 +75,6 @@ fn caps() -> Option<Caps> {
 const WORDS: Words = Words([0; WORD_COUNT]);
 
 /// The octets of a reply with the address and a TTL of 60, under the id 0 (RFC 1035 4.1).
-pub(crate) const REPLY: [u8; 43] = [
-    0, 0, 0x81, 0x80, 0, 1, 0, 1, 0, 0, 0, 0, 1, b'a', 7, b'e', b'x', b'a', b'm', b'p', b'l', b'e',
-    0, 0, 1, 0, 1, 0xc0, 12, 0, 1, 0, 1, 0, 0, 0, 60, 0, 4, 192, 0, 2, 7,
-];
+pub(crate) const REPLY: [u8; 64] = *b"\x00\x00\x81\x80\x00\x01\x00\x01\x00\x00\x00\x00\
+    \x07proxy-1\x04west\x05voice\x07example\x03com\x00\x00\x01\x00\x01\
+    \xc0\x0c\x00\x01\x00\x01\x00\x00\x00\x3c\x00\x04\xc0\x00\x02\x07";

@@ -30,13 +30,19 @@ const CALLS: [Call; 5] = [
 
 const WORDS: Words = Words([0; WORD_COUNT]);
 
+/// A name that is too long to lie in the value itself.
+const HOST: &str = "proxy-1.west.voice.example.com";
+
+/// A URI with that host.
+const URI: &str = "sip:proxy-1.west.voice.example.com:5070";
+
 /// A server of this priority.
 fn server(alloc: Global, priority: u16) -> Option<SrvRecord> {
     Some(SrvRecord {
         priority,
         weight: 0,
         port: 5060,
-        target: Name::from_text(alloc, "b.example").ok()?,
+        target: Name::from_text(alloc, HOST).ok()?,
     })
 }
 
@@ -86,9 +92,9 @@ fn three_inserts(alloc: Global) -> Option<bool> {
     Some(all && list.len() == 2 && popped == Some((3, 'z')))
 }
 
-/// The choice of a request to b.example over UDP and IPv4.
+/// The choice of a request to that URI over UDP and IPv4.
 fn selection(alloc: Global) -> Option<Selection> {
-    let request = Request::Uri(read_uri(alloc, "sip:b.example:5070").ok()?);
+    let request = Request::Uri(read_uri(alloc, URI).ok()?);
     let caps = Caps::new(&[Transport::Udp], Families::V4)?;
     Selection::new(alloc, request, caps, WORDS).ok()
 }
@@ -98,7 +104,7 @@ fn asks(selection: &Selection, question: &Question) -> bool {
     matches!(selection.next(), Next::Ask(asked) if asked == question)
 }
 
-/// The address of b.example.
+/// The address of the host.
 const ADDRESS: [u8; 4] = [192, 0, 2, 5];
 
 /// Whether its target is next.
@@ -113,7 +119,7 @@ fn goes(selection: &Selection) -> bool {
 
 /// What it asks.
 fn question(alloc: Global) -> Option<Question> {
-    let name = Name::from_text(alloc, "b.example").ok()?;
+    let name = Name::from_text(alloc, HOST).ok()?;
     Some(Question {
         name,
         kind: Kind::A,

@@ -25,15 +25,15 @@ const CALLS: [Call; 7] = [
     Call::WriteName,
 ];
 
-/// b.example.
-const WIRE: &[u8] = b"\x01b\x07example\x00";
+/// proxy-1.west.voice.example.com., which is too long to lie in the value itself.
+const WIRE: &[u8] = b"\x07proxy-1\x04west\x05voice\x07example\x03com\x00";
 
 /// What stands before a name and in it, where the name ends in a pointer to the first octets.
-const POINTED: &[u8] = b"\x07example\x00\x01b\xc0\x00";
+const POINTED: &[u8] = b"\x07example\x03com\x00\x07proxy-1\x04west\x05voice\xc0\x00";
 
 /// `from_text`
 fn from_text(alloc: Global) -> Option<bool> {
-    match Name::from_text(alloc, "B.example.") {
+    match Name::from_text(alloc, "Proxy-1.West.voice.example.com.") {
         Ok(name) => Some(name.wire() == WIRE),
         Err(NameRefusal::Memory) => None,
         Err(_) => Some(false),
@@ -43,7 +43,10 @@ fn from_text(alloc: Global) -> Option<bool> {
 /// `prefixed`
 fn prefixed(name: &Name) -> Option<bool> {
     match name.prefixed("_sip", "_udp") {
-        Ok(service) => Some(service.wire() == b"\x04_sip\x04_udp\x01b\x07example\x00".as_slice()),
+        Ok(service) => Some(
+            service.wire()
+                == b"\x04_sip\x04_udp\x07proxy-1\x04west\x05voice\x07example\x03com\x00".as_slice(),
+        ),
         Err(NameRefusal::Memory) => None,
         Err(_) => Some(false),
     }
@@ -52,13 +55,13 @@ fn prefixed(name: &Name) -> Option<bool> {
 /// `parent`
 fn parent(name: &Name) -> Option<bool> {
     let parent = name.parent().ok()?;
-    Some(parent.is_some_and(|parent| parent.wire() == b"\x07example\x00".as_slice()))
+    Some(parent.is_some_and(|parent| parent.wire() == &WIRE[8..]))
 }
 
 /// `read_name`
 fn read(alloc: Global) -> Option<bool> {
-    match read_name(alloc, POINTED, 9) {
-        Ok((name, end)) => Some(name.wire() == WIRE && end == 13),
+    match read_name(alloc, POINTED, 13) {
+        Ok((name, end)) => Some(name.wire() == WIRE && end == 34),
         Err(NameReadRefusal::Memory) => None,
         Err(_) => Some(false),
     }
@@ -73,16 +76,16 @@ fn write(alloc: Global, name: &Name) -> Option<bool> {
         }
         write_name(name, &mut out).ok()?;
     }
-    Some(out.as_slice() == b"\x07\x01b\x07example\x00".as_slice())
+    Some(out.len() == 1 + WIRE.len() && out.ends_with(WIRE))
 }
 
 /// What a call says.
 fn says(alloc: Global, call: Call) -> Option<bool> {
-    let name = Name::from_text(alloc, "b.example").ok()?;
+    let name = Name::from_text(alloc, "proxy-1.west.voice.example.com").ok()?;
     match call {
         Call::FromText => from_text(alloc),
         Call::Prefixed => prefixed(&name),
-        Call::Text => Some(name.text().ok()?.as_str() == "b.example."),
+        Call::Text => Some(name.text().ok()?.as_str() == "proxy-1.west.voice.example.com."),
         Call::TryClone => Some(name.try_clone().ok()? == name),
         Call::Parent => parent(&name),
         Call::ReadName => read(alloc),

@@ -28,11 +28,11 @@ const CALLS: [Call; 7] = [
     Call::RequestCopy,
 ];
 
-/// A URI with a port and another host as `maddr`.
-const URI: &str = "sips:c.example:5071;maddr=d.example";
+/// A URI with a port and another host as `maddr`, each too long to lie in the value itself.
+const URI: &str = "sips:proxy-1.west.voice.example.com:5071;maddr=proxy-2.west.voice.example.com";
 
 /// A Via.
-const VIA: &str = "SIP/2.0/TLS d.example:5062";
+const VIA: &str = "SIP/2.0/TLS proxy-2.west.voice.example.com:5062";
 
 /// Whether this is that URI.
 fn is_uri(uri: &SipUri) -> bool {

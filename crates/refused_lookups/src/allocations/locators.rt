@@ -123,7 +123,7 @@ fn is_out(asker: &mut Asker, alloc: Global) -> Option<bool> {
         Err(refusal) => Err(refusal),
     };
     match asked {
-        Ok(count) => Some(count == 27),
+        Ok(count) => Some(count == 48),
         Err(AskRefusal::Memory) => { Some(!asker.is_open(0) && asker.ask(again, 0, now()).is_ok()) }
         Err(_) => Some(false),
     }
