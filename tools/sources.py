@@ -1,0 +1,269 @@
+"""What the sources of the crates say, for `tools/make-docs` and `tools/check-docs`: public calls with the names of their
+clauses, and definitions of specs/ with the comments over them."""
+import functools
+import glob
+import os
+import re
+
+FUNCTION = re.compile(r"^( *)(pub(?:\(crate\))? )?(?:const |unsafe )*fn (\w+)")
+CLAUSE = re.compile(r"^ *(requires|ensures)\*? (?:(\w+) )?\{")
+BLOCK = re.compile(r"^(?:pub(?:\(crate\))? )?(?:unsafe )?(impl|trait|struct|enum)\b(.*)")
+USE = re.compile(r"(?m)^ *(?:ghost )?use Rattle\.(\w+)\.specs\.([\w.]+)(?:\.\{([^}]*)\}| as (\w+))")
+IMPORTED = re.compile(r"([\w◌']+)(?: as (\w+))?")
+DEFINITION = re.compile(r"^( *)(?:(?:abbrev |unfoldable )pub|pub (?=record |data ))(?: ?(?:record|data))? ([\w◌']+)")
+PLAIN = re.compile(r"^()pub ([\w◌']+) :")
+# ghost items that say how a value is seen or compared, and nothing that a caller meets
+UNSEEN = set("view laws eq from_gives size coded inverse inverse_ok respects_eq hash_input is_clone".split())
+WORD = re.compile(r"[\w◌']+(?:\.[\w◌']+)?")
+GENERICS = re.compile(r"<(?:[^<>]|->|<(?:[^<>]|->|<[^<>]*>)*>)*>")
+
+
+def text_of(path):
+    with open(path, encoding="utf-8") as it:
+        return it.read()
+
+
+class Call:
+    """A function with its documentation and its clauses."""
+
+    def __init__(self, path, kind, owner, trait, public, name, docs):
+        self.path, self.kind, self.owner, self.trait = path, kind, owner, trait
+        self.public, self.name, self.docs = public, name, docs
+        self.clauses = []
+        self.text = ""
+
+    @property
+    def title(self):
+        return f"{self.owner}::{self.name}" if self.owner else self.name
+
+    def names_of(self, word):
+        """The names of its clauses of a kind; one may have none."""
+        return [name for kind, name in self.clauses if kind == word]
+
+
+def owner_of(line):
+    """What a top-level line opens: its kind, the type or trait, and the trait that it implements."""
+    found = BLOCK.match(line)
+    if not found:
+        return None
+    head = found[2]
+    while GENERICS.search(head):
+        head = GENERICS.sub("", head)
+    names = [it for it in re.findall(r"\w+", head.split("{")[0].split(" where ")[0]) if it not in ("mut", "dyn")]
+    if "for" in names and found[1] == "impl":
+        return "impl", names[names.index("for") + 1 :][-1], names[names.index("for") - 1]
+    return found[1], names[0] if names else "", None
+
+
+def docs_above(lines, at):
+    """The documentation over a line, as one text with its paragraphs apart."""
+    found = []
+    while at > 0 and (lines[at - 1].lstrip().startswith(("///", "#[", "//"))):
+        at -= 1
+        line = lines[at].strip()
+        if line.startswith("///"):
+            found.insert(0, line[3:].strip())
+    return "\n".join(found)
+
+
+def calls_in(path):
+    """The functions of a file, but for those of its tests."""
+    lines = text_of(path).split("\n")
+    block, at = (None, "", None), 0
+    while at < len(lines):
+        line = lines[at]
+        if line.startswith("}"):
+            block = (None, "", None)
+        elif owner_of(line) and not line.rstrip().endswith(("}", ";")):
+            block = owner_of(line)
+        found = FUNCTION.match(line)
+        at += 1
+        if not found:
+            continue
+        indent, public, name = found.groups()
+        kind, owner, trait = block if indent else (None, "", None)
+        call = Call(path, kind, owner, trait, (public or "").strip(), name, docs_above(lines, at - 1))
+        depth, head, ended = 0, [line], False
+        while not ended:
+            line = lines[at - 1] if len(head) == 1 else head[-1]
+            clause = CLAUSE.match(line)
+            if clause and depth == 0:
+                call.clauses.append((clause[1], clause[2]))
+            if line in (indent + "{", indent + "{}") or (not call.clauses and line.endswith((" {", " {}", ") {}"))):
+                break
+            depth += line.count("{") - line.count("}")
+            if depth == 0 and line.endswith(";"):
+                break
+            if at >= len(lines):
+                break
+            head.append(lines[at])
+            at += 1
+        call.text = "\n".join(head)
+        yield call
+
+
+class Definition:
+    """A definition of specs/ with the comment over it."""
+
+    def __init__(self, crate, module, name, comment, section):
+        self.crate, self.module, self.name, self.comment, self.section = crate, module, name, comment, section
+        self.body = ""
+        self.uses = []
+
+    @property
+    def key(self):
+        return self.crate, self.module, self.name
+
+
+def sentence_of(lines):
+    return " ".join(it.strip().removeprefix("--").strip() for it in lines)
+
+
+def definitions_in(crate, module, text):
+    """The definitions of a module, in their order."""
+    lines = text.split("\n")
+    comment, section, current, found = [], "", None, []
+    for line in lines:
+        if line.strip().startswith("-- ----"):
+            section, comment = line.strip().removeprefix("-- ----").strip(), []
+        elif line.strip().startswith("--"):
+            comment.append(line)
+        else:
+            head = DEFINITION.match(line) or PLAIN.match(line)
+            if head:
+                current = Definition(crate, module, head[2], sentence_of(comment), section)
+                found.append(current)
+            if current:
+                current.body += line + "\n"
+            comment = []
+    return found
+
+
+def header_of(text):
+    """The comment that a module begins with."""
+    return sentence_of(re.match(r"(?:--.*\n)*", text)[0].rstrip("\n").split("\n"))
+
+
+def imported(text):
+    """What the `use` lines of a text name: the name there, and the definition; of a module's alias the module alone."""
+    found = {}
+    for crate, module, names, alias in USE.findall(text):
+        if alias:
+            found[alias] = crate, module, None
+        for name, other in IMPORTED.findall(names):
+            found[other or name] = crate, module, name
+    return found
+
+
+def named_in(text, names):
+    """The definitions that a text names, each once."""
+    found = {}
+    for word in WORD.findall(re.sub(r"--.*", "", text)):
+        first, _, last = word.partition(".")
+        crate, module, name = names.get(first, (None, None, None))
+        if crate and (name or last):
+            found[crate, module, name or last] = None
+    return list(found)
+
+
+class Crate:
+    """What a crate defines and makes public."""
+
+    def __init__(self, name):
+        self.name = name
+        self.folder = f"crates/{name}"
+        self.modules = {}
+        for path in sorted(glob.glob(f"{self.folder}/specs/**/*.antt", recursive=True)):
+            self.modules[path[len(f"{self.folder}/specs/") : -len(".antt")].replace("/", ".")] = text_of(path)
+        self.definitions = {it: definitions_in(name, it, text) for it, text in self.modules.items()}
+        self.specs = {it: {one.name for one in those} for it, those in self.definitions.items()}
+        paths = sorted(glob.glob(f"{self.folder}/src/**/*.rt", recursive=True))
+        self.sources = {it: text_of(it) for it in paths if "/tests" not in it}
+        self.types = {
+            it for text in self.sources.values() for it in re.findall(r"\b(?:struct|enum|trait|type) (\w+)", text)
+        }
+        self.calls = [call for path in self.sources for call in calls_in(path)]
+
+    @functools.cached_property
+    def exported(self):
+        """The names that the page of a library makes public; of a program what its modules say is public."""
+        page = self.sources.get(f"{self.folder}/src/lib.rt")
+        if page is None:
+            every = "\n".join(self.sources.values())
+            return set(re.findall(r"(?m)^pub (?:fn|struct|enum|trait) (\w+)", every))
+        found = set()
+        for line in re.findall(r"(?m)^pub use ([^;]*);", page):
+            found |= set(re.findall(r"\w+", line.split("::")[-1] if "{" not in line else line[line.index("{") :]))
+        return found
+
+    def is_exported(self, call):
+        """Whether a function is reached from the page: it is named there, or its type or trait is."""
+        if call.kind == "trait":
+            return call.owner in self.exported
+        if call.trait:
+            return call.owner in self.exported and bool(call.clauses)
+        return call.public == "pub" and (call.owner or call.name) in self.exported
+
+    @functools.cached_property
+    def public(self):
+        return [it for it in self.calls if self.is_exported(it)]
+
+    def cited(self, others=()):
+        """Each definition that the contract of a public function, or of one of these others, cites, or by which contracts
+        see a public type or trait, with the title of what cites it; and whether that is what a type keeps."""
+        for call in self.calls:
+            if self.is_exported(call) or call.title in others:
+                for key in named_in(call.text, imported(self.sources[call.path])):
+                    yield key, call.title, False
+        for text in self.sources.values():
+            for title, item, body in ghosts_of(text):
+                if title in self.exported and item not in UNSEEN:
+                    for key in named_in(body, imported(text)):
+                        yield key, title, item == "invariant"
+
+
+def ghosts_of(text):
+    """The ghost items of traits, and of impls: the trait or the type, the item and its text."""
+    for block in re.finditer(r"(?ms)^(?:impl|(?:pub )?trait)\b[^\n]*\{\n(.*?)^\}", text):
+        _, owner, _ = owner_of(block[0].split("\n")[0])
+        for item in re.finditer(r"(?ms)^    ghost (\w+)(?: =|:) (\{.*?\});$", block[1]):
+            yield owner, item[1], item[2]
+
+
+def all_crates():
+    """The crates, those below first, as crates.txt has them."""
+    names = [line.split(":")[0].split()[0] for line in text_of("crates.txt").split("\n") if line.strip()]
+    return {name: Crate(name) for name in names if os.path.isdir(f"crates/{name}")}
+
+
+def closure(crates, others):
+    """The definitions that contracts cite, of the public calls of these crates and of the others that are named for each,
+    and those that these rest on (but not those that what a type keeps rests on): all definitions, what cites each, and
+    through which one the rest are cited."""
+    known = {it.key: it for crate in crates.values() for those in crate.definitions.values() for it in those}
+    by, through, following = {}, {}, []
+    for name, those in others.items():
+        for key, title, is_kept in crates[name].cited(those):
+            if key in known:
+                by.setdefault(key, []).append(title)
+                following += [] if is_kept else [key]
+    followed = set()
+    while following:
+        key = following.pop(0)
+        if key in followed:
+            continue
+        followed.add(key)
+        for other in rests_on(crates, known[key]):
+            if other in known:
+                following.append(other)
+                if other not in by:
+                    through.setdefault(other, known[key])
+    return known, by, through
+
+
+def rests_on(crates, definition):
+    """The definitions that one names."""
+    crate = crates[definition.crate]
+    names = {it.name: it.key for it in crate.definitions[definition.module]}
+    names.update(imported(crate.modules[definition.module]))
+    return [it for it in named_in(definition.body, names) if it != definition.key]
