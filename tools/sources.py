@@ -108,7 +108,6 @@ class Definition:
     def __init__(self, crate, module, name, comment, section):
         self.crate, self.module, self.name, self.comment, self.section = crate, module, name, comment, section
         self.body = ""
-        self.uses = []
 
     @property
     def key(self):
@@ -176,7 +175,6 @@ class Crate:
         for path in sorted(glob.glob(f"{self.folder}/specs/**/*.antt", recursive=True)):
             self.modules[path[len(f"{self.folder}/specs/") : -len(".antt")].replace("/", ".")] = text_of(path)
         self.definitions = {it: definitions_in(name, it, text) for it, text in self.modules.items()}
-        self.specs = {it: {one.name for one in those} for it, those in self.definitions.items()}
         paths = sorted(glob.glob(f"{self.folder}/src/**/*.rt", recursive=True))
         self.sources = {it: text_of(it) for it in paths if "/tests" not in it}
         self.types = {
