@@ -67,39 +67,37 @@ def docs_above(lines, at):
 
 
 def calls_in(path):
-    """The functions of a file, but for those of its tests."""
+    """The functions of a file."""
     lines = text_of(path).split("\n")
-    block, at = (None, "", None), 0
-    while at < len(lines):
-        line = lines[at]
+    block = (None, "", None)
+    for at, line in enumerate(lines):
         if line.startswith("}"):
             block = (None, "", None)
         elif owner_of(line) and not line.rstrip().endswith(("}", ";")):
             block = owner_of(line)
         found = FUNCTION.match(line)
-        at += 1
-        if not found:
-            continue
-        indent, public, name = found.groups()
-        kind, owner, trait = block if indent else (None, "", None)
-        call = Call(path, kind, owner, trait, (public or "").strip(), name, docs_above(lines, at - 1))
-        depth, head, ended = 0, [line], False
-        while not ended:
-            line = lines[at - 1] if len(head) == 1 else head[-1]
-            clause = CLAUSE.match(line)
-            if clause and depth == 0:
-                call.clauses.append((clause[1], clause[2]))
-            if line in (indent + "{", indent + "{}") or (not call.clauses and line.endswith((" {", " {}", ") {}"))):
-                break
-            depth += line.count("{") - line.count("}")
-            if depth == 0 and line.endswith(";"):
-                break
-            if at >= len(lines):
-                break
-            head.append(lines[at])
-            at += 1
-        call.text = "\n".join(head)
-        yield call
+        if found:
+            indent, public, name = found.groups()
+            kind, owner, trait = block if indent else (None, "", None)
+            call = Call(path, kind, owner, trait, (public or "").strip(), name, docs_above(lines, at))
+            read_head(call, lines[at:], indent)
+            yield call
+
+
+def read_head(call, lines, indent):
+    """Takes the signature and the clauses of a function from the lines that begin with it."""
+    head, depth = [], 0
+    for line in lines:
+        head.append(line)
+        clause = CLAUSE.match(line)
+        if clause and depth == 0:
+            call.clauses.append((clause[1], clause[2]))
+        depth += line.count("{") - line.count("}")
+        if line in (indent + "{", indent + "{}") or not call.clauses and line.endswith((" {", " {}")):
+            break
+        if depth == 0 and line.endswith(";"):
+            break
+    call.text = "\n".join(head)
 
 
 class Definition:
