@@ -87,8 +87,7 @@ fn parts_refused(rt: HostRuntime) {
 
 #[test]
 fn query_written_refused(rt: HostRuntime) {
-    // The name is too long to lie in the value itself.
-    if let Ok(name) = Name::from_text(rt.alloc(), "proxy-1.west.voice.example.com") {
+    if let Ok(name) = Name::from_text(rt.alloc(), "a.example") {
         let question = Question {
             name,
             kind: Kind::A,
