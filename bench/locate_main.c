@@ -8,7 +8,7 @@
 #include <string.h>
 #include <time.h>
 
-enum { SLICES = 101 };
+enum { SLICES = 101, MOST_NS = 2000000000 };
 
 const char *const services[3] = { "SIP+D2U", "SIP+D2T", "SIPS+D2T" };
 const char *const lists[3] = { "_sip._udp", "_sip._tcp", "_sips._tcp" };
@@ -43,14 +43,16 @@ static void measure(const struct row *row, const char *form, size_t (*locate)(co
     volatile size_t count = locate(row);
     uint64_t once = now_in_ns() - start, rounds = once == 0 ? 1000 : 100000 / once;
     rounds = rounds < 1 ? 1 : rounds > 1000 ? 1000 : rounds;
-    for (size_t slice = 0; slice < SLICES; slice++) {
+    size_t slices = once < MOST_NS / SLICES ? SLICES : 1 + MOST_NS / once;
+    for (size_t slice = 0; slice < slices; slice++) {
         start = now_in_ns();
         for (uint64_t round = 0; round < rounds; round++) count = locate(row);
         times[slice] = now_in_ns() - start;
     }
-    qsort(times, SLICES, sizeof *times, compare);
+    qsort(times, slices, sizeof *times, compare);
     printf("%s\t%s\t%s\t%zu\t%llu\t%llu\n", row->name, candidate, form, count,
-           (unsigned long long)(times[0] / rounds), (unsigned long long)(times[SLICES / 2] / rounds));
+           (unsigned long long)(times[0] / rounds), (unsigned long long)(times[slices / 2] / rounds));
+    fflush(stdout);
 }
 
 int main(int count, char **args) {

@@ -1,11 +1,11 @@
-/* Counts calls of the allocator, and tells the count on standard error when the program ends, by `_exit` or else. */
+/* Counts what the allocator gives, and tells it on standard error when the program ends, by `_exit` or else. */
 #include "count_allocations.c"
 #include <stdio.h>
 #include <sys/syscall.h>
 #include <unistd.h>
 
 __attribute__((destructor)) static void tell(void) {
-    fprintf(stderr, "allocations: %lu\n", allocation_count);
+    fprintf(stderr, "allocations: %lu\noctets: %lu\n", allocation_count, most_octets);
 }
 
 void _exit(int status) {
