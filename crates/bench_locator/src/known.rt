@@ -21,9 +21,9 @@ const MOST_ADDRESSES: usize = 32;
 /// The records of a domain: its rules, the servers of the service of each rule, and the addresses
 /// of each server.
 #[derive(Clone, Copy)]
-pub struct Domain {
+pub struct Domain<'a> {
     /// What its name begins with.
-    pub label: &'static str,
+    pub label: &'a str,
     /// NAPTR services and the labels of their lists of servers, in the order of the rules.
     pub services: &'static [(&'static str, &'static str)],
     /// How many servers each list has. The last one of several is of a priority of its own.
@@ -72,7 +72,7 @@ fn addresses_v6(alloc: Global, count: usize) -> Option<Records> {
     Some(Records::V6(Section::from_vec(all)))
 }
 
-impl Domain {
+impl<'a> Domain<'a> {
     /// The name of the server of this number in the list of this number.
     fn server_name(&self, alloc: Global, list: usize, server: usize) -> Option<String> {
         let label = self.label;
@@ -154,6 +154,19 @@ impl Domain {
             self.push_addresses(alloc, all, list, server)?;
         }
         Some(())
+    }
+
+    /// The answer that has an address of the domain itself, alone.
+    pub fn address(&self, alloc: Global) -> Option<Vec<Known>> {
+        let mut all = Vec::new(alloc);
+        self.push_own(alloc, &mut all)?;
+        Some(all)
+    }
+
+    /// The answer that has the servers of its first list, alone.
+    pub fn servers(&self, alloc: Global) -> Option<Vec<Known>> {
+        let (_, labels) = self.services.first()?;
+        vec![in alloc; self.list(alloc, 0, labels)?].ok()
     }
 
     /// All its answers.

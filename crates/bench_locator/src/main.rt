@@ -1,21 +1,28 @@
-//! How long it takes to locate a request whose answers are all in a book.
+//! How long it takes to locate a request whose answers are all in a book, and to store an answer
+//! that was missing; and what memory both take.
 //!
 //! With the word `times` it prints a line for each request, book and form: the request, the book,
 //! whether it is located from its text or after it was read, how many targets it has, and the
-//! nanoseconds of one time in the fastest slice and in the middle one. With the name of a request
-//! and a number it locates that one so many times, from its text, over a shared cache: what two
-//! such runs differ by is what locating takes (`bench/run`). Without a word it does nothing.
+//! nanoseconds of one time in the fastest slice and in the middle one. With `miss`, a label and the
+//! path of a reply it prints a line for each book: the label, the book, how many records answer,
+//! and the nanoseconds of reading and storing.
+//!
+//! What two runs of other words differ by is what one takes (`bench/run`). `locate`, the name of a
+//! request and a number: locates that one so many times, from its text, over a shared cache.
+//! `misses`, the path of a reply and a number: stores its answer a thousand times in so many shared
+//! caches. `hold`, a word, a book and a number: holds so many of what the word says. Without a word
+//! it does nothing.
 #![tactic(auto)]
 
-ghost use Rattle.std.specs.Prelude.{IfSome};
-ghost use Rattle.answer_cache.specs.Shared.{Belongs};
-
+mod books;
+mod held;
 mod known;
+mod misses;
 mod rows;
 
-use crate::known::Known;
+use crate::books::{fill, one_seat};
 use crate::rows::{Row, large_row, small_rows};
-use answer_cache::{AnswerBook, ListCache, Seat, SharedCache};
+use answer_cache::{AnswerBook, ListCache};
 use dns_answers::Moment;
 use sip_locator::Locator;
 use sip_selection::{Caps, Next, Request};
@@ -23,7 +30,7 @@ use sip_uri::Transport::{Sctp, Tcp, Tls, Udp};
 use srv_choice::{WORD_COUNT, Words};
 use std::alloc::Global;
 use std::env;
-use std::rt::Env;
+use std::rt::{Env, Files};
 use std::sync::Wait;
 use std::time::{Clock, Instant};
 
@@ -32,18 +39,6 @@ const SLICES: usize = 101;
 
 /// How many questions the large requests have about: 9 and 16 for each of these servers.
 const SERVERS: [usize; 4] = [4, 8, 16, 32];
-
-/// Stores answers.
-fn fill<R: Wait, B: AnswerBook>(rt: &R, book: &B, seat: &mut B::Seat, known: &[Known], now: Moment)
-    requires { B.belongs book.now seat.old }
-    ensures { B.belongs book.now seat.new }
-{
-    'known: for it in known {
-        if it.answer.records().kind() == it.question.kind {
-            let _ = book.store(rt, seat, &it.question, &it.answer, now);
-        }
-    }
-}
 
 /// How many targets a request has.
 fn targets_of<B: AnswerBook>(
@@ -225,17 +220,6 @@ fn print_forms<R: Clock + Print + Wait + AllocGlobal, B: AnswerBook>(
     .ok()
 }
 
-/// A cache with one seat.
-fn one_seat(alloc: Global) -> Option<(SharedCache, Seat)>
-    ensures { IfSome result (λ made. Belongs made.0 made.1) }
-{
-    let Ok((cache, mut seats)) = SharedCache::new(alloc, 1) else {
-        return None;
-    };
-    let seat = seats.pop()?;
-    Some((cache, seat))
-}
-
 /// Measures a request over books of both kinds, and prints it.
 fn print_row<R: Clock + Print + Wait + AllocGlobal>(rt: &R, row: &Row) -> Option<()> {
     let alloc = rt.alloc();
@@ -285,18 +269,39 @@ fn locate_named<R: Clock + Wait + AllocGlobal>(rt: &R, name: &str, rounds: u64) 
     locate(alloc, &load, &cache, &mut seat, rounds)
 }
 
+/// Does what four words ask for, or three.
+fn run_task<R: Env + Files + Clock + Print + Wait + AllocGlobal>(
+    rt: &R,
+    task: &str,
+    words: &[String],
+) -> Option<()> {
+    let number = words.last()?.as_str();
+    let first = words.first()?.as_str();
+    match task {
+        "miss" => misses::run(rt, first, number, None),
+        "misses" => misses::run(rt, "", first, Some(number.parse::<u64>().ok()?)),
+        "hold" => held::run(
+            rt,
+            first,
+            words.get(1)?.as_str(),
+            number.parse::<u64>().ok()?,
+        ),
+        "locate" => {
+            locate_named(rt, first, number.parse::<u64>().ok()?)?;
+            Some(())
+        }
+        _ => None,
+    }
+}
+
 /// Does what the words ask for.
-fn run_words<R: Env + Clock + Print + Wait + AllocGlobal>(rt: &R) -> Option<()> {
+fn run_words<R: Env + Files + Clock + Print + Wait + AllocGlobal>(rt: &R) -> Option<()> {
     let words = env::args(rt).ok()?;
     let words = words.skip(1).collect::<Vec<String>>(rt.alloc()).ok()?;
     match words.as_slice() {
         [_times] => print_rows(rt),
-        [name, rounds] => {
-            let rounds = rounds.as_str().parse::<u64>().ok()?;
-            locate_named(rt, name.as_str(), rounds)?;
-            Some(())
-        }
-        _ => None,
+        [task, rest @ ..] => run_task(rt, task.as_str(), rest),
+        [] => None,
     }
 }
 

@@ -13,12 +13,12 @@ pub struct Row {
     pub text: &'static str,
     /// Which addresses the sender can reach.
     pub families: Families,
-    pub domain: Domain,
+    pub domain: Domain<'static>,
 }
 
 /// A domain with a service over UDP, TCP and TLS, three servers, of which the first one has two
 /// addresses of IPv4, and no more.
-const DOMAIN: Domain = Domain {
+pub const DOMAIN: Domain<'static> = Domain {
     label: "d",
     services: &[
         ("SIP+D2U", "_sip._udp"),
@@ -32,7 +32,7 @@ const DOMAIN: Domain = Domain {
 };
 
 /// The same with two servers of one address.
-const TWO_SERVERS: Domain = Domain {
+const TWO_SERVERS: Domain<'static> = Domain {
     label: "d",
     services: &[("SIP+D2T", "_sip._tcp")],
     servers: 2,
@@ -42,7 +42,7 @@ const TWO_SERVERS: Domain = Domain {
 };
 
 /// The same with one service.
-const ONE_SERVICE: Domain = Domain {
+const ONE_SERVICE: Domain<'static> = Domain {
     label: "d",
     services: &[("SIP+D2U", "_sip._udp")],
     servers: 3,
@@ -53,7 +53,7 @@ const ONE_SERVICE: Domain = Domain {
 
 /// As many services as a choice takes, each with 32 servers of its own, and as many addresses of
 /// both families as an answer has.
-const LARGE: Domain = Domain {
+const LARGE: Domain<'static> = Domain {
     label: "d",
     services: &[
         ("SIP+D2U", "l0"),
@@ -72,7 +72,12 @@ const LARGE: Domain = Domain {
 };
 
 /// A request to a domain.
-fn row_of(name: &'static str, text: &'static str, families: Families, domain: Domain) -> Row {
+fn row_of(
+    name: &'static str,
+    text: &'static str,
+    families: Families,
+    domain: Domain<'static>,
+) -> Row {
     Row {
         name,
         text,
@@ -83,7 +88,7 @@ fn row_of(name: &'static str, text: &'static str, families: Families, domain: Do
 
 /// The requests of which all that is asked is a few answers.
 pub fn small_rows() -> [Row; 7] {
-    use Families::{V4, V4ThenV6};
+    use Families::V4;
     [
         row_of("address", "sip:192.0.2.7:5080", V4, ONE_SERVICE),
         row_of("name and port", "sip:d.example:5070", V4, ONE_SERVICE),
@@ -96,8 +101,14 @@ pub fn small_rows() -> [Row; 7] {
             V4,
             ONE_SERVICE,
         ),
-        row_of("ten answers", "sip:user@d.example", V4ThenV6, DOMAIN),
+        ten_answers(),
     ]
+}
+
+/// The request that ten answers lead to 21 targets.
+pub fn ten_answers() -> Row {
+    let families = Families::V4ThenV6;
+    row_of("ten answers", "sip:user@d.example", families, DOMAIN)
 }
 
 /// The request that asks the most, with so many servers of each service.
