@@ -5,6 +5,7 @@ pub mod Driven
 pub mod Draws
 pub mod Clocks
 pub mod RequestLines
+pub mod ServerOrders
 pub mod SentQueries
 pub mod QueryForms
 pub mod ReplyBits

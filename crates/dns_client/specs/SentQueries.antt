@@ -3,11 +3,14 @@ use Rattle.std.specs.Prelude.{◌≡◌, ℕ, ◌+◌, ◌<◌, take, Bool, true
 use Rattle.std.specs.List.{Contains, position, position_or_len}
 use Rattle.std.specs.Option.{unwrap_or}
 use Rattle.std.specs.Str.{bytes_eq}
+use Rattle.dns_client.specs.ServerOrders.{place_of}
 
--- a query, how often it was sent, whether no reply to it was handed on since, whether it went out,
--- and the server that it went to last, where that was with EDNS and the server did not refuse it
+-- a query, the server that it goes to first, how often it was sent, whether no reply to it was
+-- handed on since, whether it went out, and the server that it went to last, where that was with
+-- EDNS and the server did not refuse it
 pub record SentValue : Type 0 where
   pub octets : List ℕ
+  pub first : ℕ
   pub sends : ℕ
   pub is_out : Bool
   pub went_out : Bool
@@ -28,6 +31,22 @@ sent_of query kept = slice_get kept (position_or_len (has_octets query) kept)
 abbrev pub sends_of : List ℕ → List SentValue → ℕ
 sends_of query kept = sends_in (sent_of query kept)
 
+abbrev pub first_in : Option SentValue → ℕ
+first_in None = 0
+first_in (Some sent) = sent.first
+
+-- the server that a query goes to first, as far as it is kept
+abbrev pub first_of : List ℕ → List SentValue → ℕ
+first_of query kept = first_in (sent_of query kept)
+
+abbrev pub out_in : Option SentValue → Bool
+out_in None = false
+out_in (Some sent) = sent.is_out
+
+-- a query that is kept was sent, and no reply to it was handed on since
+abbrev pub is_out : List ℕ → List SentValue → Bool
+is_out query kept = out_in (sent_of query kept)
+
 abbrev pub HasNotGone : Option SentValue → Type 0
 HasNotGone None = ⊥
 HasNotGone (Some sent) = sent.went_out ≡ false
@@ -44,15 +63,15 @@ IsWithEdns server (Some sent) = sent.edns_server ≡ Some server
 abbrev pub WentWithEdns : ℕ → List ℕ → List SentValue → Type 0
 WentWithEdns server query kept = IsWithEdns server (sent_of query kept)
 
--- it has the first two octets of a message, which are its id, and was sent more often
-pub record HasIdOf (message : List ℕ) (sends : ℕ) (sent : SentValue) : Type 0 where
-  pub more : sends < sent.sends
+-- it has the first two octets of a message, which are its id, and was sent to this server
+pub record HasIdOf (message : List ℕ) (server servers : ℕ) (sent : SentValue) : Type 0 where
+  pub asked : place_of sent.first server servers < sent.sends
   pub id : take 2 sent.octets ≡ take 2 message
 
 -- it is out, this server was asked last, and one of so many was not asked yet
 pub record CanGoOn (server servers : ℕ) (sent : SentValue) : Type 0 where
   pub is_out : sent.is_out ≡ true
-  pub last : sent.sends ≡ server + 1
+  pub last : sent.sends ≡ place_of sent.first server servers + 1
   pub others : sent.sends < servers
 
 -- a query that is kept can go on

@@ -49,6 +49,7 @@ mod resolver_line;
 mod run_clock;
 mod sent_queries;
 mod server;
+mod server_order;
 mod server_wire;
 mod tcp;
 mod try_log;

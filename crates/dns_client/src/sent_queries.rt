@@ -1,19 +1,22 @@
 //! The queries that were sent last.
 ghost use Rattle.std.specs.Prelude.{◌≡◌, ◌<◌, IfOk, IfSome, IsTrue, length, take};
 ghost use Rattle.std.specs.List.{position};
-ghost use Rattle.dns_client.specs.SentQueries.{CanGoOn, HasIdOf, IsFurther, IsNotOut, WentWithEdns, has_octets, is_answered, place_to_leave, sends_of};
+ghost use Rattle.dns_client.specs.SentQueries.{CanGoOn, HasIdOf, IsFurther, IsNotOut, WentWithEdns, first_of, has_octets, is_answered, is_out, place_to_leave, sends_of};
 
+use crate::server_order::place_of as place_in_round;
 use std::alloc::{AllocError, Global};
 use std::marker::Model;
 
 /// How many queries are kept: the last ones, and those that are out before others.
 const QUERY_LIMIT: usize = 256;
 
-/// A query, how often it was sent, whether no reply to it was handed on since, whether it went out,
-/// and the server whose refusal of EDNS makes it go out once more.
+/// A query, the server that it goes to first, how often it was sent, whether no reply to it was
+/// handed on since, whether it went out, and the server whose refusal of EDNS makes it go out once
+/// more.
 #[derive(Drop)]
 struct SentQuery {
     octets: Vec<u8>,
+    first: usize,
     sends: usize,
     is_out: bool,
     went_out: bool,
@@ -27,6 +30,7 @@ impl Model for SentQuery {
 
     ghost view = { λ it. record {
       octets = it.octets.items;
+      first = it.first;
       sends = it.sends;
       is_out = it.is_out;
       went_out = it.went_out;
@@ -49,18 +53,21 @@ impl SentQuery {
         !self.is_out
     }
 
-    /// Whether a message has its id, and it was sent more often than so many times.
-    fn fits(&self, message: &[u8], sends: usize) -> bool
-        ensures { IsTrue result → HasIdOf message.now sends self.now }
+    /// Whether a message has its id, and it was sent to this one of so many servers.
+    fn fits(&self, message: &[u8], server: usize, servers: usize) -> bool
+        ensures { IsTrue result → HasIdOf message.now server servers self.now }
     {
-        sends < self.sends && message.len() >= 2 && self.octets.starts_with(&message[..2])
+        place_in_round(self.first, server, servers) < self.sends
+            && message.len() >= 2
+            && self.octets.starts_with(&message[..2])
     }
 
     /// Whether it is out, this server was asked last, and one of so many was not asked yet.
     fn can_go_on(&self, server: usize, servers: usize) -> bool
         ensures { IsTrue result → CanGoOn server servers self.now }
     {
-        self.is_out && server < self.sends && self.sends - server == 1 && self.sends < servers
+        let place = place_in_round(self.first, server, servers);
+        self.is_out && place < self.sends && self.sends - place == 1 && self.sends < servers
     }
 }
 
@@ -116,8 +123,9 @@ impl SentQueries {
         }
     }
 
-    /// Keeps a query that is sent, and tells how often it was sent before.
-    pub(crate) fn keep(&mut self, query: &[u8]) -> Result<usize, AllocError>
+    /// Keeps a query that is sent, and tells how often it was sent before. One that was not goes to
+    /// this server first.
+    pub(crate) fn keep(&mut self, query: &[u8], first: usize) -> Result<usize, AllocError>
         ensures { IfOk result (λ before. before ≡ sends_of query.now self.old) }
     {
         if let Some(at) = self.place_of(query) {
@@ -133,6 +141,7 @@ impl SentQueries {
         let octets = Vec::from_slice(self.alloc, query)?;
         self.items.push(SentQuery {
             octets,
+            first,
             sends: 1,
             is_out: true,
             went_out: false,
@@ -148,6 +157,26 @@ impl SentQueries {
         match self.place_of(query) {
             Some(at) => self.items[at].sends,
             None => 0,
+        }
+    }
+
+    /// The server that a query goes to first, as far as it is kept.
+    pub(crate) fn first_of(&self, query: &[u8]) -> usize
+        ensures { result ≡ first_of query.now self.now }
+    {
+        match self.place_of(query) {
+            Some(at) => self.items[at].first,
+            None => 0,
+        }
+    }
+
+    /// Whether a query that is kept was sent, and no reply to it was handed on since.
+    pub(crate) fn is_out(&self, query: &[u8]) -> bool
+        ensures { result ≡ is_out query.now self.now }
+    {
+        match self.place_of(query) {
+            Some(at) => self.items[at].is_out,
+            None => false,
         }
     }
 
@@ -189,12 +218,12 @@ impl SentQueries {
         went
     }
 
-    /// The last query of a message's id that was sent more often than so many times.
-    pub(crate) fn query_of(&self, message: &[u8], sends: usize) -> Option<&[u8]>
+    /// The last query of a message's id that was sent to this one of so many servers.
+    pub(crate) fn query_of(&self, message: &[u8], server: usize, servers: usize) -> Option<&[u8]>
         ensures { IfSome result (λ query. take 2 query.now ≡ take 2 message.now) }
     {
         for sent in self.items.iter().rev() {
-            if sent.fits(message, sends) {
+            if sent.fits(message, server, servers) {
                 return Some(sent.octets.as_slice());
             }
         }

@@ -10,6 +10,7 @@ use crate::query_form::QueryForm;
 use crate::reply_bits::{is_cut, refuses_edns, tells_failure};
 use crate::sent_queries::SentQueries;
 use crate::server::{DATAGRAM_LIMIT, LONG_WAIT, Server, is_wait, wait_for};
+use crate::server_order::server_at;
 use crate::tcp::ask_over_tcp;
 use crate::try_log::TryLog;
 use crate::udp::try_bind;
@@ -45,9 +46,11 @@ pub struct WireOptions {
 /// A wire to DNS servers over sockets of the system.
 ///
 /// The first send of a query goes to the first server, the second to the second, and so on round.
-/// Each server has a UDP socket of a port that the system chose, and a message counts only from a
-/// server to which a query of its id was sent. A reply that was cut is asked for again over TCP,
-/// from the same server, and the whole one is given; where that fails the cut one is given.
+/// A server that comes first and does not reply in time, or can't be reached, comes last from then
+/// on: the queries that follow go round from the one behind it. Each server has a UDP socket of a
+/// port that the system chose, and a message counts only from a server to which a query of its id
+/// was sent. A reply that was cut is asked for again over TCP, from the same server, and the whole
+/// one is given; where that fails the cut one is given.
 ///
 /// Where a send or a receive fails, as at a closed port, or where a reply tells SERVFAIL or REFUSED
 /// (RFC 1035 4.1.1), the query goes to the next server at once, as long as there is one that was
@@ -68,6 +71,8 @@ pub struct ServerWire<'a, R> {
     rt: &'a R,
     alloc: Global,
     servers: Vec<Server>,
+    /// The server that a query goes to first.
+    first: usize,
     options: WireOptions,
     sent: SentQueries,
     chains: OpenChains,
@@ -100,6 +105,7 @@ impl<'a, R: Net + Clock> ServerWire<'a, R> {
             rt,
             alloc,
             servers,
+            first: 0,
             options,
             sent: SentQueries::new(alloc),
             chains: OpenChains::new(alloc),
@@ -197,17 +203,35 @@ impl<'a, R: Net + Clock> ServerWire<'a, R> {
         Vec::from_slice(self.alloc, message).ok()
     }
 
+    /// The server that a query was sent to last, if it was.
+    fn last_server(&self, query: &[u8]) -> Option<usize> {
+        let servers = self.servers.len();
+        let sends = self.sent.sends_of(query);
+        if servers == 0 || sends == 0 {
+            return None;
+        }
+        Some(server_at(self.sent.first_of(query), sends - 1, servers))
+    }
+
+    /// Lets a server that comes first come last: it did not reply in time, or can't be reached.
+    fn put_last(&mut self, server: usize)
+        ensures { self.new.options ≡ self.old.options }
+    {
+        let servers = self.servers.len();
+        if servers > 0 && server == self.first {
+            self.first = server_at(server, 1, servers);
+        }
+    }
+
     /// Whether a query that this server failed to answer is with another server: with one that was
     /// asked since, or with the next one, which is asked now.
     fn goes_on(&mut self, server: usize, query: &[u8]) -> bool
         ensures { IsFalse result → self.new.options ≡ self.old.options }
     {
-        let servers = self.servers.len();
-        let sends = self.sent.sends_of(query);
-        if servers == 0 || sends == 0 || (sends - 1) % servers != server {
+        if self.last_server(query) != Some(server) {
             return true;
         }
-        if sends < servers {
+        if self.sent.sends_of(query) < self.servers.len() {
             self.send_on(query);
             return true;
         }
@@ -273,7 +297,7 @@ impl<'a, R: Net + Clock> ServerWire<'a, R> {
     fn take(&mut self, server: usize, message: &[u8]) -> Option<Vec<u8>>
         ensures { IfSome result (λ reply. HandsOn self.old.options.form reply.items) }
     {
-        let query = self.sent.query_of(message, server)?;
+        let query = self.sent.query_of(message, server, self.servers.len())?;
         let query = Vec::from_slice(self.alloc, query).ok()?;
         self.note_reply(server, message);
         let whole = self.whole(server, query.as_slice(), message)?;
@@ -304,6 +328,7 @@ impl<'a, R: Net + Clock> ServerWire<'a, R> {
     /// Leaves a server whose port is closed: what was sent to it goes to the next server. Where
     /// there is nothing or no server left, it waits.
     fn leave(&mut self, server: usize, wait: Duration) {
+        self.put_last(server);
         if !self.leave_once(server) {
             self.rt.sleep(wait);
             return;
@@ -350,14 +375,17 @@ impl<'a, R: Net + Clock> ServerWire<'a, R> {
         if !self.options.over_tcp {
             return self.send_datagram(server, query);
         }
-        match self.over_tcp(server, query) {
-            Some(reply) if is_last || !tells_failure(reply.as_slice()) => {
-                match self.hand_on(query, reply) {
-                    Some(reply) => self.replies.push_back(reply).is_ok(),
-                    None => true,
-                }
-            }
-            _ => false,
+        let Some(reply) = self.over_tcp(server, query) else {
+            self.put_last(server);
+            return false;
+        };
+        if !is_last && tells_failure(reply.as_slice()) {
+            return false;
+        }
+        self.sent.settle(query);
+        match self.hand_on(query, reply) {
+            Some(reply) => self.replies.push_back(reply).is_ok(),
+            None => true,
         }
     }
 
@@ -365,14 +393,26 @@ impl<'a, R: Net + Clock> ServerWire<'a, R> {
     fn send_on(&mut self, query: &[u8]) {
         let servers = self.servers.len();
         'servers: for _server in 0..servers {
-            let Ok(before) = self.sent.keep(query) else {
+            let Ok(before) = self.sent.keep(query, self.first) else {
                 return;
             };
+            let server = server_at(self.sent.first_of(query), before, servers);
             let is_last = before >= servers - 1;
-            if self.send_to(before % servers, query, is_last) || is_last {
+            if self.send_to(server, query, is_last) || is_last {
                 return;
             }
         }
+    }
+
+    /// Sends a query. Where it is out already, the server that it was sent to last did not reply in
+    /// time.
+    fn send_in_turn(&mut self, query: &[u8]) {
+        if self.sent.is_out(query) {
+            if let Some(server) = self.last_server(query) {
+                self.put_last(server);
+            }
+        }
+        self.send_on(query);
     }
 
     /// Sends the queries that ask chains on.
@@ -416,8 +456,8 @@ impl<'a, R: Net + Clock> MessageWire for ServerWire<'a, R> {
     /// Where it began a chain that is open, what asks this on is sent.
     fn send(&mut self, query: &[u8]) {
         match self.further_of(query) {
-            Some(further) => self.send_on(further.as_slice()),
-            None => self.send_on(query),
+            Some(further) => self.send_in_turn(further.as_slice()),
+            None => self.send_in_turn(query),
         }
     }
 

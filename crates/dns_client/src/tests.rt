@@ -2,4 +2,5 @@
 mod allocations;
 mod files;
 mod forms;
+mod orders;
 mod page;
