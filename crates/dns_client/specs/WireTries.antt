@@ -25,13 +25,19 @@ Asks query None = (it : Message) → Begins query it → it.questions ≡ []
 Asks query (Some asked) =
     (it : Message) × (others : List Asked) × Begins query it × (it.questions ≡ asked ∷ others)
 
--- a message of this id came back: so many octets it had, and its RCODE but for the upper bits is in
--- the fourth of them
+-- octets begin with a message, or with none
+abbrev pub IsInFront : List ℕ → Option Message → Type 0
+IsInFront octets None = (it : Message) → Begins octets it → ⊥
+IsInFront octets (Some it) = Begins octets it
+
+-- Octets of this id came back: so many, and the message in front of them. The RCODE but for its
+-- upper bits is in the fourth of them.
 pub record IsReplyTo (id : ℕ) (reply : WireReply) : Type 0 where
-  pub message : List ℕ
-  pub is : id_of message ≡ id
-  pub octets : reply.octets ≡ length message
-  pub rcode : IfSome (slice_get message 3) (λ octet. reply.rcode % 16 ≡ octet % 16)
+  pub came : List ℕ
+  pub is : id_of came ≡ id
+  pub octets : reply.octets ≡ length came
+  pub rcode : IfSome (slice_get came 3) (λ octet. reply.rcode % 16 ≡ octet % 16)
+  pub message : IsInFront came reply.message
 
 -- A query was sent, of this id and with this question; and if something is said to have come back,
 -- a message of this id did.

@@ -3,6 +3,7 @@ ghost use Rattle.std.specs.Prelude.{◌≡◌, [], length, IfOk, IfSome, ◌<◌
 ghost use Rattle.std.specs.List.{All, HoldsAt};
 ghost use Rattle.dns_client.specs.WireCounts.{with_query, with_reply};
 ghost use Rattle.dns_client.specs.WireTries.{Asks, IsFirst, IsTry};
+ghost use Rattle.dns_client.specs.WireTries as spec;
 
 use crate::reply_bits::rcode_of;
 use crate::wire_counts::WireCounts;
@@ -116,7 +117,25 @@ impl TryLog {
             .rposition(|one| one.awaits(id, server, over_tcp))
     }
 
-    /// Notes that a message came from a server.
+    /// Keeps a message as the reply to the try at this place.
+    fn keep_reply(&mut self, at: usize, came_at: Duration, message: &[u8]) -> Result<(), AllocError>
+        requires inside { at < length self.old.tries }
+        requires of_id { HoldsAt (λ one. one.id ≡ spec.id_of message.now) self.old.tries at }
+        ensures { self.new.counts ≡ self.old.counts }
+    {
+        let found = message_in(self.alloc, message)?;
+        let reply = WireReply {
+            rcode: rcode_of(self.alloc, message),
+            octets: message.len(),
+            message: found,
+            came_at,
+        };
+        self.tries[at].reply = Some(reply);
+        Ok(())
+    }
+
+    /// Notes that a message came from a server. One for which memory is refused is counted and not
+    /// kept.
     pub(crate) fn came<R: Clock>(
         &mut self,
         rt: &R,
@@ -128,12 +147,8 @@ impl TryLog {
     {
         self.counts = self.counts.with_reply();
         if let Some(at) = self.place_of(id_of(message), server, over_tcp) {
-            let reply = WireReply {
-                rcode: rcode_of(self.alloc, message),
-                octets: message.len(),
-                came_at: self.now(rt),
-            };
-            self.tries[at].reply = Some(reply);
+            let came_at = self.now(rt);
+            let _ = self.keep_reply(at, came_at, message);
         }
     }
 

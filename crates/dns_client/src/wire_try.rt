@@ -3,7 +3,7 @@ ghost use Rattle.std.specs.Prelude.{◌≡◌, IsTrue};
 ghost use Rattle.std.specs.List.{All};
 ghost use Rattle.dns_client.specs.WireTries as spec;
 
-use dns_message::Asked;
+use dns_message::{Asked, Message};
 use std::net::SocketAddr;
 use std::time::Duration;
 
@@ -19,12 +19,14 @@ pub struct Way {
 }
 
 /// A message that came back.
-#[derive(Clone, Copy, Debug, PartialEq, Eq)]
+#[derive(Debug, Drop)]
 pub struct WireReply {
     /// Its RCODE, with the upper bits of its OPT record (RFC 6891 6.1.3).
     pub rcode: u16,
     /// How many octets it has.
     pub octets: usize,
+    /// The message in front of them; none where they begin with no message (RFC 1035 4.1).
+    pub message: Option<Message>,
     /// When it came, since the wire was opened.
     pub came_at: Duration,
 }

@@ -2,9 +2,12 @@ pub mod Servers
 pub mod Addresses
 pub mod Lines
 pub mod OpenLines
+pub mod RecordLines
+pub mod Rules
 pub mod Traces
 pub mod Fates
 pub mod Checks
 pub mod Jsons
 pub mod Reports
 pub mod Runs
+pub mod Terminals

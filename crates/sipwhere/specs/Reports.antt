@@ -5,7 +5,8 @@ use Rattle.dns_client.specs.declared.wire_try.WireTry.{WireTry}
 use Rattle.sipwhere.specs.Checks.{check_line, check_status}
 use Rattle.sipwhere.specs.Jsons.{json_line}
 use Rattle.sipwhere.specs.Lines.{lines_of, status_of}
-use Rattle.sipwhere.specs.Traces.{trace_line}
+use Rattle.sipwhere.specs.Rules.{is_via}
+use Rattle.sipwhere.specs.Traces.{try_lines}
 use Rattle.sipwhere.specs.declared.address.AddressForm.{AddressForm}
 use Rattle.sipwhere.specs.declared.fate.Fate.{Fate}
 use Rattle.sipwhere.specs.declared.report.Report.{Report}
@@ -26,12 +27,13 @@ abbrev pub report_of : Style → List ℕ → Fate → List ℕ
 report_of style text fate = report_as style.report style.form style.several text fate
 
 -- the lines of what went over the wire, where they are asked for
-abbrev pub trace_of : Bool → List WireTry → List ℕ
-trace_of true tries = flat_map trace_line tries
-trace_of false tries = []
+abbrev pub trace_of : Bool → AddressForm → List ℕ → List WireTry → List ℕ
+trace_of true form text tries = flat_map (try_lines form (is_via text)) tries
+trace_of false form text tries = []
 
 abbrev pub traced_report : Style → List WireTry → List ℕ → Fate → List ℕ
-traced_report style tries text fate = trace_of style.traced tries ++ report_of style text fate
+traced_report style tries text fate =
+    trace_of style.traced style.form text tries ++ report_of style text fate
 
 -- its status: a check has one of its own
 abbrev pub status_in : Report → Fate → ℕ

@@ -5,10 +5,14 @@ use Rattle.std.specs.Fmt.{decimal}
 use Rattle.std.specs.Net.Text.{socket_text}
 use Rattle.std.specs.declared.time.Duration.{Duration}
 use Rattle.dns_name.specs.Texts.{text_of}
+use Rattle.dns_message.specs.declared.message.Message.{Message}
 use Rattle.dns_message.specs.declared.question.Asked.{Asked}
 use Rattle.dns_client.specs.declared.wire_try.Way.{Way}
 use Rattle.dns_client.specs.declared.wire_try.WireReply.{WireReply}
 use Rattle.dns_client.specs.declared.wire_try.WireTry.{WireTry}
+use Rattle.sipwhere.specs.RecordLines.{message_lines}
+use Rattle.sipwhere.specs.Rules.{rule_of}
+use Rattle.sipwhere.specs.declared.address.AddressForm.{AddressForm}
 
 -- the name of a type of records (RFC 1035 3.2.2, 3596 2.1, 2782, 3403 4.1); for others RFC 3597 5
 abbrev pub type_word : ℕ → List ℕ
@@ -18,8 +22,11 @@ type_word code =
     (if code == 33 then codes "SRV" else
     (if code == 35 then codes "NAPTR" else codes "TYPE" ++ decimal code)))
 
-abbrev pub asked_words : Asked → List ℕ
-asked_words asked = type_word asked.code ++ 32 ∷ text_of asked.name
+-- the type, the name, and the rule that asks for it
+abbrev pub asked_words : Bool → Asked → List ℕ
+asked_words via asked =
+    type_word asked.code ++ (32 ∷ text_of asked.name) ++ codes " (" ++ rule_of via asked
+    ++ codes ")"
 
 abbrev pub words_if : Bool → List ℕ → List ℕ → List ℕ
 words_if true words others = words
@@ -46,16 +53,30 @@ abbrev pub reply_words : Duration → Option WireReply → List ℕ
 reply_words sent_at None = codes "no reply"
 reply_words sent_at (Some reply) = came_words sent_at reply
 
-abbrev pub question_words : Option Asked → List ℕ
-question_words (Some asked) = asked_words asked
-question_words None = codes "nothing"
+abbrev pub question_words : Bool → Option Asked → List ℕ
+question_words via (Some asked) = asked_words via asked
+question_words via None = codes "nothing"
 
 -- what was asked, how it went, and its id
-abbrev pub sent_words : WireTry → List ℕ
-sent_words one =
-    question_words one.asked ++ codes " to " ++ way_words one.way ++ codes " id "
+abbrev pub sent_words : Bool → WireTry → List ℕ
+sent_words via one =
+    question_words via one.asked ++ codes " to " ++ way_words one.way ++ codes " id "
     ++ decimal one.id
 
-abbrev pub trace_line : WireTry → List ℕ
-trace_line one =
-    codes "; " ++ sent_words one ++ codes ": " ++ reply_words one.sent_at one.reply ++ 10 ∷ []
+abbrev pub trace_line : Bool → WireTry → List ℕ
+trace_line via one =
+    codes "; " ++ sent_words via one ++ codes ": " ++ reply_words one.sent_at one.reply ++ 10 ∷ []
+
+-- the lines of the message that came back
+abbrev pub lines_in : AddressForm → Option Asked → Option Message → List ℕ
+lines_in form (Some asked) (Some message) = message_lines form asked message
+lines_in form (Some asked) None = []
+lines_in form None message = []
+
+abbrev pub reply_lines : AddressForm → Option Asked → Option WireReply → List ℕ
+reply_lines form asked (Some reply) = lines_in form asked reply.message
+reply_lines form asked None = []
+
+-- a query, and what came back
+abbrev pub try_lines : AddressForm → Bool → WireTry → List ℕ
+try_lines form via one = trace_line via one ++ reply_lines form one.asked one.reply

@@ -13,7 +13,11 @@ mod open_lines;
 mod options;
 mod output;
 mod plan;
+mod progress;
+mod record_lines;
+mod record_words;
 mod report;
+mod rule;
 mod run;
 mod run_fault;
 mod seed;
@@ -21,6 +25,7 @@ mod sender;
 mod server_text;
 mod stats;
 mod tell;
+mod terminals;
 #[cfg(test)]
 mod tests;
 mod text_fates;
@@ -32,14 +37,16 @@ use clap::error::ErrorKind;
 use options::{OptionFault, Options, command, read_options};
 use report::Report;
 use run::run;
+use std::env;
+use std::io::{self, IsTerminal};
 use std::net::Net;
 use std::process::ExitCode;
 use std::random::RandomSource;
 use std::rt::{Env, Files};
 use std::sync::Wait;
 use std::time::Clock;
-use std::{env, io};
 use tell::FAULT_STATUS;
+use terminals::Terminals;
 
 /// The status where the words are none that the program knows.
 const USAGE_STATUS: u8 = 4;
@@ -95,7 +102,7 @@ fn run_as<R: Wait + Input + Print + Eprint + Files + Net + RandomSource + Clock 
 /// Does what the program is asked to do, and gives its status.
 fn perform<
     R: Wait + Env + Input + Print + Eprint + Files + Net + RandomSource + Clock + AllocGlobal,
->(rt: &R) -> io::Result<u8>
+>(rt: &R, terminals: Terminals) -> io::Result<u8>
     ensures { IfOk result (λ status. status ≤ 5) }
 {
     let alloc = rt.alloc();
@@ -104,7 +111,7 @@ fn perform<
         Ok(matches) => matches,
         Err(error) => return Ok(tell_usage(rt, &error)),
     };
-    match read_options(alloc, &matches) {
+    match read_options(alloc, &matches, terminals) {
         Ok(options) => Ok(run_as(rt, &options)),
         Err(fault) => {
             let _ = eprintln!(rt; "sipwhere: {fault}");
@@ -114,7 +121,11 @@ fn perform<
 }
 
 fn main(rt: HostRuntime) -> ExitCode {
-    match perform(&rt) {
+    let terminals = Terminals {
+        output: rt.stdout().is_terminal(),
+        errors: rt.stderr().is_terminal(),
+    };
+    match perform(&rt, terminals) {
         Ok(status) => ExitCode::from(status),
         Err(error) => {
             let _ = eprintln!(rt; "sipwhere: {error}");

@@ -108,6 +108,11 @@ impl<'a, B: AnswerBook + Drop, W: MessageWire, C: Clock> OpenLines<'a, B, W, C> 
         })
     }
 
+    /// Of how many lines it was told what became of them.
+    pub fn told(&self) -> usize {
+        self.told
+    }
+
     /// Whether it was told of each line what became of it.
     pub fn is_done(&self) -> bool {
         self.told == self.lines.len()

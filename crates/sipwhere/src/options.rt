@@ -5,6 +5,7 @@ use crate::address::AddressForm;
 use crate::report::{Report, Style};
 use crate::seed::key_from_text;
 use crate::server_text::{local_from_text, server_from_text};
+use crate::terminals::{Terminals, form_for, shows_progress};
 use clap::{Arg, ArgAction, ArgMatches, Command, value_parser};
 use dns_client::QueryForm;
 use sip_selection::{Caps, Families};
@@ -40,6 +41,8 @@ pub struct Options<'a> {
     pub traced: bool,
     /// Whether it is told at the end how much was asked.
     pub stats: bool,
+    /// Whether it is told how many texts are done.
+    pub shows_progress: bool,
     /// The texts, or `-` for the lines of the standard input.
     pub texts: Vec<&'a str>,
 }
@@ -207,7 +210,7 @@ fn with_output<'a>(alloc: Global, command: Command<'a>) -> Result<Command<'a>, A
         .arg(flag(
             alloc,
             "short",
-            "IPv6 addresses in their short form (RFC 5952)",
+            "IPv6 addresses in their short form (RFC 5952), as on a terminal",
         ))?
         .arg(flag(alloc, "json", "An object of JSON for each URI"))?
         .arg(flag(alloc, "check", "One line for a monitoring system").conflicts_with("json")?)?
@@ -340,19 +343,11 @@ fn can_report(report: Report, texts: &[&str]) -> bool {
     }
 }
 
-/// The form of addresses.
-fn form_of(matches: &ArgMatches<'_>) -> AddressForm {
-    if matches.get_flag("short") {
-        AddressForm::Short
-    } else {
-        AddressForm::Full
-    }
-}
-
 /// What is asked for.
 pub fn read_options<'a>(
     alloc: Global,
     matches: &ArgMatches<'a>,
+    terminals: Terminals,
 ) -> Result<Options<'a>, OptionFault> {
     let families = families_of(matches.get_str("families").unwrap_or("46"));
     let transports = matches.get_strs("transports").unwrap_or(&[]);
@@ -371,9 +366,10 @@ pub fn read_options<'a>(
         total: matches.get_one::<u32>("total").unwrap_or(10_000),
         seed: seed_of(matches.get_str("seed"))?,
         report,
-        form: form_of(matches),
+        form: form_for(matches.get_flag("short"), report, terminals),
         traced: matches.get_flag("trace"),
         stats: matches.get_flag("stats"),
+        shows_progress: shows_progress(terminals),
         texts: Vec::from_slice(alloc, texts)?,
     })
 }

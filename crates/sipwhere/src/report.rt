@@ -8,6 +8,7 @@ use crate::check_line::{check_line, check_status};
 use crate::fate::{Fate, status_of};
 use crate::json::json_line;
 use crate::output::lines_of;
+use crate::rule::is_via;
 use crate::trace::trace_lines;
 use dns_client::WireTry;
 use std::alloc::{AllocError, Global};
@@ -78,7 +79,7 @@ pub fn traced_report(
         return report_of(alloc, style, text, fate);
     }
     let report = report_of(alloc, style, text, fate)?;
-    let mut lines = trace_lines(alloc, tries)?;
+    let mut lines = trace_lines(alloc, style.form, is_via(text), tries)?;
     lines.push_str(&report)?;
     Ok(lines)
 }

@@ -6,6 +6,7 @@ use crate::line_input::LineInput;
 use crate::open_lines::OpenLines;
 use crate::options::Options;
 use crate::plan::{Plan, read_plan};
+use crate::progress::Progress;
 use crate::report::Style;
 use crate::run_fault::RunFault;
 use crate::sender::Sender;
@@ -34,7 +35,7 @@ fn greater_of(status: u8, other: u8) -> u8
 /// Locates lines side by side, prints what became of each, in their order, and gives the greatest
 /// status.
 fn locate_side_by_side<
-    R: Wait,
+    R: Wait + Eprint,
     B: AnswerBook + Drop,
     W: MessageWire + Tracer,
     C: Clock + Timer,
@@ -49,12 +50,14 @@ fn locate_side_by_side<
     seat: &mut B::Seat,
     wire: &mut W,
     clock: &C,
+    progress: &mut Progress,
     output: &mut O,
 ) -> u8
     requires made_here { B.belongs book.now seat.old }
     ensures stays { B.belongs book.now seat.new }
     ensures range { result ≤ 5 }
 {
+    progress.begin(lines.len());
     let Ok(mut open) = OpenLines::<B, W, C>::new(alloc, *sender, lines) else {
         return FAULT_STATUS;
     };
@@ -68,6 +71,7 @@ fn locate_side_by_side<
             return FAULT_STATUS;
         }
         status = greater_of(status, open.tell_all(now, style, wire, output));
+        progress.tell(rt, now, open.told());
         if open.is_done() {
             return status;
         }
@@ -86,7 +90,7 @@ fn width_of(style: Style) -> usize
 
 /// Locates lines, prints what became of each, and gives the greatest status.
 pub fn locate_lines<
-    R: Wait,
+    R: Wait + Eprint,
     B: AnswerBook + Drop,
     W: MessageWire + Tracer,
     C: Clock + Timer,
@@ -101,6 +105,7 @@ pub fn locate_lines<
     seat: &mut B::Seat,
     wire: &mut W,
     clock: &C,
+    progress: &mut Progress,
     output: &mut O,
 ) -> u8
     requires made_here { B.belongs book.now seat.old }
@@ -110,7 +115,7 @@ pub fn locate_lines<
     let mut status = 0;
     'parts: for part in lines.chunks(width_of(style)) {
         let told = locate_side_by_side(
-            rt, alloc, sender, style, part, book, seat, wire, clock, output,
+            rt, alloc, sender, style, part, book, seat, wire, clock, progress, output,
         );
         status = status.max(told);
     }
@@ -119,7 +124,7 @@ pub fn locate_lines<
 
 /// Locates the lines of the input as they come, and gives the greatest status.
 fn locate_input<
-    R: Wait + Input,
+    R: Wait + Input + Eprint,
     B: AnswerBook + Drop,
     W: MessageWire + Tracer,
     C: Clock + Timer,
@@ -133,6 +138,7 @@ fn locate_input<
     seat: &mut B::Seat,
     wire: &mut W,
     clock: &C,
+    progress: &mut Progress,
     output: &mut O,
 ) -> u8
     requires made_here { B.belongs book.now seat.old }
@@ -156,7 +162,7 @@ fn locate_input<
         let lines = lines.as_slice();
         first = first.saturating_add(lines.len() as u64);
         let told = locate_lines(
-            rt, alloc, sender, style, lines, book, seat, wire, clock, output,
+            rt, alloc, sender, style, lines, book, seat, wire, clock, progress, output,
         );
         status = status.max(told);
     }
@@ -181,7 +187,7 @@ fn wire_options(options: &Options<'_>, plan: &Plan) -> WireOptions {
 
 /// Locates the texts of the options, or the lines of the input, and gives the greatest status.
 fn locate_all<
-    R: Wait + Input + Print,
+    R: Wait + Input + Print + Eprint,
     B: AnswerBook + Drop,
     W: MessageWire + Tracer,
     C: Clock + Timer,
@@ -194,6 +200,7 @@ fn locate_all<
     seat: &mut B::Seat,
     wire: &mut W,
     clock: &C,
+    progress: &mut Progress,
 ) -> u8
     requires made_here { B.belongs book.now seat.old }
     ensures range { result ≤ 5 }
@@ -203,7 +210,9 @@ fn locate_all<
     let texts = options.texts.as_slice();
     if texts == ["-"].as_slice() {
         let style = options.style(true);
-        return locate_input(rt, alloc, sender, style, book, seat, wire, clock, output);
+        return locate_input(
+            rt, alloc, sender, style, book, seat, wire, clock, progress, output,
+        );
     }
     let style = options.style(texts.len() > 1);
     let Ok(lines) = numbered(alloc, 1, texts) else {
@@ -219,6 +228,7 @@ fn locate_all<
         seat,
         wire,
         clock,
+        progress,
         output,
     )
 }
@@ -243,9 +253,19 @@ fn run_over<R: Wait + Input + Print + Eprint + Net + time::Clock>(
     let clock = RunClock::start(rt)?;
     let (book, seat) = ListCache::new(alloc);
     let (book, mut seat) = CountingBook::new(book, seat);
+    let mut progress = Progress::new(options.shows_progress);
     let status = locate_all(
-        rt, alloc, options, &sender, &book, &mut seat, &mut wire, &clock,
+        rt,
+        alloc,
+        options,
+        &sender,
+        &book,
+        &mut seat,
+        &mut wire,
+        &clock,
+        &mut progress,
     );
+    progress.wipe(rt);
     if options.stats {
         tell_stats(rt, wire.counts(), seat.found(), clock.elapsed());
     }

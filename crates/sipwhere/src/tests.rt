@@ -1,5 +1,7 @@
 //! What becomes of texts over a wire in memory, and the words of the command line.
 mod act_wire;
 mod fates;
+mod records;
+mod rules;
 mod traces;
 mod words;

@@ -3,6 +3,7 @@ use super::act_wire::Act::{Answers, Cut, Fails, Loses, OtherId};
 use super::act_wire::{Act, ActClock, ActWire};
 use crate::address::AddressForm::Short;
 use crate::line::Line;
+use crate::progress::Progress;
 use crate::report::{Report, Style};
 use crate::run::locate_lines;
 use crate::sender::Sender;
@@ -103,7 +104,7 @@ const FORMS: [(Report, bool, &str, &str); 8] = [
 ];
 
 /// What is printed of a text over a wire that does this.
-fn printed<R: Wait>(
+fn printed<R: Wait + Eprint>(
     rt: &R,
     alloc: Global,
     report: Report,
@@ -144,6 +145,7 @@ fn printed<R: Wait>(
         &mut seat,
         &mut wire,
         &clock,
+        &mut Progress::new(false),
         &mut output,
     );
     String::from_utf8(output).ok()

@@ -1,4 +1,5 @@
 //! Lines of queries that went out.
+use crate::address::AddressForm::Full;
 use crate::trace::trace_lines;
 use dns_client::{Way, WireReply, WireTry};
 use dns_message::Asked;
@@ -25,8 +26,8 @@ const ROWS: [Row; 3] = [
         over_tcp: false,
         has_edns: true,
         reply: Some((16, 49, 1_003)),
-        line: "; SRV _sip._udp.example. to 192.0.2.53:53 udp edns id 7: \
-            rcode 16, 49 octets, 3 ms\n",
+        line: "; SRV _sip._udp.example. (servers for udp, RFC 3263 4.2) to 192.0.2.53:53 \
+            udp edns id 7: rcode 16, 49 octets, 3 ms\n",
     },
     Row {
         code: 28,
@@ -34,7 +35,8 @@ const ROWS: [Row; 3] = [
         over_tcp: true,
         has_edns: false,
         reply: None,
-        line: "; AAAA _sip._udp.example. to [2001:db8::53]:5353 tcp id 7: no reply\n",
+        line: "; AAAA _sip._udp.example. (addresses, RFC 3263 4.2) to [2001:db8::53]:5353 \
+            tcp id 7: no reply\n",
     },
     // RFC 3597 5; its reply did not come before it
     Row {
@@ -43,7 +45,8 @@ const ROWS: [Row; 3] = [
         over_tcp: false,
         has_edns: false,
         reply: Some((0, 512, 0)),
-        line: "; TYPE65 _sip._udp.example. to 192.0.2.53:53 udp id 7: rcode 0, 512 octets, 0 ms\n",
+        line: "; TYPE65 _sip._udp.example. (records, RFC 3263 4.2) to 192.0.2.53:53 \
+            udp id 7: rcode 0, 512 octets, 0 ms\n",
     },
 ];
 
@@ -62,6 +65,7 @@ fn line_of(alloc: Global, row: &Row) -> Option<String> {
     let reply = row.reply.map(|(rcode, octets, time)| WireReply {
         rcode,
         octets,
+        message: None,
         came_at: Duration::from_millis(time),
     });
     let mut tries = Vec::new(alloc);
@@ -73,7 +77,7 @@ fn line_of(alloc: Global, row: &Row) -> Option<String> {
         reply,
     };
     tries.push(one).ok()?;
-    trace_lines(alloc, tries.as_slice()).ok()
+    trace_lines(alloc, Full, false, tries.as_slice()).ok()
 }
 
 #[test]

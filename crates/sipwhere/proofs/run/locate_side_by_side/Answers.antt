@@ -1,5 +1,4 @@
-use Rattle.std.proofs.Common.{◌≤◌, lit≤}
-use Rattle.sipwhere.specs.OpenLines.{Stands}
+use Rattle.std.proofs.Common.{lit≤}
 use Rattle.sipwhere.proofs.run.locate_side_by_side.Goals as goal
 
 pub rounds-init : goal.rounds-init

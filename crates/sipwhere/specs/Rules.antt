@@ -1,0 +1,56 @@
+-- Which rule of RFC 3263 asks a question.
+use Rattle.std.specs.Prelude.{ℕ, ◌==◌, nat_eq, nat_lt, Bool, true, false, ◌&&◌, ◌||◌, List, ◌++◌, codes, length, if◌then◌else◌}
+use Rattle.std.specs.List.{before_first, position_or_len, starts_with}
+use Rattle.std.specs.Str.{bytes_eq}
+use Rattle.dns_name.specs.Labels.{small_letters}
+use Rattle.dns_name.specs.Texts.{text_of}
+use Rattle.dns_message.specs.declared.question.Asked.{Asked}
+
+-- ---- URIs and Vias
+
+abbrev pub is_colon : ℕ → Bool
+is_colon octet = octet == 58
+
+-- the word `via`, in letters of any case
+abbrev pub is_via_word : List ℕ → Bool
+is_via_word word = bytes_eq (small_letters word) (codes "via")
+
+-- such a word stands in front of the first colon
+abbrev pub is_via : List ℕ → Bool
+is_via text =
+    nat_lt (position_or_len is_colon text) (length text)
+    && is_via_word (before_first is_colon text)
+
+-- ---- rules
+
+-- the section that says where a response goes, and that which says where a request goes
+abbrev pub section_word : Bool → List ℕ
+section_word true = codes "5"
+section_word false = codes "4.2"
+
+abbrev pub stands_in_front : List ℕ → List ℕ → Bool
+stands_in_front front name = starts_with nat_eq name front
+
+-- whose servers are asked for: those of a transport (RFC 3263 4.1), where the name says so
+abbrev pub servers_word : List ℕ → List ℕ
+servers_word name =
+    if stands_in_front (codes "_sip._udp.") name then codes "servers for udp" else
+    (if stands_in_front (codes "_sip._tcp.") name then codes "servers for tcp" else
+    (if stands_in_front (codes "_sip._sctp.") name then codes "servers for sctp" else
+    (if stands_in_front (codes "_sips._tcp.") name then codes "servers for tls"
+    else codes "servers")))
+
+abbrev pub place_rule : Bool → List ℕ → List ℕ
+place_rule via wanted = wanted ++ codes ", RFC 3263 " ++ section_word via
+
+-- The services of a domain choose a transport, and its servers, or the host's addresses, say where
+-- the request goes (RFC 3263 4.1, 4.2, 5).
+abbrev pub rule_words : Bool → ℕ → List ℕ → List ℕ
+rule_words via code name =
+    if code == 35 then codes "services, RFC 3263 4.1" else
+    (if code == 33 then place_rule via (servers_word name) else
+    (if code == 1 || code == 28 then place_rule via (codes "addresses")
+    else place_rule via (codes "records")))
+
+abbrev pub rule_of : Bool → Asked → List ℕ
+rule_of via asked = rule_words via asked.code (text_of asked.name)

@@ -1,0 +1,17 @@
+-- What a person reads.
+use Rattle.std.specs.Prelude.{Bool, ◌&&◌, ◌||◌, not, if◌then◌else◌}
+use Rattle.sipwhere.specs.declared.address.AddressForm.{AddressForm}
+use Rattle.sipwhere.specs.declared.address.AddressForm.TheVariants.{Full, Short}
+use Rattle.sipwhere.specs.declared.report.Report.{Report}
+use Rattle.sipwhere.specs.declared.report.Report.TheVariants.{Lines, Json, Check}
+use Rattle.sipwhere.specs.declared.terminals.Terminals.{Terminals}
+
+-- short addresses where they are asked for, or lines go to a terminal
+abbrev pub form_for : Bool → Report → Terminals → AddressForm
+form_for short Lines terminals = if short || terminals.output then Short else Full
+form_for short Json terminals = if short then Short else Full
+form_for short Check terminals = if short then Short else Full
+
+-- what became of texts goes elsewhere
+abbrev pub shows_progress : Terminals → Bool
+shows_progress terminals = terminals.errors && not terminals.output

@@ -1,0 +1,56 @@
+//! How many texts are done, told on standard error.
+use std::time::Duration;
+
+/// How many seconds pass at least from one time to the next.
+const INTERVAL: u64 = 1;
+
+/// How many texts are done, of how many that are known.
+#[derive(Drop)]
+pub struct Progress {
+    is_shown: bool,
+    /// Of the parts of the input before this one.
+    before: usize,
+    known: usize,
+    due: Duration,
+    /// Whether a line of it stands on the terminal.
+    stands: bool,
+}
+
+impl Progress {
+    /// Nothing is known yet. It is told from a second on, if at all.
+    pub fn new(is_shown: bool) -> Progress {
+        Progress {
+            is_shown,
+            before: 0,
+            known: 0,
+            due: Duration::from_secs(INTERVAL),
+            stands: false,
+        }
+    }
+
+    /// Notes that so many more are known, all that were known before being done.
+    pub fn begin(&mut self, count: usize) {
+        self.before = self.known;
+        self.known = self.known.saturating_add(count);
+    }
+
+    /// Tells that so many of those that were begun last are done, at most once a second.
+    pub fn tell<R: Eprint>(&mut self, rt: &R, now: Duration, done: usize) {
+        if !self.is_shown || now < self.due {
+            return;
+        }
+        self.due = now.saturating_add(Duration::from_secs(INTERVAL));
+        self.stands = true;
+        let done = self.before.saturating_add(done);
+        let known = self.known;
+        let _ = eprint!(rt; "\r\u{1b}[K{done} of {known}");
+    }
+
+    /// Wipes its line out, if one stands.
+    pub fn wipe<R: Eprint>(&mut self, rt: &R) {
+        if self.stands {
+            self.stands = false;
+            let _ = eprint!(rt; "\r\u{1b}[K");
+        }
+    }
+}
