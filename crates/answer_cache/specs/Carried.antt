@@ -12,9 +12,11 @@ use Rattle.answer_cache.specs.Lists.{own_store}
 use Rattle.answer_cache.specs.Seats.{Offer, SeatView, offer_of}
 use Rattle.answer_cache.specs.declared.carried.Entry.{Entry}
 
+-- what an entry holds: a question, its answer and the moment
 abbrev pub offer_in : Entry → Offer
 offer_in entry = offer_of entry.question (arc_value entry.answer) entry.moment
 
+-- what entries hold, each a question, its answer and the moment
 abbrev pub offers_in : List Entry → List Offer
 offers_in entries = map offer_in entries
 
@@ -36,6 +38,7 @@ last_stores [] = []
 last_stores (store ∷ later) =
     if has_question store.question later then last_stores later else store ∷ last_stores later
 
+-- what was stored lives at a moment: its life is not over (RFC 1035 3.2.1)
 abbrev pub lives_at : ℕ → Offer → Bool
 lives_at now offer = nat_lt now (offer.moment + offer.answer.life)
 
@@ -55,7 +58,7 @@ pub record IsCarriedOf (groups : ℕ) (before after : List Store) (now : ℕ)
   pub all : carried ≡ flat_map (λ group. living_of now (in_group group (history group)))
       (range_with_len 0 groups)
 
--- of all groups
+-- what is carried at a moment, of all 64 groups (`IsCarriedOf`)
 abbrev pub IsCarried : List Store → List Store → ℕ → List Offer → Type 0
 IsCarried before after now carried = IsCarriedOf 64 before after now carried
 

@@ -25,9 +25,11 @@ pub record IsListSeat (seat : SeatView) : Type 0 where
   pub is : IsSeat seat
   pub own : seat.own ≡ seat.seen
 
+-- a seat after it was handed one thing more
 abbrev pub offered_too : SeatView → Offer → SeatView
 offered_too seat offer = record seat { offered = seat.offered ++ offer ∷ [] }
 
+-- a seat after it was handed one thing more, which it stored
 abbrev pub stored_too : SeatView → Offer → SeatView
 stored_too seat offer = record seat {
   seen = seat.seen ++ store_of seat offer ∷ [];

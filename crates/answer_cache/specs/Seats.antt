@@ -15,6 +15,7 @@ pub record Offer : Type 0 where
   pub answer : AnswerValue
   pub moment : ℕ
 
+-- what was handed to a cache: a question, its answer and the moment
 abbrev pub offer_of : Question → AnswerValue → ℕ → Offer
 offer_of question answer moment = record { question = question; answer = answer; moment = moment }
 
@@ -40,6 +41,7 @@ pub record StoresNothing (old new : SeatView) : Type 0 where
   pub own : new.own ≡ old.own
   pub offered : new.offered ≡ old.offered
 
+-- the store that a seat makes of what it was handed
 abbrev pub store_of : SeatView → Offer → Store
 store_of seat offer =
     record {

@@ -11,10 +11,12 @@ use Rattle.answer_log.specs.declared.event.Event.TheVariants.{Asks, Named, Opene
 use Rattle.answer_log.specs.declared.event.Counted.{Counted}
 use Rattle.answer_log.specs.Logs.{seat_of}
 
+-- a number, or one more where the condition holds
 abbrev pub plus_if : Bool → ℕ → ℕ
 plus_if true n = suc n
 plus_if false n = n
 
+-- how many events of a seat a log has
 abbrev pub count : ℕ → List Event → ℕ
 count s [] = 0
 count s (e ∷ log) = plus_if ((seat_of e) == s) (count s log)
@@ -24,9 +26,11 @@ abbrev pub counts_from : ℕ → ℕ → List Event → List Cell
 counts_from k zero log = []
 counts_from k (suc n) log = (count k log, true) ∷ counts_from (suc k) n log
 
+-- how many events of each of 64 seats a log has, each in the form of a cell
 abbrev pub counts : List Event → List Cell
 counts log = counts_from 0 64 log
 
+-- the first of these names, which is that of the counts
 abbrev pub first_name : List ℕ → ℕ
 first_name [] = 0
 first_name (n ∷ ns) = n
@@ -53,9 +57,11 @@ abbrev pub tally_owns : Bool → ℕ → ℕ → ℕ → Fml
 tally_owns true δ s n = part δ s quarter n
 tally_owns false δ s n = ftrue
 
+-- the quarters of the seats' counts, which are held in one place until they are dealt out
 abbrev pub tallies_own : ℕ → ℕ → ℕ → Fml
 tallies_own δ s n = pens_own δ s n
 
+-- what the rule holds of the counts: three quarters of each
 abbrev pub keeps_counts : List ℕ → List Event → Fml
 keeps_counts names log = roster (first_name names) 0 (counts log)
 

@@ -9,6 +9,7 @@ use Rattle.dns_message.specs.declared.question.Question.{Question}
 abbrev pub hash_more : ℕ → ℕ → ℕ
 hash_more hash octet = (bit_xor hash octet * 16777619) % 2 ^ 32
 
+-- FNV-1a of 32 bits, over the octets
 abbrev pub hash_of : List ℕ → ℕ
 hash_of octets = fold hash_more 2166136261 octets
 
@@ -17,7 +18,7 @@ abbrev pub hashed_of : Question → List ℕ
 hashed_of question = wire_of question.name ++ (kind_code question.kind / 256)
     ∷ (kind_code question.kind % 256) ∷ []
 
--- how many stores of one group there can be
+-- how many stores one group can have: 128
 abbrev pub group_limit : ℕ
 group_limit = 128
 

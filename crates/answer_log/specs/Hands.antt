@@ -79,7 +79,9 @@ pub record EndsWith (store : Store) (before after : List Store) : Type 0 where
   pub later : IsPrefix before front
   pub own : mine front store.seat ≡ mine before store.seat
 
--- what holds of each log that was seen
+-- What holds of each log that was seen: each store of its history is sound and of one of its seats,
+-- no group has more than 128 stores, no placed node has the number 0, and the node of a group
+-- placed last tells which stores the group had by then.
 pub record IsLog (log : List Event) : Type 0 where
   -- each store is of a seat that the log was opened for
   pub seats : All (λ store. store.seat < seats_in log) (history log)

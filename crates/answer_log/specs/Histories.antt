@@ -13,11 +13,12 @@ use Rattle.answer_log.specs.declared.store.Store.{Store}
 abbrev pub stores_of : Question → List Store → List Store
 stores_of question history = filter (λ store. same_question store.question question) history
 
--- the answer of a store, while it lives
+-- the answer of a store, until as many seconds after it as its life is (RFC 1035 3.2.1)
 abbrev pub living : ℕ → Store → Option AnswerValue
 living now store = if nat_lt now (store.moment + store.answer.life) then Some store.answer else None
 
--- the answer of the last store of a question; none where that has expired, or there is none
+-- the answer of the last store of a question; none where that has expired, or there is none (RFC
+-- 1035 7.4)
 abbrev pub cached : List Store → Question → ℕ → Option AnswerValue
 cached history question now =
     option_and_then (living now) (last_or None (stores_of question history))

@@ -7,13 +7,14 @@ use Rattle.answer_log.specs.declared.event.Event.{Event}
 use Rattle.answer_log.specs.declared.event.Event.TheVariants.{Asks, Named, Opened, Placed}
 use Rattle.answer_log.specs.declared.store.Store.{Store}
 
--- 64 is the number of no seat
+-- the seat that an event is of; 64, which is no seat, where the event opens the log
 abbrev pub seat_of : Event → ℕ
 seat_of (Opened seats) = 64
 seat_of (Asks seat count) = seat
 seat_of (Named node store link) = store.seat
 seat_of (Placed node store link) = store.seat
 
+-- for how many seats an event opens the log; 0 where it does not open it
 abbrev pub opened_for : Event → ℕ
 opened_for (Opened seats) = seats
 opened_for (Asks seat count) = 0
@@ -67,10 +68,12 @@ Linked cells last (Named node store link ∷ log) = Linked cells last log
 Linked cells last (Placed node store link ∷ log) = (64 < link) × (cell cells link ≡ (last, true))
     × Linked cells node log
 
+-- an event is in a log
 abbrev pub In : Event → List Event → Type 0
 In event [] = ⊥
 In event (first ∷ log) = (first ≡ event) ⊎ In event log
 
+-- no event of a log places this node
 abbrev pub Unplaced : ℕ → List Event → Type 0
 Unplaced node [] = Unit {0}
 Unplaced node (Opened seats ∷ log) = Unplaced node log

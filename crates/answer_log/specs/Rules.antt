@@ -31,6 +31,7 @@ pub record IsKept (cells : List Cell) (log : List Event) : Type 0 where
   pub once : Once log
   pub history : IsHistory (history log)
 
+-- the word of a book that a key names
 abbrev pub word_at : Book → ℕ → Word
 word_at book key = record { tracked = true; key = key; book = book }
 

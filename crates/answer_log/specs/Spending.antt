@@ -8,14 +8,18 @@ pub record Spending : Type 0 where
   pub tries : ℕ
   pub missed : ℕ
 
+-- nothing was spent
 abbrev pub nothing : Spending
 nothing = record { links = 0; tries = 0; missed = 0 }
 
+-- one link more was passed
 abbrev pub one_link : Spending → Spending
 one_link spent = record spent { links = spent.links + 1 }
 
+-- one more try was made to place a node
 abbrev pub one_try : Spending → Spending
 one_try spent = record spent { tries = spent.tries + 1 }
 
+-- one more number led to no node
 abbrev pub one_miss : Spending → Spending
 one_miss spent = record spent { missed = spent.missed + 1 }

@@ -18,10 +18,12 @@ use Rattle.answer_log.specs.declared.store.Store.{Store}
 use Rattle.answer_log.specs.declared.store.Draft.{Draft}
 use Rattle.answer_log.specs.declared.tally.Tally.{Tally}
 
+-- the store of a seat, a question, its answer and a moment
 abbrev pub store_by : ℕ → Question → AnswerValue → ℕ → Store
 store_by seat question answer moment =
     record { seat = seat; question = question; answer = answer; moment = moment }
 
+-- the store that a draft becomes
 abbrev pub store_of : Draft → Store
 store_of draft = store_by draft.seat draft.question.now (arc_value draft.answer.now) draft.moment
 

@@ -20,6 +20,7 @@ answer_along question message chain = record {
   life = life_of message chain (kept_along question message chain);
 }
 
--- of the answer section, from the name that is asked
+-- the answer that a message has for a question, from the answer section, along the CNAME records of
+-- the name that is asked (RFC 1034 3.6.2, RFC 2181 5.2)
 abbrev pub answer : Question → Message → AnswerValue
 answer question message = answer_along question message (chain message.answers question.name)

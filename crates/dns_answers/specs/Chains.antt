@@ -19,11 +19,12 @@ pub record Chain : Type 0 where
 
 -- ---- which record leads on
 
+-- the canonical name that data gives, where it is that of a CNAME record (RFC 1035 3.3.1)
 abbrev pub canonical_in : Rdata → Option (List (List ℕ))
 canonical_in (Cname target) = Some target
 canonical_in _ = None
 
--- the alias of this name that a record is
+-- a record as an alias, where it is a CNAME record of this name
 abbrev pub alias_of : List (List ℕ) → Record → Option Alias
 alias_of name entry =
     if same_name entry.owner name
@@ -32,15 +33,17 @@ alias_of name entry =
     (canonical_in entry.rdata)
     else None
 
--- the first one in a section
+-- the first CNAME record of a name in a section, with its target (RFC 1034 3.6.2, RFC 2181 10.1)
 abbrev pub first_alias : List (List ℕ) → List Record → Option Alias
 first_alias name section = slice_get (filter_map (alias_of name) section) 0
 
 -- ---- where the records lead
 
+-- the chain without a link, which ends at the name itself
 abbrev pub ends_at : List (List ℕ) → Chain
 ends_at name = record { links = []; last = name }
 
+-- a chain with one CNAME record more, in front
 abbrev pub behind : Record → Chain → Chain
 behind link chain = record { links = link ∷ chain.links; last = chain.last }
 
@@ -54,7 +57,8 @@ chain_within (suc more) section name =
     (chain_within more section alias.target))
     (first_alias name section) (Some (ends_at name))
 
--- where it has at most eight
+-- the CNAME records that are followed from a name, at most eight, and the name where they end; none
+-- where there are more (RFC 1034 3.6.2, 5.2.2)
 abbrev pub chain : List Record → List (List ℕ) → Option Chain
 chain section name = chain_within 8 section name
 
@@ -65,7 +69,7 @@ abbrev pub IsNoAlias : List (List ℕ) → Record → Type 0
 IsNoAlias name entry = (target : List (List ℕ)) → entry.owner ≡ name → entry.rdata ≡ Cname target
     → ⊥
 
--- the first CNAME of this name in the section
+-- a record is the first CNAME record of this name in the section, with this target
 pub record IsFirstAlias (section : List Record) (name : List (List ℕ)) (entry : Record)
     (target : List (List ℕ)) : Type 0 where
   pub front : List Record
@@ -84,13 +88,13 @@ pub data Follows (section : List Record) : List (List ℕ) → List Record → L
       → IsFirstAlias section name entry target → Follows section target others last
       → Follows section name (entry ∷ others) last
 
--- these at most eight lead from the name to one that has no CNAME
+-- these CNAME records, at most eight, lead from the name to one that has no CNAME record
 pub record IsChain (section : List Record) (name : List (List ℕ)) (chain : Chain) : Type 0 where
   pub follows : Follows section name chain.links chain.last
   pub ends : All (IsNoAlias chain.last) section
   pub short : length chain.links ≤ 8
 
--- nine can be followed
+-- nine CNAME records can be followed from the name
 pub record IsTooLong (section : List Record) (name : List (List ℕ)) : Type 0 where
   pub links : List Record
   pub last : List (List ℕ)

@@ -18,11 +18,13 @@ lasting ttl = if nat_le ttl 2147483647 then ttl else 0
 abbrev pub least_from : ℕ → List ℕ → ℕ
 least_from limit ttls = fold min limit (map lasting ttls)
 
+-- the TTLs of records, in their order
 abbrev pub ttls : List Record → List ℕ
 ttls entries = map (λ (entry : Record). entry.ttl) entries
 
 -- ---- that there is no record (RFC 2308 3, 5)
 
+-- the data of an SOA record, where the data is one
 abbrev pub authority_in : Rdata → Option SoaRecord
 authority_in (Soa authority) = Some authority
 authority_in _ = None
@@ -51,7 +53,9 @@ abbrev pub links_of : Option Chain → List Record
 links_of None = []
 links_of (Some chain) = chain.links
 
--- the records kept of a message at the end of a chain: less than 2^31 seconds
+-- The life of an answer: the least of the TTLs of its records and of the CNAME records that led
+-- there, and less than 2^31 seconds (RFC 2181 5.2, of one set of records); without records,
+-- `absent_life`.
 abbrev pub life_of : Message → Option Chain → List Record → ℕ
 life_of message chain [] = absent_life message chain
 life_of message chain (first ∷ others) =
@@ -63,7 +67,7 @@ life_of message chain (first ∷ others) =
 abbrev pub IsNoSoa : Record → Type 0
 IsNoSoa entry = (authority : SoaRecord) → entry.rdata ≡ Soa authority → ⊥
 
--- the first SOA record of a section
+-- a record is the first SOA record of a section, with this data (RFC 2308 5)
 pub record IsFirstSoa (section : List Record) (entry : Record)
     (authority : SoaRecord) : Type 0 where
   pub front : List Record

@@ -12,6 +12,7 @@ kind_of (V6 addresses) = kind.Aaaa
 kind_of (Srv servers) = kind.Srv
 kind_of (Naptr rules) = kind.Naptr
 
+-- how many records an answer has
 abbrev pub count_of : Records → ℕ
 count_of (V4 addresses) = length addresses
 count_of (V6 addresses) = length addresses

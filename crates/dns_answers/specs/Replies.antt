@@ -14,6 +14,7 @@ is_asked question asked =
     same_name asked.name question.name && asked.code == kind_code question.kind
     && asked.class_code == 1
 
+-- the questions of a message are this one alone, in class IN (RFC 1035 4.1.2)
 abbrev pub asks_this_alone : Question → List Asked → Bool
 asks_this_alone question [] = false
 asks_this_alone question (asked ∷ []) = is_asked question asked

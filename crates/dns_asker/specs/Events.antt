@@ -27,7 +27,7 @@ use Rattle.dns_asker.specs.declared.refusal.AskRefusal.TheVariants.{IdTaken, Ful
 
 -- ---- a question is asked
 
--- the octets that are sent for it
+-- the octets of the query that is sent for a question, under an id (RFC 1035 4.1.1)
 abbrev pub sent_octets : ℕ → Question → List ℕ
 sent_octets id question = plain (query_of id question)
 
@@ -79,7 +79,7 @@ EndsBy question message (Answered found) = (reply_refusal question message ≡ N
 EndsBy question message (Faulty refusal) = (reply_refusal question message ≡ Some refusal)
     × EndsWait refusal
 
--- why it is no reply to the question
+-- why a message is no reply to the question (RFC 1035 4.1.1)
 abbrev pub IsNoReply : Question → Message → Why → Type 0
 IsNoReply question message NotSpelled = ⊥
 IsNoReply question message UnknownId = ⊥
@@ -100,7 +100,7 @@ pub record Tells (asking : Asking) (octets : List ℕ) (incoming : Incoming) : T
   pub is_open : ticket_of message.header.id asking.tickets ≡ Some ticket
   pub says : Says ticket message incoming
 
--- What octets mean. No two of these can be so of the same octets.
+-- What octets mean for the tickets (RFC 5452 9.1). No two of these can be so of the same octets.
 abbrev pub Means : Asking → List ℕ → Incoming → Type 0
 Means asking octets (Ignored NotSpelled) = (it : Message) → Begins octets it → ⊥
 Means asking octets (Ignored UnknownId) = (it : Message) × Begins octets it
@@ -131,6 +131,7 @@ MayWant asking octets = (length octets ≤ 65535)
 abbrev pub sent_again : Sent → Sent
 sent_again sent = record sent { sends = sent.sends + 1 }
 
+-- a ticket whose query was sent again at this moment; it is due one second later
 abbrev pub again : ℕ → Ticket → Ticket
 again now ticket = record { sent = sent_again ticket.sent; deadline = now + 1 }
 
@@ -156,7 +157,7 @@ pub record IsGivenUp (old new : Asking) (now id : ℕ) (question : Question) : T
   pub question_is : question ≡ ticket.sent.question
   pub left : new ≡ record old { tickets = others }
 
--- what a moment leaves, and asks for
+-- what a moment leaves of the tickets, and which of them is due (RFC 1035 4.2.1)
 abbrev pub Dues : Asking → Asking → ℕ → Option Due → Type 0
 Dues old new now None = (new ≡ old) × All (λ it. now < it.deadline) old.tickets
 Dues old new now (Some (Resend id octets)) = IsResent old new now id octets.now

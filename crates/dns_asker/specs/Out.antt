@@ -15,7 +15,7 @@ pub record HasQuestion (question : Question) (id : ℕ) (tickets : List Ticket) 
   pub there : ticket_of id tickets ≡ Some ticket
   pub of_it : ticket.sent.question ≡ question
 
--- these are the octets that are sent for the question of the ticket of this id
+-- these are the octets that are sent for the question of the ticket of this id (RFC 1035 4.1.1)
 pub record IsOctetsOf (octets : List ℕ) (id : ℕ) (tickets : List Ticket) : Type 0 where
   pub ticket : Ticket
   pub there : ticket_of id tickets ≡ Some ticket

@@ -10,8 +10,8 @@ abbrev pub RepliesTo : List Owned → List ℕ → List ℕ → Type 0
 RepliesTo zone octets reply = (query : Message) × IsQuery octets query × Replies zone query reply
 
 -- A round of a server, and whether it sent a reply. The wire goes from one state to another by what
--- its calls do. A reply follows the datagram that it is a reply to, and goes to the peer whom that
--- came from.
+-- its calls do. A reply follows the datagram that it is a reply to, and goes to the peer that sent
+-- that datagram (RFC 2181 4.2).
 pub data Round {Wire Peer : Type 0} (does : Wire → Event Peer → Wire → Type 0)
     (replies : List ℕ → List ℕ → Type 0) (before after : Wire) : Bool → Type 0 where
   fails : does before fault after → Round does replies before after false

@@ -14,12 +14,13 @@ pub record Ticket : Type 0 where
   pub sent : Sent
   pub deadline : ℕ
 
--- the tickets, how many may be open at once, and the number of the next one
+-- the tickets, how many may be open at once, and the number of the next one (RFC 1035 4.1.1)
 pub record Asking : Type 0 where
   pub tickets : List Ticket
   pub limit : ℕ
   pub serial : ℕ
 
+-- a ticket has this id
 abbrev pub has_id : ℕ → Ticket → Bool
 has_id id ticket = ticket.sent.id == id
 

@@ -30,9 +30,12 @@ abbrev pub with_opt : ℕ → List ℕ → List ℕ
 with_opt size query =
     if has_room_for_opt query then slice_set query 11 1 ++ opt_record size else query
 
+-- the octets of a query with an OPT record of this size, where a size is given and the query has no
+-- additional record (RFC 6891 6.1)
 abbrev pub with_edns : Option ℕ → List ℕ → List ℕ
 with_edns None query = query
 with_edns (Some size) query = with_opt size query
 
+-- the octets that go out for a query, with or without RD and EDNS
 abbrev pub form_octets : QueryForm → List ℕ → List ℕ
 form_octets form query = with_edns form.edns (with_recursion form.recursion query)

@@ -12,7 +12,7 @@ pub record BeginsVia (line rest : List ℕ) : Type 0 where
   pub joined : line ≡ word ++ 58 ∷ rest
   pub is : small_letters word ≡ codes "via"
 
--- a line is a URI, or a Via behind `Via:`
+-- a line is a URI, or a Via after `Via:` (RFC 3261 25.1)
 abbrev pub RequestText : List ℕ → Request → Type 0
 RequestText line (Uri uri) = UriText line uri
 RequestText line (Via via) = (rest : List ℕ) × BeginsVia line rest × ViaText rest via

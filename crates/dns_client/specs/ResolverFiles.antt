@@ -21,6 +21,7 @@ pub record FileValue : Type 0 where
 abbrev pub Said : Type 0
 Said = ℕ × Fact
 
+-- a fact, with the number of the line that says it
 abbrev pub at_line : ℕ → Fact → Said
 at_line number fact = (number, fact)
 
@@ -33,22 +34,27 @@ LinesSay number (line ∷ lines) said =
 
 -- ---- what is said in all
 
+-- the server that a fact names, if it names one
 abbrev pub server_in : Said → Option Address
 server_in (number, Server address) = Some address
 server_in _ = None
 
+-- the seconds that a fact gives for a reply, if it gives any
 abbrev pub timeout_in : Said → Option ℕ
 timeout_in (number, Timeout seconds) = Some seconds
 timeout_in _ = None
 
+-- how often each server is asked, if a fact says it
 abbrev pub attempts_in : Said → Option ℕ
 attempts_in (number, Attempts count) = Some count
 attempts_in _ = None
 
+-- a fact says that queries go over TCP
 abbrev pub is_over_tcp : Said → Bool
 is_over_tcp (number, OverTcp) = true
 is_over_tcp _ = false
 
+-- the warning of a line that can't be read, if a fact is one
 abbrev pub warning_in : Said → Option LineWarning
 warning_in (number, Fault fault) = Some (record { line = number; fault = fault })
 warning_in _ = None
@@ -73,6 +79,7 @@ abbrev pub or_local : List Address → List Address
 or_local [] = V4 (127 ∷ 0 ∷ 0 ∷ 1 ∷ []) ∷ []
 or_local (first ∷ others) = first ∷ others
 
+-- what a file says, with the server of the local host where it names none
 abbrev pub with_local : FileValue → FileValue
 with_local file = record file { servers = or_local file.servers }
 

@@ -21,6 +21,7 @@ lines_of text = slice_split (λ octet. octet == 10) text
 abbrev pub is_blank : ℕ → Bool
 is_blank octet = octet == 32 || octet == 9 || octet == 13
 
+-- a text is a word: it is not empty
 abbrev pub is_word : List ℕ → Bool
 is_word [] = false
 is_word (first ∷ others) = true
@@ -41,6 +42,7 @@ is_indented (first ∷ others) = is_blank first
 
 -- ---- what a line is
 
+-- what a line is: one that says nothing, a server, options, or one that can't be read
 pub data LineForm : Type 0 where
   -- it says nothing
   nothing : LineForm
@@ -62,17 +64,20 @@ abbrev pub server_form : List (List ℕ) → LineForm
 server_form [] = faulty NoAddress
 server_form (word ∷ others) = server word
 
+-- what a line is, by its keyword and its other words
 abbrev pub keyword_form : List ℕ → List (List ℕ) → LineForm
 keyword_form keyword words =
     if bytes_eq keyword (codes "nameserver") then server_form words else
     (if bytes_eq keyword (codes "options") then options words else
     (if is_unused keyword then nothing else faulty NoKeyword))
 
+-- what a line is, by whether it is indented and by its words
 abbrev pub words_form : Bool → List (List ℕ) → LineForm
 words_form indented [] = nothing
 words_form true (keyword ∷ words) = faulty Indented
 words_form false (keyword ∷ words) = keyword_form keyword words
 
+-- what a line is; a comment says nothing
 abbrev pub line_form : List ℕ → LineForm
 line_form line = if is_comment line then nothing else words_form (is_indented line) (words_of line)
 
@@ -88,6 +93,7 @@ ReadsAddress word (Some address) = IsUtf8 word × AddressText word address
     × ((other : Address) → AddressText word other → other ≡ address)
 ReadsAddress word None = IsNoAddress word
 
+-- a word has a `%`, as an IPv6 address with a zone has (RFC 4007 11)
 abbrev pub has_percent : List ℕ → Bool
 has_percent word = list_any (λ octet. octet == 37) word
 
@@ -115,13 +121,18 @@ abbrev pub number_fact : (ℕ → Fact) → Option ℕ → Fact
 number_fact fact None = Fault BadNumber
 number_fact fact (Some number) = fact number
 
+-- what the option `use-vc` says: that queries go over TCP
 abbrev pub use_vc_fact : List ℕ → Option Fact
 use_vc_fact word = if bytes_eq word (codes "use-vc") then Some OverTcp else None
 
+-- what an option says: after `attempts:` how often each server is asked, from 1 to 5; else what
+-- `use_vc_fact` says
 abbrev pub attempts_fact : Option (List ℕ) → List ℕ → Option Fact
 attempts_fact (Some text) word = Some (number_fact Attempts (capped 5 text))
 attempts_fact None word = use_vc_fact word
 
+-- what an option says: after `timeout:` for how many seconds a reply is waited for, from 1 to 30;
+-- else what `attempts_fact` says
 abbrev pub timeout_fact : Option (List ℕ) → List ℕ → Option Fact
 timeout_fact (Some text) word = Some (number_fact Timeout (capped 30 text))
 timeout_fact None word = attempts_fact (behind (codes "attempts:") word) word
@@ -132,11 +143,13 @@ option_fact word = timeout_fact (behind (codes "timeout:") word) word
 
 -- ---- what lines say
 
+-- what a line of a form says
 abbrev pub FormSays : LineForm → List Fact → Type 0
 FormSays nothing facts = facts ≡ []
 FormSays (server word) facts = (fact : Fact) × (facts ≡ fact ∷ []) × ServerSays word fact
 FormSays (options words) facts = facts ≡ filter_map option_fact words
 FormSays (faulty fault) facts = facts ≡ Fault fault ∷ []
 
+-- what a line says, as a list of facts
 abbrev pub LineSays : List ℕ → List Fact → Type 0
 LineSays line facts = FormSays (line_form line) facts

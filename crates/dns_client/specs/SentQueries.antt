@@ -16,9 +16,11 @@ pub record SentValue : Type 0 where
   pub went_out : Bool
   pub edns_server : Option ℕ
 
+-- a query that was sent has these octets
 abbrev pub has_octets : List ℕ → SentValue → Bool
 has_octets query sent = bytes_eq sent.octets query
 
+-- how often a query was sent, if one is kept; else 0
 abbrev pub sends_in : Option SentValue → ℕ
 sends_in None = 0
 sends_in (Some sent) = sent.sends
@@ -39,6 +41,7 @@ first_in (Some sent) = sent.first
 abbrev pub first_of : List ℕ → List SentValue → ℕ
 first_of query kept = first_in (sent_of query kept)
 
+-- a query is kept that was sent and to which no reply was handed on since
 abbrev pub out_in : Option SentValue → Bool
 out_in None = false
 out_in (Some sent) = sent.is_out

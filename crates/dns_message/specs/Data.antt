@@ -3,7 +3,7 @@ use Rattle.std.specs.Prelude.{◌≡◌, ℕ, ◌≤◌, ◌==◌, List, length,
 use Rattle.dns_message.specs.declared.rdata.DataFormat.{DataFormat}
 use Rattle.dns_message.specs.declared.rdata.DataFormat.TheVariants.{A, Aaaa, Srv, Naptr, Cname, Soa, Other}
 
--- in class IN by type (RFC 1035 3.2.2, 3596 2.1, 2782, 3403 4.1)
+-- how data of class IN is laid out, by its type (RFC 1035 3.2.2, 3596 2.1, 2782, 3403 4.1)
 abbrev pub internet_format : ℕ → DataFormat
 internet_format code =
     if code == 1 then A else
@@ -13,17 +13,18 @@ internet_format code =
     (if code == 33 then Srv else
     (if code == 35 then Naptr else Other)))))
 
--- by type and class: of another class than IN (1) all is kept as it stands
+-- how data is laid out, by its type and class: in another class than IN (1) all data is kept as
+-- octets (RFC 1035 3.2.2, 3596 2.1, 2782, 3403 4.1)
 abbrev pub data_format : ℕ → ℕ → DataFormat
 data_format code class_code = if class_code == 1 then internet_format code else Other
 
--- what is kept as it stands
+-- data that is kept as octets: its type, its class and its octets
 pub record OtherOctets : Type 0 where
   pub code : ℕ
   pub class_code : ℕ
   pub octets : List ℕ
 
--- which can be
+-- data has no layout of its own, and at most 65,535 octets (RFC 3597 3)
 pub record CanBeOther (code class_code : ℕ) (octets : List ℕ) : Type 0 where
   pub format : data_format code class_code ≡ Other
   pub short : length octets ≤ 65535

@@ -5,6 +5,7 @@ use Rattle.dns_message.specs.Places.{NumberAt}
 use Rattle.dns_message.specs.declared.header.Header.{Header}
 use Rattle.dns_message.specs.declared.header.Counts.{Counts}
 
+-- the bit of a flag: 1 where it is set, else 0
 abbrev pub bit : Bool → ℕ
 bit true = 1
 bit false = 0

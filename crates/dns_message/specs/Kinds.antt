@@ -3,6 +3,8 @@ use Rattle.std.specs.Prelude.{ℕ}
 use Rattle.dns_message.specs.declared.kind.Kind.{Kind}
 use Rattle.dns_message.specs.declared.kind.Kind.TheVariants.{A, Aaaa, Srv, Naptr}
 
+-- the number of the type that a kind of question asks for (RFC 1035 3.2.2, 3596 2.1, 2782, 3403
+-- 4.1)
 abbrev pub kind_code : Kind → ℕ
 kind_code A = 1
 kind_code Aaaa = 28

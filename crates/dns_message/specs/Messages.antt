@@ -41,13 +41,14 @@ pub record Begins (octets : List ℕ) (it : Message) : Type 0 where
 
 -- ---- octets that begin with no message
 
--- as many questions as the header counts stand after it, up to this end
+-- as many questions as the header counts stand after it, up to this end (RFC 1035 4.1.1)
 pub record QuestionsStand (octets : List ℕ) (end : ℕ) : Type 0 where
   pub questions : List Asked
   pub count : NumberAt w16 octets 4 (length questions)
   pub stand : AllAt (QuestionAt octets) 12 questions end
 
--- as many records as this number of the header counts stand from one place to another
+-- as many records as this number of the header counts stand from one place to another (RFC 1035
+-- 4.1.1)
 pub record RecordsStand (octets : List ℕ) (count_place start end : ℕ) : Type 0 where
   pub records : List Record
   pub count : NumberAt w16 octets count_place (length records)
@@ -68,7 +69,8 @@ FailsIn Additional octets = (answers_start : ℕ) × (authority_start : ℕ) × 
     × RecordsStand octets 8 authority_start start
     × ((end : ℕ) → RecordsStand octets 10 start end → ⊥)
 
--- what is so of octets that are refused: memory is asked for where a name stands after the header
+-- what holds of octets that are refused, by the refusal: memory is needed only where a name stands
+-- after the header
 abbrev pub RefusedWhere : MessageRefusal → List ℕ → Type 0
 RefusedWhere TooLong octets = 65535 < length octets
 RefusedWhere (Malformed part) octets = FailsIn part octets

@@ -3,7 +3,7 @@ use Rattle.std.specs.Prelude.{◌≡◌, ℕ, ◌+◌, ◌≤◌, List, [], ◌�
 use Rattle.std.specs.Int.{Width, byte_len, from_be_bytes}
 use Rattle.dns_name.specs.Places.{NameAt}
 
--- a number stands at a place, the highest octet first
+-- a number of two or four octets stands at a place, the highest octet first (RFC 1035 2.3.2)
 pub record NumberAt (w : Width) (message : List ℕ) (place number : ℕ) : Type 0 where
   pub within : place + byte_len w ≤ length message
   pub is : from_be_bytes w (slice_range message place (place + byte_len w)) ≡ number
@@ -14,7 +14,7 @@ pub record OctetsAt (message : List ℕ) (place : ℕ) (octets : List ℕ) (end 
   pub within : end ≤ length message
   pub are : slice_range message place end ≡ octets
 
--- a name stands at a place, and begins a run of labels there
+-- a name stands at a place, and begins a run of labels there (RFC 1035 4.1.4)
 abbrev pub NamedAt : List ℕ → ℕ → Type 0
 NamedAt message place = (name : List (List ℕ)) × (end : ℕ) × NameAt message place place name end
 

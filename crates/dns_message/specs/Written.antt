@@ -18,9 +18,11 @@ use Rattle.dns_message.specs.declared.srv.SrvRecord.{SrvRecord}
 
 -- ---- numbers, the highest octet first (RFC 1035 2.3.2); of one that is too large, its low octets
 
+-- the two octets of a number
 unfoldable pub two_octets : ℕ → List ℕ
 two_octets number = to_be_bytes w16 number
 
+-- the four octets of a number
 unfoldable pub four_octets : ℕ → List ℕ
 four_octets number = to_be_bytes w32 number
 
@@ -117,7 +119,8 @@ count_octets questions answers authority additional =
 
 -- ---- messages
 
--- the header, the questions, the answers, the authority and the additional records
+-- The octets of a message in which no name ends in a pointer and the bits of Z are 0: the header,
+-- the questions, the answers, the authority and the additional records (RFC 1035 3.1, 3.3, 4.1).
 unfoldable pub plain : Message → List ℕ
 plain message =
     header_octets message.header

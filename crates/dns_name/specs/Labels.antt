@@ -4,11 +4,11 @@ use Rattle.std.specs.Cmp.Lexicographic.{pointwise}
 use Rattle.std.specs.List.{AllByRecursion}
 use Rattle.std.specs.Char.{to_ascii_lowercase}
 
--- each capital of ASCII as its small letter
+-- each capital of ASCII as its small letter (RFC 1035 2.3.3)
 abbrev pub small_letters : List ℕ → List ℕ
 small_letters octets = map to_ascii_lowercase octets
 
--- a label has 1 to 63 octets, and no capital of ASCII
+-- a label has 1 to 63 octets, and no capital of ASCII (RFC 1035 2.3.4)
 pub record IsLabel (label : List ℕ) : Type 0 where
   pub some : 0 < length label
   pub short : length label ≤ 63
@@ -19,12 +19,13 @@ abbrev pub wire_of : List (List ℕ) → List ℕ
 wire_of [] = 0 ∷ []
 wire_of (label ∷ labels) = length label ∷ label ++ wire_of labels
 
--- a name has at most 255 octets; the root has no label
+-- a name is a list of labels with at most 255 octets in `wire_of` (RFC 1035 2.3.4); the root has no
+-- label
 pub record IsName (labels : List (List ℕ)) : Type 0 where
   pub each : AllByRecursion IsLabel labels
   pub short : length (wire_of labels) ≤ 255
 
--- two names are the same, label by label
+-- two names are the same, label by label (RFC 1035 2.3.3)
 abbrev pub same_name : List (List ℕ) → List (List ℕ) → Bool
 same_name name other = pointwise (pointwise nat_eq) name other
 

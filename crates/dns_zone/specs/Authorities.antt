@@ -5,6 +5,7 @@ use Rattle.dns_message.specs.Written.{rdata_code}
 use Rattle.dns_message.specs.declared.resource.Record.{Record}
 use Rattle.dns_zone.specs.Zones.{Owned, records_at}
 
+-- a record is of this type
 abbrev pub is_of : ℕ → Record → Bool
 is_of code entry = rdata_code entry.rdata == code
 

@@ -18,6 +18,7 @@ use Rattle.dns_zone.specs.Zones.{Owned, records_at}
 
 -- ---- fields
 
+-- a text is a field: it is not empty
 abbrev pub is_field : List ℕ → Bool
 is_field text = not (length text == 0)
 
@@ -107,7 +108,8 @@ DataFields kind fields (Other other) = ⊥
 
 -- ---- records
 
--- the fields say this record: owner, TTL, type and data
+-- the fields say this record: owner, TTL, type and data (RFC 1035 3.2.1, 3.4.1, 3.3.1, 3.3.13, RFC
+-- 3596 2.1, RFC 3403 4.1)
 pub record RecordFields (fields : List (List ℕ)) (entry : Record) : Type 0 where
   pub owner : List ℕ
   pub ttl : List ℕ

@@ -61,6 +61,7 @@ reply_header query code = record {
   rcode = code;
 }
 
+-- the reply to a query with this RCODE, and with these questions, answers and authority records
 abbrev pub reply_of : Header → ℕ → List Asked → List Record → List Record → Message
 reply_of query code questions records authorities = record {
   header = reply_header query code;
@@ -87,6 +88,7 @@ reply_about zone query (asked ∷ []) =
     else refusal query (asked ∷ [])
 reply_about zone query (asked ∷ other ∷ more) = refusal query []
 
+-- the reply of a zone to a query
 abbrev pub reply_to : List Owned → Message → Message
 reply_to zone query = reply_about zone query.header query.questions
 
@@ -102,7 +104,7 @@ pub record IsQuery (octets : List ℕ) (query : Message) : Type 0 where
 abbrev pub IsSilent : List ℕ → Type 0
 IsSilent octets = (query : Message) → IsQuery octets query → ⊥
 
--- the octets are a message with QR set and the id of the query, in one datagram
+-- the octets are a message with QR set and the id of the query, in one datagram (RFC 1035 4.2.1)
 pub record IsReply (query : Message) (octets : List ℕ) : Type 0 where
   pub short : length octets ≤ 512
   pub reply : Message

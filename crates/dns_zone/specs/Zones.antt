@@ -26,6 +26,7 @@ entries_at zone name =
 abbrev pub record_of : List (List ℕ) → ZoneEntry → Record
 record_of owner entry = record { owner = owner; ttl = entry.ttl; rdata = entry.rdata }
 
+-- the records that a zone has at a name
 abbrev pub records_at : List Owned → List (List ℕ) → List Record
 records_at zone name = map (record_of name) (entries_at zone name)
 
@@ -36,6 +37,7 @@ pub record ZoneAlias : Type 0 where
   pub ttl : ℕ
   pub target : List (List ℕ)
 
+-- the alias that an entry of a zone is, where its data is that of a CNAME record
 abbrev pub alias_in : ZoneEntry → Option ZoneAlias
 alias_in entry =
     option_map (λ (target : List (List ℕ)). record { ttl = entry.ttl; target = target })

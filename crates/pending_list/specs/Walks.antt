@@ -9,6 +9,8 @@ module _ {T : Type 0} where
   abbrev pub left_of : Inside T → List (Entry T)
   left_of it = values (cells_from (address_of it.next) it.entries.now)
 
+  -- the nodes of the list are distinct, and the next node of a walk is one of them, or there is
+  -- none
   pub record IsWalking (it : Inside T) : Type 0 where
     pub apart : AreDistinct (addresses it.entries.now)
     pub there : IsThere it.next it.entries.now

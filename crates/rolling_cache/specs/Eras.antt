@@ -16,6 +16,7 @@ pub record Era : Type 0 where
   pub told : Told
   pub carried : List Offer
 
+-- the era of a generation, by what was told of its cache and by what it carried
 abbrev pub era_of : Told → List Offer → Era
 era_of told carried = record { told = told; carried = carried }
 
@@ -49,7 +50,7 @@ abbrev pub Descends : List Era → Type 0
 Descends [] = Unit {0}
 Descends (era ∷ older) = HandsOn (begun_with older) era × Descends older
 
--- a store of the question, of this answer, which lives at the moment
+-- a store of the question, with this answer, which lives at the moment (RFC 1035 3.2.1)
 pub record Gives (question : Question) (now : ℕ) (answer : AnswerValue)
     (offer : Offer) : Type 0 where
   pub asked : same_question offer.question question ≡ true

@@ -25,7 +25,7 @@ pub record IsAnswered (old new : SelectionValue) (history : List Store) (now : �
   pub is : new ≡ given_too old question answer
 
 -- One question after the other was answered, each from a history between these two, which goes on
--- to the history of the next one.
+-- to the history of the next one (RFC 3263 4).
 pub data Gains (last : List Store) (now : ℕ) : List Store → SelectionValue → SelectionValue
     → Type 0 where
   nothing : {first : List Store} {old new : SelectionValue} → new ≡ old

@@ -20,15 +20,15 @@ use Rattle.sip_locator.specs.declared.refusal.LocatorRefusal.TheVariants as loca
 use Rattle.sip_locator.specs.declared.kept.Kept.{Kept}
 use Rattle.sip_locator.specs.declared.kept.Kept.TheVariants.{Yes, No}
 
--- the octets answer the question so
+-- the octets begin with a message that answers the question so (RFC 1035 4.1)
 pub record Answers (question : Question) (octets : List ℕ) (found : AnswerValue) : Type 0 where
   pub it : Message
   pub begins : Begins octets it
   pub taken : reply_refusal question it ≡ None
   pub is : found ≡ answer question it
 
--- Memory is taken for octets only here: to read a name after the header, or for the answer of a
--- message without a fault.
+-- Memory is needed for octets only here: to read a name after the header, or for the answer of a
+-- message without a fault (RFC 1035 4.1).
 abbrev pub MayAnswer : Question → List ℕ → Type 0
 MayAnswer question octets =
     NamedAt octets 12 ⊎ ((it : Message) × Begins octets it × (reply_refusal question it ≡ None))

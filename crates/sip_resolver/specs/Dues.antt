@@ -43,6 +43,7 @@ pub data IsDealtWith (now asked : ℕ) (last : QuestionsView) (ticket : Ticket) 
   given_up : IsInVain now ticket → (Contains (tickets_of last) ticket → ⊥)
       → IsDealtWith now asked last ticket
 
+-- each question that is out is dealt with by its deadline (`IsDealtWith`)
 abbrev pub AreDealtWith : ℕ → ℕ → ResolverView → ResolverView → Type 0
 AreDealtWith now asked first last =
     All (IsDealtWith now asked last.questions) (tickets_of first.questions)

@@ -61,6 +61,8 @@ abbrev pub IsIn : List Ticket → List Ticket → WaitingView → Type 0
 IsIn tickets others it =
     IsSome (ticket_of it.id tickets) ⊎ IsSome (ticket_of it.id others)
 
+-- each request that waits has a ticket, in one of these two lists, of the question whose reply it
+-- waits for
 abbrev pub AreIn : List Ticket → List Ticket → List WaitingView → Type 0
 AreIn tickets others waiting = All (IsIn tickets others) waiting
 

@@ -99,8 +99,8 @@ pub record IsChosen (counts : Given → Type 0) (sought : Sought) (resolution : 
   pub counted : All counts given
   pub is : locate sought.request sought.caps sought.words given ≡ resolution
 
--- What an outcome says of a request, at a seat: it is the choice of RFC 3263 over answers that
--- count, or the question whose answer is missing. Of want of memory it says nothing.
+-- What an outcome says of a request, at a seat: it is the choice of RFC 3263 4 and 5 over answers
+-- that count, or the question whose answer is missing. An outcome for want of memory says nothing.
 abbrev pub IsOutcome : (List ℕ → Type 0) → (ℕ → Type 0) → SeatView → Sought → Outcome → Type 0
 IsOutcome gives shows seat sought (Targets list) =
     IsChosen (Counts gives shows seat) sought (targets list)

@@ -11,7 +11,7 @@ use Rattle.sip_resolver.specs.declared.transmit.Over.{Over}
 use Rattle.sip_resolver.specs.declared.transmit.Over.TheVariants.{Datagram, Stream}
 use Rattle.sip_resolver.specs.declared.transmit.Transmit.{Transmit}
 
--- those over datagrams, and those over streams
+-- the questions that are out: those over datagrams, and those over streams (RFC 1035 4.2)
 pub record QuestionsView : Type 0 where
   pub datagrams : Asking
   pub streams : Asking
@@ -23,6 +23,7 @@ none_out limit = record {
   streams = record { tickets = []; limit = limit; serial = 0 };
 }
 
+-- the questions that are out over datagrams, or over streams
 abbrev pub asking_over : Over → QuestionsView → Asking
 asking_over Datagram it = it.datagrams
 asking_over Stream it = it.streams
@@ -52,7 +53,7 @@ pub record Lacks (question : Question) (it : QuestionsView) : Type 0 where
 abbrev pub Differ : Ticket → Ticket → Type 0
 Differ one other = (one.sent.id ≢ other.sent.id) × (one.sent.question ≢ other.sent.question)
 
--- no two that are out have one id, and no two are one question
+-- no two questions that are out have one id, and no two are the same question (RFC 5452 5)
 pub record AreDistinct (it : QuestionsView) : Type 0 where
   pub datagrams : AllPairs Differ it.datagrams.tickets
   pub streams : AllPairs Differ it.streams.tickets

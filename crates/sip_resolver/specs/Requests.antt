@@ -15,6 +15,7 @@ pub record RequestsView : Type 0 where
   pub ended : List Ended
   pub limit : ℕ
 
+-- the requests inside: those that are ready, held, waiting and ended, and how many there can be
 abbrev pub requests_of : List TaskView → List TaskView → List WaitingView → List Ended → ℕ
     → RequestsView
 requests_of ready held waiting ended limit =
@@ -24,9 +25,11 @@ requests_of ready held waiting ended limit =
 abbrev pub count_of : RequestsView → ℕ
 count_of it = length it.ready + length it.held + length it.waiting + length it.ended
 
+-- the number of a request that waits for a reply
 abbrev pub number_of_waiting : WaitingView → ℕ
 number_of_waiting it = it.task.number
 
+-- the number of a request that has ended
 abbrev pub number_of_ended : Ended → ℕ
 number_of_ended it = it.sought.number
 
@@ -56,6 +59,7 @@ pub record IsBack (sought : Sought) (old new : RequestsView) : Type 0 where
 abbrev pub waits_for : ℕ → WaitingView → Bool
 waits_for id waiting = waiting.id == id
 
+-- the requests that wait for the reply to the question of this id
 abbrev pub waiting_for : ℕ → List WaitingView → List WaitingView
 waiting_for id waiting = filter (waits_for id) waiting
 
@@ -63,6 +67,7 @@ waiting_for id waiting = filter (waits_for id) waiting
 abbrev pub waits_for_other : ℕ → WaitingView → Bool
 waits_for_other id waiting = not (waits_for id waiting)
 
+-- the requests that wait for the reply to a question of another id
 abbrev pub waiting_without : ℕ → List WaitingView → List WaitingView
 waiting_without id waiting = filter (waits_for_other id) waiting
 

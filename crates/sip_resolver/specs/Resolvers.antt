@@ -97,10 +97,10 @@ pub record IsClosed (old new : ResolverView) (over : Over) (octets : List ℕ) (
   pub left : new.questions ≡ closed_over over id old.questions
   pub settles : SettlesAll id (goes question) (kind question) old.requests new.requests
 
--- What octets that came in over this leave. All requests that wait for a reply get its answer, but
--- where memory is refused, or end by its fault. A reply that was cut ends none: the question goes
--- over a stream next. Octets that are no reply to a question that is out over it leave all as it
--- was.
+-- What octets that came in over datagrams or a stream leave. All requests that wait for a reply get
+-- its answer, but where memory is refused, or end by its fault. A reply that was cut ends none: the
+-- question goes over a stream next (RFC 2181 9). Octets that are no reply to a question that is out
+-- over it leave all as it was.
 abbrev pub Hears : ResolverView → ResolverView → Over → List ℕ → Heard → Type 0
 Hears old new over octets Reply =
     (ending : Ending)

@@ -32,11 +32,13 @@ pub data Runs (first : ResolverView) : List Event → ResolverView → Type 0 wh
   further : (events : List Event) (event : Event) (old new : ResolverView)
       → Runs first events old → Step old new event → Runs first (events ++ event ∷ []) new
 
+-- the request that an event submits, if it submits one
 abbrev pub submitted_by : Event → Option Sought
 submitted_by (submits sought) = Some sought
 submitted_by (takes ended) = None
 submitted_by goes = None
 
+-- the request whose outcome an event takes, if it takes one
 abbrev pub ended_by : Event → Option Sought
 ended_by (submits sought) = None
 ended_by (takes ended) = Some ended.sought

@@ -61,7 +61,7 @@ with_over Stream asking it = record it { streams = asking }
 
 -- A question is sent for the first time, under this id, and counted as asked at this moment, for a
 -- request that needs its answer and now waits for it: over a stream where the reply in a datagram
--- was cut.
+-- was cut (RFC 7766 5).
 pub record SendsFirst (asked id : ℕ) (waiting : List WaitingView) (old new : QuestionsView)
     : Type 0 where
   pub task : TaskView
@@ -70,7 +70,7 @@ pub record SendsFirst (asked id : ℕ) (waiting : List WaitingView) (old new : Q
   pub waits : Contains waiting (record { id = id; task = task })
   pub is_asked : new ≡ asked_over (over_of task) id question asked old
 
--- the deadline of the first question is over, which is the least one
+-- the deadline of the first question, which is the least one, is over (RFC 1035 4.2.1)
 pub record IsOverdue (now : ℕ) (asking : Asking) : Type 0 where
   pub ticket : Ticket
   pub others : List Ticket

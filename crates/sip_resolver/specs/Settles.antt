@@ -46,7 +46,7 @@ GetsAnswer question answer old new =
 abbrev pub NeedsOther : Question → TaskView → TaskView → Type 0
 NeedsOther question old new = (now_of old.selection ≢ need question) × (new ≡ old)
 
--- its question goes over a stream next
+-- the question of a request goes over a stream next (RFC 2181 9)
 abbrev pub GoesOverStream : TaskView → TaskView → Type 0
 GoesOverStream old new = new ≡ record old { cut = true }
 

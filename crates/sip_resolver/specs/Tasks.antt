@@ -20,7 +20,8 @@ pub record TaskView : Type 0 where
   pub selection : SelectionValue
   pub cut : Bool
 
--- over what its question goes
+-- over what the question of a request goes: over a stream where the reply in a datagram was cut
+-- (RFC 2181 9)
 abbrev pub over_of : TaskView → Over
 over_of task = if task.cut then Stream else Datagram
 

@@ -9,6 +9,7 @@ use Rattle.sip_resolver.specs.Outcomes.{IsReplied}
 abbrev pub IsHeard : (List ℕ → Type 0) → (ℕ → Type 0) → Offer → Type 0
 IsHeard gives shows offer = IsReplied gives offer.question offer.answer × shows offer.moment
 
+-- what a store holds: a question, its answer and the moment
 abbrev pub offer_in : Store → Offer
 offer_in store = offer_of store.question store.answer store.moment
 

@@ -24,7 +24,8 @@ use Rattle.sip_selection.specs.declared.request.Request.{Request}
 use Rattle.sip_selection.specs.declared.target.Target.{Target}
 use Rattle.sip_selection.specs.declared.way.Way.{Way}
 
--- where a request goes: to these targets, nowhere, or as the answer to this question will say
+-- where a request goes: to `targets`, nowhere (`refused`), or as the answer to a question will say
+-- (`need`)
 pub data Resolution : Type 0 where
   targets : List Target → Resolution
   refused : Reason → Resolution
@@ -34,6 +35,7 @@ pub data Resolution : Type 0 where
 abbrev pub Settled : Type 0
 Settled = Result (List Target) Reason
 
+-- where a request goes, once no answer is missing
 abbrev pub settled : Settled → Resolution
 settled (Ok []) = refused NoAddress
 settled (Ok (first ∷ others)) = targets (first ∷ others)
@@ -45,6 +47,7 @@ IsNotRefused (targets list) = ⊤
 IsNotRefused (refused reason) = ⊥
 IsNotRefused (need question) = ⊤
 
+-- where a request goes, by a value that may need an answer
 abbrev pub resolved : Needing Settled → Resolution
 resolved (Ok it) = settled it
 resolved (Err question) = need question
@@ -73,6 +76,7 @@ module _ (caps : Caps) (given : List Given) where
   to_name name port transport =
       made Ok (targets_of given (kinds_of caps.families) transport port name)
 
+  -- the addresses of a name at a port, if there is a transport
   abbrev pub to_port : List (List ℕ) → ℕ → Result Transport Reason → Needing Settled
   to_port name port (Ok transport) = to_name name port transport
   to_port name port (Err reason) = Ok (Err reason)
@@ -92,6 +96,7 @@ module _ (caps : Caps) (given : List Given) where
       (if list_any is_denied offers then Ok (Err NotOffered) else to_domain name fallback)
 
 module _ (caps : Caps) (words : List ℕ) (given : List Given) where
+  -- the targets of these services, or of the domain where all of them are absent
   abbrev pub along : List (List ℕ) → Result Transport Reason → List Way → Needing Settled
   along name fallback ways =
       after (by_offers caps given name fallback)
@@ -104,6 +109,7 @@ module _ (caps : Caps) (words : List ℕ) (given : List Given) where
 
 -- ---- without NAPTR records: a SIP URI does without TLS, and a SIPS URI takes it alone
 
+-- a transport is tried where there is no NAPTR record: TLS for a SIPS URI, any other for a SIP URI
 abbrev pub is_tried : Bool → Transport → Bool
 is_tried secure transport =
     if secure then same_transport transport Tls else not (same_transport transport Tls)
@@ -112,6 +118,7 @@ abbrev pub tried_ways : Bool → List (List ℕ) → List (Option Transport) →
 tried_ways secure name slots =
     map (way_to name) (filter (is_tried secure) (filter_map (λ slot. slot) slots))
 
+-- the services of a domain by the caller's own transports, in their order
 abbrev pub own_ways : Bool → Caps → List (List ℕ) → List Way
 own_ways secure caps name = map (way_to name) (filter (is_tried secure) caps.transports)
 
@@ -121,9 +128,11 @@ module _ (secure : Bool) (caps : Caps) (words : List ℕ) (given : List Given) w
   led name [] = along caps words given name (usual secure caps) (own_ways secure caps name)
   led name (first ∷ others) = along caps words given name (Ok first.transport) (first ∷ others)
 
+  -- where NAPTR records lead
   abbrev pub by_rules : List (List ℕ) → List NaptrRecord → Needing Settled
   by_rules name rules = led name (kept secure caps rules)
 
+  -- where the NAPTR records of a name lead (RFC 3263 4.1)
   abbrev pub by_naptr : List (List ℕ) → Needing Settled
   by_naptr name =
       after (λ answer. by_rules name (rules_in answer.records))
@@ -137,9 +146,12 @@ module _ (secure : Bool) (caps : Caps) (words : List ℕ) (given : List Given) w
 -- ---- the request
 
 module _ (request : Request) (caps : Caps) (words : List ℕ) (given : List Given) where
+  -- the transport that the request means, if the caller can use it
   abbrev pub transport : Result Transport Reason
   transport = offered caps (transport_of request)
 
+  -- where the request goes, by its host, its port and the transport that it names (RFC 3263 4.1,
+  -- 4.2, 5)
   abbrev pub to_host : Host → Option ℕ → Option Spoken → Needing Settled
   to_host (host.V4 octets) port named = to_address (address.V4 octets) port transport
   to_host (host.V6 octets) port named = to_address (address.V6 octets) port transport
@@ -148,8 +160,11 @@ module _ (request : Request) (caps : Caps) (words : List ℕ) (given : List Give
   to_host (host.Domain name) None None =
       discovered (is_secure request) caps words given name (usual (is_secure request) caps)
 
+  -- where the request goes, as a value that needs answers (`Needing`)
   abbrev pub chosen : Needing Settled
   chosen = to_host (target_of request) (port_of request) (spoken_of request)
 
+  -- where a request goes, by the cases of the standard: an address; a name with a port; a name with
+  -- a transport; a name by its NAPTR records (RFC 3263 4.1, 4.2, 5)
   abbrev pub locate : Resolution
   locate = resolved chosen

@@ -21,10 +21,12 @@ pub record Given : Type 0 where
 abbrev pub Needing : Type 0 → Type 0
 Needing Value = Result Value Question
 
+-- what needs answers, made from a value that needs answers; the question of that value comes first
 abbrev pub after : {X Y : Type 0} → (X → Needing Y) → Needing X → Needing Y
 after f (Ok value) = f value
 after f (Err question) = Err question
 
+-- a value that needs answers, with a function applied once it is known
 abbrev pub made : {X Y : Type 0} → (X → Y) → Needing X → Needing Y
 made f (Ok value) = Ok (f value)
 made f (Err question) = Err question
@@ -36,23 +38,28 @@ joined f (x ∷ xs) = after (λ first. made (λ others. first ++ others) (joined
 
 -- ---- what is known
 
+-- the first answer that was given to a question
 abbrev pub find_answer : List Given → Question → Option AnswerValue
 find_answer given question =
     option_map (λ it. it.answer) (find (λ it. same_question it.question question) given)
 
+-- the answer that was given to a question, or the question itself
 abbrev pub answer_to : List Given → Question → Needing AnswerValue
 answer_to given question = ok_or (find_answer given question) question
 
+-- the addresses of an answer (RFC 3263 4.2)
 abbrev pub addresses_in : Records → List Address
 addresses_in (records.V4 octets) = map address.V4 octets
 addresses_in (records.V6 octets) = map address.V6 octets
 addresses_in (records.Srv servers) = []
 addresses_in (records.Naptr rules) = []
 
+-- the servers of an answer, which SRV records name
 abbrev pub servers_in : Records → List SrvRecord
 servers_in (records.Srv servers) = servers
 servers_in _ = []
 
+-- the rules of an answer, which NAPTR records are
 abbrev pub rules_in : Records → List NaptrRecord
 rules_in (records.Naptr rules) = rules
 rules_in _ = []

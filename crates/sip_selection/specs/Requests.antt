@@ -22,6 +22,7 @@ abbrev pub target_of : Request → Host
 target_of (Uri uri) = unwrap_or uri.maddr uri.host
 target_of (Via via) = via.host
 
+-- the port that a request writes, if it writes one
 abbrev pub port_of : Request → Option ℕ
 port_of (Uri uri) = uri.port
 port_of (Via via) = via.port
@@ -31,7 +32,7 @@ abbrev pub spoken_of : Request → Option Spoken
 spoken_of (Uri uri) = uri.transport
 spoken_of (Via via) = Some via.transport
 
--- a SIPS URI
+-- a request is a SIPS URI (RFC 3263 4.1)
 abbrev pub is_secure : Request → Bool
 is_secure (Uri uri) = uri.secure
 is_secure (Via via) = false
@@ -56,11 +57,13 @@ abbrev pub usual_transport : Bool → Transport
 usual_transport true = Tls
 usual_transport false = Udp
 
+-- the transport that is meant, by whether the URI is a SIPS URI and by the transport that it names
 abbrev pub meant_by : Bool → Option Spoken → Result Transport Reason
 meant_by secure None = Ok (usual_transport secure)
 meant_by true (Some named) = securely named
 meant_by false (Some named) = plainly named
 
+-- the transport that a request means, or why there is none (RFC 3263 4.1, 5, RFC 3261 26.2.2)
 abbrev pub transport_of : Request → Result Transport Reason
 transport_of request = meant_by (is_secure request) (spoken_of request)
 

@@ -9,12 +9,15 @@ use Rattle.sip_selection.specs.Known.{Given}
 use Rattle.sip_selection.specs.declared.caps.Caps.{Caps}
 use Rattle.sip_selection.specs.declared.request.Request.{Request}
 
+-- what contracts see of a choice: the request, what the caller can use, the random words, and the
+-- answers that it was given
 pub record SelectionValue : Type 0 where
   pub request : Request
   pub caps : Caps
   pub words : List ℕ
   pub given : List Given
 
+-- a choice that was given no answer
 abbrev pub begun : Request → Caps → List ℕ → SelectionValue
 begun request caps words = record { request = request; caps = caps; words = words; given = [] }
 

@@ -23,6 +23,7 @@ service_label Tcp = codes "_sip"
 service_label Sctp = codes "_sip"
 service_label Tls = codes "_sips"
 
+-- the label of a transport in the name of a service; that of TLS is `_tcp` (RFC 2782, RFC 3263 4.1)
 abbrev pub proto_label : Transport → List ℕ
 proto_label Udp = codes "_udp"
 proto_label Tcp = codes "_tcp"
@@ -44,6 +45,7 @@ way_to domain transport =
 
 -- ---- targets
 
+-- the target of a transport, a port and an address
 abbrev pub target_at : Transport → ℕ → Address → Target
 target_at transport port address = record { transport = transport; address = address; port = port }
 
@@ -54,15 +56,16 @@ module _ (given : List Given) (kinds : List Kind) where
       made (λ answer. map (target_at transport port) (addresses_in answer.records))
       (answer_to given (record { name = name; kind = kind }))
 
+  -- the targets of a name at a port, one kind of address after the other
   abbrev pub targets_of : Transport → ℕ → List (List ℕ) → Needing (List Target)
   targets_of transport port name = joined (kind_targets transport port name) kinds
 
-  -- those of a server, at its port; the root among several servers is passed over
+  -- the targets of a server, at its port; the root among several servers has none
   abbrev pub server_targets : Transport → SrvRecord → Needing (List Target)
   server_targets transport server =
       if is_root server.target then Ok [] else targets_of transport server.port server.target
 
-  -- those of the server at a place
+  -- the targets of the server at a place of the list
   abbrev pub place_targets : Transport → List SrvRecord → ℕ → Needing (List Target)
   place_targets transport servers place =
       option_map_or (server_targets transport) (slice_get servers place) (Ok [])
@@ -76,16 +79,19 @@ pub data Offer : Type 0 where
   denied : Offer
   listed : List Target → ℕ → Offer
 
+-- a service has targets
 abbrev pub is_listed : Offer → Bool
 is_listed absent = false
 is_listed denied = false
 is_listed (listed targets next) = true
 
+-- a service is said not to be offered
 abbrev pub is_denied : Offer → Bool
 is_denied absent = false
 is_denied denied = true
 is_denied (listed targets next) = false
 
+-- the targets of a service, if it has any
 abbrev pub offered_targets : Offer → List Target
 offered_targets absent = []
 offered_targets denied = []
@@ -98,6 +104,7 @@ next_word word denied = word
 next_word word (listed targets next) = next
 
 module _ (given : List Given) (kinds : List Kind) where
+  -- what a service offers, by what its SRV records say of it
   abbrev pub offer_of : Transport → List SrvRecord → SrvOutcome → Needing Offer
   offer_of transport servers Absent = Ok absent
   offer_of transport servers Denied = Ok denied
@@ -112,16 +119,19 @@ module _ (given : List Given) (kinds : List Kind) where
       offer_of transport (servers_in answer.records)
       (order_from (servers_in answer.records) words word)
 
+  -- what the service of a name offers; without a name it is absent
   abbrev pub offer_named : List ℕ → Transport → ℕ → Option (List (List ℕ)) → Needing Offer
   offer_named words transport word None = Ok absent
   offer_named words transport word (Some name) =
       after (offer_by words transport word)
       (answer_to given (record { name = name; kind = kind.Srv }))
 
+  -- what the service of a way offers, ordered by the words from a place on
   abbrev pub offer_along : List ℕ → Way → ℕ → Needing Offer
   offer_along words way word = offer_named words way.transport word way.name
 
-  -- one after the other, the words going on from each to the next
+  -- What each of these services offers, one after the other: nothing, that it is not offered, or
+  -- targets. The random words go on from each service to the next.
   abbrev pub offers_along : List ℕ → List Way → ℕ → Needing (List Offer)
   offers_along words [] word = Ok []
   offers_along words (way ∷ ways) word =

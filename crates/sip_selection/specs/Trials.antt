@@ -14,6 +14,7 @@ failures_in [] = 0
 failures_in (Failed failure ∷ events) = failures_in events + 1
 failures_in (Responded ∷ events) = 0
 
+-- an event is a response
 abbrev pub is_answered : List Event → Bool
 is_answered [] = false
 is_answered (Failed failure ∷ events) = is_answered events
@@ -32,20 +33,24 @@ progress_by targets events =
 
 -- ---- by one event after the other
 
+-- the targets of a request, how many of them failed, and whether one answered
 pub record Trial : Type 0 where
   pub targets : List Target
   pub failures : ℕ
   pub answered : Bool
 
+-- targets of which none has failed, and none has answered
 abbrev pub begun : List Target → Trial
 begun targets = record { targets = targets; failures = 0; answered = false }
 
+-- how far the tries are: a target is tried, one answered, or all have failed
 abbrev pub progress_of : Trial → Progress
 progress_of trial =
     if nat_lt trial.failures (length trial.targets)
     then (if trial.answered then Answered else Trying)
     else Exhausted
 
+-- the targets that have been tried: those that failed, and the next one
 abbrev pub tried_in : Trial → List Target
 tried_in trial = take (trial.failures + 1) trial.targets
 
@@ -60,5 +65,6 @@ moved_on Trying trial event = told trial event
 moved_on Answered trial event = trial
 moved_on Exhausted trial event = trial
 
+-- the tries after an event, which changes nothing after the end
 abbrev pub next_trial : Trial → Event → Trial
 next_trial trial event = moved_on (progress_of trial) trial event

@@ -14,7 +14,7 @@ pub record NumberText (text : List ℕ) (number : ℕ) : Type 0 where
   pub is : number ≡ decimal text
   pub low : number ≤ 255
 
--- four numbers with dots between them
+-- four numbers of at most 255, of one to three digits, with dots between them (RFC 3261 25.1)
 pub data V4Text (text octets : List ℕ) : Type 0 where
   numbers : (first second third fourth : List ℕ) (a b c d : ℕ)
       → text ≡ first ++ 46 ∷ (second ++ 46 ∷ (third ++ 46 ∷ fourth))

@@ -3,6 +3,7 @@ use Rattle.std.specs.Prelude.{ℕ, ◌==◌, Bool, ◌||◌, IsTrue, List, [], �
 use Rattle.std.specs.List.{list_any}
 use Rattle.std.specs.Char.{is_ascii_alphanumeric, is_ascii_hexdigit}
 
+-- an octet is one of these
 abbrev pub is_among : List ℕ → ℕ → Bool
 is_among octets octet = list_any (λ (x : ℕ). x == octet) octets
 

@@ -12,7 +12,8 @@ use Rattle.sip_uri.specs.declared.host.Host.TheVariants.{V4, V6, Domain}
 abbrev pub is_label_octet : ℕ → Bool
 is_label_octet octet = is_ascii_alphanumeric octet || octet == 45
 
--- a label of a hostname has a letter or digit in front and at the end
+-- a label of a hostname: 1 to 63 letters, digits and hyphens, with a letter or digit in front and
+-- at the end (RFC 3261 25.1, RFC 1035 2.3.4)
 pub record HostLabel (label : List ℕ) : Type 0 where
   pub some : 0 < length label
   pub short : length label ≤ 63

@@ -8,6 +8,7 @@ abbrev pub decimal_from : ℕ → List ℕ → ℕ
 decimal_from number [] = number
 decimal_from number (digit ∷ digits) = decimal_from (10 * number + (digit - 48)) digits
 
+-- the number that decimal digits spell
 abbrev pub decimal : List ℕ → ℕ
 decimal digits = decimal_from 0 digits
 
@@ -22,5 +23,6 @@ abbrev pub hexadecimal_from : ℕ → List ℕ → ℕ
 hexadecimal_from number [] = number
 hexadecimal_from number (digit ∷ digits) = hexadecimal_from (16 * number + digit_value digit) digits
 
+-- the number that hexadecimal digits spell
 abbrev pub hexadecimal : List ℕ → ℕ
 hexadecimal digits = hexadecimal_from 0 digits

@@ -14,6 +14,7 @@ use Rattle.sip_uri.specs.declared.host.Host.TheVariants.{V4, V6, Domain}
 use Rattle.sip_uri.specs.declared.uri.SipUri.{SipUri}
 use Rattle.sip_uri.specs.declared.via.Via.{Via}
 
+-- two transports are the same
 abbrev pub same_transport : Transport → Transport → Bool
 same_transport Udp Udp = true
 same_transport Tcp Tcp = true
@@ -21,6 +22,7 @@ same_transport Sctp Sctp = true
 same_transport Tls Tls = true
 same_transport transport other = false
 
+-- the transports that two texts name are the same; all that are not known count as one
 abbrev pub same_spoken : Spoken → Spoken → Bool
 same_spoken (Known transport) (Known other) = same_transport transport other
 same_spoken (Known transport) Other = false
@@ -42,6 +44,7 @@ same_uri uri other =
     && option_eq same_spoken uri.transport other.transport
     && option_eq same_host uri.maddr other.maddr
 
+-- two values of Via are the same: their transports, hosts and ports are
 abbrev pub same_via : Via → Via → Bool
 same_via via other =
     same_spoken via.transport other.transport && same_host via.host other.host

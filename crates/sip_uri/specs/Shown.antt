@@ -16,6 +16,7 @@ decimal_text number =
 abbrev pub hexadecimal_character : ℕ → ℕ
 hexadecimal_character number = digit_char (number % 16)
 
+-- an octet as two hexadecimal digits
 abbrev pub two_digits : ℕ → List ℕ
 two_digits number = hexadecimal_character (number / 0x10) ∷ hexadecimal_character number ∷ []
 
@@ -27,6 +28,7 @@ hexadecimal_text number =
     (if nat_lt number 0x1000 then hexadecimal_character (number / 0x100) ∷ two_digits number
     else two_digits (number / 0x100) ++ two_digits number))
 
+-- the text of an IPv4 address: its octets as decimal numbers with dots between them
 abbrev pub ipv4_text : List ℕ → List ℕ
 ipv4_text octets = join_with_byte 46 (map decimal_text octets)
 
@@ -38,6 +40,7 @@ groups_text (high ∷ low ∷ []) = hexadecimal_text (high * 256 + low)
 groups_text (high ∷ low ∷ next ∷ octets) =
     hexadecimal_text (high * 256 + low) ++ 58 ∷ groups_text (next ∷ octets)
 
+-- the text that is written for an address; of IPv6 eight groups (RFC 4291 2.2)
 abbrev pub address_text : Address → List ℕ
 address_text (V4 octets) = ipv4_text octets
 address_text (V6 octets) = groups_text octets

@@ -17,7 +17,7 @@ pub record IsSomeRun (class : ℕ → Bool) (text : List ℕ) : Type 0 where
   pub some : 0 < length text
   pub run : IsRun class text
 
--- `sip` or `sips`, in letters of any case
+-- `sip` or `sips`, in letters of any case, and whether it is `sips`
 abbrev pub SchemeText : List ℕ → Bool → Type 0
 SchemeText text false = small_letters text ≡ 115 ∷ 105 ∷ 112 ∷ []
 SchemeText text true = small_letters text ≡ 115 ∷ 105 ∷ 112 ∷ 115 ∷ []
@@ -56,10 +56,12 @@ pub record Param : Type 0 where
   pub name : List ℕ
   pub value : Option (List ℕ)
 
+-- the text of a parameter: its name, and `=` and its value where it has one
 abbrev pub valued_text : List ℕ → Option (List ℕ) → List ℕ
 valued_text name None = name
 valued_text name (Some value) = name ++ 61 ∷ value
 
+-- the text of a parameter
 abbrev pub param_text : Param → List ℕ
 param_text param = valued_text param.name param.value
 
@@ -71,16 +73,20 @@ key_of param = small_letters param.name
 abbrev pub transport_key : List ℕ
 transport_key = 116 ∷ 114 ∷ 97 ∷ 110 ∷ 115 ∷ 112 ∷ 111 ∷ 114 ∷ 116 ∷ []
 
+-- the key of the parameter `maddr` (RFC 3261 19.1.1)
 abbrev pub maddr_key : List ℕ
 maddr_key = 109 ∷ 97 ∷ 100 ∷ 100 ∷ 114 ∷ []
 
+-- a parameter is well formed: name and value are runs of the octets of parameters, and `transport`
+-- and `maddr` have a value (RFC 3261 25.1)
 pub record IsParam (param : Param) : Type 0 where
   pub name : IsSomeRun is_param_octet param.name
   pub value : IfSome param.value (λ value. IsSomeRun is_param_octet value)
   pub transport : key_of param ≡ transport_key → IsSome param.value
   pub maddr : key_of param ≡ maddr_key → IsSome param.value
 
--- the value of the parameter of a key, if there is one
+-- the value of the first parameter of a key, if it has one; names are compared in small letters
+-- (RFC 3261 19.1.4)
 abbrev pub value_at : List ℕ → List Param → Option (List ℕ)
 value_at key [] = None
 value_at key (param ∷ params) =

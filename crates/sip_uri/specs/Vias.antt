@@ -26,7 +26,8 @@ pub data IsQuoted : List ℕ → Type 0 where
   pair : (octet : ℕ) (text : List ℕ) → octet < 128 → (octet ≡ 13 → ⊥) → (octet ≡ 10 → ⊥)
       → IsQuoted text → IsQuoted (92 ∷ octet ∷ text)
 
--- the value of a parameter: octets from 33 to 126 other than `;`, `,` and `"`, or a quoted string
+-- the value of a parameter: octets from 33 to 126 other than `;`, `,` and `"` (RFC 5118 4.5), or a
+-- quoted string
 pub data IsValue (text : List ℕ) : Type 0 where
   word : 0 < length text → IsTrue (list_all is_value_octet text) → IsValue text
   quoted : (inner : List ℕ) → IsQuoted inner → text ≡ 34 ∷ inner ++ 34 ∷ [] → IsValue text
@@ -46,7 +47,7 @@ pub data ParamsText : List ℕ → List (List ℕ) → Type 0 where
       → text ≡ front ++ 59 ∷ (behind ++ (name ++ (value ++ rest)))
       → ParamsText text (small_letters name ∷ keys)
 
--- parameters no two of which have one name
+-- a text is parameters no two of which have one name (RFC 3261 7.3.1)
 pub record ViaParams (text : List ℕ) : Type 0 where
   pub keys : List (List ℕ)
   pub are : ParamsText text keys
@@ -58,8 +59,8 @@ ViaPort text None = text ≡ []
 ViaPort text (Some port) = (front : List ℕ) × (behind : List ℕ) × (digits : List ℕ) × IsBlanks front
     × IsBlanks behind × PortNumber digits port × (text ≡ front ++ 58 ∷ (behind ++ digits))
 
--- `SIP / 2.0 / ` and a transport, with optional blanks beside each of them, and at least one after
--- the transport
+-- `SIP / 2.0 / ` and a transport (RFC 3261 8.1.1.7), with optional blanks beside each of them, and
+-- at least one after the transport
 pub record ProtocolText (text transport : List ℕ) : Type 0 where
   pub first : List ℕ
   pub sip : List ℕ
@@ -82,7 +83,7 @@ pub record ProtocolText (text transport : List ℕ) : Type 0 where
   pub last_blank : IsBlanks last
   pub apart : 0 < length last
 
--- a protocol and a transport stand in front of a text
+-- a protocol and a transport stand in front of a text (RFC 3261 8.1.1.7)
 pub record HasProtocol (text : List ℕ) : Type 0 where
   pub protocol : List ℕ
   pub transport : List ℕ

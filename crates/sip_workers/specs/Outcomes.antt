@@ -18,7 +18,7 @@ pub record ResultView : Type 0 where
   pub outcome : Outcome
   pub notice : Told
 
--- with these answers, each of which counts, it is the choice of RFC 3263
+-- with these answers, each of which counts, this is the choice of RFC 3263 4 and 5
 pub record IsChosen (counts : Given → Type 0) (job : Job) (resolution : Resolution) : Type 0 where
   pub given : List Given
   pub counted : All counts given
@@ -37,8 +37,9 @@ Says gives shows seen counts job Memory = Unit {0}
 
 -- ---- at a seat
 
--- The outcome of a job at a seat: it is the choice of RFC 3263 over answers that the seat looked
--- up, and of replies whose answers it handed to the cache; or the question whose answer is missing.
+-- The outcome of a job at a seat: it is the choice of RFC 3263 4 and 5 over answers that the seat
+-- looked up, and of replies whose answers it handed to the cache; or the question whose answer is
+-- missing.
 abbrev pub IsOutcomeAt : (List ℕ → Type 0) → (ℕ → Type 0) → SeatView → Job → Outcome → Type 0
 IsOutcomeAt gives shows seat job outcome =
     Says gives shows seat.seen (CountsAt gives shows seat) job outcome
@@ -50,8 +51,8 @@ abbrev pub Counts : (List ℕ → Type 0) → (ℕ → Type 0) → List Store �
 Counts gives shows seen given =
     IsCached shows seen given ⊎ IsReplied gives given.question given.answer
 
--- The outcome of a job, over a history, a wire and a clock: it is the choice of RFC 3263 over
--- answers of that history, at moments that the clock showed, and of replies that the wire gave; or
--- the question whose answer is missing.
+-- The outcome of a job, over a history, a wire and a clock: it is the choice of RFC 3263 4 and 5
+-- over answers of that history, at moments that the clock showed, and of replies that the wire
+-- gave; or the question whose answer is missing.
 abbrev pub IsOutcome : (List ℕ → Type 0) → (ℕ → Type 0) → List Store → Job → Outcome → Type 0
 IsOutcome gives shows seen job outcome = Says gives shows seen (Counts gives shows seen) job outcome

@@ -6,6 +6,8 @@ use lib.ListN.{get_elem?}
 use Rattle.sip_workers.specs.declared.batch.Batch.{Batch}
 use Rattle.sip_workers.specs.declared.queue.PassView.{PassView}
 
+-- what contracts see of a pass of the channel: whether it deals, its parts, what was put, and what
+-- it took
 abbrev pub pass_view : Bool → ℕ → List Batch → List Batch → PassView
 pass_view deals parts put taken = record { deals = deals; parts = parts; put = put; taken = taken }
 

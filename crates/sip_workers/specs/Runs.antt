@@ -45,6 +45,7 @@ of_gather gather.Memory = Memory
 
 -- what became of a job, with a notice of this cache
 module _ (gives : List ℕ → Type 0) (shows : ℕ → Type 0) (cache : CacheView) where
+  -- what became of a job, with a notice of this cache
   abbrev pub IsMade : Job → Outcome × Told → Type 0
   IsMade job made = IsOutcome gives shows made.1.seen job made.0 × (made.1.cache ≡ cache)
 

@@ -17,6 +17,7 @@ same_request (Uri uri) (Via other) = false
 same_request (Via via) (Uri other) = false
 same_request (Via via) (Via other) = same_via via other
 
+-- two choices of address families are the same
 abbrev pub same_families : Families → Families → Bool
 same_families V4 V4 = true
 same_families V6 V6 = true
@@ -30,6 +31,7 @@ same_caps caps other =
     pointwise same_transport caps.transports other.transports
     && same_families caps.families other.families
 
+-- two jobs are the same in each part: number, request, what the caller can use, and random words
 abbrev pub same_job : Job → Job → Bool
 same_job job other =
     nat_eq job.number other.number && same_request job.request other.request

@@ -38,7 +38,7 @@ pub record SaysNothing (words : List (List ℕ)) : Type 0 where
   pub no_one : (families : Families) → SaysOne words families → ⊥
   pub no_run : (workers : ℕ) → SaysRun words workers → ⊥
 
--- the command of words
+-- the command that words say: `SaysOne`, `SaysRun` with a count (`IsCount`), or neither
 abbrev pub Means : List (List ℕ) → Command → Type 0
 Means words (One families) = SaysOne words families
 Means words (Run workers) = SaysRun words workers

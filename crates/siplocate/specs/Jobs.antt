@@ -78,6 +78,8 @@ printed NoThread = codes "fault thread\n"
 printed NotGathered = codes "fault gather\n"
 printed NoNet = codes "fault net\n"
 
+-- the exit status of what is printed: that of the text, 4 where the words are no command, 5 where
+-- nothing could be done
 abbrev pub status : Told → ℕ
 status (Text text own) = own
 status Usage = 4

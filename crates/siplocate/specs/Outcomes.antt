@@ -45,6 +45,7 @@ shown_from number (fate ∷ fates) = fate_lines number fate ++ shown_from (numbe
 
 -- ---- the status
 
+-- a line became targets
 abbrev pub has_targets : Fate → Bool
 has_targets (fate.Became (outcome.Targets list)) = true
 has_targets (fate.Became (outcome.Refused reason)) = false
@@ -53,6 +54,7 @@ has_targets (fate.Became (outcome.BadReply question refusal)) = false
 has_targets (fate.Became outcome.Memory) = false
 has_targets (fate.Bad refusal) = false
 
+-- a line became nothing for want of memory
 abbrev pub lacks_memory : Fate → Bool
 lacks_memory (fate.Became (outcome.Targets list)) = false
 lacks_memory (fate.Became (outcome.Refused reason)) = false

@@ -22,6 +22,7 @@ use Rattle.siplocate.specs.Replies.{ReplyLine, FailsAt}
 abbrev pub first_line : List ℕ → List ℕ
 first_line text = slice_index_or (lines text) 0 []
 
+-- the lines of a text after the first one
 abbrev pub other_lines : List ℕ → List (List ℕ)
 other_lines text = drop 1 (lines text)
 
@@ -31,7 +32,7 @@ pub record BeginsVia (line rest : List ℕ) : Type 0 where
   pub joined : line ≡ word ++ 58 ∷ rest
   pub is : small_letters word ≡ codes "via"
 
--- a line is a URI, or a Via behind `Via:`
+-- a line is a URI, or a Via after `Via:` in letters of any case (RFC 3261 7.3.1)
 abbrev pub RequestText : List ℕ → Request → Type 0
 RequestText line (Uri uri) = UriText line uri
 RequestText line (Via via) = (rest : List ℕ) × BeginsVia line rest × ViaText rest via

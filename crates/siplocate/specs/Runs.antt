@@ -22,7 +22,7 @@ use Rattle.siplocate.specs.declared.requests.Entry.TheVariants as entry
 
 -- ---- what stands in a line of the requests
 
--- the job of the request in the line of this number
+-- the job of the request in the line of this number (RFC 3263 4)
 pub record IsJob (number : ℕ) (line : List ℕ) (job : Job) : Type 0 where
   pub numbered : job.number ≡ number
   pub spelled : RequestText line job.request
@@ -63,7 +63,7 @@ HasRequests (suc count) [] = ⊥
 HasRequests (suc count) (line ∷ lines) = (IsRequest line × HasRequests count lines)
     ⊎ HasRequests (suc count) lines
 
--- a text has more requests than a run takes
+-- a text has more requests than a run takes, which is 10,000
 abbrev pub HasTooMany : List ℕ → Type 0
 HasTooMany text = HasRequests 10001 (lines text)
 
@@ -108,7 +108,9 @@ module _ (gives : List ℕ → Type 0) (shows : ℕ → Type 0) (cache : CacheVi
       × AreFates (number + 1) lines fates
   AreFates number lines fates = ⊥
 
-  -- what is printed of the requests of a text, whose lines are numbered from 1, and the status
+  -- What is printed of the requests of a text, whose lines are numbered from 1, and the status.
+  -- Each line has a fate (`AreFates`): an outcome as `run_workers` gives it (`IsLocated`), or that
+  -- it is no request (`IsNoRequest`).
   pub record IsRun (text printed : List ℕ) (status : ℕ) : Type 0 where
     pub fates : List Fate
     pub are : AreFates 1 (lines text) fates

@@ -76,7 +76,8 @@ pub record IsBadZone (text printed : List ℕ) : Type 0 where
   pub said : refusal ≢ zone.Memory
   pub is : printed ≡ bad_zone_line refusal
 
--- of a zone and requests: that the zone is none, or what becomes of the requests
+-- what is printed for a zone and requests: that the zone can't be read (`IsBadZone`), or what
+-- becomes of the requests (`IsAsked`)
 pub record IsServed (text printed : List ℕ) (status : ℕ) : Type 0 where
   pub zone : List ℕ
   pub requests : List ℕ

@@ -46,5 +46,7 @@ talk_from families request given (message ∷ messages) =
     option_and_then (λ (more : Given). talk_from families request (given ++ more ∷ []) messages)
     (told (goes families request given) message)
 
+-- the questions with their answers (`answer` of `dns_answers`) after messages, each of which is a
+-- reply to the question that is needed then
 abbrev pub talk : Families → Request → List Message → Option (List Given)
 talk families request messages = talk_from families request [] messages

@@ -22,24 +22,28 @@ use Rattle.sip_selection.specs.declared.caps.Families.{Families}
 use Rattle.sip_selection.specs.Choice.{Resolution, targets, refused, need}
 use Rattle.siplocate.specs.Requests.{HasBadRequest, HasBadReply}
 
+-- the word that is printed for a transport
 abbrev pub transport_word : Transport → List ℕ
 transport_word Udp = codes "udp"
 transport_word Tcp = codes "tcp"
 transport_word Sctp = codes "sctp"
 transport_word Tls = codes "tls"
 
+-- the word that is printed for the reason why a request goes nowhere
 abbrev pub reason_word : Reason → List ℕ
 reason_word TransportUnsupported = codes "TransportUnsupported"
 reason_word TransportNotSecure = codes "TransportNotSecure"
 reason_word NotOffered = codes "NotOffered"
 reason_word NoAddress = codes "NoAddress"
 
+-- the name of the type of records that a question asks for
 abbrev pub kind_word : Kind → List ℕ
 kind_word A = codes "A"
 kind_word Aaaa = codes "AAAA"
 kind_word Srv = codes "SRV"
 kind_word Naptr = codes "NAPTR"
 
+-- the word that is printed for why a line is no request
 abbrev pub request_word : UriRefusal → List ℕ
 request_word uri.TooLong = codes "TooLong"
 request_word uri.BadScheme = codes "BadScheme"
@@ -52,6 +56,7 @@ request_word uri.BadHeader = codes "BadHeader"
 request_word uri.BadVia = codes "BadVia"
 request_word uri.Memory = codes "Memory"
 
+-- the word that is printed for why a message gives no answer
 abbrev pub refusal_word : ReplyRefusal → List ℕ
 refusal_word refusal.NotReply = codes "NotReply"
 refusal_word refusal.OtherQuestion = codes "OtherQuestion"
@@ -59,6 +64,7 @@ refusal_word refusal.Truncated = codes "Truncated"
 refusal_word (refusal.ServerFault rcode) = codes "ServerFault"
 refusal_word refusal.Memory = codes "Memory"
 
+-- the word that is printed for why a line is no reply that can be taken
 abbrev pub reply_word : BadReply → List ℕ
 reply_word bad.NotHex = codes "NotHex"
 reply_word bad.NothingAsked = codes "NothingAsked"
@@ -71,6 +77,7 @@ reply_word bad.Memory = codes "Memory"
 abbrev pub bad_request_line : UriRefusal → List ℕ
 bad_request_line refusal = codes "bad request " ++ request_word refusal ++ 10 ∷ []
 
+-- the line that is printed for a line that is no reply that can be taken
 abbrev pub bad_reply_line : BadReply → List ℕ
 bad_reply_line reply = codes "bad reply " ++ reply_word reply ++ 10 ∷ []
 
@@ -97,6 +104,8 @@ shown (targets list) = flat_map target_line list
 shown (need question) = question_line question
 shown (refused reason) = codes "refused " ++ reason_word reason ++ 10 ∷ []
 
+-- the exit status of a resolution: 0 with targets, 1 where an answer is missing, 2 where the
+-- request goes nowhere
 abbrev pub status_of : Resolution → ℕ
 status_of (targets list) = 0
 status_of (need question) = 1

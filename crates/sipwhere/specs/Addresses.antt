@@ -13,6 +13,7 @@ use Rattle.sipwhere.specs.declared.address.AddressForm.TheVariants.{Full, Short}
 abbrev pub short_ipv6 : List ℕ → List ℕ
 short_ipv6 octets = ipv6_text (segments_of octets)
 
+-- the text of an address in a form: of IPv6 eight groups, or the short text (RFC 5952 4, 5)
 abbrev pub address_words : AddressForm → Address → List ℕ
 address_words form (V4 octets) = address_text (V4 octets)
 address_words Full (V6 octets) = address_text (V6 octets)

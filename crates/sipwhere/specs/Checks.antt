@@ -21,6 +21,7 @@ check_status fate.TimeOver = 2
 check_status (fate.Bad refusal) = 3
 check_status fate.Memory = 3
 
+-- the front of the line of targets, with how many there are
 abbrev pub targets_front : ℕ → List ℕ
 targets_front count = codes "SIP OK - " ++ decimal count ++ codes " targets, first "
 
@@ -31,6 +32,7 @@ targets_line form (only ∷ []) = target_line form (codes "SIP OK - 1 target: ")
 targets_line form (first ∷ second ∷ others) =
     target_line form (targets_front (length (first ∷ second ∷ others))) first
 
+-- the line for a monitoring system of what became of a request
 abbrev pub outcome_line : AddressForm → Outcome → List ℕ
 outcome_line form (outcome.Targets list) = targets_line form list
 outcome_line form (outcome.Refused reason) =
@@ -41,6 +43,7 @@ outcome_line form (outcome.BadReply question refusal) =
     outcome_lines form (codes "SIP CRITICAL - ") (outcome.BadReply question refusal)
 outcome_line form outcome.Memory = outcome_lines form (codes "SIP UNKNOWN - ") outcome.Memory
 
+-- the line for a monitoring system of what became of a text
 abbrev pub check_line : AddressForm → Fate → List ℕ
 check_line form (fate.Became outcome) = outcome_line form outcome
 check_line form fate.TimeOver = lines_of form (codes "SIP CRITICAL - ") fate.TimeOver

@@ -18,9 +18,9 @@ use Rattle.sip_resolver.specs.declared.outcome.Outcome.{Outcome}
 abbrev pub AreAlike : Sought → Sought → Type 0
 AreAlike sought other = (measure : Sought → ℕ) → measure sought ≡ measure other
 
--- What may become of a request, at a seat: it is the choice of RFC 3263 over answers that count, or
--- the question whose answer is missing, as the resolver core says it. Nothing is said of time and
--- memory.
+-- What may become of a request, at a seat: it is the choice of RFC 3263 4 and 5 over answers that
+-- count, or the question whose answer is missing, as the resolver core says it. Nothing is said of
+-- time and memory.
 abbrev pub MayBecome : (List ℕ → Type 0) → (ℕ → Type 0) → SeatView → Sought → Fate → Type 0
 MayBecome gives shows seat asked (Became outcome) =
     (sought : Sought) × AreAlike sought asked × IsOutcome gives shows seat sought outcome
@@ -43,6 +43,7 @@ pub record IsLocated (gives : List ℕ → Type 0) (shows : ℕ → Type 0) (sea
   pub became : MayBecome gives shows seat
       (record { number = place; request = request; caps = caps; words = words }) fate
 
+-- what may become of a line: it is no request, or what becomes of its request
 abbrev pub IsFate : (List ℕ → Type 0) → (ℕ → Type 0) → SeatView → Sender → Line → Fate → Type 0
 IsFate gives shows seat sender line (Bad refusal) = IsNoRequest line.text.now refusal
 IsFate gives shows seat sender line fate =
@@ -68,7 +69,7 @@ NeedsNoReply text TimeOver = IsRequest text
 NeedsNoReply text (Bad refusal) = IsNoRequest text refusal
 NeedsNoReply text Memory = IsRequest text
 
--- a text is this request, and no other
+-- a text is this request, and no other (RFC 3261 25.1)
 pub record IsOnly (text : List ℕ) (request : Request) : Type 0 where
   pub is : RequestText text request
   pub only : (other : Request) → RequestText text other → request ≡ other

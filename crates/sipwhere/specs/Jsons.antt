@@ -19,12 +19,14 @@ use Rattle.sipwhere.specs.declared.fate.Fate.TheVariants as fate
 
 -- ---- the parts
 
+-- a target as an object: address, port and transport
 abbrev pub target_data : AddressForm → Target → Data
 target_data form target =
     object (member (codes "address") (string (address_words form target.address))
     (member (codes "port") (number (unsigned target.port))
     (member (codes "transport") (string (transport_word target.transport)) no_members)))
 
+-- targets as an array of objects
 abbrev pub targets_data : AddressForm → List Target → Data
 targets_data form targets = array (items_of (map (target_data form) targets))
 
@@ -42,6 +44,7 @@ why_data question why =
     (member (codes "name") (string (text_of question.name))
     (member (codes "why") (string why) no_members)))
 
+-- a question, and why the reply to it gives no answer
 abbrev pub reply_data : Question → ReplyRefusal → Data
 reply_data question refusal.NotReply = why_data question (codes "NotReply")
 reply_data question refusal.OtherQuestion = why_data question (codes "OtherQuestion")
@@ -51,33 +54,40 @@ reply_data question refusal.Memory = why_data question (codes "Memory")
 
 -- ---- the object: what became of the text, and the text
 
+-- the object of a text with targets
 abbrev pub with_targets : List ℕ → Data → Data
 with_targets text targets =
     object (member (codes "targets") targets (member (codes "text") (string text) no_members))
 
+-- the object of a text whose request gave up
 abbrev pub with_gaveup : List ℕ → Data → Data
 with_gaveup text gaveup =
     object (member (codes "gaveup") gaveup (member (codes "text") (string text) no_members))
 
+-- the object of a text whose time was over
 abbrev pub time_over : List ℕ → Data
 time_over text =
     with_gaveup text (object (member (codes "why") (string (codes "total")) no_members))
 
+-- the object of a text whose request goes nowhere, with the reason
 abbrev pub with_refused : List ℕ → List ℕ → Data
 with_refused text word =
     object (member (codes "refused") (string word)
     (member (codes "text") (string text) no_members))
 
+-- the object of a text that is no request, with the word for why
 abbrev pub with_bad : List ℕ → List ℕ → Data
 with_bad text word =
     object (member (codes "bad") (string word)
     (member (codes "text") (string text) no_members))
 
+-- the object of a text for which memory was refused
 abbrev pub with_fault : List ℕ → Data
 with_fault text =
     object (member (codes "fault") (string (codes "memory"))
     (member (codes "text") (string text) no_members))
 
+-- the object of a text, by the outcome of its request
 abbrev pub outcome_data : AddressForm → List ℕ → Outcome → Data
 outcome_data form text (outcome.Targets list) = with_targets text (targets_data form list)
 outcome_data form text (outcome.Refused reason) = with_refused text (reason_word reason)
@@ -87,11 +97,13 @@ outcome_data form text (outcome.BadReply question refusal) =
     with_gaveup text (reply_data question refusal)
 outcome_data form text outcome.Memory = with_fault text
 
+-- the object of a text, by what became of it
 abbrev pub fate_data : AddressForm → List ℕ → Fate → Data
 fate_data form text (fate.Became outcome) = outcome_data form text outcome
 fate_data form text fate.TimeOver = time_over text
 fate_data form text (fate.Bad refusal) = with_bad text (request_word refusal)
 fate_data form text fate.Memory = with_fault text
 
+-- the line with the object of what became of a text (RFC 8259)
 abbrev pub json_line : AddressForm → List ℕ → Fate → List ℕ
 json_line form text fate = compact_text (fate_data form text fate) ++ 10 ∷ []

@@ -24,24 +24,28 @@ use Rattle.sipwhere.specs.declared.fate.Fate.TheVariants as fate
 
 -- ---- words
 
+-- the word that is printed for a transport
 abbrev pub transport_word : Transport → List ℕ
 transport_word Udp = codes "udp"
 transport_word Tcp = codes "tcp"
 transport_word Sctp = codes "sctp"
 transport_word Tls = codes "tls"
 
+-- the word that is printed for the reason why a request goes nowhere
 abbrev pub reason_word : Reason → List ℕ
 reason_word TransportUnsupported = codes "TransportUnsupported"
 reason_word TransportNotSecure = codes "TransportNotSecure"
 reason_word NotOffered = codes "NotOffered"
 reason_word NoAddress = codes "NoAddress"
 
+-- the name of the type of records that a question asks for
 abbrev pub kind_word : Kind → List ℕ
 kind_word A = codes "A"
 kind_word Aaaa = codes "AAAA"
 kind_word Srv = codes "SRV"
 kind_word Naptr = codes "NAPTR"
 
+-- the word that is printed for why a text is no request
 abbrev pub request_word : UriRefusal → List ℕ
 request_word uri.TooLong = codes "TooLong"
 request_word uri.BadScheme = codes "BadScheme"
@@ -102,6 +106,8 @@ lines_of form front fate.Memory = words_line front (codes "fault ") (codes "memo
 
 -- ---- the status
 
+-- the exit status of a text: 0 with targets, 1 without an answer, 2 where the request goes nowhere,
+-- 3 where it is no request, 5 where memory was refused
 abbrev pub status_of : Fate → ℕ
 status_of (fate.Became (outcome.Targets list)) = 0
 status_of (fate.Became (outcome.Refused reason)) = 2

@@ -57,6 +57,7 @@ abbrev pub IsFateOf : (List ℕ → Type 0) → (ℕ → Type 0) → SeatView �
 IsFateOf gives shows seat sender line None = Unit {0}
 IsFateOf gives shows seat sender line (Some fate) = IsFate gives shows seat sender line fate
 
+-- what holds of lines at a seat: the requests inside, and what became of each line (RFC 3263 4, 5)
 pub record Stands (gives : List ℕ → Type 0) (shows : ℕ → Type 0) (seat : SeatView)
     (it : OpenView) : Type 0 where
   pub requests : Stand gives shows seat it.requests

@@ -87,6 +87,7 @@ other_words other =
     codes "CLASS" ++ number_word other.class_code ++ codes "TYPE" ++ number_word other.code
     ++ number_word (length other.octets) ++ codes "octets"
 
+-- the data of an address: its type, A or AAAA, and the address
 abbrev pub typed_address : AddressForm → Address → List ℕ
 typed_address form (V4 octets) = codes "A " ++ address_words form (V4 octets)
 typed_address form (V6 octets) = codes "AAAA " ++ address_words form (V6 octets)
@@ -119,11 +120,13 @@ authority_of form entry (rdata.Naptr rule) = []
 authority_of form entry (rdata.Cname name) = []
 authority_of form entry (rdata.Other other) = []
 
+-- the line of a record of the authority section, if it is an SOA record
 abbrev pub authority_line : AddressForm → Record → List ℕ
 authority_line form entry = authority_of form entry entry.rdata
 
 -- ---- how many of them are used
 
+-- the kind of question that asks for a type, if there is one
 abbrev pub kind_of : ℕ → Option Kind
 kind_of code =
     if code == 1 then Some A else
@@ -140,6 +143,7 @@ abbrev pub used_where : Question → Message → Option ReplyRefusal → ℕ
 used_where question message None = count_of (answer question message).records
 used_where question message (Some refusal) = 0
 
+-- how many records of a message its answer to a question has
 abbrev pub used_in : Question → Message → ℕ
 used_in question message = used_where question message (reply_refusal question message)
 
@@ -151,6 +155,7 @@ used_line used count =
     ++ codes "records are used\n"
     else []
 
+-- the line about how many records are used, for a question of a kind that there is
 abbrev pub used_of : Asked → Message → Option Kind → List ℕ
 used_of asked message None = []
 used_of asked message (Some kind) =

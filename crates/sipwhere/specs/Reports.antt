@@ -18,11 +18,13 @@ abbrev pub front_of : Bool → List ℕ → List ℕ
 front_of true text = text ++ 32 ∷ []
 front_of false text = []
 
+-- what is printed of a text, in a form of report
 abbrev pub report_as : Report → AddressForm → Bool → List ℕ → Fate → List ℕ
 report_as Lines form several text fate = lines_of form (front_of several text) fate
 report_as Json form several text fate = json_line form text fate
 report_as Check form several text fate = check_line form fate
 
+-- what is printed of a text, in the style that is asked for
 abbrev pub report_of : Style → List ℕ → Fate → List ℕ
 report_of style text fate = report_as style.report style.form style.several text fate
 
@@ -31,6 +33,8 @@ abbrev pub trace_of : Bool → AddressForm → List ℕ → List WireTry → Lis
 trace_of true form text tries = flat_map (try_lines form (is_via text)) tries
 trace_of false form text tries = []
 
+-- the lines of what went over the wire, where they are asked for, and after them what is printed of
+-- a text
 abbrev pub traced_report : Style → List WireTry → List ℕ → Fate → List ℕ
 traced_report style tries text fate =
     trace_of style.traced style.form text tries ++ report_of style text fate

@@ -8,6 +8,7 @@ use Rattle.dns_message.specs.declared.question.Asked.{Asked}
 
 -- ---- URIs and Vias
 
+-- an octet is `:`
 abbrev pub is_colon : ℕ → Bool
 is_colon octet = octet == 58
 
@@ -28,6 +29,7 @@ abbrev pub section_word : Bool → List ℕ
 section_word true = codes "5"
 section_word false = codes "4.2"
 
+-- a name begins with this text
 abbrev pub stands_in_front : List ℕ → List ℕ → Bool
 stands_in_front front name = starts_with nat_eq name front
 
@@ -40,6 +42,7 @@ servers_word name =
     (if stands_in_front (codes "_sips._tcp.") name then codes "servers for tls"
     else codes "servers")))
 
+-- the text of a rule: what it asks for, and the section that says where the message goes
 abbrev pub place_rule : Bool → List ℕ → List ℕ
 place_rule via wanted = wanted ++ codes ", RFC 3263 " ++ section_word via
 
@@ -52,5 +55,6 @@ rule_words via code name =
     (if code == 1 || code == 28 then place_rule via (codes "addresses")
     else place_rule via (codes "records")))
 
+-- the rule that asks a question, by the type and the text of the name that it asks for
 abbrev pub rule_of : Bool → Asked → List ℕ
 rule_of via asked = rule_words via asked.code (text_of asked.name)

@@ -28,6 +28,7 @@ asked_words via asked =
     type_word asked.code ++ (32 ∷ text_of asked.name) ++ codes " (" ++ rule_of via asked
     ++ codes ")"
 
+-- the first of two texts where a condition holds, else the second
 abbrev pub words_if : Bool → List ℕ → List ℕ → List ℕ
 words_if true words others = words
 words_if false words others = others
@@ -49,10 +50,12 @@ came_words sent_at reply =
     ++ (decimal reply.octets ++ codes " octets, ")
     ++ decimal (milliseconds sent_at reply.came_at) ++ codes " ms"
 
+-- what is printed of a reply, or that there is none
 abbrev pub reply_words : Duration → Option WireReply → List ℕ
 reply_words sent_at None = codes "no reply"
 reply_words sent_at (Some reply) = came_words sent_at reply
 
+-- what is printed of the question of a query, or that there is none
 abbrev pub question_words : Bool → Option Asked → List ℕ
 question_words via (Some asked) = asked_words via asked
 question_words via None = codes "nothing"
@@ -63,6 +66,7 @@ sent_words via one =
     question_words via one.asked ++ codes " to " ++ way_words one.way ++ codes " id "
     ++ decimal one.id
 
+-- the line of a query that went out: what it asks, its way, its id and its reply
 abbrev pub trace_line : Bool → WireTry → List ℕ
 trace_line via one =
     codes "; " ++ sent_words via one ++ codes ": " ++ reply_words one.sent_at one.reply ++ 10 ∷ []
@@ -73,6 +77,7 @@ lines_in form (Some asked) (Some message) = message_lines form asked message
 lines_in form (Some asked) None = []
 lines_in form None message = []
 
+-- the lines of the message that came back, if one did
 abbrev pub reply_lines : AddressForm → Option Asked → Option WireReply → List ℕ
 reply_lines form asked (Some reply) = lines_in form asked reply.message
 reply_lines form asked None = []

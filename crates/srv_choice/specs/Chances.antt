@@ -6,12 +6,12 @@ use Rattle.dns_message.specs.declared.srv.SrvRecord.{SrvRecord}
 use Rattle.srv_choice.specs.SrvOrder.{pick, weight_sum}
 
 module _ (records : List SrvRecord) where
-  -- whether the number picks this one
+  -- whether the number picks this record
   abbrev pub is_picked : List ℕ → ℕ → ℕ → Bool
   is_picked places place number =
       option_map_or (λ picked. picked == place) (pick records places number) false
 
-  -- how many of the numbers from 0 to the sum of the weights pick this one
+  -- how many of the numbers from 0 to the sum of the weights pick this record
   abbrev pub chances : List ℕ → ℕ → ℕ
   chances places place =
       count_by (is_picked places place) (range_with_len 0 (weight_sum records places + 1))
