@@ -28,7 +28,7 @@ carried_stores offers = map own_store offers
 abbrev pub unseated : Store → Offer
 unseated store = offer_of store.question store.answer store.moment
 
--- a store of the question is among them
+-- one of the stores is of this question
 abbrev pub has_question : Question → List Store → Bool
 has_question question stores = list_any (λ store. same_question store.question question) stores
 
@@ -42,7 +42,7 @@ last_stores (store ∷ later) =
 abbrev pub lives_at : ℕ → Offer → Bool
 lives_at now offer = nat_lt now (offer.moment + offer.answer.life)
 
--- the last stores of their questions that live, in their order and without their seats
+-- the last store of each question that lives, in their order and without their seats
 abbrev pub living_of : ℕ → List Store → List Offer
 living_of now stores = filter (lives_at now) (map unseated (last_stores stores))
 

@@ -43,6 +43,6 @@ pub record IsIndex (book : Book) (it : Index) : Type 0 where
   pub at : top_of it.entries.items ≡ top group front
   pub tells : TellsAll it.seen.log it.entries.items (in_group group (history front))
 
--- an index for each group
+-- there is an index for each group
 abbrev pub AreIndexes : Book → List Index → Type 0
 AreIndexes book indexes = (length indexes ≡ 64) × All (IsIndex book) indexes

@@ -7,7 +7,7 @@ use Rattle.answer_cache.specs.declared.refusal.StoreRefusal.{StoreRefusal}
 use Rattle.answer_cache.specs.declared.refusal.StoreRefusal.TheVariants.{Lifeless, GenerationFull}
 use Rattle.answer_cache.specs.declared.refusal.StoreRefusal.TheVariants.{Contended, Memory}
 
--- the store of the one seat
+-- a store of the one seat, which is 0
 abbrev pub own_store : Offer → Store
 own_store offer = record {
   seat = 0;
@@ -16,11 +16,11 @@ own_store offer = record {
   moment = offer.moment;
 }
 
--- what the seat sees: all stores are its own
+-- what the seat of a list has seen: all stores are its own
 abbrev pub seat_at : List Store → List Offer → SeatView
 seat_at history offered = record { number = 0; seen = history; own = history; offered = offered }
 
--- what holds of it: what it has seen is what it stored
+-- what holds of the seat of a list: what it has seen is what it stored
 pub record IsListSeat (seat : SeatView) : Type 0 where
   pub is : IsSeat seat
   pub own : seat.own ≡ seat.seen
@@ -41,7 +41,8 @@ stored_too seat offer = record seat {
 abbrev pub Takes : List Store → Offer → Type 0
 Takes history offer = (0 < offer.answer.life) × (IsFull history offer.question → ⊥)
 
--- Each refusal comes exactly where this is so. Memory is wanted only for what would be taken.
+-- where each refusal comes, and it comes exactly there; memory is needed only for what would be
+-- taken
 abbrev pub Refuses : List Store → Offer → StoreRefusal → Type 0
 Refuses history offer Lifeless = offer.answer.life ≡ 0
 Refuses history offer GenerationFull = (0 < offer.answer.life) × IsFull history offer.question

@@ -19,7 +19,8 @@ pub record Offer : Type 0 where
 abbrev pub offer_of : Question → AnswerValue → ℕ → Offer
 offer_of question answer moment = record { question = question; answer = answer; moment = moment }
 
--- its number, the history that it has seen, its own stores, and what its stores were handed
+-- what contracts see of a seat: its number, the history that it has seen, its own stores, and what
+-- its stores were handed
 pub record SeatView : Type 0 where
   pub number : ℕ
   pub seen : List Store
@@ -31,12 +32,12 @@ pub record IsSeat (seat : SeatView) : Type 0 where
   pub own : mine seat.seen seat.number ≡ seat.own
   pub history : IsHistory seat.seen
 
--- each call leaves the number, and goes on with the history
+-- a call leaves the number of a seat, and its history goes on
 pub record GoesOn (old new : SeatView) : Type 0 where
   pub number : new.number ≡ old.number
   pub seen : IsPrefix old.seen new.seen
 
--- a call that stores nothing, and is handed nothing to store
+-- a call stores nothing, and is handed nothing to store
 pub record StoresNothing (old new : SeatView) : Type 0 where
   pub own : new.own ≡ old.own
   pub offered : new.offered ≡ old.offered
@@ -62,8 +63,7 @@ pub record IsStored (old new : SeatView) (offer : Offer) : Type 0 where
   pub last : new.seen ≡ before ++ store_of old offer ∷ []
   pub own : new.own ≡ old.own ++ store_of old offer ∷ []
 
--- Why what was handed is not stored. That it does not live is the reason exactly where its life is
--- 0.
+-- why what was handed is not stored; it does not live exactly where its life is 0
 abbrev pub WhyNot : SeatView → SeatView → Offer → StoreRefusal → Type 0
 WhyNot old new offer Lifeless = offer.answer.life ≡ 0
 WhyNot old new offer GenerationFull = (0 < offer.answer.life) × IsFull new.seen offer.question
@@ -71,11 +71,11 @@ WhyNot old new offer GenerationFull = (0 < offer.answer.life) × IsFull new.seen
 WhyNot old new offer Contended = (0 < offer.answer.life) × (length old.seen + 16 ≤ length new.seen)
 WhyNot old new offer Memory = 0 < offer.answer.life
 
--- the seat has no store more
+-- the seat has stored nothing more, for this reason (`WhyNot`)
 abbrev pub IsRefused : SeatView → SeatView → Offer → StoreRefusal → Type 0
 IsRefused old new offer refusal = (new.own ≡ old.own) × WhyNot old new offer refusal
 
--- in between, a history was seen in which the question's group was not full
+-- during the call, a history was seen in which the question's group was not full
 pub record HasSeenRoom (question : Question) (before after : List Store) : Type 0 where
   pub seen : List Store
   pub later : IsPrefix before seen

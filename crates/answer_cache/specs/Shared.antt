@@ -16,7 +16,7 @@ use Rattle.answer_cache.specs.declared.refusal.StoreRefusal.{StoreRefusal}
 use Rattle.answer_cache.specs.declared.refusal.StoreRefusal.TheVariants.{Lifeless, GenerationFull}
 use Rattle.answer_cache.specs.declared.refusal.StoreRefusal.TheVariants.{Contended, Memory}
 
--- which cache it is, and how many seats it was made with
+-- what contracts see of a cache: which one it is, and how many seats it was made with
 pub record CacheView : Type 0 where
   pub book : Book
   pub seats : ℕ
@@ -82,24 +82,24 @@ new_seat cache number =
       places = 0;
     }
 
--- The count is bad exactly outside 1 to 64. Memory is wanted only for a good one.
+-- the number of seats is bad exactly outside 1 to 64; memory is needed only for a good one
 abbrev pub Refuses : ℕ → CacheRefusal → Type 0
 Refuses seats BadCount = (seats ≡ 0) ⊎ (64 < seats)
 Refuses seats NoMemory = (0 < seats) × (seats ≤ 64)
 
--- a call goes along so many links at most, and makes so many tries at most
+-- a call passes at most so many links, and makes at most so many tries
 pub record Takes (old new : SharedView) (links tries : ℕ) : Type 0 where
   pub along : new.links ≤ old.links + links
   pub tried : new.tries ≤ old.tries + tries
 
--- a look-up wants memory only for an answer, or else a number led to no node
+-- a look-up needs memory only for an answer, unless a number led to no node
 abbrev pub WantsForAnswer : Question → ℕ → SharedView → SharedView → Type 0
 WantsForAnswer question now old new =
     (cached new.seat.seen question now ≢ None) ⊎ (old.missed < new.missed)
 
 -- What a refused store leaves. Where the answer does not live, or the group is full before a try,
--- no node was named. Memory is wanted before a try, where the group was not full at the first look;
--- or else a number led to no node.
+-- no node was named. Memory is needed before a try, where the group was not full at the first look,
+-- unless a number led to no node.
 abbrev pub Leaves : Question → SharedView → SharedView → StoreRefusal → Type 0
 Leaves question old new Lifeless = (new.tries ≡ old.tries) × (new.places ≡ old.places)
 Leaves question old new GenerationFull = new.tries ≡ old.tries → new.places ≡ old.places

@@ -13,7 +13,8 @@ hash_more hash octet = (bit_xor hash octet * 16777619) % 2 ^ 32
 abbrev pub hash_of : List ℕ → ℕ
 hash_of octets = fold hash_more 2166136261 octets
 
--- what is hashed: the name without pointers, and the two octets of the type
+-- the octets of a question that are hashed: its name without pointers, and the two octets of its
+-- type
 abbrev pub hashed_of : Question → List ℕ
 hashed_of question = wire_of question.name ++ (kind_code question.kind / 256)
     ∷ (kind_code question.kind % 256) ∷ []
@@ -22,6 +23,6 @@ hashed_of question = wire_of question.name ++ (kind_code question.kind / 256)
 abbrev pub group_limit : ℕ
 group_limit = 128
 
--- one of 64
+-- the group of a question, one of 64
 abbrev pub group_of : Question → ℕ
 group_of question = hash_of (hashed_of question) % 64

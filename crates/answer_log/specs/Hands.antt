@@ -15,7 +15,7 @@ use Rattle.answer_log.specs.declared.hand.Hand.{Hand}
 use Rattle.answer_log.specs.declared.hand.Hands.{Hands}
 use Rattle.answer_log.specs.declared.store.Store.{Store}
 
--- what its calls have spent
+-- what the calls of a hand have spent
 abbrev pub spent_of : Hand → Spending
 spent_of hand = hand.spent
 
@@ -28,7 +28,7 @@ pub record IsHand (hand : Hand) : Type 0 where
   pub counted : count hand.number hand.book.log ≡ hand.tally.count
   pub names : NamesBelow hand.number hand.places hand.book.log
 
--- a seat that has seen nothing
+-- a seat has seen nothing
 pub record IsNew (hand : Hand) (new_book : Book) (seat seats : ℕ) : Type 0 where
   pub is : IsHand hand
   pub book : hand.book.book ≡ new_book
@@ -64,7 +64,7 @@ pub record IsNamed (book : Book) (log : List Event) (node : ℕ) (store : Store)
 abbrev pub IsPlaced : List Event → ℕ → Store → Type 0
 IsPlaced log node store = (link : ℕ) × In (Placed node store link) log
 
--- more was seen, and no store of the seat's own
+-- a seat has seen more of the log, and no store more of its own
 pub record SeesMore (seat : ℕ) (before after : List Event) : Type 0 where
   pub later : IsPrefix before after
   pub stores : IsPrefix (history before) (history after)
@@ -72,7 +72,7 @@ pub record SeesMore (seat : ℕ) (before after : List Event) : Type 0 where
   pub names : (book : Book) (node : ℕ) (store : Store) (word : Word)
       → IsNamed book before node store word → IsNamed book after node store word
 
--- the history ends with the store, and till then no store of the seat's own was new
+-- the history ends with the store, and before it no store of the seat's own is new
 pub record EndsWith (store : Store) (before after : List Store) : Type 0 where
   pub front : List Store
   pub last : after ≡ front ++ store ∷ []

@@ -27,7 +27,7 @@ cached history question now =
 abbrev pub in_group : ℕ → List Store → List Store
 in_group group history = filter (λ store. group_of store.question == group) history
 
--- there are as many stores in the question's group as there can be
+-- the group of the question has as many stores as it can have
 abbrev pub IsFull : List Store → Question → Type 0
 IsFull history question = group_limit ≤ length (in_group (group_of question) history)
 
@@ -35,7 +35,7 @@ IsFull history question = group_limit ≤ length (in_group (group_of question) h
 abbrev pub mine : List Store → ℕ → List Store
 mine history seat = filter (λ store. store.seat == seat) history
 
--- an answer that lives, of its question's kind
+-- a store is sound: its answer lives, and is of its question's kind
 abbrev pub IsSound : Store → Type 0
 IsSound store = (0 < store.answer.life) × (kind_of store.answer.records ≡ store.question.kind)
 

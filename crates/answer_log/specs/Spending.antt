@@ -1,8 +1,8 @@
 -- What contracts count of the calls of a seat.
 use Rattle.std.specs.Prelude.{ℕ, ◌+◌}
 
--- how many links they have passed, how many times they have tried to place a node, and how many
--- numbers led to no node
+-- what the calls of a seat have spent: how many links they have passed, how many times they have
+-- tried to place a node, and how many numbers led to no node
 pub record Spending : Type 0 where
   pub links : ℕ
   pub tries : ℕ

@@ -13,7 +13,8 @@ abbrev pub kept_along : Question → Message → Option Chain → List Record
 kept_along question message None = []
 kept_along question message (Some chain) = kept question.kind chain.last message.answers
 
--- their data, and their life
+-- the answer that a message has at the end of a chain: the data of the records that it keeps, and
+-- their life
 abbrev pub answer_along : Question → Message → Option Chain → AnswerValue
 answer_along question message chain = record {
   records = records_of question.kind (kept_along question message chain);

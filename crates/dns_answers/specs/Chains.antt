@@ -64,7 +64,7 @@ chain section name = chain_within 8 section name
 
 -- ---- the same as relations
 
--- a record is no CNAME of this name
+-- a record is no CNAME record of this name
 abbrev pub IsNoAlias : List (List ℕ) → Record → Type 0
 IsNoAlias name entry = (target : List (List ℕ)) → entry.owner ≡ name → entry.rdata ≡ Cname target
     → ⊥
@@ -79,7 +79,7 @@ pub record IsFirstAlias (section : List Record) (name : List (List ℕ)) (entry 
   pub alias : entry.rdata ≡ Cname target
   pub first : All (IsNoAlias name) front
 
--- from the first name these CNAME records lead to the other one, each the first of its owner
+-- these CNAME records lead from the first name to the other one, each the first of its owner
 pub data Follows (section : List Record) : List (List ℕ) → List Record → List (List ℕ)
     → Type 0 where
   stays : {name last : List (List ℕ)} → last ≡ name → Follows section name [] last

@@ -44,7 +44,7 @@ data_for data_in name entry = if same_name entry.owner name then data_in entry.r
 abbrev pub has_data : {X : Type 0} → (Rdata → Option X) → List (List ℕ) → Record → Bool
 has_data data_in name entry = is_some (data_for data_in name entry)
 
--- the first 32 records that have such data for this name, in the order of the section
+-- the first 32 records that have data of this kind for this name, in the order of the section
 abbrev pub kept_with : {X : Type 0} → (Rdata → Option X) → List (List ℕ) → List Record → List Record
 kept_with data_in name section = take 32 (filter (has_data data_in name) section)
 

@@ -9,12 +9,12 @@ use Rattle.dns_message.specs.declared.resource.Record.{Record}
 use Rattle.dns_message.specs.declared.soa.SoaRecord.{SoaRecord}
 use Rattle.dns_answers.specs.Chains.{Chain}
 
--- a record, by its TTL: a TTL of 2^31 or more counts as 0 (RFC 2181 8)
+-- how long a record lasts, by its TTL: a TTL of 2^31 or more counts as 0 (RFC 2181 8)
 abbrev pub lasting : ℕ → ℕ
 lasting ttl = if nat_le ttl 2147483647 then ttl else 0
 
--- records together, by their TTLs: as long as the one that lasts least (of one set: RFC 2181 5.2),
--- and no longer than a limit
+-- how long records last together, by their TTLs: as long as the one that lasts least (of one set:
+-- RFC 2181 5.2), and no longer than a limit
 abbrev pub least_from : ℕ → List ℕ → ℕ
 least_from limit ttls = fold min limit (map lasting ttls)
 
@@ -36,12 +36,13 @@ negative_ttl entry =
     option_map (λ (authority : SoaRecord). min authority.minimum (lasting entry.ttl))
     (authority_in entry.rdata)
 
--- the first one of a section, whatever its owner; where there is none, 0
+-- the TTL that the first SOA record of a section gives to negative answers, whatever its owner; 0
+-- where there is none
 abbrev pub negative_ttl_of : List Record → ℕ
 negative_ttl_of section = unwrap_or (slice_get (filter_map negative_ttl section) 0) 0
 
--- at the end of a chain: as long as the authority section lets it, and as each record of the chain
--- lasts; where the chain has no end, not at all
+-- how long the absence of records may be kept, at the end of a chain: as long as the authority
+-- section lets it, and as each record of the chain lasts; where the chain has no end, not at all
 abbrev pub absent_life : Message → Option Chain → ℕ
 absent_life message None = 0
 absent_life message (Some chain) = least_from (negative_ttl_of message.authority) (ttls chain.links)

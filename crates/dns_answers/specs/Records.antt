@@ -5,7 +5,7 @@ use Rattle.dns_message.specs.declared.kind.Kind.TheVariants as kind
 use Rattle.dns_answers.specs.declared.records.Records.{Records}
 use Rattle.dns_answers.specs.declared.records.Records.TheVariants.{Naptr, Srv, V4, V6}
 
--- which kind of question they answer
+-- the kind of question that these records answer
 abbrev pub kind_of : Records → Kind
 kind_of (V4 addresses) = kind.A
 kind_of (V6 addresses) = kind.Aaaa
@@ -19,7 +19,7 @@ count_of (V6 addresses) = length addresses
 count_of (Srv servers) = length servers
 count_of (Naptr rules) = length rules
 
--- the bounds of an answer
+-- the bounds of an answer: how many records it has, and how long it lives
 pub record CanBeKept (records : Records) (life : ℕ) : Type 0 where
   pub few : count_of records ≤ 32
   pub short : life < 2 ^ 31

@@ -8,7 +8,7 @@ use Rattle.dns_name.specs.Labels.{same_name}
 use Rattle.dns_answers.specs.declared.refusal.ReplyRefusal.{ReplyRefusal}
 use Rattle.dns_answers.specs.declared.refusal.ReplyRefusal.TheVariants.{NotReply, OtherQuestion, Truncated, ServerFault}
 
--- the question of a message is this one, in class IN
+-- a question of a message is this one, in class IN
 abbrev pub is_asked : Question → Asked → Bool
 is_asked question asked =
     same_name asked.name question.name && asked.code == kind_code question.kind
@@ -20,7 +20,7 @@ asks_this_alone question [] = false
 asks_this_alone question (asked ∷ []) = is_asked question asked
 asks_this_alone question (asked ∷ other ∷ more) = false
 
--- why a message gives no answer to a question: the first of these
+-- why a message gives no answer to a question: the first reason in this order
 abbrev pub reply_refusal : Question → Message → Option ReplyRefusal
 reply_refusal question message =
     if not (message.header.reply && message.header.opcode == 0) then Some NotReply else

@@ -31,7 +31,7 @@ use Rattle.dns_asker.specs.declared.refusal.AskRefusal.TheVariants.{IdTaken, Ful
 abbrev pub sent_octets : ℕ → Question → List ℕ
 sent_octets id question = plain (query_of id question)
 
--- it gets a ticket, and is sent for the first time
+-- the tickets after a question was asked: it gets one, and is sent for the first time
 abbrev pub asked : ℕ → Question → ℕ → Asking → Asking
 asked id question now asking = record asking {
   tickets = waiting_too (record {
@@ -41,8 +41,8 @@ asked id question now asking = record asking {
   serial = asking.serial + 1;
 }
 
--- Each refusal comes exactly where this is so, in the order of the checks. Memory is wanted only
--- for what would be taken.
+-- where each refusal to ask comes, and it comes exactly there, in the order of the checks; memory
+-- is needed only for what would be taken
 abbrev pub Refuses : Asking → ℕ → AskRefusal → Type 0
 Refuses asking id IdTaken = IsSome (ticket_of id asking.tickets)
 Refuses asking id Full = (ticket_of id asking.tickets ≡ None)
@@ -54,7 +54,7 @@ Refuses asking id Memory =
     (ticket_of id asking.tickets ≡ None) × (length asking.tickets < asking.limit)
     × (asking.serial < 2 ^ 64 - 1)
 
--- what asking leaves, and gives
+-- what asking a question leaves and gives
 abbrev pub Asks : Asking → Asking → ℕ → Question → ℕ → Result (Bor (List ℕ)) AskRefusal → Type 0
 Asks old new id question now (Ok octets) =
     (octets.now ≡ sent_octets id question) × (new ≡ asked id question now old)
@@ -109,17 +109,17 @@ Means asking octets (Ignored NotReply) = Tells asking octets (Ignored NotReply)
 Means asking octets (Ignored OtherQuestion) = Tells asking octets (Ignored OtherQuestion)
 Means asking octets (Ended id question ending) = Tells asking octets (Ended id question ending)
 
--- a ticket is closed
+-- the tickets after one was closed
 abbrev pub closed : ℕ → Asking → Asking
 closed id asking = record asking { tickets = without id asking.tickets }
 
--- what is left after them
+-- the tickets that octets leave, by what these mean
 abbrev pub left_by : Incoming → Asking → Asking
 left_by (Ended id question ending) asking = closed id asking
 left_by (Ignored why) asking = asking
 
--- Memory is wanted where a name stands behind the header, and for the answer of a message without a
--- fault.
+-- memory is needed where a name stands after the header, and for the answer of a message without a
+-- fault
 abbrev pub MayWant : Asking → List ℕ → Type 0
 MayWant asking octets = (length octets ≤ 65535)
     × (NamedAt octets 12 ⊎ ((found : AnswerValue) × (id : ℕ) × (question : Question)
@@ -127,7 +127,7 @@ MayWant asking octets = (length octets ≤ 65535)
 
 -- ---- time goes on
 
--- a ticket is sent once more, and waits on
+-- what is known of a query after it was sent once more
 abbrev pub sent_again : Sent → Sent
 sent_again sent = record sent { sends = sent.sends + 1 }
 

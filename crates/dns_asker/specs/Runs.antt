@@ -25,7 +25,7 @@ pub data Step (old new : Asking) : Event → Type 0 where
   unheard : {octets : List ℕ} → new ≡ old → Step old new (hear octets)
   waited : {now : ℕ} (due : Option Due) → Dues old new now due → Step old new (wait now)
 
--- one event after the other
+-- one event happens after the other
 pub data Runs (first : Asking) : List Event → Asking → Type 0 where
   begun : Runs first [] first
   further : (events : List Event) (event : Event) (old new : Asking) → Runs first events old

@@ -9,7 +9,7 @@ pub record Sent : Type 0 where
   pub question : Question
   pub sends : ℕ
 
--- it waits for its reply until this moment
+-- a question that was sent, and the moment until which it waits for its reply
 pub record Ticket : Type 0 where
   pub sent : Sent
   pub deadline : ℕ
@@ -32,19 +32,19 @@ ticket_of id tickets = find (has_id id) tickets
 abbrev pub without : ℕ → List Ticket → List Ticket
 without id tickets = filter (λ it. not (has_id id it)) tickets
 
--- the tickets with one more: it stands behind all whose deadlines are not greater, in front of the
--- others
+-- the tickets with one more, after all whose deadlines are not greater and before the others
 abbrev pub waiting_too : Ticket → List Ticket → List Ticket
 waiting_too ticket tickets =
     filter (λ it. nat_le it.deadline ticket.deadline) tickets
     ++ ticket ∷ filter (λ it. not (nat_le it.deadline ticket.deadline)) tickets
 
--- it was sent once, twice or three times
+-- a query was sent once, twice or three times
 pub record IsSent (sent : Sent) : Type 0 where
   pub some : 0 < sent.sends
   pub few : sent.sends ≤ 3
 
--- The tickets are always so: by deadline, at most one of each id, and no more than the limit.
+-- what always holds of the tickets: they are by deadline, at most one of each id, and no more than
+-- the limit
 pub record IsAsking (asking : Asking) : Type 0 where
   pub in_order : AllPairs (λ ticket later. ticket.deadline ≤ later.deadline) asking.tickets
   pub single : (id : ℕ) → length (filter (has_id id) asking.tickets) ≤ 1

@@ -19,8 +19,8 @@ pub record IsEmptyAnswer (question : Question) (reply : Message) : Type 0 where
   pub is_reply : reply_refusal question reply ≡ None
   pub none : count_of (answer question reply).records ≡ 0
 
--- It is no negative answer, since it has no SOA record, and its CNAME records lead on over more
--- than so many links.
+-- A reply is cut short: it is no negative answer, since it has no SOA record, and its CNAME records
+-- lead on over more than so many links.
 pub record IsCutShort (question : Question) (reply : Message) (before : ℕ)
     (chain : chains.Chain) : Type 0 where
   pub no_error : reply.header.rcode ≡ 0
@@ -29,7 +29,8 @@ pub record IsCutShort (question : Question) (reply : Message) (before : ℕ)
   pub further : before < length chain.links
   pub empty : IsEmptyAnswer question reply
 
--- then this is asked: the same kind of the name where the chain ends, so many links on
+-- what is asked after a reply that is cut short: the same kind of question about the name where the
+-- chain ends
 pub record AsksOn (question : Question) (reply : Message) (before : ℕ) (further : Question)
     (links : ℕ) : Type 0 where
   pub chain : chains.Chain
@@ -37,7 +38,7 @@ pub record AsksOn (question : Question) (reply : Message) (before : ℕ) (furthe
   pub name : further ≡ record { name = chain.last; kind = question.kind }
   pub count : links ≡ length chain.links
 
--- it is not cut short
+-- a reply is not cut short
 abbrev pub IsWhole : Question → Message → ℕ → Type 0
 IsWhole question reply before = (chain : chains.Chain) → IsCutShort question reply before chain → ⊥
 
@@ -120,7 +121,7 @@ pub record GoesFurther (old : OpenValue) (reply : List ℕ) (new : OpenValue) : 
   pub so_far : new.so_far ≡ joined old.so_far message
   pub goes_on : IsAskedOn old.links new
 
--- it is not: the replies, put together, are the reply to the first question
+-- a chain ends: the replies, put together, are the reply to the first question
 pub record EndsWith (it : OpenValue) (reply octets : List ℕ) : Type 0 where
   pub message : Message
   pub next : IsNext it reply message

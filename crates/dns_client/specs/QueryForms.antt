@@ -3,13 +3,13 @@ use Rattle.std.specs.Prelude.{ℕ, ◌-◌, ◌%◌, ◌==◌, nat_le, nat_lt, B
 use Rattle.std.specs.Int.{w16, to_be_bytes}
 use Rattle.dns_client.specs.declared.query_form.QueryForm.{QueryForm}
 
--- RD is the lowest bit of the third octet (RFC 1035 4.1.1); all else stays
+-- a query without RD, which is the lowest bit of the third octet (RFC 1035 4.1.1)
 abbrev pub without_recursion : List ℕ → List ℕ
 without_recursion query =
     if nat_lt 2 (length query)
     then slice_set query 2 (slice_index query 2 - slice_index query 2 % 2) else query
 
--- RD stays as it is where recursion is desired
+-- a query with RD as it is where recursion is desired, else without RD
 abbrev pub with_recursion : Bool → List ℕ → List ℕ
 with_recursion true query = query
 with_recursion false query = without_recursion query
@@ -20,12 +20,13 @@ abbrev pub opt_record : ℕ → List ℕ
 opt_record size =
     0 ∷ 0 ∷ 41 ∷ to_be_bytes w16 size ++ 0 ∷ 0 ∷ 0 ∷ 0 ∷ 0 ∷ 0 ∷ []
 
--- a whole header, with ARCOUNT 0 (RFC 1035 4.1.1)
+-- a query has a whole header, with ARCOUNT 0 (RFC 1035 4.1.1)
 abbrev pub has_room_for_opt : List ℕ → Bool
 has_room_for_opt query =
     nat_le 12 (length query) && slice_index query 10 == 0 && slice_index query 11 == 0
 
--- ARCOUNT is one more, the record stands behind all else, and nothing else changes
+-- a query with an OPT record after all else and with ARCOUNT 1; a query without room for the record
+-- stays as it is
 abbrev pub with_opt : ℕ → List ℕ → List ℕ
 with_opt size query =
     if has_room_for_opt query then slice_set query 11 1 ++ opt_record size else query

@@ -6,11 +6,11 @@ use Rattle.dns_message.specs.Written.{rdata_code}
 use Rattle.dns_message.specs.declared.message.Message.{Message}
 use Rattle.dns_message.specs.declared.resource.Record.{Record}
 
--- a whole header, with QR set
+-- octets have a whole header, with QR set
 abbrev pub is_reply : List ℕ → Bool
 is_reply message = nat_le 12 (length message) && nat_le 128 (slice_index message 2)
 
--- RCODE is the lower half of the fourth octet
+-- octets are a reply with this RCODE, which is the lower half of the fourth octet
 abbrev pub has_rcode : ℕ → List ℕ → Bool
 has_rcode rcode message = is_reply message && slice_index message 3 % 16 == rcode
 
@@ -26,13 +26,14 @@ tells_failure message = has_rcode 2 message || has_rcode 5 message
 abbrev pub has_upper_bits : Record → Bool
 has_upper_bits entry = rdata_code entry.rdata == 41 && nat_le (2 ^ 24) entry.ttl
 
--- its RCODE is greater than 15, as that of BADVERS is
+-- the RCODE of a reply is greater than 15, as that of BADVERS is (RFC 6891 6.1.3)
 pub record HasLongRcode (octets : List ℕ) : Type 0 where
   pub message : Message
   pub begins : Begins octets message
   pub upper : list_any has_upper_bits message.additional ≡ true
 
--- FORMERR, with or without a question, NOTIMP, or an RCODE greater than 15
+-- a reply refuses EDNS: FORMERR, with or without a question, NOTIMP, or an RCODE greater than 15
+-- (RFC 6891 7)
 abbrev pub RefusesEdns : List ℕ → Type 0
 RefusesEdns octets =
     (has_rcode 1 octets ≡ true) ⊎ (has_rcode 4 octets ≡ true)

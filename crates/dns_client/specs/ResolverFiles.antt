@@ -59,12 +59,12 @@ abbrev pub warning_in : Said → Option LineWarning
 warning_in (number, Fault fault) = Some (record { line = number; fault = fault })
 warning_in _ = None
 
--- the last of these, or what stands where there is none
+-- the last of these numbers, or the default where there is none
 abbrev pub last_or : ℕ → List ℕ → ℕ
 last_or default [] = default
 last_or default (number ∷ numbers) = last_or number numbers
 
--- the first three servers, and of each number the last one
+-- what facts say in all: the first three servers, and of each number the last one
 abbrev pub value_of : List Said → FileValue
 value_of said = record {
   servers = take 3 (filter_map server_in said);
@@ -74,7 +74,7 @@ value_of said = record {
   warnings = filter_map warning_in said;
 }
 
--- without servers there is the one of the local host
+-- these servers, or that of the local host where there are none
 abbrev pub or_local : List Address → List Address
 or_local [] = V4 (127 ∷ 0 ∷ 0 ∷ 1 ∷ []) ∷ []
 or_local (first ∷ others) = first ∷ others

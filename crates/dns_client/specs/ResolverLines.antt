@@ -13,7 +13,7 @@ use Rattle.dns_client.specs.declared.warning.LineFault.TheVariants.{NoKeyword, I
 
 -- ---- lines and words
 
--- what line feeds part
+-- the lines of a text, which line feeds part
 abbrev pub lines_of : List ℕ → List (List ℕ)
 lines_of text = slice_split (λ octet. octet == 10) text
 
@@ -26,16 +26,16 @@ abbrev pub is_word : List ℕ → Bool
 is_word [] = false
 is_word (first ∷ others) = true
 
--- what blanks part: runs of other octets
+-- the words of a line: its runs of octets between blanks
 abbrev pub words_of : List ℕ → List (List ℕ)
 words_of line = filter is_word (slice_split is_blank line)
 
--- `#` or `;` in the first column
+-- a line is a comment: `#` or `;` is in the first column
 abbrev pub is_comment : List ℕ → Bool
 is_comment [] = false
 is_comment (first ∷ others) = first == 35 || first == 59
 
--- a blank in the first column
+-- a line is indented: a blank is in the first column
 abbrev pub is_indented : List ℕ → Bool
 is_indented [] = false
 is_indented (first ∷ others) = is_blank first
@@ -53,13 +53,13 @@ pub data LineForm : Type 0 where
   -- it can't be read
   faulty : LineFault → LineForm
 
--- the keywords of lines that say nothing to who asks for absolute names
+-- a keyword of lines that say nothing where names are absolute
 abbrev pub is_unused : List ℕ → Bool
 is_unused keyword =
     bytes_eq keyword (codes "domain") || bytes_eq keyword (codes "search")
     || bytes_eq keyword (codes "sortlist")
 
--- the word behind `nameserver`; what follows it counts for nothing
+-- what a line of `nameserver` is, by the word after it; further words count for nothing
 abbrev pub server_form : List (List ℕ) → LineForm
 server_form [] = faulty NoAddress
 server_form (word ∷ others) = server word
@@ -83,7 +83,7 @@ line_form line = if is_comment line then nothing else words_form (is_indented li
 
 -- ---- what words say
 
--- no text of an address
+-- a word is no text of an address
 abbrev pub IsNoAddress : List ℕ → Type 0
 IsNoAddress word = (address : Address) → IsUtf8 word → AddressText word address → ⊥
 
@@ -97,20 +97,20 @@ ReadsAddress word None = IsNoAddress word
 abbrev pub has_percent : List ℕ → Bool
 has_percent word = list_any (λ octet. octet == 37) word
 
--- A word behind `nameserver`: an address, or a word that is none. Where that has a `%`, it is one
--- with a scope.
+-- what a line of `nameserver` says: the address that its word spells, or a fault, which is that of
+-- an address with a scope where the word has a `%`
 abbrev pub ServerSays : List ℕ → Fact → Type 0
 ServerSays word (Server address) = IsUtf8 word × AddressText word address
 ServerSays word (Fault ScopedAddress) = IsNoAddress word × (has_percent word ≡ true)
 ServerSays word (Fault BadAddress) = IsNoAddress word × (has_percent word ≡ false)
 ServerSays word _ = ⊥
 
--- what stands behind other octets, where they begin the word
+-- what follows other octets in a word that begins with them
 abbrev pub behind : List ℕ → List ℕ → Option (List ℕ)
 behind front word =
     if bytes_eq (take (length front) word) front then Some (drop (length front) word) else None
 
--- the number of decimal digits, one at least, capped at the limit; at least 1
+-- the number that one or more decimal digits spell, capped at the limit, and at least 1
 abbrev pub capped : ℕ → List ℕ → Option ℕ
 capped limit text =
     if length text == 0 || not (list_all is_ascii_digit text)

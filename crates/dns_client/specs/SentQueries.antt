@@ -71,13 +71,14 @@ pub record HasIdOf (message : List ℕ) (server servers : ℕ) (sent : SentValue
   pub asked : place_of sent.first server servers < sent.sends
   pub id : take 2 sent.octets ≡ take 2 message
 
--- it is out, this server was asked last, and one of so many was not asked yet
+-- a query can go on to the next server: it is out, this server was asked last, and one was not
+-- asked yet
 pub record CanGoOn (server servers : ℕ) (sent : SentValue) : Type 0 where
   pub is_out : sent.is_out ≡ true
   pub last : sent.sends ≡ place_of sent.first server servers + 1
   pub others : sent.sends < servers
 
--- a query that is kept can go on
+-- a query that is kept can go on to the next server
 pub record IsFurther (server servers : ℕ) (query : List ℕ) (kept : List SentValue) : Type 0 where
   pub sent : SentValue
   pub stands : Contains kept sent

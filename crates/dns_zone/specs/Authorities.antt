@@ -13,11 +13,11 @@ is_of code entry = rdata_code entry.rdata == code
 abbrev pub records_of : List Owned → List (List ℕ) → ℕ → List Record
 records_of zone name code = filter (is_of code) (records_at zone name)
 
--- SOA records
+-- the SOA records of a name
 abbrev pub starts_at : List Owned → List (List ℕ) → List Record
 starts_at zone name = records_of zone name 6
 
--- the name, and those above it up to the root
+-- a name, and those above it up to the root
 abbrev pub upwards : List (List ℕ) → List (List (List ℕ))
 upwards [] = [] ∷ []
 upwards (label ∷ labels) = (label ∷ labels) ∷ upwards labels

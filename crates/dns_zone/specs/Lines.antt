@@ -22,21 +22,21 @@ use Rattle.dns_zone.specs.Zones.{Owned, records_at}
 abbrev pub is_field : List ℕ → Bool
 is_field text = not (length text == 0)
 
--- what blanks part: runs of other octets
+-- the fields of a text: its runs of octets between blanks
 abbrev pub fields_of : List ℕ → List (List ℕ)
 fields_of line = filter is_field (slice_split (λ octet. octet == 32) line)
 
--- the number of decimal digits, one at least, up to a limit
+-- the number that one or more decimal digits spell, up to a limit
 abbrev pub number_of : ℕ → List ℕ → Option ℕ
 number_of limit text =
     if length text == 0 || not (list_all is_ascii_digit text) || nat_lt limit (decimal text)
     then None else Some (decimal text)
 
--- octets from 33 to 126
+-- an octet is from 33 to 126
 abbrev pub is_graphic : ℕ → Bool
 is_graphic octet = nat_le 33 octet && nat_le octet 126
 
--- the character string of a field: of `-` alone the empty one, and else its octets, at most 255
+-- the character string of a field: of `-` alone the empty one, else its octets, at most 255
 abbrev pub string_of : List ℕ → Option (List ℕ)
 string_of text =
     if bytes_eq text (codes "-") then Some [] else
@@ -44,7 +44,7 @@ string_of text =
 
 -- ---- data
 
--- priority, weight, port and target (RFC 2782)
+-- the fields of SRV data: priority, weight, port and target (RFC 2782)
 pub record SrvFields (fields : List (List ℕ)) (server : SrvRecord) : Type 0 where
   pub priority : List ℕ
   pub weight : List ℕ
@@ -56,7 +56,8 @@ pub record SrvFields (fields : List (List ℕ)) (server : SrvRecord) : Type 0 wh
   pub port_is : number_of 65535 port ≡ Some server.port
   pub target_is : TextOf server.target target
 
--- order, preference, flags, services, regular expression and replacement (RFC 3403 4.1)
+-- the fields of NAPTR data: order, preference, flags, services, regular expression and replacement
+-- (RFC 3403 4.1)
 pub record NaptrFields (fields : List (List ℕ)) (rule : NaptrRecord) : Type 0 where
   pub order : List ℕ
   pub preference : List ℕ
@@ -72,7 +73,8 @@ pub record NaptrFields (fields : List (List ℕ)) (rule : NaptrRecord) : Type 0 
   pub regexp_is : string_of regexp ≡ Some rule.regexp
   pub replacement_is : TextOf rule.replacement replacement
 
--- MNAME, RNAME, SERIAL, REFRESH, RETRY, EXPIRE and MINIMUM (RFC 1035 3.3.13)
+-- the fields of SOA data: MNAME, RNAME, SERIAL, REFRESH, RETRY, EXPIRE and MINIMUM (RFC 1035
+-- 3.3.13)
 pub record SoaFields (fields : List (List ℕ)) (authority : SoaRecord) : Type 0 where
   pub mname : List ℕ
   pub rname : List ℕ
@@ -94,7 +96,7 @@ pub record SoaFields (fields : List (List ℕ)) (authority : SoaRecord) : Type 0
 abbrev pub OneField : (List ℕ → Type 0) → List (List ℕ) → Type 0
 OneField Is fields = (text : List ℕ) × (fields ≡ text ∷ []) × Is text
 
--- the fields after an owner and a TTL: a type, and what it wants
+-- the fields after an owner and a TTL: a type, and what its data needs
 abbrev pub DataFields : List ℕ → List (List ℕ) → Rdata → Type 0
 DataFields kind fields (Addr4 octets) =
     (kind ≡ codes "A") × OneField (λ text. AddressText text (address.V4 octets)) fields
@@ -122,7 +124,7 @@ pub record RecordFields (fields : List (List ℕ)) (entry : Record) : Type 0 whe
 
 -- ---- lines
 
--- it begins with `#`
+-- a line is a comment: it begins with `#`
 abbrev pub is_comment : List ℕ → Bool
 is_comment [] = false
 is_comment (first ∷ others) = first == 35
@@ -156,7 +158,7 @@ abbrev pub Holds : List Owned → List Record → Type 0
 Holds zone records = (name : List (List ℕ))
     → records_at zone name ≡ filter (λ (entry : Record). same_name entry.owner name) records
 
--- a line that is to say a record: no comment, and with fields
+-- a line is to say a record: it is no comment, and has fields
 pub record IsEntryLine (line : List ℕ) : Type 0 where
   pub plain : is_comment line ≡ false
   pub some : fields_of line ≡ [] → ⊥

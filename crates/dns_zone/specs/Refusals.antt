@@ -13,7 +13,7 @@ abbrev pub line_of_name : NameRefusal → LineRefusal
 line_of_name name.Memory = line.Memory
 line_of_name _ = line.Bad
 
--- what is so of lines that are refused
+-- what holds of lines that are refused, by the refusal
 abbrev pub RefusedFor : ZoneRefusal → List (List ℕ) → Type 0
 RefusedFor (zone.BadLine number) lines = IsFirstBad lines number
 RefusedFor zone.TooMany lines = (records : List Record) × LinesSay lines records

@@ -12,7 +12,7 @@ use Rattle.dns_zone.specs.declared.zone.ZoneEntry.{ZoneEntry}
 
 -- ---- what a zone has for a question
 
--- the types of question that are answered: A, SOA, AAAA, SRV and NAPTR
+-- a question of this type is answered: A, SOA, AAAA, SRV or NAPTR
 abbrev pub is_answered : ℕ → Bool
 is_answered code = code == 1 || code == 6 || code == 28 || code == 33 || code == 35
 
@@ -24,16 +24,17 @@ answers zone asked =
     ++ records_of zone (path zone asked.name).last asked.code
     else []
 
--- these, where there is none of those
+-- records, where there are none of others
 abbrev pub without : List Record → List Record → List Record
 without [] records = records
 without (entry ∷ entries) records = []
 
--- about a name without records of the type, the SOA record of the zone that it is in (RFC 2308 3)
+-- the authority records about a name without records of the type: the SOA record of the zone that
+-- it is in (RFC 2308 3)
 abbrev pub authority_at : List Owned → List (List ℕ) → ℕ → List Record
 authority_at zone name code = without (records_of zone name code) (nearest_start zone name)
 
--- about the name where the CNAME records lead
+-- the authority records about the name where the CNAME records lead
 abbrev pub authority : List Owned → Asked → List Record
 authority zone asked = authority_at zone (path zone asked.name).last asked.code
 
@@ -42,13 +43,14 @@ abbrev pub name_rcode : List ZoneEntry → ℕ
 name_rcode [] = 3
 name_rcode (entry ∷ entries) = 0
 
--- of the name where the CNAME records lead
+-- RCODE of the name where the CNAME records lead
 abbrev pub rcode : List Owned → Asked → ℕ
 rcode zone asked = name_rcode (entries_at zone (path zone asked.name).last)
 
 -- ---- the reply to a query
 
--- QR and AA are set, TC and RA are clear; ID, OPCODE and RD are those of the query
+-- the header of a reply: QR and AA are set, TC and RA are clear; ID, OPCODE and RD are those of the
+-- query
 abbrev pub reply_header : Header → ℕ → Header
 reply_header query code = record {
   id = query.id;
@@ -71,15 +73,15 @@ reply_of query code questions records authorities = record {
   additional = [];
 }
 
--- RCODE 5: refused
+-- the reply to a query that is refused: RCODE 5
 abbrev pub refusal : Header → List Asked → Message
 refusal query questions = reply_of query 5 questions [] []
 
--- a standard query, in class IN
+-- a query is a standard query, in class IN
 abbrev pub is_taken : Header → Asked → Bool
 is_taken query asked = query.opcode == 0 && asked.class_code == 1
 
--- by the questions of the query: there has to be one alone
+-- the reply to a query by its questions, of which there has to be one alone
 abbrev pub reply_about : List Owned → Header → List Asked → Message
 reply_about zone query [] = refusal query []
 reply_about zone query (asked ∷ []) =
@@ -94,13 +96,13 @@ reply_to zone query = reply_about zone query.header query.questions
 
 -- ---- its octets
 
--- at most 65,535 octets, which begin with a query: a message with QR clear
+-- the octets are at most 65,535, and begin with a query: a message with QR clear
 pub record IsQuery (octets : List ℕ) (query : Message) : Type 0 where
   pub begins : Begins octets query
   pub asks : query.header.reply ≡ false
 
--- no query is in front of them: they are too many, or begin with no message, or with one with QR
--- set
+-- no query is in front of the octets: they are too many, or begin with no message, or with one that
+-- has QR set
 abbrev pub IsSilent : List ℕ → Type 0
 IsSilent octets = (query : Message) → IsQuery octets query → ⊥
 

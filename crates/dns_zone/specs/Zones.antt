@@ -43,7 +43,7 @@ alias_in entry =
     option_map (λ (target : List (List ℕ)). record { ttl = entry.ttl; target = target })
     (canonical_in entry.rdata)
 
--- the first one of these
+-- the first CNAME record among the entries of a name
 abbrev pub first_alias : List ZoneEntry → Option ZoneAlias
 first_alias entries = slice_get (filter_map alias_in entries) 0
 
@@ -60,7 +60,7 @@ path_within (suc more) zone name =
     (λ (alias : ZoneAlias). behind (link_of name alias) (path_within more zone alias.target))
     (first_alias (entries_at zone name)) (ends_at name)
 
--- at most eight of them
+-- the CNAME records from a name on, at most eight, and the last name
 abbrev pub path : List Owned → List (List ℕ) → Chain
 path zone name = path_within 8 zone name
 
@@ -75,7 +75,8 @@ pub data Follows (zone : List Owned) : List (List ℕ) → List Record → List 
       → IsFirstAlias (records_at zone name) name entry target → Follows zone target others last
       → Follows zone name (entry ∷ others) last
 
--- These lead from the name to one that has no CNAME, or there are as many as the limit says.
+-- these CNAME records lead from the name to one that has none, or there are as many as the limit
+-- says
 pub record IsPath (limit : ℕ) (zone : List Owned) (name : List (List ℕ))
     (found : Chain) : Type 0 where
   pub follows : Follows zone name found.links found.last

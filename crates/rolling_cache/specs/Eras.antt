@@ -20,12 +20,12 @@ pub record Era : Type 0 where
 abbrev pub era_of : Told → List Offer → Era
 era_of told carried = record { told = told; carried = carried }
 
--- with what a generation begins, after these, the newest first
+-- what a generation after these begins with, the newest era first
 abbrev pub begun_with : List Era → List Offer
 begun_with [] = []
 begun_with (era ∷ older) = era.carried
 
--- what was handed in to be stored in a generation after these, as far as a seat has seen it
+-- what was handed in to be stored in the generation after these, as far as a seat has seen it
 abbrev pub handed_to : List Era → List Store → List Offer
 handed_to past seen = map unseated (drop (length (begun_with past)) seen)
 
@@ -45,7 +45,7 @@ pub record HandsOn (begun : List Offer) (era : Era) : Type 0 where
   pub moment : ℕ
   pub carried : IsCarried before era.told.seen moment era.carried
 
--- each one began with what the one before it handed on, and the first one with nothing
+-- each generation began with what the one before it handed on, and the first one with nothing
 abbrev pub Descends : List Era → Type 0
 Descends [] = Unit {0}
 Descends (era ∷ older) = HandsOn (begun_with older) era × Descends older

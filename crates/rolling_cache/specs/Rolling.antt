@@ -9,7 +9,7 @@ use Rattle.rolling_cache.specs.Eras.{Era, begun_with, era_of}
 use Rattle.rolling_cache.specs.declared.change.Change.{Change}
 use Rattle.rolling_cache.specs.declared.change.Change.TheVariants.{Moved, Renewed, Stays}
 
--- its cache, and what came before it, the newest first
+-- what contracts see of a generation: its cache, and the eras before it, the newest first
 pub record GenerationView : Type 0 where
   pub cache : CacheView
   pub past : List Era
@@ -17,7 +17,7 @@ pub record GenerationView : Type 0 where
 abbrev pub generation_of : CacheView → List Era → GenerationView
 generation_of cache past = record { cache = cache; past = past }
 
--- the generation that it is at, and its seat there
+-- what contracts see of a rolling seat: the generation that it is at, and its seat there
 pub record RollingView : Type 0 where
   pub generation : GenerationView
   pub seat : SharedView
@@ -25,12 +25,12 @@ pub record RollingView : Type 0 where
 abbrev pub rolling_of : GenerationView → SharedView → RollingView
 rolling_of generation seat = record { generation = generation; seat = seat }
 
--- its seat is of its generation, and has seen what that began with
+-- the seat is of its generation, and has seen what that began with
 pub record IsAt (it : RollingView) : Type 0 where
   pub here : Belongs it.generation.cache it.seat
   pub begins : IsPrefix (carried_stores (begun_with it.generation.past)) it.seat.seat.seen
 
--- it has seen what its generation began with and no more, and was handed nothing
+-- the seat has seen what its generation began with and no more, and was handed nothing
 pub record IsFresh (it : RollingView) : Type 0 where
   pub at : IsAt it
   pub seen : it.seat.seat.seen ≡ carried_stores (begun_with it.generation.past)
@@ -41,12 +41,12 @@ pub record IsFreshAt (generation : GenerationView) (it : RollingView) : Type 0 w
   pub fresh : IsFresh it
   pub here : it.generation ≡ generation
 
--- the same, and that is the first one
+-- the seat is fresh, and its generation is the first one
 pub record IsFirst (it : RollingView) : Type 0 where
   pub fresh : IsFresh it
   pub first : it.generation.past ≡ []
 
--- it is at its generation, whose history goes on, and it has stored nothing
+-- the seat is at its generation, whose history goes on, and it has stored nothing
 pub record Waits (old new : RollingView) : Type 0 where
   pub generation : new.generation ≡ old.generation
   pub goes_on : GoesOn old.seat.seat new.seat.seat

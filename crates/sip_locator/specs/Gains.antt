@@ -69,7 +69,7 @@ pub record IsCutShort (old new : SelectionValue) (first last : List Store) (now 
   pub gains : Gains last now first old new
   pub asking : IsAsking (now_of new)
 
--- the same of what a step gives
+-- what a step leaves and gives, from the answers gained to what is next
 abbrev pub Steps : SelectionValue → SelectionValue → List Store → List Store → ℕ
     → Result Next AllocError → Type 0
 Steps old new first last now (Ok next) = IsNext old new first last now (next_of next)

@@ -64,7 +64,7 @@ Refuses resolution octets locator.Memory =
 
 -- ---- a reply that is taken
 
--- whether the answer was stored
+-- the answer of a reply was stored, or why it was not
 abbrev pub Keeps : SeatView → SeatView → Question → AnswerValue → ℕ → Kept → Type 0
 Keeps old new question found now Yes = IsStored old new (offer_of question found now)
 Keeps old new question found now (No refusal) =

@@ -21,7 +21,7 @@ pub data PollsMany (gives : List ℕ → Type 0) (shows : ℕ → Type 0) {I : T
         → Polls gives shows draws seat now asked old new (Some transmit)
         → PollsMany gives shows draws now asked first new
 
--- and the last call gave nothing
+-- `poll_transmit` was called at a moment until it gave nothing to send
 pub record PollsAll (gives : List ℕ → Type 0) (shows : ℕ → Type 0) {I : Type 0}
     (draws : I → ℕ → I → Type 0) (now asked : ℕ) (first last : ResolverView) : Type 0 where
   pub middle : ResolverView
@@ -48,12 +48,12 @@ abbrev pub AreDealtWith : ℕ → ℕ → ResolverView → ResolverView → Type
 AreDealtWith now asked first last =
     All (IsDealtWith now asked last.questions) (tickets_of first.questions)
 
--- each is as it was
+-- each question that is out is as it was
 abbrev pub AreAsBefore : ResolverView → ResolverView → Type 0
 AreAsBefore first last =
     All (λ ticket. Contains (tickets_of last.questions) ticket) (tickets_of first.questions)
 
--- one of this deadline is sent again or given up
+-- a question of this deadline is sent again or given up
 pub record IsOneDue (deadline : ℕ) (first last : ResolverView) : Type 0 where
   pub ticket : Ticket
   pub was : Contains (tickets_of first.questions) ticket

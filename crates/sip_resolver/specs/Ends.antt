@@ -15,7 +15,7 @@ pub record EndsMore (kind : Outcome → Type 0) (old new : List Ended) : Type 0 
   pub after : new ≡ old ++ more
   pub are : All (λ ended. kind ended.outcome) more
 
--- want of memory
+-- an outcome is for want of memory
 abbrev pub IsMemory : Outcome → Type 0
 IsMemory (Targets list) = ⊥
 IsMemory (Refused reason) = ⊥
@@ -31,7 +31,7 @@ IsByChoice (NoAnswer question) = ⊥
 IsByChoice (BadReply question refusal) = ⊥
 IsByChoice Memory = ⊤
 
--- this fault of the reply to this question, or want of memory
+-- an outcome is this fault of the reply to this question, or for want of memory
 abbrev pub IsByFault : Question → ReplyRefusal → Outcome → Type 0
 IsByFault question refusal (Targets list) = ⊥
 IsByFault question refusal (Refused reason) = ⊥

@@ -14,7 +14,7 @@ use Rattle.sip_resolver.specs.Tasks.{WaitingView}
 abbrev pub HasNoRoom : Asking → Type 0
 HasNoRoom asking = length asking.tickets ≡ asking.limit
 
--- so it is over datagrams or over streams
+-- as many questions are out over datagrams as can be, or over streams
 abbrev pub IsFull : QuestionsView → Type 0
 IsFull it = HasNoRoom it.datagrams ⊎ HasNoRoom it.streams
 
@@ -56,7 +56,7 @@ MayRefuse draws it Memory = ⊤
 
 -- ---- who waits
 
--- one of these tickets, or of the others, is of the message whose reply it waits for
+-- the question whose reply a request waits for has one of these tickets, or of the others
 abbrev pub IsIn : List Ticket → List Ticket → WaitingView → Type 0
 IsIn tickets others it =
     IsSome (ticket_of it.id tickets) ⊎ IsSome (ticket_of it.id others)
@@ -73,7 +73,7 @@ AreAwaited requests questions =
 
 -- ---- nothing is left to do
 
--- its reply can come in time still
+-- the deadline of a question is still to come
 abbrev pub IsInWait : ℕ → Ticket → Type 0
 IsInWait now ticket = now < ticket.deadline
 

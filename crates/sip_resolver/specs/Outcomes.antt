@@ -30,7 +30,7 @@ pub record IsReplied (gives : List ℕ → Type 0) (question : Question) (answer
   pub given : gives octets
   pub answers : Answers question octets answer
 
--- a beginning of this history answered the question so, at a moment that was shown
+-- a first part of this history answered the question so, at a moment that the clock showed
 pub record IsCached (shows : ℕ → Type 0) (seen : List Store) (given : Given) : Type 0 where
   pub history : List Store
   pub before : IsPrefix history seen
@@ -38,13 +38,12 @@ pub record IsCached (shows : ℕ → Type 0) (seen : List Store) (given : Given)
   pub shown : shows now
   pub found : cached history given.question now ≡ Some given.answer
 
--- what a reply had was handed to the book
+-- the answer of a reply was handed to the book
 pub record IsHanded (offered : List Offer) (given : Given) : Type 0 where
   pub now : ℕ
   pub stands : Contains offered (offer_of given.question given.answer now)
 
--- An answer that counts: it was looked up by this seat, or a reply had it, which was then handed to
--- the book by this seat.
+-- an answer counts: this seat looked it up, or a reply had it and this seat handed it to the book
 abbrev pub Counts : (List ℕ → Type 0) → (ℕ → Type 0) → SeatView → Given → Type 0
 Counts gives shows seat given =
     IsCached shows seat.seen given
@@ -52,7 +51,7 @@ Counts gives shows seat given =
 
 -- ---- where the lack of an answer comes from
 
--- a beginning of this history had no answer to the question, at a moment that was shown
+-- a first part of this history had no answer to the question, at a moment that the clock showed
 pub record IsLacking (shows : ℕ → Type 0) (seen : List Store) (question : Question) : Type 0 where
   pub history : List Store
   pub before : IsPrefix history seen
@@ -72,7 +71,7 @@ pub record IsFaulty (gives : List ℕ → Type 0) (question : Question) (refusal
 
 -- ---- what becomes of a request
 
--- an outcome with targets or with a question
+-- an outcome has targets or a question
 abbrev pub HasParts : Outcome → Type 0
 HasParts (Targets list) = ⊤
 HasParts (Refused reason) = ⊥
@@ -92,7 +91,7 @@ pub record Ended : Type 0 where
   pub sought : Sought
   pub outcome : Outcome
 
--- with these answers, each of which counts, it is the choice of RFC 3263
+-- with these answers, each of which counts, this is the choice of RFC 3263 4 and 5
 pub record IsChosen (counts : Given → Type 0) (sought : Sought) (resolution : Resolution)
     : Type 0 where
   pub given : List Given

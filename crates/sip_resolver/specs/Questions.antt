@@ -16,7 +16,7 @@ pub record QuestionsView : Type 0 where
   pub datagrams : Asking
   pub streams : Asking
 
--- none is out, and at most so many can be over each
+-- no question is out; the number is how many can be out over datagrams, and over streams
 abbrev pub none_out : ℕ → QuestionsView
 none_out limit = record {
   datagrams = record { tickets = []; limit = limit; serial = 0 };
@@ -28,13 +28,13 @@ abbrev pub asking_over : Over → QuestionsView → Asking
 asking_over Datagram it = it.datagrams
 asking_over Stream it = it.streams
 
--- a question is asked over this
+-- the questions that are out after one more was asked over datagrams, or over streams
 abbrev pub asked_over : Over → ℕ → Question → ℕ → QuestionsView → QuestionsView
 asked_over Datagram id question now it =
     record it { datagrams = asked id question now it.datagrams }
 asked_over Stream id question now it = record it { streams = asked id question now it.streams }
 
--- a ticket over this is closed
+-- the questions that are out after one was closed over datagrams, or over streams
 abbrev pub closed_over : Over → ℕ → QuestionsView → QuestionsView
 closed_over Datagram id it = record it { datagrams = closed id it.datagrams }
 closed_over Stream id it = record it { streams = closed id it.streams }
@@ -49,7 +49,7 @@ pub record Lacks (question : Question) (it : QuestionsView) : Type 0 where
   pub datagrams : LacksQuestion question it.datagrams.tickets
   pub streams : LacksQuestion question it.streams.tickets
 
--- they have neither one id nor one question
+-- two questions that are out have neither the same id nor the same question
 abbrev pub Differ : Ticket → Ticket → Type 0
 Differ one other = (one.sent.id ≢ other.sent.id) × (one.sent.question ≢ other.sent.question)
 
@@ -72,7 +72,7 @@ IsSent id it None =
 IsSent id it (Some transmit) =
     IsOctetsOf transmit.octets.now id (asking_over transmit.over it).tickets
 
--- the deadlines of all that are out
+-- the deadlines of all questions that are out
 abbrev pub deadlines_of : QuestionsView → List ℕ
 deadlines_of it =
     map (λ ticket. ticket.deadline) it.datagrams.tickets

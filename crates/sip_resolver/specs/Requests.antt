@@ -6,8 +6,8 @@ use Rattle.sip_resolver.specs.Outcomes.{Ended, IsOutcome, Sought}
 use Rattle.sip_resolver.specs.Queues.{Queued}
 use Rattle.sip_resolver.specs.Tasks.{IsCounted, Lacks, TaskView, WaitingView, sought_of}
 
--- Those that can go on, those whose questions found as many others out as can be, those that wait
--- for replies, and those that ended and were not taken; and how many there can be.
+-- the requests inside: those that can go on, those held because no other question can be asked,
+-- those that wait for replies, and those that ended and were not taken; and how many there can be
 pub record RequestsView : Type 0 where
   pub ready : List TaskView
   pub held : List TaskView
@@ -21,7 +21,7 @@ abbrev pub requests_of : List TaskView → List TaskView → List WaitingView �
 requests_of ready held waiting ended limit =
     record { ready = ready; held = held; waiting = waiting; ended = ended; limit = limit }
 
--- how many there are
+-- how many requests are inside
 abbrev pub count_of : RequestsView → ℕ
 count_of it = length it.ready + length it.held + length it.waiting + length it.ended
 
@@ -33,29 +33,29 @@ number_of_waiting it = it.task.number
 abbrev pub number_of_ended : Ended → ℕ
 number_of_ended it = it.sought.number
 
--- their numbers
+-- the numbers of the requests inside
 abbrev pub numbers_of : RequestsView → List ℕ
 numbers_of it =
     map (λ task. task.number) it.ready ++ map (λ task. task.number) it.held
     ++ map number_of_waiting it.waiting ++ map number_of_ended it.ended
 
--- what they weigh, by a weight of each
+-- the sum of the weights of the requests inside
 abbrev pub weight : (Sought → ℕ) → RequestsView → ℕ
 weight h it =
     sum_by (λ task. h (sought_of task)) it.ready + sum_by (λ task. h (sought_of task)) it.held
     + sum_by (λ waiting. h (sought_of waiting.task)) it.waiting
     + sum_by (λ ended. h ended.sought) it.ended
 
--- the same requests, each as often as before
+-- the same requests are inside, each as often as before
 abbrev pub AreSame : RequestsView → RequestsView → Type 0
 AreSame old new = (new.limit ≡ old.limit) × ((h : Sought → ℕ) → weight h new ≡ weight h old)
 
--- one request more, wherever it is
+-- one request more is inside, wherever it is
 pub record IsBack (sought : Sought) (old new : RequestsView) : Type 0 where
   pub limit : new.limit ≡ old.limit
   pub weighs : (h : Sought → ℕ) → weight h new ≡ weight h old + h sought
 
--- those that wait for the reply to the message of this id
+-- a request waits for the reply to the question of this id
 abbrev pub waits_for : ℕ → WaitingView → Bool
 waits_for id waiting = waiting.id == id
 
@@ -63,7 +63,7 @@ waits_for id waiting = waiting.id == id
 abbrev pub waiting_for : ℕ → List WaitingView → List WaitingView
 waiting_for id waiting = filter (waits_for id) waiting
 
--- the others
+-- a request waits for the reply to a question of another id
 abbrev pub waits_for_other : ℕ → WaitingView → Bool
 waits_for_other id waiting = not (waits_for id waiting)
 

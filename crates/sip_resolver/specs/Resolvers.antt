@@ -36,7 +36,7 @@ pub record ResolverView : Type 0 where
   pub questions : QuestionsView
   pub streams : Bool
 
--- no request is inside, and no question is out
+-- a resolver without a request inside and without a question out
 abbrev pub begun_of : ℕ → ℕ → Bool → ResolverView
 begun_of requests questions streams = record {
   requests = requests_of [] [] [] [] requests;
@@ -46,7 +46,7 @@ begun_of requests questions streams = record {
 
 -- ---- a request is submitted
 
--- it is inside, after all others that can go on, and nothing else has changed
+-- a resolver with one more request inside, after all others that can go on
 abbrev pub with_request : ℕ → Request → Caps → List ℕ → ResolverView → ResolverView
 with_request number request caps words it = record it {
   requests = record it.requests {
@@ -59,13 +59,13 @@ with_request number request caps words it = record it {
   };
 }
 
--- there is room for one more, and none of this number is inside
+-- a resolver has room for one more request, and no request of this number is inside
 abbrev pub HasRoomFor : ResolverView → ℕ → Type 0
 HasRoomFor it number =
     (count_of it.requests < it.requests.limit) × (Contains (numbers_of it.requests) number → ⊥)
 
--- Each refusal comes exactly where this is so, in the order of the checks. Memory is wanted only
--- for what would be taken.
+-- where each refusal of a request comes, and it comes exactly there, in the order of the checks;
+-- memory is needed only for what would be taken
 abbrev pub RefusesSubmit : ResolverView → ℕ → SubmitRefusal → Type 0
 RefusesSubmit it number Full = count_of it.requests < it.requests.limit → ⊥
 RefusesSubmit it number NumberTaken =
@@ -81,7 +81,7 @@ pub record IsEnded (question : Question) (octets : List ℕ) (ending : Ending) :
   pub begins : Begins octets it
   pub ends : EndsBy question it ending
 
--- the reply was cut, which came in a datagram, and its question can go on over a stream
+-- a reply in a datagram was cut, and its question can go on over a stream (RFC 7766 5)
 abbrev pub IsCut : ResolverView → Over → Ending → Type 0
 IsCut it over ending =
     (it.streams ≡ true) × (over ≡ Datagram) × (ending ≡ endings.Faulty refusals.Truncated)
@@ -115,7 +115,7 @@ Hears old new over octets (Ignored why) =
 
 -- ---- an outcome is taken
 
--- the first that ended is taken out, and nothing else has changed
+-- the first request that ended is taken out, and nothing else has changed
 pub record IsTaken (ended : Ended) (old new : ResolverView) : Type 0 where
   pub first : old.requests.ended ≡ ended ∷ new.requests.ended
   pub others : new ≡ record old {

@@ -26,7 +26,7 @@ pub data Step (old new : ResolverView) : Event → Type 0 where
       → (AreAwaited old.requests old.questions → AreAwaited new.requests new.questions)
       → Step old new goes
 
--- one event after the other
+-- one event happens after the other
 pub data Runs (first : ResolverView) : List Event → ResolverView → Type 0 where
   begun : Runs first [] first
   further : (events : List Event) (event : Event) (old new : ResolverView)

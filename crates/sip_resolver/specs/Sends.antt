@@ -21,25 +21,25 @@ use Rattle.sip_resolver.specs.declared.transmit.Transmit.{Transmit}
 abbrev pub IsInVain : ℕ → Ticket → Type 0
 IsInVain now ticket = (3 ≤ ticket.sent.sends) × (ticket.deadline ≤ now)
 
--- those at the front that were in vain are given up, and the others are as they were
+-- the questions in front that were in vain are given up, and the others are as they were
 pub record GivesUp (now : ℕ) (old new : Asking) : Type 0 where
   pub gone : List Ticket
   pub were : old ≡ record new { tickets = gone ++ new.tickets }
   pub in_vain : All (IsInVain now) gone
 
--- over datagrams and over streams
+-- the questions that were in vain are given up, over datagrams and over streams
 pub record GivesUpBoth (now : ℕ) (old new : QuestionsView) : Type 0 where
   pub datagrams : GivesUp now old.datagrams new.datagrams
   pub streams : GivesUp now old.streams new.streams
 
--- this question is one of those that are out, and was in vain
+-- this question is one of those that are out, and was sent three times in vain
 pub record IsUnanswered (tickets : List Ticket) (now : ℕ) (question : Question) : Type 0 where
   pub ticket : Ticket
   pub stands : Contains tickets ticket
   pub in_vain : IsInVain now ticket
   pub of_it : ticket.sent.question ≡ question
 
--- All that are out.
+-- the tickets of all questions that are out
 abbrev pub tickets_of : QuestionsView → List Ticket
 tickets_of it = it.datagrams.tickets ++ it.streams.tickets
 

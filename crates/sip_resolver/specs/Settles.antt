@@ -25,7 +25,8 @@ pub data Settled (goes : TaskView → TaskView → Type 0) (kind : Outcome → T
       → kind outcome → Settled goes kind (before ++ waiting ∷ []) ready
       (ended ++ record { sought = sought_of waiting.task; outcome = outcome } ∷ [])
 
--- All that wait for the reply to the message of this id go on or end so, and nothing else changes.
+-- all requests that wait for the reply to the question of this id go on or end so, and nothing else
+-- changes
 pub record SettlesAll (id : ℕ) (goes : TaskView → TaskView → Type 0) (kind : Outcome → Type 0)
     (old new : RequestsView) : Type 0 where
   pub ready : List TaskView
@@ -36,13 +37,13 @@ pub record SettlesAll (id : ℕ) (goes : TaskView → TaskView → Type 0) (kind
 
 -- ---- how a request goes on
 
--- where it needs the answer to the question, it has this one now
+-- a request that needs the answer to the question has this one now
 abbrev pub GetsAnswer : Question → AnswerValue → TaskView → TaskView → Type 0
 GetsAnswer question answer old new =
     now_of old.selection ≡ need question
     → new ≡ record old { selection = given_too old.selection question answer; cut = false }
 
--- it needs no answer to this question, and is as it was
+-- a request needs no answer to this question, and is as it was
 abbrev pub NeedsOther : Question → TaskView → TaskView → Type 0
 NeedsOther question old new = (now_of old.selection ≢ need question) × (new ≡ old)
 
@@ -50,7 +51,7 @@ NeedsOther question old new = (now_of old.selection ≢ need question) × (new �
 abbrev pub GoesOverStream : TaskView → TaskView → Type 0
 GoesOverStream old new = new ≡ record old { cut = true }
 
--- after a reply to this question
+-- how a request goes on after a reply to this question
 abbrev pub GoesByReply : Question → Ending → TaskView → TaskView → Type 0
 GoesByReply question (Answered found) old new = GetsAnswer question found old new
 GoesByReply question (Faulty refusal) old new = NeedsOther question old new

@@ -13,8 +13,8 @@ use Rattle.sip_resolver.specs.declared.transmit.Over.TheVariants.{Datagram, Stre
 use Rattle.sip_resolver.specs.declared.task.Progress.{Progress}
 use Rattle.sip_resolver.specs.declared.task.Progress.TheVariants.{Asks, Ended}
 
--- its number, its choice over the answers that it was given, and whether the reply to its question
--- was cut, which came in a datagram
+-- what contracts see of a request that is inside: its number, its choice over the answers that it
+-- was given, and whether the reply in a datagram to its question was cut
 pub record TaskView : Type 0 where
   pub number : ℕ
   pub selection : SelectionValue
@@ -43,7 +43,7 @@ sought_of task = record {
 abbrev pub IsCounted : (List ℕ → Type 0) → (ℕ → Type 0) → SeatView → TaskView → Type 0
 IsCounted gives shows seat task = All (Counts gives shows seat) task.selection.given
 
--- what it needs was lacking
+-- the answer that a request needs was lacking
 abbrev pub Lacks : (ℕ → Type 0) → SeatView → TaskView → Type 0
 Lacks shows seat task =
     (question : Question) → now_of task.selection ≡ need question

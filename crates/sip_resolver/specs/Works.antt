@@ -5,7 +5,7 @@ use Rattle.answer_log.specs.declared.store.Store.{Store}
 use Rattle.answer_cache.specs.Seats.{GoesOn, Offer, SeatView, offer_of}
 use Rattle.sip_resolver.specs.Outcomes.{IsReplied}
 
--- what a reply had, at a moment that was shown
+-- the answer of a reply, at a moment that the clock showed
 abbrev pub IsHeard : (List ℕ → Type 0) → (ℕ → Type 0) → Offer → Type 0
 IsHeard gives shows offer = IsReplied gives offer.question offer.answer × shows offer.moment
 

@@ -8,7 +8,7 @@ use Rattle.sip_uri.specs.declared.transport.Transport.{Transport}
 use Rattle.sip_selection.specs.declared.caps.Families.{Families}
 use Rattle.sip_selection.specs.declared.caps.Families.TheVariants.{V4, V6, V4ThenV6, V6ThenV4}
 
--- none of these stands again after itself
+-- no two of these transports are the same
 abbrev pub are_distinct : List Transport → Bool
 are_distinct [] = true
 are_distinct (first ∷ others) =
@@ -43,11 +43,11 @@ abbrev pub holds : Option Transport → Transport → Bool
 holds None transport = false
 holds (Some offered) transport = same_transport offered transport
 
--- whether a transport is among the caller's
+-- a transport is among the caller's
 abbrev pub offers : CapsValue → Transport → Bool
 offers caps transport = list_any (λ offered. same_transport offered transport) caps.transports
 
--- the kinds of address question, in the order in which they are asked
+-- the kinds of question for addresses, in the order in which they are asked
 abbrev pub kinds_of : Families → List Kind
 kinds_of V4 = kind.A ∷ []
 kinds_of V6 = kind.Aaaa ∷ []

@@ -64,24 +64,24 @@ usual secure caps = offered caps (Ok (usual_transport secure))
 
 -- ---- addresses
 
--- an address, at the port that is written or the usual one
+-- the target of an address, at the port that is written or else the default one
 abbrev pub to_address : Address → Option ℕ → Result Transport Reason → Needing Settled
 to_address address port (Ok transport) =
     Ok (Ok (target_at transport (unwrap_or port (default_port transport)) address ∷ []))
 to_address address port (Err reason) = Ok (Err reason)
 
 module _ (caps : Caps) (given : List Given) where
-  -- the addresses of a name at a port
+  -- the targets of a name at a port
   abbrev pub to_name : List (List ℕ) → ℕ → Transport → Needing Settled
   to_name name port transport =
       made Ok (targets_of given (kinds_of caps.families) transport port name)
 
-  -- the addresses of a name at a port, if there is a transport
+  -- the targets of a name at a port, if there is a transport
   abbrev pub to_port : List (List ℕ) → ℕ → Result Transport Reason → Needing Settled
   to_port name port (Ok transport) = to_name name port transport
   to_port name port (Err reason) = Ok (Err reason)
 
-  -- the addresses of a domain that has no services
+  -- the targets of a domain that has no services, at the default port
   abbrev pub to_domain : List (List ℕ) → Result Transport Reason → Needing Settled
   to_domain name (Ok transport) = to_name name (default_port transport) transport
   to_domain name (Err reason) = Ok (Err reason)
@@ -102,7 +102,7 @@ module _ (caps : Caps) (words : List ℕ) (given : List Given) where
       after (by_offers caps given name fallback)
       (offers_along given (kinds_of caps.families) words ways 0)
 
-  -- the service of the transport that is named
+  -- the targets of a domain by its service of the transport that is named
   abbrev pub to_service : List (List ℕ) → Result Transport Reason → Needing Settled
   to_service name (Ok transport) = along name (Ok transport) (way_to name transport ∷ [])
   to_service name (Err reason) = Ok (Err reason)
@@ -123,22 +123,24 @@ abbrev pub own_ways : Bool → Caps → List (List ℕ) → List Way
 own_ways secure caps name = map (way_to name) (filter (is_tried secure) caps.transports)
 
 module _ (secure : Bool) (caps : Caps) (words : List ℕ) (given : List Given) where
-  -- the rules that are kept; without one, the services of the domain
+  -- the targets of the services that NAPTR records lead to; where these lead to none, those of the
+  -- domain's own services
   abbrev pub led : List (List ℕ) → List Way → Needing Settled
   led name [] = along caps words given name (usual secure caps) (own_ways secure caps name)
   led name (first ∷ others) = along caps words given name (Ok first.transport) (first ∷ others)
 
-  -- where NAPTR records lead
+  -- the targets of a name by these NAPTR records
   abbrev pub by_rules : List (List ℕ) → List NaptrRecord → Needing Settled
   by_rules name rules = led name (kept secure caps rules)
 
-  -- where the NAPTR records of a name lead (RFC 3263 4.1)
+  -- the targets of a name by its NAPTR records (RFC 3263 4.1)
   abbrev pub by_naptr : List (List ℕ) → Needing Settled
   by_naptr name =
       after (λ answer. by_rules name (rules_in answer.records))
       (answer_to given (record { name = name; kind = kind.Naptr }))
 
-  -- of a SIPS URI, TLS has to be among the caller's transports before anything is asked
+  -- the targets of a name by its NAPTR records; a SIPS URI is refused before anything is asked
+  -- where TLS is not among the caller's transports
   abbrev pub discovered : List (List ℕ) → Result Transport Reason → Needing Settled
   discovered name (Ok transport) = by_naptr name
   discovered name (Err reason) = if secure then Ok (Err reason) else by_naptr name

@@ -12,7 +12,7 @@ use Rattle.sip_selection.specs.declared.reason.Reason.TheVariants.{TransportUnsu
 use Rattle.sip_selection.specs.declared.request.Request.{Request}
 use Rattle.sip_selection.specs.declared.request.Request.TheVariants.{Uri, Via}
 
--- one of its hosts is a name
+-- a request has a host that is a name
 abbrev pub IsNamed : Request → Type 0
 IsNamed (Uri uri) = IsNamedUri uri
 IsNamed (Via via) = hosts.IsNamed via.host
@@ -27,7 +27,7 @@ abbrev pub port_of : Request → Option ℕ
 port_of (Uri uri) = uri.port
 port_of (Via via) = via.port
 
--- the transport that is named, if one is
+-- the transport that a request names, if it names one
 abbrev pub spoken_of : Request → Option Spoken
 spoken_of (Uri uri) = uri.transport
 spoken_of (Via via) = Some via.transport
@@ -39,12 +39,13 @@ is_secure (Via via) = false
 
 -- ---- the transport (RFC 3263 4.1, 5)
 
--- a named one is meant as it is written
+-- what a SIP URI or a Via means by the transport that it names: that one, where it is known
 abbrev pub plainly : Spoken → Result Transport Reason
 plainly (spoken.Known transport) = Ok transport
 plainly spoken.Other = Err TransportUnsupported
 
--- by a SIPS URI TLS over TCP is meant, under either name (RFC 3261 19.1.1, 26.2.2)
+-- what a SIPS URI means by the transport that it names: TLS over TCP, by `tcp` and by `tls` (RFC
+-- 3261 19.1.1, 26.2.2); UDP is not secure, and others are not supported
 abbrev pub securely : Spoken → Result Transport Reason
 securely (spoken.Known Udp) = Err TransportNotSecure
 securely (spoken.Known Tcp) = Ok Tls
@@ -52,7 +53,7 @@ securely (spoken.Known Sctp) = Err TransportUnsupported
 securely (spoken.Known Tls) = Ok Tls
 securely spoken.Other = Err TransportUnsupported
 
--- where none is named: TLS for SIPS, else UDP
+-- the transport where none is named: TLS for a SIPS URI, else UDP (RFC 3263 4.1)
 abbrev pub usual_transport : Bool → Transport
 usual_transport true = Tls
 usual_transport false = Udp
@@ -67,7 +68,7 @@ meant_by false (Some named) = plainly named
 abbrev pub transport_of : Request → Result Transport Reason
 transport_of request = meant_by (is_secure request) (spoken_of request)
 
--- the port where none is written (RFC 3261 18.1.1 and Table 1)
+-- the port of a transport where none is written (RFC 3261 18.1.1 and Table 1)
 abbrev pub default_port : Transport → ℕ
 default_port Tls = 5061
 default_port Udp = 5060

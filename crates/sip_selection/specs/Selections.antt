@@ -21,7 +21,7 @@ pub record SelectionValue : Type 0 where
 abbrev pub begun : Request → Caps → List ℕ → SelectionValue
 begun request caps words = record { request = request; caps = caps; words = words; given = [] }
 
--- with one answer more
+-- a choice that was given one answer more
 abbrev pub given_too : SelectionValue → Question → AnswerValue → SelectionValue
 given_too it question answer =
     record it { given = it.given ++ record { question = question; answer = answer } ∷ [] }

@@ -30,7 +30,7 @@ proto_label Tcp = codes "_tcp"
 proto_label Sctp = codes "_sctp"
 proto_label Tls = codes "_tcp"
 
--- a name, where it has at most 255 octets
+-- a name, if it has at most 255 octets
 abbrev pub fitting : List (List ℕ) → Option (List (List ℕ))
 fitting name = if nat_lt 255 (length (wire_of name)) then None else Some name
 
@@ -50,7 +50,7 @@ abbrev pub target_at : Transport → ℕ → Address → Target
 target_at transport port address = record { transport = transport; address = address; port = port }
 
 module _ (given : List Given) (kinds : List Kind) where
-  -- the addresses of a name at a port: of each kind of question in turn (RFC 3263 4.2)
+  -- the targets of a name at a port that the answer to one kind of question gives (RFC 3263 4.2)
   abbrev pub kind_targets : Transport → ℕ → List (List ℕ) → Kind → Needing (List Target)
   kind_targets transport port name kind =
       made (λ answer. map (target_at transport port) (addresses_in answer.records))
@@ -72,8 +72,8 @@ module _ (given : List Given) (kinds : List Kind) where
 
 -- ---- a service
 
--- what there is of a service: nothing, the word that it is not offered, or targets, and the place
--- of the next random word
+-- what is known of a service: nothing, that it is not offered, or its targets and the place of the
+-- next random word
 pub data Offer : Type 0 where
   absent : Offer
   denied : Offer
@@ -97,7 +97,7 @@ offered_targets absent = []
 offered_targets denied = []
 offered_targets (listed targets next) = targets
 
--- absent and denied services use no word
+-- the place of the next random word after a service; absent and denied services use none
 abbrev pub next_word : ℕ → Offer → ℕ
 next_word word absent = word
 next_word word denied = word

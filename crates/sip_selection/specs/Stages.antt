@@ -254,7 +254,7 @@ abbrev pub Goes : Basis → (List Target → List Given → Needing Settled) →
 Goes basis left turn before now = (front : List Target)
     → Comes basis (left (front ++ before)) turn (front ++ now)
 
--- the name whose services and addresses are wanted; a number has none
+-- the name whose services and addresses are needed; an address has none
 abbrev pub name_of : Host → List (List ℕ)
 name_of (host.V4 octets) = []
 name_of (host.V6 octets) = []

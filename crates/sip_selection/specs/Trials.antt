@@ -54,12 +54,12 @@ progress_of trial =
 abbrev pub tried_in : Trial → List Target
 tried_in trial = take (trial.failures + 1) trial.targets
 
--- what an event changes while a target is being tried
+-- the tries after an event, while a target is being tried
 abbrev pub told : Trial → Event → Trial
 told trial (Failed failure) = record trial { failures = trial.failures + 1 }
 told trial Responded = record trial { answered = true }
 
--- after the end an event changes nothing
+-- the tries after an event, by how far they were: after the end it changes nothing
 abbrev pub moved_on : Progress → Trial → Event → Trial
 moved_on Trying trial event = told trial event
 moved_on Answered trial event = trial

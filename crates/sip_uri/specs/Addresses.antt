@@ -58,7 +58,7 @@ pub data V6Text (text octets : List ℕ) : Type 0 where
       → octets ≡ front ++ replicate (16 - (length front + length end)) 0 ++ end
       → V6Text text octets
 
--- an address, an IPv6 one without brackets
+-- a text is an address, an IPv6 one without brackets
 abbrev pub AddressText : List ℕ → Address → Type 0
 AddressText text (V4 octets) = V4Text text octets
 AddressText text (V6 octets) = V6Text text octets

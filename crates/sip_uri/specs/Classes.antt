@@ -12,20 +12,20 @@ abbrev pub is_unreserved : ℕ → Bool
 is_unreserved octet =
     is_ascii_alphanumeric octet || is_among (45 ∷ 95 ∷ 46 ∷ 33 ∷ 126 ∷ 42 ∷ 39 ∷ 40 ∷ 41 ∷ []) octet
 
--- of a user: one of `&=+$,;?/` too
+-- an octet of a user: an unreserved one, or one of `&=+$,;?/`
 abbrev pub is_user_octet : ℕ → Bool
 is_user_octet octet =
     is_unreserved octet || is_among (38 ∷ 61 ∷ 43 ∷ 36 ∷ 44 ∷ 59 ∷ 63 ∷ 47 ∷ []) octet
 
--- of a password: one of `&=+$,` too
+-- an octet of a password: an unreserved one, or one of `&=+$,`
 abbrev pub is_password_octet : ℕ → Bool
 is_password_octet octet = is_unreserved octet || is_among (38 ∷ 61 ∷ 43 ∷ 36 ∷ 44 ∷ []) octet
 
--- of a parameter: one of `[]/:&+$` too
+-- an octet of a parameter: an unreserved one, or one of `[]/:&+$`
 abbrev pub is_param_octet : ℕ → Bool
 is_param_octet octet = is_unreserved octet || is_among (91 ∷ 93 ∷ 47 ∷ 58 ∷ 38 ∷ 43 ∷ 36 ∷ []) octet
 
--- of a header: one of `[]/?:+$` too
+-- an octet of a header: an unreserved one, or one of `[]/?:+$`
 abbrev pub is_header_octet : ℕ → Bool
 is_header_octet octet =
     is_unreserved octet || is_among (91 ∷ 93 ∷ 47 ∷ 63 ∷ 58 ∷ 43 ∷ 36 ∷ []) octet

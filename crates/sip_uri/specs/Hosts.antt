@@ -42,7 +42,7 @@ HostText text (V4 octets) = V4Text text octets
 HostText text (V6 octets) = (inner : List ℕ) × (text ≡ 91 ∷ inner ++ 93 ∷ []) × V6Text inner octets
 HostText text (Domain name) = DomainText text name
 
--- a host that is a name
+-- a host is a name
 abbrev pub IsNamed : Host → Type 0
 IsNamed (V4 octets) = ⊥
 IsNamed (V6 octets) = ⊥

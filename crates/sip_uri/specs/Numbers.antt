@@ -3,7 +3,7 @@ use Rattle.std.specs.Prelude.{ℕ, ◌+◌, ◌-◌, ◌*◌, ◌==◌, nat_lt, 
 use Rattle.std.specs.List.{list_all}
 use Rattle.std.specs.Char.{digit_value, is_ascii_digit}
 
--- after a number, further decimal digits
+-- a number after further decimal digits
 abbrev pub decimal_from : ℕ → List ℕ → ℕ
 decimal_from number [] = number
 decimal_from number (digit ∷ digits) = decimal_from (10 * number + (digit - 48)) digits
@@ -18,7 +18,7 @@ decimal_within limit text =
     if length text == 0 || not (list_all is_ascii_digit text) || nat_lt limit (decimal text)
     then None else Some (decimal text)
 
--- after a number, further hexadecimal digits, in letters of either case
+-- a number after further hexadecimal digits, in letters of either case
 abbrev pub hexadecimal_from : ℕ → List ℕ → ℕ
 hexadecimal_from number [] = number
 hexadecimal_from number (digit ∷ digits) = hexadecimal_from (16 * number + digit_value digit) digits

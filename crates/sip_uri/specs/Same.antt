@@ -29,14 +29,14 @@ same_spoken (Known transport) Other = false
 same_spoken Other (Known other) = false
 same_spoken Other Other = true
 
--- addresses of one kind with the same octets, or names with the same labels
+-- two hosts are the same: addresses of one kind with the same octets, or names with the same labels
 abbrev pub same_host : Host → Host → Bool
 same_host (V4 octets) (V4 others) = pointwise nat_eq octets others
 same_host (V6 octets) (V6 others) = pointwise nat_eq octets others
 same_host (Domain name) (Domain other) = same_name name other
 same_host host other = false
 
--- the same in each part, of those that are not always written too
+-- two URIs are the same in each part, and in whether parts that may be left out are written
 abbrev pub same_uri : SipUri → SipUri → Bool
 same_uri uri other =
     beq uri.secure other.secure && same_host uri.host other.host

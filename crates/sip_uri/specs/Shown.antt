@@ -5,7 +5,7 @@ use Rattle.std.specs.Char.{digit_char}
 use Rattle.sip_uri.specs.declared.address.Address.{Address}
 use Rattle.sip_uri.specs.declared.address.Address.TheVariants.{V4, V6}
 
--- a number of at most three decimal digits, without leading zeros
+-- the text of a number of at most three decimal digits, without leading zeros
 abbrev pub decimal_text : ℕ → List ℕ
 decimal_text number =
     if nat_lt number 10 then (48 + number % 10) ∷ [] else
@@ -20,7 +20,7 @@ hexadecimal_character number = digit_char (number % 16)
 abbrev pub two_digits : ℕ → List ℕ
 two_digits number = hexadecimal_character (number / 0x10) ∷ hexadecimal_character number ∷ []
 
--- a number of at most four hexadecimal digits, without leading zeros
+-- the text of a number of at most four hexadecimal digits, without leading zeros
 abbrev pub hexadecimal_text : ℕ → List ℕ
 hexadecimal_text number =
     if nat_lt number 0x10 then hexadecimal_character number ∷ [] else
@@ -32,7 +32,7 @@ hexadecimal_text number =
 abbrev pub ipv4_text : List ℕ → List ℕ
 ipv4_text octets = join_with_byte 46 (map decimal_text octets)
 
--- a group for each two octets, with colons between them
+-- the text of an IPv6 address: a group for each two octets, with colons between them
 abbrev pub groups_text : List ℕ → List ℕ
 groups_text [] = []
 groups_text (high ∷ []) = []

@@ -5,7 +5,8 @@ use Rattle.sip_uri.specs.declared.transport.Transport.TheVariants.{Udp, Tcp, Sct
 use Rattle.sip_uri.specs.declared.transport.Spoken.{Spoken}
 use Rattle.sip_uri.specs.declared.transport.Spoken.TheVariants.{Known, Other}
 
--- `udp`, `tcp`, `sctp` and `tls`, in letters of any case; any other name is of another transport
+-- the transport of a name: of `udp`, `tcp`, `sctp` and `tls`, in letters of any case, that one; of
+-- any other name another one
 abbrev pub spoken_of : List ℕ → Spoken
 spoken_of name =
     if str_eq_ignore_ascii_case name (117 ∷ 100 ∷ 112 ∷ []) then Known Udp else

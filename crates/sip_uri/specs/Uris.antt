@@ -69,7 +69,7 @@ param_text param = valued_text param.name param.value
 abbrev pub key_of : Param → List ℕ
 key_of param = small_letters param.name
 
--- `transport` and `maddr`
+-- the key of the parameter `transport` (RFC 3261 19.1.1)
 abbrev pub transport_key : List ℕ
 transport_key = 116 ∷ 114 ∷ 97 ∷ 110 ∷ 115 ∷ 112 ∷ 111 ∷ 114 ∷ 116 ∷ []
 
@@ -99,7 +99,7 @@ HostValue None (Some host) = ⊥
 HostValue (Some text) None = ⊥
 HostValue (Some text) (Some host) = HostText text host
 
--- `;` and a parameter, as often as there are parameters
+-- the text of parameters: `;` and a parameter, as often as there are parameters
 abbrev pub params_text : List Param → List ℕ
 params_text params = flat_map (λ (param : Param). 59 ∷ param_text param) params
 

@@ -3,7 +3,7 @@ use Rattle.std.specs.Prelude.{ℕ, ◌==◌, nat_le, Bool, not, ◌&&◌, ◌||�
 use Rattle.std.specs.Char.{is_ascii_alphanumeric}
 use Rattle.sip_uri.specs.Classes.{is_among}
 
--- a blank or a tab
+-- an octet is a space or a tab
 abbrev pub is_blank : ℕ → Bool
 is_blank octet = octet == 32 || octet == 9
 

@@ -15,11 +15,11 @@ use Rattle.sip_workers.specs.declared.queue.PassView.{PassView}
 abbrev pub jobs_of : List Job → Batch → List Job
 jobs_of jobs batch = take batch.count (drop batch.first jobs)
 
--- its jobs stand in the list
+-- the jobs of a batch are in the list
 abbrev pub IsInside : List Job → Batch → Type 0
 IsInside jobs batch = batch.first + batch.count ≤ length jobs
 
--- a batch that has jobs
+-- a batch has jobs
 abbrev pub IsSome : Batch → Type 0
 IsSome batch = 0 < batch.count
 
@@ -57,7 +57,7 @@ module _ (gives : List ℕ → Type 0) (shows : ℕ → Type 0) where
   IsTold it = IsOutcome gives shows it.notice.seen it.job it.outcome
 
   module _ (cache : CacheView) where
-    -- with a notice of this cache
+    -- what a worker reports of a job, with a notice of this cache
     abbrev pub IsReport : ResultView → Type 0
     IsReport it = IsTold it × (it.notice.cache ≡ cache)
 
@@ -71,7 +71,7 @@ module _ (gives : List ℕ → Type 0) (shows : ℕ → Type 0) where
 abbrev pub stays_with : PassView → List Batch → PassView
 stays_with known put = pass_view known.deals known.parts put known.taken
 
--- each job as often as it stands in the list
+-- each job has as many results as the list has it
 abbrev pub EachOnce : List Job → List ResultView → Type 0
 EachOnce jobs made = (h : Job → ℕ) → sum_by h (map job_in made) ≡ sum_by h jobs
 

@@ -53,7 +53,7 @@ SendsNext failed does given before after old new true =
 SendsNext failed does given before after old new false =
     given old new None × (after ≡ before)
 
--- so many in turn
+-- octets that the resolver gives are sent, this number of times in turn
 pub data SendsMany {Wire : Type 0} (failed : Wire → ℕ)
     (does : Wire → Event (Unit {0}) → Wire → Type 0)
     (given : ResolverView → ResolverView → Option Transmit → Type 0)
@@ -64,7 +64,7 @@ pub data SendsMany {Wire : Type 0} (failed : Wire → ℕ)
       → SendsNext failed does given before after middle new true
       → SendsMany failed does given first old (count + 1) after new
 
--- all that there is to send, or so many
+-- all that there is to send is sent, or as much as this number allows
 pub data SendsAll {Wire : Type 0} (limit : ℕ) (failed : Wire → ℕ)
     (does : Wire → Event (Unit {0}) → Wire → Type 0)
     (given : ResolverView → ResolverView → Option Transmit → Type 0)

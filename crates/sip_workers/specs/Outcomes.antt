@@ -12,7 +12,7 @@ use Rattle.sip_resolver.specs.declared.outcome.Outcome.{Outcome}
 use Rattle.sip_resolver.specs.declared.outcome.Outcome.TheVariants.{Targets, Refused, NoAnswer, BadReply, Memory}
 use Rattle.sip_workers.specs.declared.job.Job.{Job}
 
--- a job, what became of it, and what its worker had seen then
+-- what contracts see of a result: a job, what became of it, and what its worker had seen then
 pub record ResultView : Type 0 where
   pub job : Job
   pub outcome : Outcome
@@ -24,7 +24,8 @@ pub record IsChosen (counts : Given → Type 0) (job : Job) (resolution : Resolu
   pub counted : All counts given
   pub is : locate job.request job.caps job.words.0 given ≡ resolution
 
--- what an outcome says of a job, where these answers count; of want of memory nothing
+-- what an outcome says of a job, where these answers count; an outcome for want of memory says
+-- nothing
 abbrev pub Says : (List ℕ → Type 0) → (ℕ → Type 0) → List Store → (Given → Type 0)
     → Job → Outcome → Type 0
 Says gives shows seen counts job (Targets list) = IsChosen counts job (targets list)
@@ -46,7 +47,7 @@ IsOutcomeAt gives shows seat job outcome =
 
 -- ---- for all
 
--- an answer that was looked up, or that a reply had
+-- an answer counts: it was looked up, or a reply had it
 abbrev pub Counts : (List ℕ → Type 0) → (ℕ → Type 0) → List Store → Given → Type 0
 Counts gives shows seen given =
     IsCached shows seen given ⊎ IsReplied gives given.question given.answer

@@ -11,7 +11,7 @@ use Rattle.sip_workers.specs.declared.queue.PassView.{PassView}
 abbrev pub pass_view : Bool → ℕ → List Batch → List Batch → PassView
 pass_view deals parts put taken = record { deals = deals; parts = parts; put = put; taken = taken }
 
--- more parts than there are workers
+-- how many parts there are in all, which is more than there are workers
 abbrev pub all_parts : ℕ
 all_parts = 2 ^ 64
 

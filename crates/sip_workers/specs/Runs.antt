@@ -17,7 +17,8 @@ abbrev pub Rises : List Job → Type 0
 Rises jobs = (k : ℕ) (job : Job) → k + 1 < length jobs
     → (slice_index_or jobs k job).number < (slice_index_or jobs (k + 1) job).number
 
--- the counts of a run are good
+-- the counts of a run are good: seats, a wire for each, batches of 1 to 8 jobs, and at most 10,000
+-- jobs, whose numbers rise
 pub record MayRun (seats wires : ℕ) (jobs : List Job) (batch : ℕ) : Type 0 where
   pub some : 0 < seats
   pub alike : wires ≡ seats
@@ -26,8 +27,8 @@ pub record MayRun (seats wires : ℕ) (jobs : List Job) (batch : ℕ) : Type 0 w
   pub rises : Rises jobs
   pub few : length jobs ≤ 10000
 
--- The counts are bad exactly where they are not good. A thread and memory are wanted only where
--- they are, and results are put in order only then.
+-- A refusal says that the counts are bad exactly where they are not good. A thread and memory are
+-- needed, and results are put in order, only where they are good.
 abbrev pub RefusesRun : Type 0 → RunRefusal → Type 0
 RefusesRun good BadCount = good → ⊥
 RefusesRun good NoThread = good
@@ -49,6 +50,6 @@ module _ (gives : List ℕ → Type 0) (shows : ℕ → Type 0) (cache : CacheVi
   abbrev pub IsMade : Job → Outcome × Told → Type 0
   IsMade job made = IsOutcome gives shows made.1.seen job made.0 × (made.1.cache ≡ cache)
 
-  -- of each job, in order
+  -- what became of each job, in their order
   abbrev pub AreMade : List Job → List (Outcome × Told) → Type 0
   AreMade jobs made = AllZip IsMade jobs made

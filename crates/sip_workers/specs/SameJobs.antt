@@ -10,7 +10,7 @@ use Rattle.sip_selection.specs.declared.request.Request.{Request}
 use Rattle.sip_selection.specs.declared.request.Request.TheVariants.{Uri, Via}
 use Rattle.sip_workers.specs.declared.job.Job.{Job}
 
--- of one kind, and the same in each part
+-- two requests are the same: of one kind, and the same in each part
 abbrev pub same_request : Request → Request → Bool
 same_request (Uri uri) (Uri other) = same_uri uri other
 same_request (Uri uri) (Via other) = false
@@ -25,7 +25,7 @@ same_families V4ThenV6 V4ThenV6 = true
 same_families V6ThenV4 V6ThenV4 = true
 same_families families other = false
 
--- the same transports in the same order, and the same families of addresses
+-- two callers can use the same: the transports, in the same order, and the families of addresses
 abbrev pub same_caps : CapsValue → CapsValue → Bool
 same_caps caps other =
     pointwise same_transport caps.transports other.transports

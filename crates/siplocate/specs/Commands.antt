@@ -21,19 +21,19 @@ pub record IsCount (word : List ℕ) (count : ℕ) : Type 0 where
   pub most : count ≤ 64
   pub written : word ≡ decimal count
 
--- `one` alone, which is for IPv4, or with families
+-- the words are `one` alone, which is for IPv4, or `one` with families
 abbrev pub SaysOne : List (List ℕ) → Families → Type 0
 SaysOne words families =
     ((words ≡ codes "one" ∷ []) × (families ≡ V4))
     ⊎ ((word : List ℕ) × (words ≡ codes "one" ∷ word ∷ []) × (families_of word ≡ Some families))
 
--- `run` with a number of workers
+-- the words are `run` and a number of workers
 pub record SaysRun (words : List (List ℕ)) (workers : ℕ) : Type 0 where
   pub word : List ℕ
   pub are : words ≡ codes "run" ∷ word ∷ []
   pub count : IsCount word workers
 
--- nothing that the program knows
+-- the words are no command
 pub record SaysNothing (words : List (List ℕ)) : Type 0 where
   pub no_one : (families : Families) → SaysOne words families → ⊥
   pub no_run : (workers : ℕ) → SaysRun words workers → ⊥

@@ -16,7 +16,7 @@ use Rattle.siplocate.specs.declared.server.RunFault.{RunFault}
 use Rattle.siplocate.specs.declared.server.RunFault.TheVariants as fault
 use Rattle.siplocate.specs.Words as words
 
--- of the request in a text: what becomes of it, or else what is wrong
+-- what is printed for the request in a text: what becomes of it, or else what is wrong
 pub record TellsOne (families : Families) (text printed : List ℕ) (status : ℕ) : Type 0 where
   pub range : status ≤ 5
   pub located : (resolution : Resolution) → LocatesTo families text resolution
@@ -25,7 +25,7 @@ pub record TellsOne (families : Families) (text printed : List ℕ) (status : �
       ⊎ ((resolution : Resolution) × LocatesTo families text resolution
       × (printed ≡ words.shown resolution) × (status ≡ words.status_of resolution))
 
--- what is told of the request in a text, where memory may be refused
+-- what is printed for the request in a text, where memory may be refused
 abbrev pub TellsText : Families → List ℕ → Told → Type 0
 TellsText families text (Text printed status) = TellsOne families text (string_bytes printed) status
 TellsText families text Usage = ⊥
@@ -35,8 +35,8 @@ TellsText families text NoThread = ⊥
 TellsText families text NotGathered = ⊥
 TellsText families text NoNet = ⊥
 
--- of a zone and requests: what is printed of the requests, over answers to what was asked, or that
--- the zone is none
+-- what is printed for a zone and requests: what becomes of the requests, over answers to what was
+-- asked, or that the zone can't be read
 abbrev pub TellsRun : ℕ → List ℕ → Told → Type 0
 TellsRun workers text (Text printed status) = IsServed text (string_bytes printed) status
 TellsRun workers text Usage = IsCountOfWorkers workers → ⊥
@@ -55,12 +55,12 @@ faulted fault.Thread = NoThread
 faulted fault.Gathering = NotGathered
 faulted fault.Net = NoNet
 
--- what is told of an input that was not taken
+-- what is printed for an input that was not taken
 abbrev pub refused : InputRefusal → Told
 refused Input = NoInput
 refused Memory = NoMemory
 
--- what is told for a job
+-- what is printed for a job
 abbrev pub Tells : Job → Told → Type 0
 Tells (job.One families (Ok text)) told = TellsText families (string_bytes text) told
 Tells (job.One families (Err refusal)) told = told ≡ refused refusal
@@ -68,7 +68,7 @@ Tells (job.Run workers (Ok text)) told = TellsRun workers (string_bytes text) to
 Tells (job.Run workers (Err refusal)) told = told ≡ refused refusal
 Tells job.Usage told = told ≡ Usage
 
--- its text, and its status
+-- the text that is printed, and the status
 abbrev pub printed : Told → List ℕ
 printed (Text text own) = string_bytes text
 printed Usage = codes "usage: siplocate one [4|6|46|64] | run WORKERS\n"
@@ -89,7 +89,8 @@ status NoThread = 5
 status NotGathered = 5
 status NoNet = 5
 
--- the text was written behind what had been, and the status is its own, or else output failed
+-- the text was written after what had been written, and the status is its own; or else output
+-- failed
 abbrev pub IsReported : Option (List ℕ) → Option (List ℕ) → Told → ℕ → Type 0
 IsReported old new told given = (Appends old new (printed told) × (given ≡ status told))
     ⊎ (given ≡ 5)

@@ -19,7 +19,7 @@ numbered number text = decimal number ++ 32 ∷ text
 abbrev pub question_words : Question → List ℕ
 question_words question = kind_word question.kind ++ 32 ∷ text_of question.name
 
--- the lines of an outcome, each behind the number of its request
+-- the lines of an outcome, each after the number of its request
 abbrev pub outcome_lines : ℕ → Outcome → List ℕ
 outcome_lines number (outcome.Targets list) =
     flat_map (λ (target : Target). numbered number (target_line target)) list
@@ -38,7 +38,7 @@ fate_lines number (fate.Became outcome) = outcome_lines number outcome
 fate_lines number (fate.Bad refusal) = numbered number (codes "bad " ++ request_word refusal
     ++ 10 ∷ [])
 
--- of lines that are numbered from this number on
+-- the lines of what became of lines that are numbered from this number on
 abbrev pub shown_from : ℕ → List Fate → List ℕ
 shown_from number [] = []
 shown_from number (fate ∷ fates) = fate_lines number fate ++ shown_from (number + 1) fates
@@ -63,7 +63,8 @@ lacks_memory (fate.Became (outcome.BadReply question refusal)) = false
 lacks_memory (fate.Became outcome.Memory) = true
 lacks_memory (fate.Bad refusal) = false
 
--- 5 where memory was refused for one, 0 where each has targets, else 2
+-- the exit status of a run: 5 where memory was refused for a request, 0 where each has targets,
+-- else 2
 abbrev pub status_of_all : List Fate → ℕ
 status_of_all fates =
     if list_any lacks_memory fates then 5 else (if list_all has_targets fates then 0 else 2)

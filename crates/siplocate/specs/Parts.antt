@@ -5,7 +5,7 @@ use Rattle.std.specs.Prelude.{◌≡◌, ◌≤◌, ◌⊎◌, ◌++◌, ℕ, Li
 abbrev pub IsLineEnd : List ℕ → Type 0
 IsLineEnd octets = (octets ≡ 10 ∷ []) ⊎ (octets ≡ 13 ∷ 10 ∷ [])
 
--- a line begins behind this: it is empty, or ends with a line feed
+-- a line begins after this: it is empty, or ends with a line feed
 abbrev pub BeginsLine : List ℕ → Type 0
 BeginsLine front = (front ≡ []) ⊎ ((before : List ℕ) × (front ≡ before ++ 10 ∷ []))
 
@@ -21,7 +21,7 @@ pub record IsParted (text front rest : List ℕ) : Type 0 where
   pub here : HasEmptyLine text front rest
   pub first : (other others : List ℕ) → HasEmptyLine text other others → length front ≤ length other
 
--- a zone and requests; where there is no empty line, all is the zone's
+-- a text is a zone and requests; where there is no empty line, all of it is the zone
 abbrev pub AreParts : List ℕ → List ℕ → List ℕ → Type 0
 AreParts text zone requests =
     IsParted text zone requests

@@ -18,7 +18,7 @@ use Rattle.siplocate.specs.declared.reply.BadReply.{BadReply}
 use Rattle.siplocate.specs.declared.reply.BadReply.TheVariants.{NotHex, NothingAsked, TooLong, Malformed, NoAnswer, Memory}
 use Rattle.sip_selection.specs.declared.request.Request.{Request}
 
--- what is no blank
+-- the octets of a line that are no blanks
 abbrev pub digits : List ℕ → List ℕ
 digits line = filter (λ octet. not (octet == 32)) line
 

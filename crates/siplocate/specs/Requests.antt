@@ -18,7 +18,7 @@ use Rattle.siplocate.specs.declared.reply.BadReply.{BadReply}
 use Rattle.siplocate.specs.declared.reply.BadReply.TheVariants as bad
 use Rattle.siplocate.specs.Replies.{ReplyLine, FailsAt}
 
--- the first line, which is empty where there is none, and the others
+-- the first line of a text, which is empty where there is none
 abbrev pub first_line : List ℕ → List ℕ
 first_line text = slice_index_or (lines text) 0 []
 

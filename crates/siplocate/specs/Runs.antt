@@ -29,7 +29,7 @@ pub record IsJob (number : ℕ) (line : List ℕ) (job : Job) : Type 0 where
   pub can : job.caps ≡ own_caps V4ThenV6
   pub draws : job.words.0 ≡ drawn (replicate 32 0) number
 
--- no request, which is refused as this
+-- a line is no request, and is refused for a reason other than memory
 pub record IsNoRequest (line : List ℕ) (refusal : UriRefusal) : Type 0 where
   pub none : (request : Request) → RequestText line request → ⊥
   pub said : refusal ≢ uri.Memory
@@ -52,11 +52,11 @@ AreEntries number lines entries jobs = ⊥
 
 -- ---- how many requests there are
 
--- this is a request
+-- a line is a request
 abbrev pub IsRequest : List ℕ → Type 0
 IsRequest line = (request : Request) × RequestText line request
 
--- so many of these lines are requests, or more
+-- at least this number of these lines are requests
 abbrev pub HasRequests : ℕ → List (List ℕ) → Type 0
 HasRequests zero lines = ⊤
 HasRequests (suc count) [] = ⊥
@@ -80,7 +80,8 @@ RefusesText text seats wires (Gathering refusal) = ⊤
 
 -- ---- what becomes of it
 
--- of what stands in lines, where this became of the requests among them, in order
+-- what becomes of lines, by what stands in them and what became of the requests among them, in
+-- order
 abbrev pub fates_of : List Entry → List (Outcome × Told) → List Fate
 fates_of [] made = []
 fates_of (entry.Bad refusal ∷ entries) made = fate.Bad refusal ∷ fates_of entries made
@@ -101,7 +102,7 @@ module _ (gives : List ℕ → Type 0) (shows : ℕ → Type 0) (cache : CacheVi
   IsFate number line (fate.Became outcome) = IsLocated number line outcome
   IsFate number line (fate.Bad refusal) = IsNoRequest line refusal
 
-  -- of lines that are numbered from this number on
+  -- what becomes of lines that are numbered from this number on
   abbrev pub AreFates : ℕ → List (List ℕ) → List Fate → Type 0
   AreFates number [] [] = ⊤
   AreFates number (line ∷ lines) (fate ∷ fates) = IsFate number line fate

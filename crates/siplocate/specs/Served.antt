@@ -35,7 +35,7 @@ of_run run.NoThread = Thread
 of_run run.Memory = Memory
 of_run (run.Gathering refusal) = Gathering
 
--- how many workers a run has
+-- a run can have this number of workers: 1 to 64
 abbrev pub IsCountOfWorkers : ℕ → Type 0
 IsCountOfWorkers workers = (1 ≤ workers) × (workers ≤ 64)
 
@@ -50,7 +50,7 @@ Faults workers requests Net = ⊤
 
 -- ---- what is printed
 
--- of requests, over a cache of their own and a network of which nothing is known
+-- what is printed of requests, over a cache of their own and a network of which nothing is known
 pub record IsAsked (requests printed : List ℕ) (status : ℕ) : Type 0 where
   pub few : HasTooMany requests → ⊥
   pub cache : CacheView

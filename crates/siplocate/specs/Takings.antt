@@ -26,7 +26,7 @@ pub record IsRefusedAs (old : SelectionValue) (octets : List ℕ) (reply : BadRe
   pub refuses : Refuses (now_of old) octets refusal
   pub is : reply ≡ of_locator refusal
 
--- the line is a reply to what is needed, and its answer is given
+-- the line is a reply to the question that is needed, and its answer is given
 pub record IsTaken (old new : SelectionValue) (line : List ℕ) : Type 0 where
   pub message : Message
   pub more : Given

@@ -16,7 +16,7 @@ use Rattle.siplocate.specs.Draws.{drawn}
 abbrev pub own_caps : Families → CapsValue
 own_caps families = record { transports = Udp ∷ Tcp ∷ Tls ∷ Sctp ∷ []; families = families }
 
--- its random words: those of a key of zeros, by the number 1
+-- the random words of the program: those of a key of zeros, by the number 1
 abbrev pub own_words : List ℕ
 own_words = drawn (replicate 32 0) 1
 
@@ -29,8 +29,8 @@ abbrev pub selected : Families → Request → List Given → SelectionValue
 selected families request given =
     record { request = request; caps = own_caps families; words = own_words; given = given }
 
--- the question that is needed and the answer that a message has for it, unless nothing is needed or
--- the message is no reply to it
+-- the question that is needed and the answer that a message has for it; none where nothing is
+-- needed or the message is no reply to it
 abbrev pub told : Resolution → Message → Option Given
 told (need question) message =
     if is_none (reply_refusal question message)

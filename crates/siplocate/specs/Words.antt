@@ -81,19 +81,19 @@ bad_request_line refusal = codes "bad request " ++ request_word refusal ++ 10 �
 abbrev pub bad_reply_line : BadReply → List ℕ
 bad_reply_line reply = codes "bad reply " ++ reply_word reply ++ 10 ∷ []
 
--- the line that a text gets which is no request with replies
+-- the line that is printed for a text that is no request with replies
 abbrev pub IsBadLine : Families → List ℕ → List ℕ → Type 0
 IsBadLine families text line =
     ((refusal : UriRefusal) × HasBadRequest text refusal × (line ≡ bad_request_line refusal))
     ⊎ ((reply : BadReply) × HasBadReply families text reply × (line ≡ bad_reply_line reply))
 
--- a target's line
+-- the line of a target
 abbrev pub target_line : Target → List ℕ
 target_line target =
     transport_word target.transport ++ (32 ∷ address_text target.address)
     ++ (32 ∷ decimal target.port) ++ 10 ∷ []
 
--- a question's line
+-- the line of a question
 abbrev pub question_line : Question → List ℕ
 question_line question = codes "ask " ++ kind_word question.kind ++ 32 ∷ text_of question.name
     ++ 10 ∷ []

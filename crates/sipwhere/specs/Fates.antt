@@ -51,7 +51,7 @@ IsFate gives shows seat sender line fate =
 
 -- ---- where a fate comes from
 
--- what is submitted of a line, under whatever number
+-- the request that is submitted for a line, under whatever number
 pub record IsOfLine (sender : Sender) (line : Line) (sought : Sought) : Type 0 where
   pub is : RequestText line.text.now sought.request
   pub caps : sought.caps ≡ sender.caps
@@ -62,7 +62,7 @@ pub record IsRequest (text : List ℕ) : Type 0 where
   pub request : Request
   pub is : RequestText text request
 
--- it is no request, or one of which nothing came back
+-- what became of a text without a reply: it is no request, its time was over, or memory was refused
 abbrev pub NeedsNoReply : List ℕ → Fate → Type 0
 NeedsNoReply text (Became outcome) = ⊥
 NeedsNoReply text TimeOver = IsRequest text
@@ -74,7 +74,7 @@ pub record IsOnly (text : List ℕ) (request : Request) : Type 0 where
   pub is : RequestText text request
   pub only : (other : Request) → RequestText text other → request ≡ other
 
--- its request ended so; or it is none
+-- the request of a text ended so, or the text is no request
 abbrev pub EndsAs : List ℕ → Outcome → Fate → Type 0
 EndsAs text outcome (Became it) = (it ≡ outcome) × (request : Request) × IsOnly text request
 EndsAs text outcome TimeOver = ⊥

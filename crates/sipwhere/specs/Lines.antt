@@ -68,13 +68,13 @@ why_word refusal.Memory = codes "Memory"
 
 -- ---- lines, each behind the front
 
--- a target's line
+-- the line of a target
 abbrev pub target_line : AddressForm → List ℕ → Target → List ℕ
 target_line form front target =
     front ++ transport_word target.transport ++ (32 ∷ address_words form target.address)
     ++ (32 ∷ decimal target.port) ++ 10 ∷ []
 
--- a question: its kind and its name
+-- the words of a question: its kind and its name
 abbrev pub question_words : Question → List ℕ
 question_words question = kind_word question.kind ++ 32 ∷ text_of question.name
 
@@ -83,7 +83,7 @@ abbrev pub gaveup_line : List ℕ → Question → List ℕ → List ℕ
 gaveup_line front question why =
     front ++ codes "gaveup " ++ question_words question ++ (32 ∷ why) ++ 10 ∷ []
 
--- two words
+-- a line of two words
 abbrev pub words_line : List ℕ → List ℕ → List ℕ → List ℕ
 words_line front word other = front ++ word ++ other ++ 10 ∷ []
 

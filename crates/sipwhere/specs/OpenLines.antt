@@ -11,8 +11,8 @@ use Rattle.sipwhere.specs.declared.line.Line.{Line}
 use Rattle.sipwhere.specs.declared.report.Style.{Style}
 use Rattle.sipwhere.specs.declared.sender.Sender.{Sender}
 
--- who wants to send, the lines, of how many of them it was told what became of them, the requests
--- that are inside, and what became of each line, as far as it is known
+-- what contracts see of open lines: who sends, the lines, how many of them were reported, the
+-- requests that are inside, and what became of each line, as far as it is known
 pub record OpenView : Type 0 where
   pub sender : Sender
   pub lines : List Line
@@ -22,7 +22,7 @@ pub record OpenView : Type 0 where
 
 -- ---- whose request is whose
 
--- it is what is submitted of a line, under the place of the line
+-- the request that is submitted for a line, under the place of the line
 pub record IsOwn (sender : Sender) (lines : List Line) (sought : Sought) : Type 0 where
   pub inside : sought.number < length lines
   pub of : (line : Line) → IsOfLine sender (slice_index_or lines sought.number line) sought

@@ -27,15 +27,15 @@ use Rattle.sipwhere.specs.declared.address.AddressForm.{AddressForm}
 
 -- ---- the parts
 
--- a number and a space
+-- the text of a number, and a space
 abbrev pub number_word : ℕ → List ℕ
 number_word number = decimal number ++ 32 ∷ []
 
--- a name and a space
+-- the text of a name, and a space
 abbrev pub name_word : List (List ℕ) → List ℕ
 name_word name = text_of name ++ 32 ∷ []
 
--- from the space to `~`, but for `"` and `\`
+-- an octet is written as it is: from the space to `~`, but for `"` and `\`
 abbrev pub stands_as_it_is : ℕ → Bool
 stands_as_it_is octet =
     nat_le 32 octet && nat_le octet 126 && not (octet == 34) && not (octet == 92)
@@ -46,7 +46,7 @@ quoted_octet octet =
     if stands_as_it_is octet then octet ∷ []
     else 92 ∷ (48 + octet / 100) ∷ (48 + octet / 10 % 10) ∷ (48 + octet % 10) ∷ []
 
--- the octets of a character string, the quote behind them, and a space
+-- the octets of a character string, the quote after them, and a space
 abbrev pub quoted_octets : List ℕ → List ℕ
 quoted_octets octets = flat_map quoted_octet octets ++ 34 ∷ 32 ∷ []
 
@@ -56,32 +56,33 @@ string_word octets = 34 ∷ quoted_octets octets
 
 -- ---- data, as the files of a zone have it (RFC 1035 5.1)
 
--- priority, weight, port and target (RFC 2782)
+-- the words of SRV data: priority, weight, port and target (RFC 2782)
 abbrev pub srv_words : SrvRecord → List ℕ
 srv_words server =
     number_word server.priority ++ number_word server.weight ++ number_word server.port
     ++ text_of server.target
 
--- ORDER, PREFERENCE, FLAGS, SERVICES, REGEXP and REPLACEMENT (RFC 3403 4.1)
+-- the words of NAPTR data: ORDER, PREFERENCE, FLAGS, SERVICES, REGEXP and REPLACEMENT (RFC 3403
+-- 4.1)
 abbrev pub naptr_words : NaptrRecord → List ℕ
 naptr_words rule =
     number_word rule.order ++ number_word rule.preference
     ++ string_word rule.flags ++ string_word rule.services ++ string_word rule.regexp
     ++ text_of rule.replacement
 
--- REFRESH, RETRY, EXPIRE and MINIMUM
+-- the words of the times of SOA data: REFRESH, RETRY, EXPIRE and MINIMUM (RFC 1035 3.3.13)
 abbrev pub time_words : SoaRecord → List ℕ
 time_words authority =
     number_word authority.refresh ++ number_word authority.retry ++ number_word authority.expire
     ++ decimal authority.minimum
 
--- MNAME, RNAME, SERIAL, and these (RFC 1035 3.3.13)
+-- the words of SOA data: MNAME, RNAME, SERIAL and the times (RFC 1035 3.3.13)
 abbrev pub soa_words : SoaRecord → List ℕ
 soa_words authority =
     name_word authority.mname ++ name_word authority.rname ++ number_word authority.serial
     ++ time_words authority
 
--- of other data its class and type (RFC 3597 5), and how many octets it has
+-- the words of other data: its class and type (RFC 3597 5), and how many octets it has
 abbrev pub other_words : OtherOctets → List ℕ
 other_words other =
     codes "CLASS" ++ number_word other.class_code ++ codes "TYPE" ++ number_word other.code
@@ -92,7 +93,7 @@ abbrev pub typed_address : AddressForm → Address → List ℕ
 typed_address form (V4 octets) = codes "A " ++ address_words form (V4 octets)
 typed_address form (V6 octets) = codes "AAAA " ++ address_words form (V6 octets)
 
--- TYPE and RDATA
+-- the words of TYPE and RDATA
 abbrev pub rdata_words : AddressForm → Rdata → List ℕ
 rdata_words form (rdata.Addr4 octets) = typed_address form (V4 octets)
 rdata_words form (rdata.Addr6 octets) = typed_address form (V6 octets)
@@ -104,13 +105,14 @@ rdata_words form (rdata.Other other) = other_words other
 
 -- ---- lines
 
--- a record: its owner, for how many seconds it may be kept, and what it says
+-- the line of a record: its owner, for how many seconds it may be kept, and what it says
 abbrev pub record_line : AddressForm → Record → List ℕ
 record_line form entry =
     codes ";   " ++ name_word entry.owner ++ number_word entry.ttl
     ++ rdata_words form entry.rdata ++ 10 ∷ []
 
--- of the authority section SOA records alone, which say for how long an absence may be kept
+-- the line of a record of the authority section: of an SOA record, which says for how long an
+-- absence may be kept, and of no other
 abbrev pub authority_of : AddressForm → Record → Rdata → List ℕ
 authority_of form entry (rdata.Soa authority) = record_line form entry
 authority_of form entry (rdata.Addr4 octets) = []
@@ -147,7 +149,8 @@ used_where question message (Some refusal) = 0
 abbrev pub used_in : Question → Message → ℕ
 used_in question message = used_where question message (reply_refusal question message)
 
--- where fewer are used than the answer section has of the type that is asked
+-- the line that is printed where fewer records are used than the answer section has of the type
+-- that is asked
 abbrev pub used_line : ℕ → ℕ → List ℕ
 used_line used count =
     if nat_lt used count
@@ -162,7 +165,8 @@ used_of asked message (Some kind) =
     used_line (used_in (record { name = asked.name; kind = kind }) message)
     (count_by (is_of_type asked.code) message.answers)
 
--- the records of the answer section, how many of them are used, and the SOA records
+-- the lines of a message: the records of the answer section, how many of them are used, and the SOA
+-- records
 abbrev pub message_lines : AddressForm → Asked → Message → List ℕ
 message_lines form asked message =
     flat_map (record_line form) message.answers ++ used_of asked message (kind_of asked.code)

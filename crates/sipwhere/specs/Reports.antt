@@ -13,7 +13,7 @@ use Rattle.sipwhere.specs.declared.report.Report.{Report}
 use Rattle.sipwhere.specs.declared.report.Report.TheVariants.{Lines, Json, Check}
 use Rattle.sipwhere.specs.declared.report.Style.{Style}
 
--- in front of the lines of a text: the text and a space, where there are several
+-- what is in front of the lines of a text: the text and a space, where there are several texts
 abbrev pub front_of : Bool → List ℕ → List ℕ
 front_of true text = text ++ 32 ∷ []
 front_of false text = []
@@ -39,7 +39,7 @@ abbrev pub traced_report : Style → List WireTry → List ℕ → Fate → List
 traced_report style tries text fate =
     trace_of style.traced style.form text tries ++ report_of style text fate
 
--- its status: a check has one of its own
+-- the exit status of a text in a form of report: a check has one of its own
 abbrev pub status_in : Report → Fate → ℕ
 status_in Lines fate = status_of fate
 status_in Json fate = status_of fate

@@ -12,11 +12,11 @@ use Rattle.dns_message.specs.declared.question.Asked.{Asked}
 abbrev pub is_colon : ℕ → Bool
 is_colon octet = octet == 58
 
--- the word `via`, in letters of any case
+-- a text is the word `via`, in letters of any case
 abbrev pub is_via_word : List ℕ → Bool
 is_via_word word = bytes_eq (small_letters word) (codes "via")
 
--- such a word stands in front of the first colon
+-- the word `via` is in front of the first colon of a text
 abbrev pub is_via : List ℕ → Bool
 is_via text =
     nat_lt (position_or_len is_colon text) (length text)
@@ -24,7 +24,7 @@ is_via text =
 
 -- ---- rules
 
--- the section that says where a response goes, and that which says where a request goes
+-- the section of RFC 3263 that says where a message goes: 5 for a response, 4.2 for a request
 abbrev pub section_word : Bool → List ℕ
 section_word true = codes "5"
 section_word false = codes "4.2"
@@ -33,7 +33,7 @@ section_word false = codes "4.2"
 abbrev pub stands_in_front : List ℕ → List ℕ → Bool
 stands_in_front front name = starts_with nat_eq name front
 
--- whose servers are asked for: those of a transport (RFC 3263 4.1), where the name says so
+-- the servers that are asked for: those of a transport, where the name says so (RFC 3263 4.1)
 abbrev pub servers_word : List ℕ → List ℕ
 servers_word name =
     if stands_in_front (codes "_sip._udp.") name then codes "servers for udp" else

@@ -6,12 +6,12 @@ use Rattle.sipwhere.specs.declared.report.Report.{Report}
 use Rattle.sipwhere.specs.declared.report.Report.TheVariants.{Lines, Json, Check}
 use Rattle.sipwhere.specs.declared.terminals.Terminals.{Terminals}
 
--- short addresses where they are asked for, or lines go to a terminal
+-- the form of addresses: short where it is asked for, or where lines go to a terminal
 abbrev pub form_for : Bool → Report → Terminals → AddressForm
 form_for short Lines terminals = if short || terminals.output then Short else Full
 form_for short Json terminals = if short then Short else Full
 form_for short Check terminals = if short then Short else Full
 
--- what became of texts goes elsewhere
+-- progress is shown on the terminal: what became of texts goes elsewhere
 abbrev pub shows_progress : Terminals → Bool
 shows_progress terminals = terminals.errors && not terminals.output

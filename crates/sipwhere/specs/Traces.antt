@@ -22,7 +22,7 @@ type_word code =
     (if code == 33 then codes "SRV" else
     (if code == 35 then codes "NAPTR" else codes "TYPE" ++ decimal code)))
 
--- the type, the name, and the rule that asks for it
+-- the words of what a query asks: the type, the name, and the rule that asks for it
 abbrev pub asked_words : Bool → Asked → List ℕ
 asked_words via asked =
     type_word asked.code ++ (32 ∷ text_of asked.name) ++ codes " (" ++ rule_of via asked
@@ -33,7 +33,7 @@ abbrev pub words_if : Bool → List ℕ → List ℕ → List ℕ
 words_if true words others = words
 words_if false words others = others
 
--- the server, over what, and whether with EDNS (RFC 6891)
+-- the words of the way of a query: the server, over what, and whether with EDNS (RFC 6891)
 abbrev pub way_words : Way → List ℕ
 way_words way =
     socket_text way.server ++ words_if way.over_tcp (codes " tcp") (codes " udp")
@@ -43,7 +43,7 @@ way_words way =
 abbrev pub milliseconds : Duration → Duration → ℕ
 milliseconds from until = (as_nanos until - as_nanos from) / 1_000_000
 
--- RCODE, octets and time
+-- the words of a reply: RCODE, octets and time
 abbrev pub came_words : Duration → WireReply → List ℕ
 came_words sent_at reply =
     (codes "rcode " ++ decimal reply.rcode ++ codes ", ")
@@ -60,7 +60,7 @@ abbrev pub question_words : Bool → Option Asked → List ℕ
 question_words via (Some asked) = asked_words via asked
 question_words via None = codes "nothing"
 
--- what was asked, how it went, and its id
+-- the words of a query that went out: what it asks, its way and its id
 abbrev pub sent_words : Bool → WireTry → List ℕ
 sent_words via one =
     question_words via one.asked ++ codes " to " ++ way_words one.way ++ codes " id "
@@ -82,6 +82,6 @@ abbrev pub reply_lines : AddressForm → Option Asked → Option WireReply → L
 reply_lines form asked (Some reply) = lines_in form asked reply.message
 reply_lines form asked None = []
 
--- a query, and what came back
+-- the lines of a query, and of what came back
 abbrev pub try_lines : AddressForm → Bool → WireTry → List ℕ
 try_lines form via one = trace_line via one ++ reply_lines form one.asked one.reply

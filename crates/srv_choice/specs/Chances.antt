@@ -6,7 +6,7 @@ use Rattle.dns_message.specs.declared.srv.SrvRecord.{SrvRecord}
 use Rattle.srv_choice.specs.SrvOrder.{pick, weight_sum}
 
 module _ (records : List SrvRecord) where
-  -- whether the number picks this record
+  -- a number picks this record
   abbrev pub is_picked : List ℕ → ℕ → ℕ → Bool
   is_picked places place number =
       option_map_or (λ picked. picked == place) (pick records places number) false
