@@ -51,7 +51,7 @@ impl Carried {
         self.entries.len()
     }
 
-    /// Whether there is none.
+    /// Whether there are no stores.
     #[must_use]
     pub fn is_empty(&self) -> bool
         ensures { IsTrue result ↔ (self.now ≡ []) }

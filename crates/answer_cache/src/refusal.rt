@@ -6,11 +6,11 @@ use crate::node::ShelfRefusal;
 use std::alloc::{AllocError, AllocFailed};
 use thiserror::Error;
 
-/// Why an answer was not stored. That it has no life is looked at first; memory may be wanted
-/// before the other two.
+/// Why an answer was not stored. A life of 0 is checked first; memory may be needed before the
+/// other two checks.
 #[derive(Clone, Copy, Debug, PartialEq, Eq, Error)]
 pub enum StoreRefusal {
-    /// Its life is 0.
+    /// The life of the answer is 0.
     #[error("the answer may not be kept")]
     Lifeless,
     /// There are 128 stores in the group of the question.

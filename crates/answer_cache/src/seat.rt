@@ -29,7 +29,7 @@ impl Model for Seat {
 }
 
 impl Seat {
-    /// Its number, from 0.
+    /// The number of the seat, from 0.
     #[must_use]
     pub fn number(&self) -> usize
         ensures { result ≡ self.now.seat.number }
@@ -37,7 +37,7 @@ impl Seat {
         self.hand.number as usize
     }
 
-    /// What it has seen, for other seats to learn. Takes no memory.
+    /// What the seat has seen, for other seats to learn. Takes no memory.
     #[must_use]
     pub fn notice(&self) -> Notice
         ensures { (result.cache ≡ self.now.cache) × (result.seen ≡ self.now.seat.seen) }
@@ -67,7 +67,7 @@ impl Model for Notice {
 }
 
 impl Notice {
-    /// A copy. Takes no memory.
+    /// A copy of the notice. Takes no memory.
     #[must_use]
     pub fn again(&self) -> Notice
         ensures { result ≡ self.now }
@@ -94,7 +94,7 @@ pub fn seats_see_one_history(one: &Seat, other: &Seat)
     histories_are_one(&one.hand.book, &other.hand.book);
 }
 
-/// A law: what two notices of a cache tell is of one history.
+/// A law: what two notices of a cache say is of one history.
 pub fn notices_tell_one_history(one: &Notice, other: &Notice)
     requires { one.now.cache ≡ other.now.cache }
     ensures { IsPrefix one.now.seen other.now.seen ⊎ IsPrefix other.now.seen one.now.seen }

@@ -619,7 +619,7 @@ impl SharedCache {
         stored
     }
 
-    /// Afterwards the seat has seen what the notice tells, and what came since: one load of a head.
+    /// Afterwards the seat has seen what the notice says, and what came since: one load of a head.
     /// Takes no memory.
     pub fn learn(&self, seat: &mut Seat, notice: &Notice)
         requires made_here { Belongs self.now seat.old }

@@ -17,7 +17,7 @@ fn hash_more(hash: u32, octet: u8) -> u32
     (hash ^ u32::from(octet)).wrapping_mul(16_777_619)
 }
 
-/// The hash of a question: that of the octets of its name, and of its type.
+/// The hash of a question: FNV-1a over the octets of its name and of its type.
 #[must_use]
 pub fn hash(question: &Question) -> u32
     ensures { result ≡ hash_of (hashed_of question.now) }

@@ -40,7 +40,7 @@ pub struct Hands {
 }
 
 impl Hands {
-    /// What the next seat is given.
+    /// Deals what the next seat has at the log.
     pub fn deal(&mut self) -> Hand
         requires seats { self.old.next < self.old.seats }
         requires hands { AreHands self.old }

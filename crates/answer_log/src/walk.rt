@@ -33,7 +33,7 @@ impl Walk {
     }
 
     /// Passes the next node, which the log that `named` has seen named so: one load of its link.
-    /// The seat whose walk it is has spent one link more.
+    /// The seat of the walk has spent one link more.
     pub fn pass(&mut self, hand: &mut Hand, link: &Word, named: &Book)
         requires books { named.now.book ≡ self.old.seen.book }
         requires hand { IsHand hand.old }

@@ -31,8 +31,8 @@ impl Model for Answer {
 }
 
 impl Answer {
-    /// The answer with these records and this life, unless there are more than 32 or it is 2^31
-    /// seconds or more.
+    /// The answer with these records and this life, unless there are more than 32 records or the
+    /// life is 2^31 seconds or more.
     pub fn new(records: Records, life: u32) -> Option<Answer>
         ensures made { IsSome result ↔ ((count_of records ≤ 32) × (life < 2 ^ 31)) }
         ensures is { IfSome result (λ answer. answer ≡ record { records = records; life = life }) }
@@ -52,7 +52,7 @@ impl Answer {
         Answer { records, life }
     }
 
-    /// Its records.
+    /// The records of the answer.
     pub fn records(&self) -> &Records
         ensures records { result.now ≡ self.now.records }
         ensures few { count_of self.now.records ≤ 32 }
@@ -60,7 +60,7 @@ impl Answer {
         &self.records
     }
 
-    /// For how many seconds it may be kept.
+    /// For how many seconds the answer may be kept.
     pub fn life(&self) -> u32
         ensures life { result ≡ self.now.life }
         ensures short { self.now.life < 2 ^ 31 }

@@ -26,8 +26,8 @@ pub fn chain_follows_aliases()
     same_names_are_equal();
 }
 
-/// The questions of a message are this one alone exactly where they are the list of it and no
-/// other, in class IN.
+/// The questions of a message are this one alone exactly where it has one question, which is this
+/// one in class IN.
 pub fn question_is_repeated()
     ensures { (question : question.Question) (questions : List asked.Asked)
         → (asks_this_alone question questions ≡ true) ↔ (questions ≡ asked_of question ∷ []) }
@@ -35,8 +35,8 @@ pub fn question_is_repeated()
     same_names_are_equal();
 }
 
-/// An answer with records lives as long as that one of them, and of those that led to them, that
-/// lasts least.
+/// An answer with records lives as long as the one that lasts least, of its records and of the
+/// CNAME records that led to them.
 pub fn life_is_the_least()
     ensures { (message : message.Message) (chain : Option chains.Chain)
         (kept : List resource.Record) → kept ≢ []

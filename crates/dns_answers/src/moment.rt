@@ -26,7 +26,7 @@ impl Model for Moment {
 }
 
 impl Moment {
-    /// The moment at so many seconds, unless that is 2^48 or more.
+    /// The moment at this number of seconds, unless that is 2^48 or more.
     pub fn new(seconds: u64) -> Option<Moment>
         ensures made { IsSome result ↔ (seconds < 2 ^ 48) }
         ensures is { IfSome result (λ moment. moment ≡ seconds) }
@@ -38,7 +38,7 @@ impl Moment {
         }
     }
 
-    /// Its seconds.
+    /// The seconds of the moment.
     pub fn get(self) -> u64
         ensures seconds { result ≡ self }
         ensures below { self < 2 ^ 48 }
@@ -46,7 +46,7 @@ impl Moment {
         self.seconds
     }
 
-    /// Whether it comes before another, which is what `<` tells.
+    /// Whether the moment comes before another, which is what `<` says.
     pub fn is_before(self, other: Moment) -> bool
         ensures { IsTrue result ↔ (self < other) }
     {

@@ -18,7 +18,7 @@ pub enum Records {
 }
 
 impl Records {
-    /// Which kind of question they answer.
+    /// The kind of question that the records answer.
     pub fn kind(&self) -> Kind
         ensures { result ≡ kind_of self.now }
     {
@@ -30,7 +30,7 @@ impl Records {
         }
     }
 
-    /// How many there are.
+    /// How many records there are.
     pub fn len(&self) -> usize
         ensures { result ≡ count_of self.now }
     {
@@ -42,7 +42,7 @@ impl Records {
         }
     }
 
-    /// Whether there are none.
+    /// Whether there are no records.
     pub fn is_empty(&self) -> bool
         ensures { IsTrue result ↔ (count_of self.now ≡ 0) }
     {

@@ -37,8 +37,8 @@ impl Asker {
     ghost use Rattle.std.specs.Io.BufRead.{Rests};
     ghost use Rattle.dns_asker.specs.contracts.asker.Asker.{the_row};
 
-    /// Nothing is asked. At most so many questions wait at once; the tickets are numbered from the
-    /// serial on.
+    /// An asker without questions. At most this number of questions wait at once; the tickets are
+    /// numbered from the serial on.
     pub fn new(alloc: Global, limit: usize, serial: u64) -> Result<Asker, AllocError>
         requires some { 1 ≤ limit }
         requires few { limit ≤ 256 }
@@ -50,8 +50,9 @@ impl Asker {
         })
     }
 
-    /// A law: the tickets stand by deadline, each of an id of its own, sent once to three times,
-    /// and they are no more than the limit. A call does nothing: its contract tells its caller so.
+    /// A law: the tickets are ordered by deadline, each has an id of its own and was sent once to
+    /// three times, and they are no more than the limit. A call does nothing; its contract states
+    /// this.
     pub fn stands_in_order(&self)
         ensures { IsAsking self.now }
     {
@@ -117,7 +118,7 @@ impl Asker {
         }
     }
 
-    /// Takes octets that came in.
+    /// Takes octets that came in, and says what they mean for the questions that wait.
     pub fn incoming(&mut self, octets: &[u8]) -> Result<Incoming, AllocError>
         ensures means { IfOk result (λ it. Means self.old octets.now it) }
         ensures left { IfOk result (λ it. self.new ≡ left_by it self.old) }
@@ -139,7 +140,8 @@ impl Asker {
     }
 
     /// What is to be done at a moment about the first question whose reply did not come in time.
-    /// There may be more of them: it is called again until it gives nothing. Takes no memory.
+    /// There may be more such questions: the caller calls it again until it gives nothing. Takes no
+    /// memory.
     #[must_use]
     pub fn due(&mut self, now: Moment) -> Option<Due<'_>>
         ensures* dues { sem 𝓛 (Rests the_row self.entry (λ ended. Dues self.old ended now result)) }

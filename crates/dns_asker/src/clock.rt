@@ -8,7 +8,7 @@ pub trait Clock {
     // What it may show.
     ghost shows: { ℕ → Type 0 };
 
-    /// The moment that it is.
+    /// The moment that the clock shows.
     fn now(&self) -> Moment
         ensures { shows result };
 }

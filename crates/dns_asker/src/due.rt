@@ -6,6 +6,6 @@ use dns_message::Question;
 pub enum Due<'a> {
     /// The octets of the question of this id are to be sent once more.
     Resend(u16, &'a [u8]),
-    /// It was sent three times: the question of this id waits no longer.
+    /// The question of this id was sent three times, and waits no longer.
     GaveUp(u16, &'a Question),
 }

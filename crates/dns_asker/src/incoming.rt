@@ -16,14 +16,14 @@ pub enum Incoming {
 pub enum Ending {
     /// The reply has this answer.
     Answered(Answer),
-    /// The reply was cut (`Truncated`), or tells a fault of the server (`ServerFault`).
+    /// The reply was cut (`Truncated`), or says that the server failed (`ServerFault`).
     Faulty(ReplyRefusal),
 }
 
-/// Why octets are no reply to a question that waits, in the order in which it is asked.
+/// Why octets are no reply to a question that waits, in the order of the checks.
 #[derive(Clone, Copy, Debug, PartialEq, Eq)]
 pub enum Why {
-    /// There are more than 65,535 octets, or no message stands in front of them.
+    /// There are more than 65,535 octets, or they begin with no message.
     NotSpelled,
     /// No question of the message's id waits.
     UnknownId,

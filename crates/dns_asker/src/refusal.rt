@@ -1,7 +1,7 @@
 //! Why a question is not taken.
 use thiserror::Error;
 
-/// Why a question is not taken, in the order in which it is asked.
+/// Why a question is not taken, in the order of the checks.
 #[derive(Clone, Copy, Debug, PartialEq, Eq, Error)]
 pub enum AskRefusal {
     /// A question with this id waits for its reply.

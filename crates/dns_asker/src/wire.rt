@@ -33,8 +33,8 @@ pub trait Wire {
         ensures no_fault { OnOk result (failed self.new ≡ failed self.old) }
         ensures did { does self.old (dispatch result octets.now tt) self.new };
 
-    /// Receives a datagram: it stands in front of the buffer, and the result is the number of its
-    /// octets. `None`: none came in the time that the wire waits.
+    /// Receives a datagram, and puts it in front of the buffer. The result is the number of its
+    /// octets, or `None` where none came in the time that the wire waits.
     fn receive(&mut self, buffer: &mut [u8; DATAGRAM_LIMIT]) -> Result<Option<usize>, WireFault>
         requires { failed self.old < 2 ^ 64 - 1 }
         ensures fault { OnErr result (failed self.new ≡ failed self.old + 1) }
@@ -43,7 +43,7 @@ pub trait Wire {
             (λ given. IfSome given (λ count. IsGiven gives count buffer.new)) }
         ensures did { does self.old (receipt_of_one result buffer.new) self.new };
 
-    /// How often a call has failed.
+    /// How many calls have failed.
     fn failures(&self) -> u64
         ensures { result ≡ failed self.now };
 }
@@ -69,8 +69,8 @@ pub trait PeerWire {
         ensures no_fault { OnOk result (failed self.new ≡ failed self.old) }
         ensures did { does self.old (dispatch result octets.now peer) self.new };
 
-    /// Receives a datagram: it stands in front of the buffer, and the result is the number of its
-    /// octets, and who sent it. `None`: none came in the time that the wire waits.
+    /// Receives a datagram, and puts it in front of the buffer. The result is the number of its
+    /// octets and the peer that sent it, or `None` where none came in the time that the wire waits.
     fn receive(
         &mut self,
         buffer: &mut [u8; DATAGRAM_LIMIT],
@@ -81,7 +81,7 @@ pub trait PeerWire {
         ensures given { IfOk result (λ given. IfSome given (λ it. IsGiven gives it.0 buffer.new)) }
         ensures did { does self.old (receipt result buffer.new) self.new };
 
-    /// How often a call has failed.
+    /// How many calls have failed.
     fn failures(&self) -> u64
         ensures { result ≡ failed self.now };
 }

@@ -101,7 +101,7 @@ impl<'a> ZoneWire<'a> {
         }
     }
 
-    /// So many of them, all with the same count.
+    /// This number of wires to one zone, all with the same count.
     pub fn several(
         alloc: Global,
         zone: &'a Zone,

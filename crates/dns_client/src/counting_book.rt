@@ -22,7 +22,7 @@ pub struct CountingSeat<S> {
 }
 
 impl<B: AnswerBook> CountingBook<B> {
-    /// The same book and seat, with which nothing was found yet.
+    /// A counting book over this book and seat, with no answer found yet.
     pub fn new(book: B, seat: B::Seat) -> (CountingBook<B>, CountingSeat<B::Seat>)
         requires { B.belongs book seat }
         ensures book { result.0.book ≡ book }

@@ -11,7 +11,7 @@ pub trait MessageWire {
     // Its time is over.
     ghost over: { Self → Type 0 };
 
-    /// Begins its time anew.
+    /// Begins the time of the wire anew.
     fn begin(&mut self);
 
     /// Sends the octets of a query. What can't be sent is lost.
@@ -21,7 +21,7 @@ pub trait MessageWire {
     fn receive(&mut self) -> Option<Vec<u8>>
         ensures { IfSome result (λ message. gives message.items) };
 
-    /// Whether its time is over, so that nothing more is to be waited for.
+    /// Whether the time of the wire is over, so that the caller waits for nothing more.
     fn is_over(&self) -> bool
         ensures { IsTrue result → over self.now };
 }

@@ -75,7 +75,7 @@ impl QueryForm {
         Ok(octets)
     }
 
-    /// The same without an OPT record.
+    /// The form without an OPT record.
     pub fn without_edns(self) -> QueryForm
         ensures { result ≡ record self { edns = None } }
     {

@@ -86,7 +86,7 @@ impl ResolverFile {
         self.over_tcp
     }
 
-    /// The lines that can't be read, in their order, for who tells of them.
+    /// The lines that can't be read, in their order, for a caller that reports them.
     #[must_use]
     pub fn warnings(&self) -> &[LineWarning]
         ensures { result.now ≡ self.now.warnings }

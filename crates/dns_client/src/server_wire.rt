@@ -39,7 +39,7 @@ pub struct WireOptions {
     pub form: QueryForm,
     /// Whether each query that goes out is kept for `take_tries`.
     pub keeps_tries: bool,
-    /// After how much its time is over.
+    /// After how long the time of the wire is over.
     pub total: Duration,
 }
 
@@ -115,7 +115,7 @@ impl<'a, R: Net + Clock> ServerWire<'a, R> {
         })
     }
 
-    /// How much went over it.
+    /// How much went over the wire.
     #[must_use]
     pub fn counts(&self) -> WireCounts {
         self.log.counts()

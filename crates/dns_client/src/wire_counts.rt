@@ -9,7 +9,7 @@ pub struct WireCounts {
     pub questions: u64,
     /// Queries that went out once more, to whatever server.
     pub again: u64,
-    /// Those of all queries that went over TCP.
+    /// Queries that went over TCP, for the first time or once more.
     pub over_tcp: u64,
     /// Replies that came in: messages from a server with the id of a query that it was sent.
     pub replies: u64,

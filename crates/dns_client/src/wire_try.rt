@@ -21,26 +21,26 @@ pub struct Way {
 /// A message that came back.
 #[derive(Debug, Drop)]
 pub struct WireReply {
-    /// Its RCODE, with the upper bits of its OPT record (RFC 6891 6.1.3).
+    /// The RCODE of the message, with the upper bits of its OPT record (RFC 6891 6.1.3).
     pub rcode: u16,
-    /// How many octets it has.
+    /// How many octets the message has.
     pub octets: usize,
     /// The message in front of them; none where they begin with no message (RFC 1035 4.1).
     pub message: Option<Message>,
-    /// When it came, since the wire was opened.
+    /// When the message came, since the wire was opened.
     pub came_at: Duration,
 }
 
 /// A query that went out, and the message that came back to it.
 #[derive(Debug, Drop)]
 pub struct WireTry {
-    /// What it asks.
+    /// What the query asks.
     pub asked: Option<Asked>,
-    /// Its id.
+    /// The id of the query.
     pub id: u16,
-    /// How it went.
+    /// How the query went.
     pub way: Way,
-    /// When it went, since the wire was opened.
+    /// When the query went, since the wire was opened.
     pub sent_at: Duration,
     /// What came back, if anything did.
     pub reply: Option<WireReply>,
@@ -70,7 +70,7 @@ impl WireTry {
 
 /// What keeps the queries that went out.
 pub trait Tracer {
-    /// Gives those that went out since it was asked last, in their order.
+    /// Gives the queries that went out since the last call, in their order.
     fn take_tries(&mut self) -> Vec<WireTry>
         ensures { All spec.IsTry result.items };
 }

@@ -40,7 +40,7 @@ impl CharString {
         }
     }
 
-    /// Its octets.
+    /// The octets of the string.
     pub fn octets(&self) -> &[u8]
         ensures octets { result.now ≡ self.now }
         ensures short { length self.now ≤ 255 }
@@ -48,7 +48,7 @@ impl CharString {
         self.octets.as_slice()
     }
 
-    /// A copy.
+    /// A copy of the string.
     pub fn try_clone(&self) -> Result<CharString, AllocError>
         ensures { IfOk result (λ copy. copy ≡ self.now) }
     {

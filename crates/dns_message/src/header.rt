@@ -12,7 +12,7 @@ use crate::number::{push_u16, u16_at};
 /// What a header says, other than how many questions and records there are.
 #[derive(Clone, Copy, Debug, PartialEq, Eq)]
 pub struct Header {
-    /// The number by which a reply is known as one to its query.
+    /// ID: the number by which a reply is known as one to its query.
     pub id: u16,
     /// QR: it is a reply.
     pub reply: bool,

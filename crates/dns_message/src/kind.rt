@@ -4,7 +4,7 @@ ghost use Rattle.dns_message.specs.Kinds.{kind_code};
 
 use crate::codes::{TYPE_A, TYPE_AAAA, TYPE_NAPTR, TYPE_SRV};
 
-/// What is asked of a name.
+/// The type of records that a question asks for.
 #[derive(Clone, Copy, Debug, PartialEq, Eq)]
 pub enum Kind {
     /// Addresses of IPv4 (RFC 1035 3.4.1).
@@ -18,7 +18,8 @@ pub enum Kind {
 }
 
 impl Kind {
-    /// Its number among the types of records (RFC 1035 3.2.2, 3596 2.1, 2782, 3403 4.1).
+    /// The number of the type of records that is asked for (RFC 1035 3.2.2, 3596 2.1, 2782, 3403
+    /// 4.1).
     pub fn code(self) -> u16
         ensures { result ≡ kind_code self }
     {

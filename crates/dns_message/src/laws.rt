@@ -11,7 +11,7 @@ use dns_name::{
     name_rests_before_its_end, one_name_at_a_place, same_names_are_equal, written_name_is_read,
 };
 
-/// In front of octets stands at most one message.
+/// At most one message is in front of octets.
 pub fn one_message_in_front()
     ensures { (bytes : List ℕ) (end end' : ℕ) (message message' : Message)
         → Spells (take end bytes) message
@@ -31,7 +31,7 @@ pub fn written_message_is_read()
     written_name_is_read();
 }
 
-/// The test of `==` holds of a question and itself alone.
+/// `==` holds exactly of a question and itself.
 pub fn same_questions_are_equal()
     ensures { (question other : Question) → IsTrue (same_question question other)
         ↔ (question ≡ other) }

@@ -32,11 +32,11 @@ pub struct Message {
     pub answers: Section<Record>,
     /// The records that point to an authority.
     pub authority: Section<Record>,
-    /// Further records.
+    /// The additional records.
     pub additional: Section<Record>,
 }
 
-/// Reads the message in front of these octets. What stands after its counted questions and records
+/// Reads the message in front of these octets. What comes after its counted questions and records
 /// is ignored.
 ///
 /// Memory is taken as questions and records are read, and never for a count of the header.
@@ -114,9 +114,9 @@ pub fn read_message(alloc: Global, bytes: &[u8]) -> Result<Message, MessageRefus
     })
 }
 
-/// The message in front of these octets, for who need not know why there is none: `None` where they
-/// begin with no message, or are more than 65,535. What stands after its counted questions and
-/// records is ignored (RFC 1035 4.1).
+/// The message in front of these octets, for a caller that need not know why there is none: `None`
+/// where they begin with no message, or are more than 65,535. What comes after its counted
+/// questions and records is ignored (RFC 1035 4.1).
 pub fn message_in(alloc: Global, octets: &[u8]) -> Result<Option<Message>, AllocError>
     ensures read { IfOk result
         (λ it. MatchOption it ((it : message.Message) → Begins octets.now it → ⊥)

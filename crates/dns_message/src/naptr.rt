@@ -31,7 +31,7 @@ pub struct NaptrRecord {
 }
 
 impl NaptrRecord {
-    /// A copy.
+    /// A copy of the rule.
     pub fn try_clone(&self) -> Result<NaptrRecord, AllocError>
         ensures { IfOk result (λ copy. copy ≡ self.now) }
     {

@@ -46,7 +46,7 @@ impl OtherData {
         }
     }
 
-    /// A copy.
+    /// A copy of the data.
     pub fn try_clone(&self) -> Result<OtherData, AllocError>
         ensures { IfOk result (λ copy. copy ≡ self.now) }
     {
@@ -58,21 +58,21 @@ impl OtherData {
         })
     }
 
-    /// The number of its type.
+    /// The number of the type of the data.
     pub fn code(&self) -> u16
         ensures { result ≡ self.now.code }
     {
         self.code
     }
 
-    /// The number of its class.
+    /// The number of the class of the data.
     pub fn class_code(&self) -> u16
         ensures { result ≡ self.now.class_code }
     {
         self.class_code
     }
 
-    /// Its octets.
+    /// The octets of the data.
     pub fn octets(&self) -> &[u8]
         ensures octets { result.now ≡ self.now.octets }
         ensures other { CanBeOther self.now.code self.now.class_code self.now.octets }

@@ -19,14 +19,14 @@ use std::hash::{Hash, Hasher};
 /// A question to ask, in class IN.
 #[derive(Debug, Drop)]
 pub struct Question {
-    /// The name of which it is asked.
+    /// QNAME: the name that is asked about.
     pub name: Name,
-    /// What is asked.
+    /// QTYPE: the type of records that is asked for.
     pub kind: Kind,
 }
 
 impl Question {
-    /// A copy.
+    /// A copy of the question.
     pub fn try_clone(&self) -> Result<Question, AllocError>
         ensures { IfOk result (λ copy. copy ≡ self.now) }
     {
@@ -49,7 +49,7 @@ impl PartialEq for Question {
         (on_equiv (λ (question : Question). question.name) (lists_equiv (lists_equiv nat_eq_equiv)))
         (on_equiv (λ (question : Question). kind_code question.kind) nat_eq_equiv)) };
 
-    /// Whether they ask the same of one name.
+    /// Whether two questions ask for the same type of records of the same name.
     fn eq(&self, other: &Question) -> bool
         ensures value { result ≡ same_question self.now other.now }
         ensures same { IsTrue result ↔ (self.now ≡ other.now) }
@@ -95,7 +95,7 @@ impl Hash for Question {
 /// A question as a message has it.
 #[derive(Debug, PartialEq, Eq, Drop)]
 pub struct Asked {
-    /// QNAME: the name of which it is asked.
+    /// QNAME: the name that is asked about.
     pub name: Name,
     /// QTYPE: the type of record that is asked for.
     pub code: u16,
@@ -104,7 +104,7 @@ pub struct Asked {
 }
 
 impl Asked {
-    /// A copy.
+    /// A copy of the question.
     pub fn try_clone(&self) -> Result<Asked, AllocError>
         ensures { IfOk result (λ copy. copy ≡ self.now) }
     {

@@ -32,12 +32,12 @@ pub enum Rdata {
     Cname(Name),
     /// The start of a zone of authority, of type SOA in class IN (RFC 1035 3.3.13).
     Soa(SoaRecord),
-    /// The data of any other type or class, as it stands.
+    /// The data of any other type or class, as its octets.
     Other(OtherData),
 }
 
 impl Rdata {
-    /// The number of its type (RFC 1035 3.2.2, 3596 2.1, 2782, 3403 4.1).
+    /// The number of the type of the data (RFC 1035 3.2.2, 3596 2.1, 2782, 3403 4.1).
     pub fn code(&self) -> u16
         ensures { result ≡ rdata_code self.now }
     {
@@ -52,7 +52,7 @@ impl Rdata {
         }
     }
 
-    /// The number of its class (RFC 1035 3.2.4).
+    /// The number of the class of the data (RFC 1035 3.2.4).
     pub fn class_code(&self) -> u16
         ensures { result ≡ rdata_class self.now }
     {
@@ -62,7 +62,7 @@ impl Rdata {
         }
     }
 
-    /// A copy.
+    /// A copy of the data.
     pub fn try_clone(&self) -> Result<Rdata, AllocError>
         ensures { IfOk result (λ copy. copy ≡ self.now) }
     {

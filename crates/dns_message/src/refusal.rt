@@ -18,7 +18,7 @@ pub enum Part {
     Answers,
     /// The records that point to an authority.
     Authority,
-    /// Further records.
+    /// The additional records.
     Additional,
 }
 

@@ -27,7 +27,7 @@ pub struct Record {
 }
 
 impl Record {
-    /// A copy.
+    /// A copy of the record.
     pub fn try_clone(&self) -> Result<Record, AllocError>
         ensures { IfOk result (λ copy. copy ≡ self.now) }
     {

@@ -20,14 +20,14 @@ impl<T> Model for Section<T> {
 }
 
 impl<T> Section<T> {
-    /// The section of these.
+    /// The section of these questions or records.
     pub fn from_vec(items: Vec<T>) -> Section<T>
         ensures { result ≡ items.items }
     {
         Section { items }
     }
 
-    /// What is in it.
+    /// The questions or records of the section.
     pub fn into_vec(self) -> Vec<T>
         ensures { result.items ≡ self }
     {
@@ -35,21 +35,21 @@ impl<T> Section<T> {
         items
     }
 
-    /// What is in it.
+    /// The questions or records of the section.
     pub fn as_slice(&self) -> &[T]
         ensures { result.now ≡ self.now }
     {
         self.items.as_slice()
     }
 
-    /// How many are in it.
+    /// How many questions or records the section has.
     pub fn len(&self) -> usize
         ensures { result ≡ length self.now }
     {
         self.items.len()
     }
 
-    /// Whether nothing is in it.
+    /// Whether the section has no question and no record.
     pub fn is_empty(&self) -> bool
         ensures { IsTrue result ↔ (self.now ≡ []) }
     {

@@ -34,7 +34,7 @@ pub struct SoaRecord {
 }
 
 impl SoaRecord {
-    /// A copy.
+    /// A copy of the record.
     pub fn try_clone(&self) -> Result<SoaRecord, AllocError>
         ensures { IfOk result (λ copy. copy ≡ self.now) }
     {

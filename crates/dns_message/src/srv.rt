@@ -27,7 +27,7 @@ pub struct SrvRecord {
 }
 
 impl SrvRecord {
-    /// A copy.
+    /// A copy of the record.
     pub fn try_clone(&self) -> Result<SrvRecord, AllocError>
         ensures { IfOk result (λ copy. copy ≡ self.now) }
     {

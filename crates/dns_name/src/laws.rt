@@ -4,15 +4,15 @@ ghost use Rattle.dns_name.specs.Labels.{IsName, same_name, wire_of};
 ghost use Rattle.dns_name.specs.Places.{NameAt};
 ghost use Rattle.dns_name.specs.Texts.{IsPlain, TextOf, text_of};
 
-/// At one place of a message stands at most one name, with one place after it.
+/// At most one name is at one place of a message, with one place after it.
 pub fn one_name_at_a_place()
     ensures { (message : List ℕ) (p s end end' : ℕ) (name name' : List (List ℕ))
         → NameAt message p s name end → NameAt message p s name' end'
         → (name ≡ name') × (end ≡ end') }
 {}
 
-/// A name that begins a run of labels rests on the octets before its end, and on no others: it
-/// stands in each message that has them.
+/// A name that begins a run of labels rests on the octets before its end, and on no others: each
+/// message that has these octets has the name there.
 pub fn name_rests_before_its_end()
     ensures within { (message : List ℕ) (p end : ℕ) (name : List (List ℕ))
         → NameAt message p p name end → (p < end) × (end ≤ length message) }
@@ -23,14 +23,14 @@ pub fn name_rests_before_its_end()
         → NameAt other p p name end }
 {}
 
-/// A name that is written without pointers is read again, whatever stands before and after it.
+/// A name that is written without pointers is read again, whatever is before and after it.
 pub fn written_name_is_read()
     ensures { (front back : List ℕ) (name : List (List ℕ)) → IsName name
         → NameAt (front ++ wire_of name ++ back) (length front) (length front) name
         (length front + length (wire_of name)) }
 {}
 
-/// Names of the same octets have the same labels.
+/// Names that have the same octets have the same labels.
 pub fn octets_determine_name()
     ensures { (name other : List (List ℕ)) → wire_of name ≡ wire_of other → name ≡ other }
 {}
@@ -41,7 +41,7 @@ pub fn written_text_is_read()
     ensures { (name : List (List ℕ)) → IsName name → IsPlain name → TextOf name (text_of name) }
 {}
 
-/// The test of `==` holds of a name and itself alone.
+/// `==` holds exactly of a name and itself.
 pub fn same_names_are_equal()
     ensures { (name other : List (List ℕ)) → IsTrue (same_name name other) ↔ (name ≡ other) }
 {}

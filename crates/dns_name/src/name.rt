@@ -58,7 +58,7 @@ impl Name {
         self.octets.allocator()
     }
 
-    /// The octets without pointers (RFC 1035 3.1).
+    /// The octets of the name without pointers (RFC 1035 3.1).
     pub fn wire(&self) -> &[u8]
         ensures value { result.now ≡ wire_of self.now }
         ensures name { IsName self.now }
@@ -66,14 +66,14 @@ impl Name {
         self.octets.as_slice()
     }
 
-    /// Whether it is the root, which has no label.
+    /// Whether the name is the root, which has no label.
     pub fn is_root(&self) -> bool
         ensures { IsTrue result ↔ (self.now ≡ []) }
     {
         self.wire().len() == 1
     }
 
-    /// A copy.
+    /// A copy of the name.
     pub fn try_clone(&self) -> Result<Name, AllocError>
         ensures { IfOk result (λ copy. copy ≡ self.now) }
     {

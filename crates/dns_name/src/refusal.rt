@@ -29,7 +29,7 @@ pub enum NameRefusal {
 /// Why no name was read at a place of a message.
 #[derive(Clone, Copy, Debug, PartialEq, Eq, Error)]
 pub enum NameReadRefusal {
-    /// No name stands there (RFC 1035 3.1, 4.1.4).
+    /// No name is there (RFC 1035 3.1, 4.1.4).
     #[error("no name stands there")]
     Malformed,
     /// Memory was refused.

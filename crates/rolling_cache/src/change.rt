@@ -3,7 +3,7 @@
 /// What became of a seat that was to catch up with the present generation.
 #[derive(Clone, Copy, Debug, PartialEq, Eq)]
 pub enum Change {
-    /// It is where it was: that is the present generation, or another thread changes it just now.
+    /// It is where it was: that is the present generation, or another thread is changing it.
     Stays,
     /// It has gone over to a generation that another thread had begun.
     Moved,

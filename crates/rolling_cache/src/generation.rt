@@ -55,13 +55,13 @@ fn no_counts(alloc: Global) -> Result<Vec<AtomicU64>, AllocError> {
 }
 
 impl Generation {
-    /// Its number, from 0: generations follow one another.
+    /// The number of the generation, from 0: generations follow one another.
     #[must_use]
     pub fn number(&self) -> u64 {
         self.number
     }
 
-    /// Its cache.
+    /// The cache of the generation.
     #[must_use]
     pub fn cache(&self) -> &SharedCache
         ensures { result.now ≡ self.now.cache }

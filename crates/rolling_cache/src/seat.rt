@@ -25,7 +25,7 @@ impl Model for RollingSeat {
 }
 
 impl RollingSeat {
-    /// The generation that it is at.
+    /// The generation that the seat is at.
     #[must_use]
     pub fn generation(&self) -> &Generation
         ensures { result.now ≡ self.now.generation }

@@ -14,8 +14,8 @@ ghost use Rattle.sip_locator.specs.declared.refusal.LocatorRefusal.TheVariants a
 
 use dns_message::one_message_in_front;
 
-/// The message in front of the octets decides: what is taken is its answer, and a refusal other
-/// than for want of memory is its first fault.
+/// The message in front of the octets decides: what is taken is its answer, and a refusal is its
+/// first fault, unless it is for want of memory.
 pub fn messages_decide()
     ensures taken { (question : Question) (octets : List ℕ) (it : Message) (found : AnswerValue)
         → Begins octets it

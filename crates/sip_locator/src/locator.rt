@@ -46,7 +46,7 @@ impl<B: AnswerBook> Locator<B> {
     ghost use Rattle.std.specs.Io.BufRead.{Rests};
     ghost use Rattle.sip_locator.specs.contracts.locator.Locator.{the_row};
 
-    /// The choice of a request, which has used no answer. No memory is taken for a request that is
+    /// The choice of a request, which has used no answer. No memory is needed for a request that is
     /// refused at once.
     pub fn new(
         alloc: Global,
@@ -64,7 +64,7 @@ impl<B: AnswerBook> Locator<B> {
         })
     }
 
-    /// At most 521 answers are used. A call does nothing: its contract tells its caller so.
+    /// A law: at most 521 answers are used. A call does nothing; its contract states this.
     pub fn answers_are_few(&self)
         ensures { length self.now.given ≤ 521 }
     {
@@ -102,8 +102,8 @@ impl<B: AnswerBook> Locator<B> {
         Ok(true)
     }
 
-    /// Takes the answer to the question that is asked, without a look at the book: for who has read
-    /// it from a reply. After a refusal all is as before.
+    /// Takes the answer to the question that is asked, without a look at the book: for a caller
+    /// that read it from a reply. After a refusal all is as before.
     pub fn give(&mut self, question: &Question, answer: Arc<Answer>) -> Result<(), GiveRefusal>
         ensures given { OnOk result
             (self.new ≡ given_too self.old question.now (arc_value answer)) }
@@ -155,7 +155,7 @@ impl<B: AnswerBook> Locator<B> {
     }
 
     /// Looks up each question that is asked, until the book has no answer to one, and gives what is
-    /// next then. Memory is wanted only while a question is asked: where it is refused, the answers
+    /// next then. Memory is needed only while a question is asked: where it is refused, the answers
     /// found before it stay used, and `step` can be called again.
     pub fn step(
         &mut self,

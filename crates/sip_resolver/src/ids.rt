@@ -11,7 +11,7 @@ pub trait Ids {
     // What a draw gives: the ids before it, the id, and the ids after it.
     ghost draws: { Self → ℕ → Self → Type 0 };
 
-    /// An id.
+    /// Draws the next id.
     fn draw(&mut self) -> u16
         ensures { draws self.old result self.new };
 }
@@ -43,7 +43,7 @@ impl Model for CountingIds {
 }
 
 impl CountingIds {
-    /// The first one is 0.
+    /// Ids that count up from 0.
     #[must_use]
     pub fn new() -> CountingIds
         ensures { result ≡ 0 }

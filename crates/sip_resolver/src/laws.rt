@@ -9,26 +9,26 @@ ghost use Rattle.sip_resolver.specs.Runs.{AreKept, Event, Runs};
 use crate::ids::Ids;
 use crate::origin::Origin;
 
-/// Along any calls no request is lost, and none ends twice: those that are inside at last, with
-/// those whose outcomes were taken, are those that were submitted, each as often.
+/// Along any calls no request is lost, and none ends twice: the requests that are inside at last,
+/// with those whose outcomes were taken, are those that were inside at first and those that were
+/// submitted, each as often.
 pub fn requests_are_kept()
     ensures { (first last : ResolverView) (events : List Event) → Runs first events last
         → AreKept first events last }
 {}
 
-/// Along any calls each request that waits for a reply waits for one to a question that is out: so
-/// of a new resolver, in which none waits. No request waits for ever, as each question that is out
-/// gets its reply, or is given up.
+/// Along any calls, if each request that waits for a reply at first waits for one to a question
+/// that is out, so does each that waits at last. In a new resolver no request waits.
 pub fn requests_are_awaited()
     ensures { (first last : ResolverView) (events : List Event) → Runs first events last
         → AreAwaited first.requests first.questions → AreAwaited last.requests last.questions }
 {}
 
 /// Where `poll_transmit` is called at a moment until it gives nothing, each question that was out
-/// is dealt with by its deadline: before it, it is as it was; from it on, it is sent again, or is
-/// given up where it was sent three times. So before the second that `next_timeout` named nothing
-/// is sent again and nothing given up, and from that second on a question is that had waited for
-/// it.
+/// is dealt with by its deadline. Before its deadline, it is as it was. From its deadline on, it is
+/// sent again, or given up where it was sent three times. So before the second that `next_timeout`
+/// named, nothing is sent again or given up. From that second on, a question whose deadline it was
+/// is sent again or given up.
 pub fn questions_are_dealt_with<F: Origin, I: Ids>()
     ensures dealt { (now asked : ℕ) (first last : ResolverView)
         → PollsAll F.gives F.shows I.draws now asked first last

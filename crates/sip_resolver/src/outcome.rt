@@ -28,7 +28,7 @@ impl Model for TargetList {
 }
 
 impl TargetList {
-    /// These targets.
+    /// The list of these targets.
     #[must_use]
     pub fn from_vec(items: Vec<Target>) -> TargetList
         ensures { result ≡ items.items }
@@ -45,7 +45,7 @@ impl TargetList {
         Ok(TargetList { items })
     }
 
-    /// The targets.
+    /// The targets, as a `Vec`.
     #[must_use]
     pub fn into_vec(self) -> Vec<Target>
         ensures { result.items ≡ self }
@@ -54,7 +54,7 @@ impl TargetList {
         items
     }
 
-    /// The targets.
+    /// The targets, as a slice.
     #[must_use]
     pub fn as_slice(&self) -> &[Target]
         ensures { result.now ≡ self.now }
@@ -72,7 +72,7 @@ pub enum Outcome {
     Refused(Reason),
     /// This question has no answer: it was sent three times.
     NoAnswer(Question),
-    /// The reply to this question was cut (`Truncated`), or tells a fault of the server
+    /// The reply to this question was cut (`Truncated`), or says that the server failed
     /// (`ServerFault`).
     BadReply(Question, ReplyRefusal),
     /// Memory was refused, or the resolver has sent 2^64 - 1 questions.
@@ -80,7 +80,7 @@ pub enum Outcome {
 }
 
 impl Outcome {
-    /// A copy. Memory is taken for targets and for a question alone.
+    /// A copy of the outcome. Memory is needed for targets and for a question alone.
     pub fn try_clone(&self, alloc: Global) -> Result<Outcome, AllocError>
         ensures copy { IfOk result (λ copy. copy ≡ self.now) }
         ensures memory { OnErr result (HasParts self.now) }
@@ -131,7 +131,7 @@ impl<B> Resolved<B> {
         self.task.number()
     }
 
-    /// What became of it.
+    /// What became of the request.
     #[must_use]
     pub fn outcome(&self) -> &Outcome
         ensures { result.now ≡ self.now.outcome }
@@ -149,7 +149,7 @@ impl<B> Numbered for Resolved<B> {
 }
 
 impl<B: Drop> Resolved<B> {
-    /// What became of it.
+    /// What became of the request, without its number.
     #[must_use]
     pub fn into_outcome(self) -> Outcome
         ensures { result ≡ self.outcome }

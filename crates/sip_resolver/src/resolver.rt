@@ -95,7 +95,7 @@ impl<B: AnswerBook, F: Origin, I: Ids + Drop> Resolver<B, F, I> {
     ghost use Rattle.std.specs.Io.BufRead.{Rests};
     ghost use Rattle.sip_resolver.specs.contracts.resolver.Resolver.{the_row};
 
-    /// No request is inside, and no question is out.
+    /// A resolver with no request inside and no question out.
     pub fn new(alloc: Global, limits: Limits, ids: I) -> Result<Resolver<B, F, I>, AllocError>
         requires requests { (1 ≤ limits.requests) × (limits.requests ≤ 1024) }
         requires questions { (1 ≤ limits.questions) × (limits.questions ≤ 256) }
@@ -128,7 +128,7 @@ impl<B: AnswerBook, F: Origin, I: Ids + Drop> Resolver<B, F, I> {
         self.requests.is_empty()
     }
 
-    /// Takes a request in, under a number by which its outcome is told.
+    /// Takes a request in, under a number that its outcome will have.
     pub fn submit(
         &mut self,
         number: u64,
@@ -225,8 +225,8 @@ impl<B: AnswerBook, F: Origin, I: Ids + Drop> Resolver<B, F, I> {
         }
     }
 
-    /// A request that ended, with what became of it, if there is one: each once, in the order in
-    /// which they ended.
+    /// The next request that ended, with what became of it, if there is one. Each comes once, in
+    /// the order in which they ended.
     pub fn poll_outcome(&mut self) -> Option<Resolved<B>>
         ensures taken { MatchOption result ((self.old.requests.ended ≡ []) × (self.new ≡ self.old))
             (λ ended. IsTaken ended self.old self.new) }

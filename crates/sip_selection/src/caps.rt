@@ -96,7 +96,8 @@ fn slots_of(transports: &[Transport]) -> Option<[Option<Transport>; 4]>
 }
 
 impl Caps {
-    /// These transports and families, unless there are none or more than four, or one stands twice.
+    /// These transports and families, unless there are no transports, more than four, or one of
+    /// them twice.
     pub fn new(transports: &[Transport], families: Families) -> Option<Caps>
         ensures made { IsSome result ↔ AreOffered transports.now }
         ensures is { IfSome result

@@ -50,8 +50,8 @@ pub fn targets_are_offered()
         → All (λ it. IsTrue (offers caps it.transport)) found }
 {}
 
-/// Where TARGET is a name, each target's address stands in the answer that was given to a question
-/// for addresses of one of the caller's families.
+/// Where TARGET is a name, each target's address is in the answer that was given to a question for
+/// addresses of one of the caller's families.
 pub fn targets_are_answered()
     ensures { (request : Request) (caps : Caps) (words : List ℕ) (given : List Given)
         → (name : List (List ℕ)) → target_of request ≡ host.Domain name

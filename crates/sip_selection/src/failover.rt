@@ -62,7 +62,7 @@ impl Model for Failover {
 }
 
 impl Failover {
-    /// The first of these targets is tried.
+    /// The targets of a request, the first of which is tried.
     pub fn new(targets: Vec<Target>) -> Failover
         ensures { result ≡ begun targets.items }
     {
@@ -73,7 +73,7 @@ impl Failover {
         }
     }
 
-    /// The last target that is tried, until none is left.
+    /// The target that is tried now, or that answered; none where all have failed.
     pub fn current(&self) -> Option<&Target>
         ensures { option_copied result ≡ slice_get self.now.targets self.now.failures }
     {
@@ -93,8 +93,8 @@ impl Failover {
         }
     }
 
-    /// Goes on after an event: a failure to the next target, a response to the end. After the end
-    /// an event changes nothing.
+    /// Goes on after an event: to the next target after a failure, and to the end after a response.
+    /// After the end an event changes nothing.
     pub fn event(&mut self, event: Event) -> Progress
         ensures next { self.new ≡ next_trial self.old event }
         ensures progress { result ≡ progress_of self.new }

@@ -21,15 +21,16 @@ pub fn trials_follow_events()
         → progress_of (fold next_trial (begun targets) events) ≡ progress_by targets events }
 {}
 
-/// Where a request goes stays so when further answers are given: what is not a question is final.
+/// Where a request goes does not change when further answers are given: what is not a question is
+/// final.
 pub fn resolutions_are_final()
     ensures { (request : Request) (caps : Caps) (words : List ℕ) (given more : List Given)
         → ((question : Question) → locate request caps words given ≢ need question)
         → locate request caps words (given ++ more) ≡ locate request caps words given }
 {}
 
-/// Rules stand by PREFERENCE: each of them once, none before one of a lower PREFERENCE, and those
-/// of the same one as they stood before (RFC 3403 4.1).
+/// The rules are ordered by PREFERENCE: each of them once, none before one of a lower PREFERENCE,
+/// and those of the same one in the order that they had (RFC 3403 4.1).
 pub fn rules_stand_by_preference()
     ensures complete { (rules : List Led) → IsPermutation rules (by_preference rules) }
     ensures lowest_first { (rules : List Led)

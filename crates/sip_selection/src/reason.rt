@@ -4,8 +4,7 @@ use thiserror::Error;
 /// Why a request goes nowhere.
 #[derive(Clone, Copy, Debug, PartialEq, Eq, Error)]
 pub enum Reason {
-    /// Its transport is not one of the caller's (RFC 3261 19.1.5), or not one that is taken for
-    /// SIPS.
+    /// Its transport is not one of the caller's (RFC 3261 19.1.5), or none that a SIPS URI can use.
     #[error("the transport is not supported")]
     TransportUnsupported,
     /// Its transport is not secure, as a SIPS URI demands (RFC 3261 26.2.2).

@@ -5,7 +5,7 @@ ghost use Rattle.sip_selection.specs.Requests as spec;
 use sip_uri::{Host, SipUri, Spoken, Via};
 use std::alloc::AllocError;
 
-/// What is to be located.
+/// What is located: a request or a response.
 #[derive(Debug, PartialEq, Eq, Drop)]
 pub enum Request {
     /// A request to this URI.
@@ -15,7 +15,7 @@ pub enum Request {
 }
 
 impl Request {
-    /// A copy. Memory is taken for the names of hosts alone.
+    /// A copy of the request. Memory is needed for the names of hosts alone.
     pub fn try_clone(&self) -> Result<Request, AllocError>
         ensures copy { IfOk result (λ copy. copy ≡ self.now) }
         ensures memory { OnErr result (spec.IsNamed self.now) }
@@ -26,7 +26,7 @@ impl Request {
         })
     }
 
-    /// The host whose addresses are wanted: of a URI the parameter `maddr`, where there is one (RFC
+    /// The host whose addresses are needed: of a URI the parameter `maddr`, where there is one (RFC
     /// 3263 4).
     pub fn target(&self) -> &Host
         ensures { result.now ≡ spec.target_of self.now }
@@ -57,7 +57,7 @@ impl Request {
         }
     }
 
-    /// Whether it is of a SIPS URI.
+    /// Whether it is a request to a SIPS URI.
     pub fn is_secure(&self) -> bool
         ensures { result ≡ spec.is_secure self.now }
     {

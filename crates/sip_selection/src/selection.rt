@@ -128,8 +128,8 @@ fn go_on(
 }
 
 impl Selection {
-    /// The choice of a request, to which no answer was given. No memory is taken for a request that
-    /// is refused at once.
+    /// The choice of a request, without any answer. No memory is needed for a request that is
+    /// refused at once.
     pub fn new(
         alloc: Global,
         request: Request,
@@ -179,7 +179,7 @@ impl Selection {
         self.caps.transports_are_few();
     }
 
-    /// Takes the answer to the question that is asked. After a refusal the choice is as before.
+    /// Takes the answer to the question that is asked. After a refusal the choice is unchanged.
     pub fn give(
         &mut self,
         alloc: Global,

@@ -4,10 +4,10 @@ use sip_uri::{Address, Transport};
 /// Where a request can be sent.
 #[derive(Clone, Copy, Debug, PartialEq, Eq)]
 pub struct Target {
-    /// Over what.
+    /// The transport to send over.
     pub transport: Transport,
-    /// To which address.
+    /// The address to send to.
     pub address: Address,
-    /// To which port of it.
+    /// The port of the address.
     pub port: u16,
 }

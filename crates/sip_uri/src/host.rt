@@ -18,7 +18,7 @@ pub enum Host {
 }
 
 impl Host {
-    /// A copy. Memory is taken for a name alone.
+    /// A copy of the host. Memory is needed for a name alone.
     pub fn try_clone(&self) -> Result<Host, AllocError>
         ensures copy { IfOk result (λ copy. copy ≡ self.now) }
         ensures memory { OnErr result (IsNamed self.now) }

@@ -3,7 +3,7 @@ ghost use Rattle.std.specs.Prelude.{◌≡◌, ◌≤◌};
 ghost use Rattle.sip_uri.specs.Numbers.{decimal_within};
 ghost use Rattle.sip_uri.specs.Readers.Texts as spec;
 
-/// The number that decimal digits spell, one at least, where it is at most `limit`.
+/// The number that one or more decimal digits spell, where it is at most `limit`.
 pub fn decimal(text: &[u8], limit: u32) -> Option<u32>
     ensures { result ≡ decimal_within limit text.now }
 {

@@ -10,7 +10,7 @@ pub enum UriRefusal {
     /// It does not begin with `sip:` or `sips:` (RFC 3261 19.1.1).
     #[error("the scheme is neither sip nor sips")]
     BadScheme,
-    /// What stands before the `@` is no user, or no user and password (RFC 3261 25.1).
+    /// What is before the `@` is no user, or no user and password (RFC 3261 25.1).
     #[error("the user part is bad")]
     BadUser,
     /// The host is no IPv4 address, no IPv6 address in brackets and no hostname (RFC 3261 25.1).
@@ -22,7 +22,7 @@ pub enum UriRefusal {
     /// A parameter is none by the grammar (RFC 3261 25.1), or lacks the value that it needs.
     #[error("a parameter is bad")]
     BadParam,
-    /// A parameter of this name stood before (RFC 3261 19.1.1, 7.3.1).
+    /// An earlier parameter has the same name (RFC 3261 19.1.1, 7.3.1).
     #[error("a parameter stands twice")]
     RepeatedParam,
     /// A header is none by the grammar (RFC 3261 25.1).

@@ -18,9 +18,9 @@ pub enum Transport {
 /// The transport that a text names.
 #[derive(Clone, Copy, Debug, PartialEq, Eq)]
 pub enum Spoken {
-    /// One of those above, in letters of any case.
+    /// A transport that SIP goes over, by its name in letters of any case.
     Known(Transport),
-    /// Any other.
+    /// Any other transport.
     Other,
 }
 

@@ -23,7 +23,7 @@ pub struct SipUri {
 }
 
 impl SipUri {
-    /// A copy. Memory is taken for the names of hosts alone.
+    /// A copy of the URI. Memory is needed for the names of hosts alone.
     pub fn try_clone(&self) -> Result<SipUri, AllocError>
         ensures copy { IfOk result (λ copy. copy ≡ self.now) }
         ensures memory { OnErr result (IsNamedUri self.now) }

@@ -19,7 +19,7 @@ pub struct Via {
 }
 
 impl Via {
-    /// A copy. Memory is taken for the name of the host alone.
+    /// A copy of the Via. Memory is needed for the name of the host alone.
     pub fn try_clone(&self) -> Result<Via, AllocError>
         ensures copy { IfOk result (λ copy. copy ≡ self.now) }
         ensures memory { OnErr result (IsNamed self.now.host) }

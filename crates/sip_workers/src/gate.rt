@@ -1,16 +1,15 @@
 //! Who is told how far the work is.
 
-/// What is told how far the work is. Both calls come on the threads of the workers, and hold them
-/// up.
+/// What a run reports its work to. Both calls come on the threads of the workers, and hold them up.
 pub trait Gate {
     /// The work on the request of this number begins.
     fn begun(&self, number: u64);
 
-    /// The outcome of the request of this number stands.
+    /// The request of this number has its outcome.
     fn answered(&self, number: u64);
 }
 
-/// A gate that holds nobody up, for who wants no word of the work.
+/// A gate that holds up no worker, for a caller that needs no report of the work.
 #[derive(Clone, Copy, Debug)]
 pub struct OpenGate;
 

@@ -43,7 +43,7 @@ impl<'a, W: Wire, C: Clock> JobResult<'a, W, C> {
         }
     }
 
-    /// The job.
+    /// The job that the result is of.
     #[must_use]
     pub fn job(&self) -> &'a Job
         ensures { result.now ≡ self.now.job }
@@ -51,7 +51,7 @@ impl<'a, W: Wire, C: Clock> JobResult<'a, W, C> {
         self.job
     }
 
-    /// What became of it.
+    /// What became of the job.
     #[must_use]
     pub fn outcome(&self) -> &Outcome
         ensures is { result.now ≡ self.now.outcome }
@@ -60,7 +60,7 @@ impl<'a, W: Wire, C: Clock> JobResult<'a, W, C> {
         &self.outcome
     }
 
-    /// What its worker had seen then.
+    /// What the worker of the job had seen when it ended.
     #[must_use]
     pub fn notice(&self) -> &Notice
         ensures { result.now ≡ self.now.notice }
@@ -68,7 +68,7 @@ impl<'a, W: Wire, C: Clock> JobResult<'a, W, C> {
         &self.notice
     }
 
-    /// What became of it, and what its worker had seen then.
+    /// What became of the job, and what its worker had seen when it ended.
     #[must_use]
     pub fn into_parts(self) -> (Outcome, Notice)
         ensures is { (result.0 ≡ self.entry.outcome) × (result.1 ≡ self.entry.notice) }
@@ -82,7 +82,7 @@ impl<'a, W: Wire, C: Clock> JobResult<'a, W, C> {
         (outcome, notice)
     }
 
-    /// A copy. Memory is taken for targets and for a question alone.
+    /// A copy of the result. Memory is needed for targets and for a question alone.
     pub fn try_clone(&self, alloc: Global) -> Result<JobResult<'a, W, C>, AllocError>
         ensures copy { IfOk result (λ copy. copy ≡ self.now) }
         ensures memory { OnErr result (HasParts self.now.outcome) }

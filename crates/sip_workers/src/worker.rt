@@ -64,7 +64,7 @@ fn resolve<R: Wait, W: Wire, C: Clock, G: Gate>(
 }
 
 impl<W: Wire + Drop> Worker<W> {
-    /// A worker, of which no question is out.
+    /// A worker with no question out.
     pub fn new(alloc: Global, seat: Seat, wire: W) -> Result<Worker<W>, AllocError>
         ensures { IfOk result (λ it. it ≡ seat) }
     {

@@ -11,9 +11,9 @@ use sip_selection::Families;
 pub enum Command {
     /// To locate one request.
     One(Families),
-    /// To locate many requests, by so many workers at once.
+    /// To locate many requests, by this number of workers at once.
     Run(usize),
-    /// Nothing that it knows.
+    /// Nothing that the program knows.
     Usage,
 }
 

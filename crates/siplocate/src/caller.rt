@@ -8,7 +8,7 @@ use sip_selection::{Caps, Families};
 use sip_uri::Transport;
 use srv_choice::Words;
 
-/// The transports of the program, in order of preference, with these families.
+/// The transports of the program, in order of preference, with these families of addresses.
 pub fn own_caps(families: Families) -> Caps
     ensures { result ≡ spec.own_caps families }
 {

@@ -18,7 +18,7 @@ use std::alloc::{AllocError, Global};
 /// What becomes of a line of the requests.
 #[derive(Debug, Drop)]
 pub enum Fate {
-    /// It is a request, of which this became.
+    /// It is a request, and this became of it.
     Became(Outcome),
     /// It is no request.
     Bad(UriRefusal),
@@ -40,7 +40,7 @@ impl Fate {
     }
 }
 
-/// What becomes of each line, where this became of the requests among them, in order.
+/// What becomes of each line, by what became of the requests among them, in order.
 pub fn fates_of(
     alloc: Global,
     entries: Vec<Entry>,

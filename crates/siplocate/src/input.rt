@@ -13,7 +13,7 @@ const OCTET_LIMIT: usize = 1_048_576;
 /// Why an input was not taken.
 #[derive(Clone, Copy, Debug, PartialEq, Eq, Error)]
 pub enum InputRefusal {
-    /// It is no text, or too long, or a read failed.
+    /// The input is no text or is too long, or a read failed.
     #[error("the input is no text, or too long, or could not be read")]
     Input,
     /// Memory was refused.

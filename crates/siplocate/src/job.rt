@@ -69,7 +69,7 @@ fn tell_refused(refusal: InputRefusal) -> Told
     }
 }
 
-/// What is told for a job.
+/// What the program prints for a job, and its status.
 pub fn tell<R: Net + Threads + Wait + Clock + Sync>(rt: &R, alloc: Global, job: &Job) -> Told
     ensures told { spec.Tells job.now result }
     ensures range { spec.status result ≤ 5 }
@@ -128,7 +128,7 @@ fn status_after(written: &io::Result<()>, status: u8) -> u8
     }
 }
 
-/// Prints what is told, and gives the status.
+/// Prints the text of a job, and gives the exit status.
 pub fn report<W: Write>(output: &mut W, told: &Told) -> u8
     ensures reported { IsReported (W.contents output.old) (W.contents output.new) told.now result }
     ensures range { spec.status told.now ≤ 5 → result ≤ 5 }

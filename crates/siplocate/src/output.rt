@@ -12,6 +12,7 @@ use sip_selection::{Next, Reason, Target};
 use sip_uri::{Transport, UriRefusal, address_text};
 use std::alloc::{AllocError, Global};
 
+/// The word that is printed for a transport.
 fn transport_word(transport: Transport) -> &'static str
     ensures { result.now ≡ spec.transport_word transport }
 {
@@ -23,6 +24,7 @@ fn transport_word(transport: Transport) -> &'static str
     }
 }
 
+/// The word that is printed for the reason why a request goes nowhere.
 pub fn reason_word(reason: Reason) -> &'static str
     ensures { result.now ≡ spec.reason_word reason }
 {
@@ -34,6 +36,7 @@ pub fn reason_word(reason: Reason) -> &'static str
     }
 }
 
+/// The name of the type of records that a question asks for.
 pub fn kind_word(kind: Kind) -> &'static str
     ensures { result.now ≡ spec.kind_word kind }
 {
@@ -78,7 +81,7 @@ fn question_line(alloc: Global, question: &Question) -> Result<String, AllocErro
     format!(in alloc; "ask {kind} {name}\n")
 }
 
-/// The lines of what is next.
+/// The lines of what is next for a request.
 pub fn shown(alloc: Global, next: Next<'_>) -> Result<String, AllocError>
     ensures { IfOk result (λ lines. string_bytes lines ≡ spec.shown (next_of next.entry)) }
 {
@@ -92,7 +95,7 @@ pub fn shown(alloc: Global, next: Next<'_>) -> Result<String, AllocError>
     }
 }
 
-/// The status of what is next.
+/// The exit status of what is next for a request.
 pub fn status_of(next: Next<'_>) -> u8
     ensures status { result ≡ spec.status_of (next_of next.entry) }
     ensures range { result ≤ 5 }
@@ -104,6 +107,7 @@ pub fn status_of(next: Next<'_>) -> u8
     }
 }
 
+/// The word that is printed for why a line is no request.
 pub fn request_word(refusal: UriRefusal) -> &'static str
     ensures { result.now ≡ spec.request_word refusal }
 {
@@ -121,6 +125,7 @@ pub fn request_word(refusal: UriRefusal) -> &'static str
     }
 }
 
+/// The word that is printed for why a message gives no answer.
 pub fn refusal_word(refusal: ReplyRefusal) -> &'static str
     ensures { result.now ≡ spec.refusal_word refusal }
 {

@@ -12,13 +12,13 @@ use std::alloc::{AllocError, Global};
 /// Why a line was not taken as a reply, in the order of the checks.
 #[derive(Clone, Copy, Debug, PartialEq, Eq)]
 pub enum BadReply {
-    /// Its digits are not hexadecimal, or not even in number.
+    /// The digits of the line are not hexadecimal, or not even in number.
     NotHex,
     /// Nothing is asked.
     NothingAsked,
     /// There are more octets than a message can have.
     TooLong,
-    /// No message stands in front of the octets.
+    /// The octets begin with no message.
     Malformed,
     /// The message gives no answer to the question.
     NoAnswer(ReplyRefusal),

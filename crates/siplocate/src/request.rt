@@ -33,7 +33,7 @@ fn behind_via(line: &str) -> Option<&str>
     }
 }
 
-/// The request of a line: a URI, or a Via behind `Via:`.
+/// The request of a line: a URI, or a Via after `Via:`.
 pub fn read_request(alloc: Global, line: &str) -> Result<Request, UriRefusal>
     ensures found { IfOk result (λ request. RequestText line.now request) }
     ensures read { (request : request.Request) → RequestText line.now request

@@ -29,10 +29,10 @@ use thiserror::Error;
 /// The status where the zone is none.
 const BAD_ZONE_STATUS: u8 = 3;
 
-/// Why nothing becomes of a run.
+/// Why there is no run.
 #[derive(Clone, Copy, Debug, PartialEq, Eq, Error)]
 pub enum RunFault {
-    /// No run has so many workers.
+    /// A run can't have this number of workers.
     #[error("a run has 1 to 64 workers")]
     Workers,
     /// There are too many requests.
@@ -240,7 +240,7 @@ fn tell_fault(fault: RunFault) -> Told
     }
 }
 
-/// What is told of a zone and requests, with so many workers.
+/// What the program prints for a zone and requests, with this number of workers, and its status.
 pub fn tell_run<R: Net + Threads + Wait + Clock + Sync>(
     rt: &R,
     alloc: Global,

@@ -59,7 +59,7 @@ impl Talk {
         })
     }
 
-    /// The lines of what is next, and their status.
+    /// The lines of what is next for the request, and their exit status.
     pub fn told(self, alloc: Global) -> Result<(String, u8), AllocError>
         ensures told { IfOk result (λ told. (string_bytes told.0 ≡ words.shown (now_of self))
             × (told.1 ≡ words.status_of (now_of self))) }

@@ -10,9 +10,9 @@ use std::net::Ipv6Addr;
 /// The form in which an address is printed.
 #[derive(Clone, Copy, Debug, PartialEq, Eq)]
 pub enum AddressForm {
-    /// One of IPv6 has eight groups (RFC 4291 2.2).
+    /// An IPv6 address has eight groups (RFC 4291 2.2).
     Full,
-    /// One of IPv6 has the form that is recommended (RFC 5952 4 and 5).
+    /// An IPv6 address has the form that is recommended (RFC 5952 4 and 5).
     Short,
 }
 

@@ -8,7 +8,7 @@ use sip_uri::UriRefusal;
 /// What becomes of a text.
 #[derive(Debug, Drop)]
 pub enum Fate {
-    /// It is a request, of which this became.
+    /// It is a request, and this became of it.
     Became(Outcome),
     /// It is a request, and its time was over.
     TimeOver,
@@ -18,7 +18,7 @@ pub enum Fate {
     Memory,
 }
 
-/// The status of what became of a text.
+/// The exit status of a text, by what became of it.
 pub fn status_of(fate: &Fate) -> u8
     ensures status { result ≡ spec.status_of fate.now }
     ensures range { result ≤ 5 }

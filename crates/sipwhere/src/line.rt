@@ -12,7 +12,7 @@ pub struct Line<'a> {
     pub text: &'a str,
 }
 
-/// These texts, numbered from this number on.
+/// These texts as lines, numbered from this number on.
 pub fn numbered<'a>(
     alloc: Global,
     first: u64,

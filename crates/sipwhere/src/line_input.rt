@@ -25,7 +25,7 @@ pub struct LineInput<R> {
 }
 
 impl<R: Read + Drop> LineInput<R> {
-    /// Nothing of the input was read.
+    /// The lines of an input of which nothing was read.
     pub fn new(alloc: Global, input: R) -> Result<LineInput<R>, AllocError> {
         Ok(LineInput {
             alloc,

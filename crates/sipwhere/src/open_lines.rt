@@ -86,7 +86,7 @@ impl<'a, B, W, C> Model for OpenLines<'a, B, W, C> {
 }
 
 impl<'a, B: AnswerBook + Drop, W: MessageWire, C: Clock> OpenLines<'a, B, W, C> {
-    /// None of the lines was begun.
+    /// Lines of which none was begun.
     pub fn new(
         alloc: Global,
         sender: Sender,
@@ -108,12 +108,12 @@ impl<'a, B: AnswerBook + Drop, W: MessageWire, C: Clock> OpenLines<'a, B, W, C> 
         })
     }
 
-    /// Of how many lines it was told what became of them.
+    /// How many lines were reported.
     pub fn told(&self) -> usize {
         self.told
     }
 
-    /// Whether it was told of each line what became of it.
+    /// Whether all lines were reported.
     pub fn is_done(&self) -> bool {
         self.told == self.lines.len()
     }
@@ -233,8 +233,8 @@ impl<'a, B: AnswerBook + Drop, W: MessageWire + Tracer, C: Clock> OpenLines<'a, 
         Some(status)
     }
 
-    /// Tells what became of lines in their order, as far as it is known, and gives the greatest
-    /// status.
+    /// Reports what became of lines in their order, as far as it is known, and gives the greatest
+    /// exit status.
     pub fn tell_all<O: Write>(
         &mut self,
         now: Duration,

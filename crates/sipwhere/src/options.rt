@@ -14,7 +14,7 @@ use std::alloc::{AllocError, AllocFailed, Global};
 use std::net::{IpAddr, SocketAddr};
 use thiserror::Error;
 
-/// What is asked for.
+/// The options of a run.
 #[derive(Debug, Drop)]
 pub struct Options<'a> {
     /// The name servers, where they are named.
@@ -27,7 +27,7 @@ pub struct Options<'a> {
     pub local: Option<IpAddr>,
     /// The form in which queries go out.
     pub query_form: QueryForm,
-    /// What can be sent.
+    /// What can be sent: transports and families of addresses.
     pub caps: Caps,
     /// How long one text may take, in milliseconds.
     pub total: u32,
@@ -39,9 +39,9 @@ pub struct Options<'a> {
     pub form: AddressForm,
     /// Whether each try is printed.
     pub traced: bool,
-    /// Whether it is told at the end how much was asked.
+    /// Whether the program reports at the end how much was asked.
     pub stats: bool,
-    /// Whether it is told how many texts are done.
+    /// Whether the program reports how many texts are done.
     pub shows_progress: bool,
     /// The texts, or `-` for the lines of the standard input.
     pub texts: Vec<&'a str>,
@@ -50,16 +50,16 @@ pub struct Options<'a> {
 /// What is wrong with the options.
 #[derive(Clone, Copy, Debug, PartialEq, Eq, Error)]
 pub enum OptionFault {
-    /// A server that is none.
+    /// A server that is no address.
     #[error("a server is ADDRESS, ADDRESS:PORT or [ADDRESS]:PORT")]
     Server,
-    /// A local address that is none.
+    /// A local address that is no address.
     #[error("a local address is one of IPv4 or IPv6, without a port")]
     Local,
-    /// A transport stands twice.
+    /// A transport is named twice.
     #[error("transports are different ones of udp, tcp, tls and sctp")]
     Transports,
-    /// A seed that is none.
+    /// A seed that is no key.
     #[error("a seed has 1 to 64 hexadecimal digits")]
     Seed,
     /// There is more to check than one URI.
@@ -226,7 +226,7 @@ fn with_output<'a>(alloc: Global, command: Command<'a>) -> Result<Command<'a>, A
         .arg(flag(alloc, "stats", "How much was asked, on standard error"))
 }
 
-/// The command line.
+/// The command line that the program takes.
 pub fn command<'a>(alloc: Global) -> Result<Command<'a>, AllocError> {
     let command = Command::new(alloc, "sipwhere")
         .bin_name("sipwhere")?
@@ -343,7 +343,7 @@ fn can_report(report: Report, texts: &[&str]) -> bool {
     }
 }
 
-/// What is asked for.
+/// The options that the words of the command line give.
 pub fn read_options<'a>(
     alloc: Global,
     matches: &ArgMatches<'a>,

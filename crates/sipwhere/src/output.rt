@@ -13,6 +13,7 @@ use sip_selection::{Reason, Target};
 use sip_uri::{Transport, UriRefusal};
 use std::alloc::{AllocError, Global};
 
+/// The word that is printed for a transport.
 pub fn transport_word(transport: Transport) -> &'static str
     ensures { result.now ≡ spec.transport_word transport }
 {
@@ -24,6 +25,7 @@ pub fn transport_word(transport: Transport) -> &'static str
     }
 }
 
+/// The word that is printed for the reason why a request goes nowhere.
 pub fn reason_word(reason: Reason) -> &'static str
     ensures { result.now ≡ spec.reason_word reason }
 {
@@ -35,6 +37,7 @@ pub fn reason_word(reason: Reason) -> &'static str
     }
 }
 
+/// The name of the type of records that a question asks for.
 pub fn kind_word(kind: Kind) -> &'static str
     ensures { result.now ≡ spec.kind_word kind }
 {
@@ -46,6 +49,7 @@ pub fn kind_word(kind: Kind) -> &'static str
     }
 }
 
+/// The word that is printed for why a text is no request.
 pub fn request_word(refusal: UriRefusal) -> &'static str
     ensures { result.now ≡ spec.request_word refusal }
 {
@@ -154,7 +158,7 @@ fn words_line(alloc: Global, front: &str, word: &str, other: &str) -> Result<Str
     Ok(line)
 }
 
-/// The lines of what became of a text, each behind the front.
+/// The lines of what became of a text, each after the same front.
 pub fn lines_of(
     alloc: Global,
     form: AddressForm,

@@ -12,7 +12,7 @@ use std::io::{self, ErrorKind};
 use std::net::{IpAddr, SocketAddr};
 use std::rt::Files;
 
-/// Whom to ask, and whether over TCP alone.
+/// Which servers to ask, and whether over TCP alone.
 #[derive(Debug, Drop)]
 pub struct Plan {
     /// The name servers.

@@ -4,7 +4,7 @@ use std::time::Duration;
 /// How many seconds pass at least from one time to the next.
 const INTERVAL: u64 = 1;
 
-/// How many texts are done, of how many that are known.
+/// How many texts are done, of all that are known.
 #[derive(Drop)]
 pub struct Progress {
     is_shown: bool,
@@ -28,7 +28,7 @@ impl Progress {
         }
     }
 
-    /// Notes that so many more are known, all that were known before being done.
+    /// Notes that this number of texts more is known, and that all that were known before are done.
     pub fn begin(&mut self, count: usize) {
         self.before = self.known;
         self.known = self.known.saturating_add(count);
@@ -46,7 +46,7 @@ impl Progress {
         let _ = eprint!(rt; "\r\u{1b}[K{done} of {known}");
     }
 
-    /// Wipes its line out, if one stands.
+    /// Wipes the line of progress out, if there is one.
     pub fn wipe<R: Eprint>(&mut self, rt: &R) {
         if self.stands {
             self.stands = false;

@@ -33,7 +33,7 @@ pub struct Style {
     pub form: AddressForm,
     /// Whether each line begins with the text and a space.
     pub several: bool,
-    /// Whether the lines of what went over the wire stand in front.
+    /// Whether the lines of what went over the wire come first.
     pub traced: bool,
 }
 
@@ -49,7 +49,7 @@ fn front_of(alloc: Global, several: bool, text: &str) -> Result<String, AllocErr
     Ok(front)
 }
 
-/// What is printed of a text, of which this became.
+/// What is printed of a text, by what became of it.
 pub fn report_of(alloc: Global, style: Style, text: &str, fate: &Fate) -> Result<String, AllocError>
     ensures { IfOk result (λ report.
         string_bytes report ≡ spec.report_of style text.now fate.now) }
@@ -64,7 +64,7 @@ pub fn report_of(alloc: Global, style: Style, text: &str, fate: &Fate) -> Result
     }
 }
 
-/// What is printed of a text, for which this went over the wire, and of which this became.
+/// What is printed of a text, by what went over the wire for it and by what became of it.
 pub fn traced_report(
     alloc: Global,
     style: Style,
@@ -84,7 +84,7 @@ pub fn traced_report(
     Ok(lines)
 }
 
-/// The status of what became of a text.
+/// The exit status of a text, by what became of it, in a form of report.
 pub fn status_in(report: Report, fate: &Fate) -> u8
     ensures status { result ≡ spec.status_in report fate.now }
     ensures range { result ≤ 5 }

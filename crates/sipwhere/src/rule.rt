@@ -87,7 +87,7 @@ fn rule_words(alloc: Global, via: bool, code: u16, name: &str) -> Result<String,
     }
 }
 
-/// The rule that asks this, for a URI or a Via.
+/// The rule of RFC 3263 that asks a question, for a URI or a Via.
 pub fn rule_of(alloc: Global, via: bool, asked: &Asked) -> Result<String, AllocError>
     ensures { IfOk result (λ words. string_bytes words ≡ spec.rule_of via asked.now) }
 {

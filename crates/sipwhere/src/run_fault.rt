@@ -14,7 +14,7 @@ pub enum RunFault {
     /// No server is of the family of the local address.
     #[error("no server has the family of the local address")]
     Family,
-    /// The resolver file wants TCP, which has no local address here.
+    /// The resolver file asks for TCP, for which no local address can be chosen here.
     #[error("a local address is for UDP, and the resolver file wants TCP")]
     LocalOverTcp,
 }

@@ -9,6 +9,6 @@ pub struct Sender {
     pub caps: Caps,
     /// The key.
     pub key: [u8; 32],
-    /// After how much the time of a text is over.
+    /// After how long the time of a text is over.
     pub total: Duration,
 }

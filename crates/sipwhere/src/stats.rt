@@ -2,7 +2,7 @@
 use dns_client::WireCounts;
 use std::time::Duration;
 
-/// Tells on standard error how much was asked, how much was found in the cache, and for how long it
+/// Reports on standard error how much was asked, how much was found in the cache, and how long it
 /// took.
 pub fn tell_stats<R: Eprint>(rt: &R, counts: WireCounts, found: u64, time: Duration) {
     let questions = counts.questions;

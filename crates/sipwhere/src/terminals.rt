@@ -26,8 +26,8 @@ pub fn form_for(short: bool, report: Report, terminals: Terminals) -> AddressFor
     }
 }
 
-/// Whether it is told how many texts are done: where the lines of what became of them, which tell
-/// that too, go elsewhere.
+/// Whether the program reports how many texts are done: where the lines of what became of them,
+/// which show that too, go elsewhere.
 pub fn shows_progress(terminals: Terminals) -> bool
     ensures { result ≡ spec.shows_progress terminals }
 {

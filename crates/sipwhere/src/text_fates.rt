@@ -42,8 +42,8 @@ pub fn submit<B: AnswerBook, F: Origin, I: Ids + Drop>(
     }
 }
 
-/// What became of a text whose request ended so. The text is read again, since the request is not
-/// kept.
+/// What became of a text, by the outcome of its request. The text is read again, since the request
+/// is not kept.
 pub fn fate_of(alloc: Global, text: &str, outcome: Outcome) -> Fate
     ensures { EndsAs text.now outcome result }
 {

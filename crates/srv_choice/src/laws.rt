@@ -18,8 +18,8 @@ pub fn limits()
     ensures words { WORD_COUNT ≡ 256 }
 {}
 
-/// What is listed is the place of each record once, none before one of a lower priority; and the
-/// next word stands as many places on as there are records.
+/// What is listed is the place of each record once, and no record before one of a lower priority.
+/// The place of the next random word is as many places on as there are records.
 pub fn order_is_by_priority()
     ensures complete { (records : List srv.SrvRecord) (words : List ℕ) (from : ℕ)
         → (places : List ℕ) (next : ℕ) → order_from records words from ≡ Listed places next

@@ -27,7 +27,7 @@ impl Places {
         Places { items }
     }
 
-    /// The places.
+    /// The places, as a `Vec`.
     pub fn into_vec(self) -> Vec<usize>
         ensures { result.items ≡ self }
     {
@@ -35,21 +35,21 @@ impl Places {
         items
     }
 
-    /// The places.
+    /// The places, as a slice.
     pub fn as_slice(&self) -> &[usize]
         ensures { result.now ≡ self.now }
     {
         self.items.as_slice()
     }
 
-    /// How many there are.
+    /// How many places there are.
     pub fn len(&self) -> usize
         ensures { result ≡ length self.now }
     {
         self.items.len()
     }
 
-    /// Whether there are none.
+    /// Whether there are no places.
     pub fn is_empty(&self) -> bool
         ensures { IsTrue result ↔ (self.now ≡ []) }
     {
