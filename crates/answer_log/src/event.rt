@@ -3,7 +3,7 @@ use crate::store::Store;
 
 /// What the log has. A link is the key of a cell.
 pub enum Event {
-    /// The first event of a log: it has so many seats.
+    /// The first event of a log, which has this number of seats.
     Opened(u64),
     /// How a seat asks what the log has of it, and says how many events it knows of.
     Asks(u64, u64),

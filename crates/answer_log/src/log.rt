@@ -115,8 +115,8 @@ impl Log {
         &self.heads[group as usize]
     }
 
-    /// Sees what was told, and what came since: a walk from the node of a group placed last, by one
-    /// load of its head.
+    /// Sees what a notice says, and what came since: a walk from the node of a group placed last,
+    /// by one load of its head.
     pub fn walk_after(&self, hand: &mut Hand, told: &Book, group: u8) -> Walk
         requires book { hand.old.book.book ≡ self.now }
         requires told { told.now.book ≡ self.now }
@@ -163,7 +163,7 @@ impl Log {
         self.walk_after(hand, &told, group)
     }
 
-    /// Sees what was told, and what came since: one load of a head.
+    /// Sees what a notice says, and what came since: one load of a head.
     pub fn learn(&self, hand: &mut Hand, told: &Book)
         requires book { hand.old.book.book ≡ self.now }
         requires told { told.now.book ≡ self.now }
@@ -178,8 +178,8 @@ impl Log {
         let _walk = self.walk_after(hand, told, 0);
     }
 
-    /// Sees just what was told: one load of a head. What was told goes on from what the seat has
-    /// seen. The load shows that it has no event of this seat that is new.
+    /// Sees just what a notice says: one load of a head. What it says goes on from what the seat
+    /// has seen. The load shows that it has no event of this seat that is new.
     pub fn meet(&self, hand: &mut Hand, told: &Book)
         requires book { hand.old.book.book ≡ self.now }
         requires hand { IsHand hand.old }

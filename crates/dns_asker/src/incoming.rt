@@ -16,7 +16,7 @@ pub enum Incoming {
 pub enum Ending {
     /// The reply has this answer.
     Answered(Answer),
-    /// The reply was cut (`Truncated`), or says that the server failed (`ServerFault`).
+    /// The reply was cut (`Truncated`), or its RCODE is neither 0 nor 3 (`ServerFault`).
     Faulty(ReplyRefusal),
 }
 

@@ -32,7 +32,7 @@ pub(crate) enum Overdue {
 }
 
 /// The tickets by their deadlines, at most one of each id, the table of their places, and the last
-/// one that was given up, for who is told of it.
+/// one that was given up, for the caller.
 #[derive(Drop)]
 pub(crate) struct Tickets {
     list: PendingList<Ticket>,

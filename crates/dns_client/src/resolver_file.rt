@@ -154,9 +154,9 @@ impl ResolverFile {
         }
     }
 
-    /// What the octets of a resolver file say. Those of no file are none.
+    /// What the octets of a resolver file say. Without a file there are no octets.
     ///
-    /// A line is a keyword, and what it wants behind blanks:
+    /// A line is a keyword, and what it needs after blanks:
     ///
     /// - `nameserver` and an address of IPv4 or IPv6, without a scope: a server. The first three
     ///   count, and where there is none that of the local host, 127.0.0.1.

@@ -8,7 +8,7 @@ use dns_asker::Clock;
 use std::io;
 use std::time::{self, Duration, Instant};
 
-/// What tells how much time went by since it was started.
+/// A timer, which says how much time went by since it was started.
 pub trait Timer {
     /// The time since it was started.
     fn elapsed(&self) -> Duration;

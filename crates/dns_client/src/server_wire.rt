@@ -45,17 +45,17 @@ pub struct WireOptions {
 
 /// A wire to DNS servers over sockets of the system.
 ///
-/// The first send of a query goes to the first server, the second to the second, and so on round.
-/// A server that comes first and does not reply in time, or can't be reached, comes last from then
-/// on: the queries that follow go round from the one behind it. Each server has a UDP socket of a
+/// The first send of a query goes to the first server, the second to the second, and so on round. A
+/// server that comes first and does not reply in time, or can't be reached, comes last from then
+/// on: the queries that follow go round from the one after it. Each server has a UDP socket of a
 /// port that the system chose, and a message counts only from a server to which a query of its id
 /// was sent. A reply that was cut is asked for again over TCP, from the same server, and the whole
 /// one is given; where that fails the cut one is given.
 ///
-/// Where a send or a receive fails, as at a closed port, or where a reply tells SERVFAIL or REFUSED
-/// (RFC 1035 4.1.1), the query goes to the next server at once, as long as there is one that was
-/// not asked (RFC 1035 7.2). Where there is none, a send or a receive that fails counts as lost,
-/// and the reply is given.
+/// Where a send or a receive fails, as at a closed port, or where a reply has the RCODE SERVFAIL or
+/// REFUSED (RFC 1035 4.1.1), the query goes to the next server at once, as long as there is one
+/// that was not asked (RFC 1035 7.2). Where there is none, a send or a receive that fails counts as
+/// lost, and the reply is given.
 ///
 /// Where queries have an OPT record and a server refuses that, by FORMERR, NOTIMP or an RCODE
 /// greater than 15, it is asked the same once more without one, and from then on so (RFC 6891

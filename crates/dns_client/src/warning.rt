@@ -7,7 +7,7 @@ pub enum LineFault {
     /// Its first word is no keyword of resolv.conf(5).
     #[error("no keyword")]
     NoKeyword,
-    /// A blank stands in front of the keyword, which has to begin the line.
+    /// A blank is in front of the keyword, which has to begin the line.
     #[error("a blank in front of the keyword")]
     Indented,
     /// `nameserver` without an address.

@@ -30,7 +30,7 @@ impl Zone {
     /// query. A query of another OPCODE than 0, or which has not exactly one question, in class IN,
     /// is refused (RCODE 5), with its question where it has one alone. Else the question is
     /// repeated. From its name the first CNAME record of each name is followed, at most eight of
-    /// them, and these records are the first that answer; after them stand the records of the asked
+    /// them, and these records are the first that answer; after them come the records of the asked
     /// type where they lead, in the order of the zone (RFC 1034 3.6.2). RCODE is 3 where that name
     /// has no records in the zone, and else 0. A question for another type than A, SOA, AAAA, SRV
     /// and NAPTR is answered without records. Where that name has no record of the asked type, the

@@ -46,7 +46,7 @@ impl Draft {
 impl Zone {
     /// The zone of a text: a record on each line.
     ///
-    /// The fields of a line stand between blanks (U+0020): an owner, a TTL, and one of
+    /// The fields of a line are between blanks (U+0020): an owner, a TTL, and one of
     ///
     /// - `A` and an address of IPv4, `AAAA` and one of IPv6
     /// - `CNAME` and a name

@@ -25,10 +25,10 @@ impl<I: Ids> Ids for &mut I {
     }
 }
 
-/// Ids that count up from 0; behind 65,535 comes 0.
+/// Ids that count up from 0; after 65,535 comes 0.
 ///
-/// Whoever can send to the resolver's port knows them: use `RandomIds` where replies come over a
-/// network (RFC 5452 9.2).
+/// Anyone that can send to the resolver's port knows them: use `RandomIds` where replies come over
+/// a network (RFC 5452 9.2).
 #[derive(Debug, Drop)]
 pub struct CountingIds {
     next: u16,

@@ -1,8 +1,8 @@
 //! What may be known of what a resolver is handed.
 ghost use Rattle.std.specs.Prelude.{ℕ, List};
 
-/// What may be known of the octets that come in, and of the moments that a clock shows. An outcome
-/// tells it of the replies and of the moments that it rests on.
+/// What may be known of the octets that come in, and of the moments that a clock shows. The
+/// contract of an outcome states it of the replies and of the moments that the outcome rests on.
 pub trait Origin {
     // What octets may come in.
     ghost gives: { List ℕ → Type 0 };

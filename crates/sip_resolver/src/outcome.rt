@@ -72,7 +72,7 @@ pub enum Outcome {
     Refused(Reason),
     /// This question has no answer: it was sent three times.
     NoAnswer(Question),
-    /// The reply to this question was cut (`Truncated`), or says that the server failed
+    /// The reply to this question was cut (`Truncated`), or its RCODE is neither 0 nor 3
     /// (`ServerFault`).
     BadReply(Question, ReplyRefusal),
     /// Memory was refused, or the resolver has sent 2^64 - 1 questions.

@@ -155,7 +155,8 @@ impl<B: AnswerBook, F: Origin, I: Ids + Drop> Resolver<B, F, I> {
         Ok(())
     }
 
-    /// The octets to send next, if there are any now. It is called again until it gives none.
+    /// The octets to send next, if there are any now. The caller calls it again until it gives
+    /// none.
     ///
     /// Questions whose replies did not come in time are given up after three sends, or sent once
     /// more; then each request that can goes on, by what the book has.

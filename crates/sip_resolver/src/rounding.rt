@@ -3,7 +3,7 @@ ghost use Rattle.std.specs.Prelude.{◌≡◌, ◌+◌, ◌^◌, ◌<◌, ◌≤
 
 use dns_answers::Moment;
 
-/// The time rounded up, by a clock that gives it rounded down: the next second. Behind the last
+/// The time rounded up, by a clock that gives it rounded down: the next second. After the last
 /// moment, 2^48 - 1 seconds, there is none, and that one stays.
 #[must_use]
 pub fn rounded_up(now: Moment) -> Moment

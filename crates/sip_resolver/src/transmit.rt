@@ -5,7 +5,7 @@
 pub enum Over {
     /// A datagram, which is these octets (RFC 1035 4.2.1).
     Datagram,
-    /// A stream. In front of these octets stand two with their length, which the caller writes and
+    /// A stream. In front of these octets are two with their length, which the caller writes and
     /// takes away (RFC 1035 4.2.2, RFC 7766 8).
     Stream,
 }

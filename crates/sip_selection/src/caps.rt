@@ -69,7 +69,7 @@ fn is_held(slots: &[Option<Transport>], transport: Transport) -> bool
     slots.iter().any(|slot| holds(*slot, transport))
 }
 
-/// Whether none of these stands again after itself.
+/// Whether no two of these are the same.
 fn are_distinct(transports: &[Transport]) -> bool
     ensures { result ≡ are_distinct transports.now }
 {

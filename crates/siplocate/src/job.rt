@@ -23,13 +23,13 @@ const FAULT_STATUS: u8 = 5;
 pub enum Job {
     /// To locate one request, from the text that was read.
     One(Families, Result<String, InputRefusal>),
-    /// To locate many requests by so many workers, from the text that was read.
+    /// To locate many requests by this number of workers, from the text that was read.
     Run(usize, Result<String, InputRefusal>),
-    /// To tell how it is used.
+    /// To print how it is used.
     Usage,
 }
 
-/// What the program tells.
+/// What the program prints, and its exit status.
 #[derive(Debug, Drop)]
 pub enum Told {
     /// This text under this status: what becomes of a request, or what is wrong with it.
@@ -48,7 +48,7 @@ pub enum Told {
     NoNet,
 }
 
-/// What is told of the request in a text.
+/// What the program prints for the request in a text.
 fn tell_one<R: Wait>(rt: &R, alloc: Global, families: Families, text: &str) -> Told
     ensures told { spec.TellsText families text.now result }
     ensures range { spec.status result ≤ 5 }
@@ -59,7 +59,7 @@ fn tell_one<R: Wait>(rt: &R, alloc: Global, families: Families, text: &str) -> T
     }
 }
 
-/// What is told of an input that was not taken.
+/// What the program prints for an input that was not taken.
 fn tell_refused(refusal: InputRefusal) -> Told
     ensures { result ≡ spec.refused refusal }
 {

@@ -48,7 +48,7 @@ pub fn parts(text: &str) -> (&str, &str)
     (text, "")
 }
 
-/// What stands in a line of the requests.
+/// What a line of the requests is.
 #[derive(Clone, Copy, Debug, PartialEq, Eq)]
 pub enum Entry {
     /// A request: the next one of the jobs.
@@ -60,7 +60,7 @@ pub enum Entry {
 /// The requests of a text.
 #[derive(Drop)]
 pub struct Requests {
-    /// What stands in each line.
+    /// What each line is.
     pub entries: Vec<Entry>,
     /// The jobs of those that are requests.
     pub jobs: Vec<Job>,
@@ -105,7 +105,8 @@ fn read_entry(
 
 /// The requests of a text, whose lines are numbered from 1.
 ///
-/// `BadCount` exactly where there are over 10,000, but for want of memory, and `Memory` for that.
+/// `BadCount` exactly where there are over 10,000 requests, unless memory was refused; `Memory`
+/// where it was.
 pub fn read_requests(alloc: Global, text: &str) -> Result<Requests, RunRefusal>
     ensures entries { IfOk result (λ requests.
         AreEntries 1 (lines text.now) requests.entries.items requests.jobs.items) }

@@ -191,7 +191,7 @@ fn run_over_zone<R: Net + Threads + Wait + Clock + Sync>(
     )
 }
 
-/// What is told of a text that is no zone.
+/// What the program prints for a text that is no zone.
 fn tell_bad_zone(alloc: Global, zone: &str, refusal: ZoneRefusal) -> Result<(String, u8), RunFault>
     requires refused { RefusedFor refusal (lines zone.now) }
     ensures bad { IfOk result (λ told. (told.1 ≡ 3) × IsBadZone zone.now (string_bytes told.0)) }
@@ -226,7 +226,7 @@ fn run_both<R: Net + Threads + Wait + Clock + Sync>(
     }
 }
 
-/// What is told where nothing becomes of a run.
+/// What the program prints where there is no run.
 fn tell_fault(fault: RunFault) -> Told
     ensures { result ≡ spec.faulted fault }
 {

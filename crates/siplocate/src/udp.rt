@@ -25,7 +25,7 @@ fn is_wait(kind: ErrorKind) -> bool
 /// A wire to many peers over UDP, as a server has it.
 ///
 /// A receive waits for at most 100 milliseconds. A datagram of more than 4,096 octets is cut to its
-/// first 4,096, as the socket does it: the octets behind them are lost, and nothing tells that they
+/// first 4,096, as the socket does it: the octets after them are lost, and nothing shows that they
 /// were there.
 #[derive(Drop)]
 pub struct UdpServerWire {
@@ -145,7 +145,7 @@ impl PeerWire for UdpServerWire {
 ///
 /// It sends from a port that the system chooses. Only what the server itself sent is given: the
 /// socket is connected to it, so that the system drops the datagrams of others, and those that came
-/// before that are told by their address (RFC 5452 9.1). That the server's port is closed may show
+/// before that are known by their address (RFC 5452 9.1). That the server's port is closed may show
 /// as a fault. Otherwise it is as `UdpServerWire`.
 #[derive(Drop)]
 pub struct UdpWire {

@@ -82,7 +82,7 @@ fn fault_status(report: Report) -> u8
     }
 }
 
-/// Does what the options ask for, and gives the status. A fault is told on standard error.
+/// Does what the options ask for, and gives the status. A fault is reported on standard error.
 fn run_as<R: Wait + Input + Print + Eprint + Files + Net + RandomSource + Clock + AllocGlobal>(
     rt: &R,
     options: &Options<'_>,

@@ -60,7 +60,7 @@ pub struct OpenLines<'a, B, W, C> {
     lines: &'a [Line<'a>],
     /// When the time of each line is over that was begun.
     ends: Vec<Duration>,
-    /// Of how many it was told what became of them.
+    /// How many of the lines were reported.
     told: usize,
     resolver: Resolver<B, WireOrigin<W, C>, RandomIds<ChaCha20Rng>>,
     /// What became of each line, as far as it is known.

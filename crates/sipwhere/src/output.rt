@@ -146,7 +146,7 @@ fn gaveup_line(
     Ok(line)
 }
 
-/// A line of two words, behind the front.
+/// A line of two words, after the front.
 fn words_line(alloc: Global, front: &str, word: &str, other: &str) -> Result<String, AllocError>
     ensures { IfOk result (λ line.
         string_bytes line ≡ spec.words_line front.now word.now other.now) }

@@ -17,7 +17,7 @@ pub struct Progress {
 }
 
 impl Progress {
-    /// Nothing is known yet. It is told from a second on, if at all.
+    /// Progress of which nothing is known yet. It is shown from the first second on, if at all.
     pub fn new(is_shown: bool) -> Progress {
         Progress {
             is_shown,
@@ -34,7 +34,7 @@ impl Progress {
         self.known = self.known.saturating_add(count);
     }
 
-    /// Tells that so many of those that were begun last are done, at most once a second.
+    /// Shows that this number of the texts that were begun last is done, at most once a second.
     pub fn tell<R: Eprint>(&mut self, rt: &R, now: Duration, done: usize) {
         if !self.is_shown || now < self.due {
             return;

@@ -9,7 +9,7 @@ use std::net::{IpAddr, SocketAddr};
 pub const SERVER_PORT: u16 = 53;
 
 /// The server of a word: an address, which has port 53, or an address with a port, where one of
-/// IPv6 stands in brackets.
+/// IPv6 is in brackets.
 pub fn server_from_text(text: &str) -> Option<SocketAddr>
     ensures found { IfSome result (ServerText text.now) }
 {
