@@ -9,7 +9,7 @@ use Rattle.answer_cache.specs.declared.refusal.StoreRefusal.{StoreRefusal}
 use Rattle.answer_cache.specs.declared.refusal.StoreRefusal.TheVariants.{Lifeless, GenerationFull}
 use Rattle.answer_cache.specs.declared.refusal.StoreRefusal.TheVariants.{Contended, Memory}
 
--- what a store was handed, whatever it answered
+-- what a call that stores was handed, whatever it answered
 pub record Offer : Type 0 where
   pub question : Question
   pub answer : AnswerValue
@@ -27,7 +27,8 @@ pub record SeatView : Type 0 where
   pub own : List Store
   pub offered : List Offer
 
--- what holds of each seat: its own stores are those of the history, once each and in their order
+-- what holds of each seat: its own stores are the ones of the history that are of this seat, once
+-- each and in their order
 pub record IsSeat (seat : SeatView) : Type 0 where
   pub own : mine seat.seen seat.number ≡ seat.own
   pub history : IsHistory seat.seen

@@ -87,7 +87,7 @@ abbrev pub Refuses : ℕ → CacheRefusal → Type 0
 Refuses seats BadCount = (seats ≡ 0) ⊎ (64 < seats)
 Refuses seats NoMemory = (0 < seats) × (seats ≤ 64)
 
--- a call passes at most so many links, and makes at most so many tries
+-- a call passes at most this number of links, and makes at most this number of tries
 pub record Takes (old new : SharedView) (links tries : ℕ) : Type 0 where
   pub along : new.links ≤ old.links + links
   pub tried : new.tries ≤ old.tries + tries

@@ -20,7 +20,7 @@ abbrev pub spent_of : Hand → Spending
 spent_of hand = hand.spent
 
 -- The seat is one of those that the log was opened for. It has the count of its events in what it
--- has seen, and its nodes stand below the next place.
+-- has seen, and its nodes are below the next place.
 pub record IsHand (hand : Hand) : Type 0 where
   pub seats : seats_in hand.book.log ≡ hand.seats
   pub below : hand.number < hand.seats
@@ -46,7 +46,7 @@ pub record IsSame (old new : Hand) : Type 0 where
   pub places : new.places ≡ old.places
   pub book : new.book ≡ old.book
 
--- what is left for the seats from the next one on
+-- what there is left for the seats from the next one on
 pub record AreHands (hands : Hands) : Type 0 where
   pub tallies : hands.tallies.name ∷ [] ≡ hands.seen.names
   pub next : hands.tallies.next ≡ hands.next

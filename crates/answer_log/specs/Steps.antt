@@ -27,13 +27,13 @@ store_by seat question answer moment =
 abbrev pub store_of : Draft → Store
 store_of draft = store_by draft.seat draft.question.now (arc_value draft.answer.now) draft.moment
 
--- the nodes of the seat stand at places below this one
+-- the nodes of the seat are at places below this one
 abbrev pub NamesBelow : ℕ → ℕ → List Event → Type 0
 NamesBelow seat place log =
     (node : ℕ) (store : Store) (link : ℕ) → In (Named node store link) log → store.seat ≡ seat
     → node < node_at seat place
 
--- once the head of the question's group led to this node, and the group was not full then
+-- at some moment the head of the question's group led to this node, and the group was not full then
 pub record HadRoom (log : List Event) (node : ℕ) (question : Question) : Type 0 where
   pub seen : List Event
   pub later : IsPrefix seen log

@@ -8,7 +8,8 @@ use Rattle.dns_answers.specs.Kept.{kept, records_of}
 use Rattle.dns_answers.specs.Lives.{life_of}
 use Rattle.dns_answers.specs.Values.{AnswerValue}
 
--- the records that a message has for a question at the end of a chain; where it has no end, none
+-- the records that a message has for a question at the end of a chain; none where the chain has no
+-- end
 abbrev pub kept_along : Question → Message → Option Chain → List Record
 kept_along question message None = []
 kept_along question message (Some chain) = kept question.kind chain.last message.answers

@@ -47,7 +47,7 @@ ends_at name = record { links = []; last = name }
 abbrev pub behind : Record → Chain → Chain
 behind link chain = record { links = link ∷ chain.links; last = chain.last }
 
--- the chain from a name, where it has at most so many links
+-- the chain from a name, where it has at most this number of links
 unfoldable pub chain_within : ℕ → List Record → List (List ℕ) → Option Chain
 chain_within zero section name =
     option_map_or (λ (alias : Alias). None) (first_alias name section) (Some (ends_at name))

@@ -92,7 +92,8 @@ Says ticket message (Ended id question ending) = (id ≡ ticket.sent.id)
     × (question ≡ ticket.sent.question) × EndsBy ticket.sent.question message ending
 Says ticket message (Ignored why) = IsNoReply ticket.sent.question message why
 
--- a message stands in front of the octets, its id has a ticket, and this is what it means for that
+-- octets begin with a message whose id has a ticket, and this is what the message means for that
+-- ticket
 pub record Tells (asking : Asking) (octets : List ℕ) (incoming : Incoming) : Type 0 where
   pub message : Message
   pub begins : Begins octets message
@@ -135,7 +136,8 @@ sent_again sent = record sent { sends = sent.sends + 1 }
 abbrev pub again : ℕ → Ticket → Ticket
 again now ticket = record { sent = sent_again ticket.sent; deadline = now + 1 }
 
--- its question was sent once or twice, and no reply came in time: it is sent once more
+-- the question of the first ticket was sent once or twice, and no reply came in time: it is sent
+-- once more
 pub record IsResent (old new : Asking) (now id : ℕ) (octets : List ℕ) : Type 0 where
   pub ticket : Ticket
   pub others : List Ticket
@@ -146,7 +148,8 @@ pub record IsResent (old new : Asking) (now id : ℕ) (octets : List ℕ) : Type
   pub octets_are : octets ≡ sent_octets ticket.sent.id ticket.sent.question
   pub left : new ≡ record old { tickets = waiting_too (again now ticket) others }
 
--- its question was sent three times, and no reply came in time: it waits no longer
+-- the question of the first ticket was sent three times, and no reply came in time: it waits no
+-- longer
 pub record IsGivenUp (old new : Asking) (now id : ℕ) (question : Question) : Type 0 where
   pub ticket : Ticket
   pub others : List Ticket

@@ -15,8 +15,8 @@ pub data Event : Type 0 where
   hear : List ℕ → Event
   wait : ℕ → Event
 
--- What an event leaves, whatever is answered to it. Octets for whose reading memory is refused
--- leave all as it was.
+-- What an event leaves, whatever its call gives. Octets for which memory is refused leave all as it
+-- was.
 pub data Step (old new : Asking) : Event → Type 0 where
   asked : {id : ℕ} {question : Question} {now : ℕ} (result : Result (Bor (List ℕ)) AskRefusal)
       → Asks old new id question now result → Step old new (ask id question now)

@@ -5,7 +5,7 @@ use Rattle.dns_message.specs.declared.message.Message.{Message}
 use Rattle.dns_zone.specs.Zones.{Owned}
 use Rattle.dns_zone.specs.Replies.{IsQuery, Replies}
 
--- these octets are the zone's reply to the query in front of those
+-- octets are the zone's reply to the query in front of other octets
 abbrev pub RepliesTo : List Owned → List ℕ → List ℕ → Type 0
 RepliesTo zone octets reply = (query : Message) × IsQuery octets query × Replies zone query reply
 

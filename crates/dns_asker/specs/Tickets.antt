@@ -3,7 +3,7 @@ use Rattle.std.specs.Prelude.{ℕ, ◌<◌, ◌≤◌, ◌==◌, nat_le, Bool, n
 use Rattle.std.specs.List.{All, AllPairs, filter, find}
 use Rattle.dns_message.specs.declared.question.Question.{Question}
 
--- a question that was sent: its id, and how often it was
+-- a question that was sent: its id, and how many times it was sent
 pub record Sent : Type 0 where
   pub id : ℕ
   pub question : Question

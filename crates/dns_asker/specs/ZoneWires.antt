@@ -3,7 +3,7 @@ use Rattle.std.specs.Prelude.{ℕ, List}
 use Rattle.dns_asker.specs.Servers.{RepliesTo}
 use Rattle.dns_zone.specs.Zones.{Owned}
 
--- these octets are what a zone replies to octets that were sent
+-- octets are what a zone replies to octets that were sent
 pub record IsReply (reply : List ℕ) : Type 0 where
   pub zone : List Owned
   pub sent : List ℕ

@@ -19,8 +19,8 @@ pub record IsEmptyAnswer (question : Question) (reply : Message) : Type 0 where
   pub is_reply : reply_refusal question reply ≡ None
   pub none : count_of (answer question reply).records ≡ 0
 
--- A reply is cut short: it is no negative answer, since it has no SOA record, and its CNAME records
--- lead on over more than so many links.
+-- A reply is cut short: it has neither an error nor an answer, it is no negative answer, since it
+-- has no SOA record, and its CNAME records lead on over more links than before.
 pub record IsCutShort (question : Question) (reply : Message) (before : ℕ)
     (chain : chains.Chain) : Type 0 where
   pub no_error : reply.header.rcode ≡ 0
@@ -85,7 +85,7 @@ pub record OpenValue : Type 0 where
   pub further : Question
   pub further_query : List ℕ
 
--- what is asked on follows from what came, and has the id of the query
+-- what is asked next follows from what came, and has the id of the query
 pub record IsAskedOn (before : ℕ) (it : OpenValue) : Type 0 where
   pub asks : AsksOn it.question it.so_far before it.further it.links
   pub octets : it.further_query ≡ plain (query_of it.id it.further)

@@ -30,8 +30,8 @@ abbrev pub IsInFront : List ℕ → Option Message → Type 0
 IsInFront octets None = (it : Message) → Begins octets it → ⊥
 IsInFront octets (Some it) = Begins octets it
 
--- Octets of this id came back: so many, and the message in front of them. The RCODE but for its
--- upper bits is in the fourth of them.
+-- Octets of this id came back: this number of them, with this message in front. The lower four bits
+-- of RCODE are in the fourth octet.
 pub record IsReplyTo (id : ℕ) (reply : WireReply) : Type 0 where
   pub came : List ℕ
   pub is : id_of came ≡ id

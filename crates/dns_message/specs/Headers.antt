@@ -10,20 +10,20 @@ abbrev pub bit : Bool → ℕ
 bit true = 1
 bit false = 0
 
--- the octet of QR, OPCODE, AA, TC and RD, from the highest bit down
+-- an octet is that of QR, OPCODE, AA, TC and RD, from the highest bit down
 pub record HighFlags (octet : ℕ) (header : Header) : Type 0 where
   pub opcode : header.opcode < 16
   pub is : octet ≡ 128 * bit header.reply + 8 * header.opcode + 4 * bit header.authoritative
       + 2 * bit header.truncated + bit header.recursion_desired
 
--- the octet of RA, the three bits of Z, which mean nothing, and RCODE
+-- an octet is that of RA, the three bits of Z, which mean nothing, and RCODE
 pub record LowFlags (octet : ℕ) (header : Header) : Type 0 where
   pub z : ℕ
   pub free : z < 8
   pub rcode : header.rcode < 16
   pub is : octet ≡ 128 * bit header.recursion_available + 16 * z + header.rcode
 
--- the number and the flags, from place 0 on
+-- ID and the flags of a header are in a message, from place 0 on
 pub record HeaderAt (message : List ℕ) (header : Header) : Type 0 where
   pub within : 3 < length message
   pub id : NumberAt w16 message 0 header.id

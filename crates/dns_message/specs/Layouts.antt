@@ -14,7 +14,7 @@ use Rattle.dns_message.specs.declared.srv.SrvRecord.{SrvRecord}
 
 -- ---- what a record's data has
 
--- an address of so many octets stands at a place (RFC 1035 3.4.1, 3596 2.2)
+-- an address of this number of octets is at a place (RFC 1035 3.4.1, 3596 2.2)
 pub record AddressAt (size : ℕ) (message : List ℕ) (place : ℕ) (octets : List ℕ)
     (end : ℕ) : Type 0 where
   pub size_is : length octets ≡ size

@@ -33,7 +33,7 @@ pub record MessageAt (octets : List ℕ) (message : Message) (end : ℕ) : Type 
 abbrev pub Spells : List ℕ → Message → Type 0
 Spells octets message = MessageAt octets message (length octets)
 
--- this message stands in front of the octets, which are at most 65,535 (RFC 1035 4.2.2)
+-- octets, at most 65,535 of them, begin with this message (RFC 1035 4.2.2)
 pub record Begins (octets : List ℕ) (it : Message) : Type 0 where
   pub short : length octets ≤ 65535
   pub end : ℕ
@@ -54,7 +54,7 @@ pub record RecordsStand (octets : List ℕ) (count_place start end : ℕ) : Type
   pub count : NumberAt w16 octets count_place (length records)
   pub stand : AllAt (RecordAt octets) start records end
 
--- the parts before this one stand there, and this one does not
+-- octets do not have this part of a message, and have all parts before it
 abbrev pub FailsIn : Part → List ℕ → Type 0
 FailsIn Header octets = length octets < 12
 FailsIn Questions octets = (12 ≤ length octets) × ((end : ℕ) → QuestionsStand octets end → ⊥)
@@ -69,7 +69,7 @@ FailsIn Additional octets = (answers_start : ℕ) × (authority_start : ℕ) × 
     × RecordsStand octets 8 authority_start start
     × ((end : ℕ) → RecordsStand octets 10 start end → ⊥)
 
--- what holds of octets that are refused, by the refusal: memory is needed only where a name stands
+-- what holds of octets that are refused, by the refusal: memory is needed only where a name is
 -- after the header
 abbrev pub RefusedWhere : MessageRefusal → List ℕ → Type 0
 RefusedWhere TooLong octets = 65535 < length octets

@@ -18,7 +18,7 @@ pub record OctetsAt (message : List ℕ) (place : ℕ) (octets : List ℕ) (end 
 abbrev pub NamedAt : List ℕ → ℕ → Type 0
 NamedAt message place = (name : List (List ℕ)) × (end : ℕ) × NameAt message place place name end
 
--- what stands one after the other from a place to another
+-- each of these is after the one before it, from a place to another
 pub data AllAt {X : Type 0} (At : ℕ → X → ℕ → Type 0) : ℕ → List X → ℕ → Type 0 where
   none : {place end : ℕ} → end ≡ place → AllAt At place [] end
   next : {place end : ℕ} {first : X} {others : List X} (after : ℕ) → At place first after

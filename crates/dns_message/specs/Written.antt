@@ -28,31 +28,34 @@ four_octets number = to_be_bytes w32 number
 
 -- ---- data
 
--- a character string: how many octets it has, and these (RFC 1035 3.3)
+-- the octets of a character string: how many it has, and these (RFC 1035 3.3)
 unfoldable pub string_octets : List ℕ → List ℕ
 string_octets string = length string ∷ string
 
--- priority, weight, port and target (RFC 2782)
+-- the octets of SRV data: priority, weight, port and target (RFC 2782)
 unfoldable pub srv_octets : SrvRecord → List ℕ
 srv_octets server =
     two_octets server.priority ++ two_octets server.weight ++ two_octets server.port
     ++ wire_of server.target
 
--- ORDER, PREFERENCE, FLAGS, SERVICES, REGEXP and REPLACEMENT (RFC 3403 4.1)
+-- the octets of NAPTR data: ORDER, PREFERENCE, FLAGS, SERVICES, REGEXP and REPLACEMENT (RFC 3403
+-- 4.1)
 unfoldable pub naptr_octets : NaptrRecord → List ℕ
 naptr_octets rule =
     two_octets rule.order ++ two_octets rule.preference
     ++ string_octets rule.flags ++ string_octets rule.services ++ string_octets rule.regexp
     ++ wire_of rule.replacement
 
--- MNAME, RNAME, SERIAL, REFRESH, RETRY, EXPIRE and MINIMUM (RFC 1035 3.3.13)
+-- the octets of SOA data: MNAME, RNAME, SERIAL, REFRESH, RETRY, EXPIRE and MINIMUM (RFC 1035
+-- 3.3.13)
 unfoldable pub soa_octets : SoaRecord → List ℕ
 soa_octets authority =
     wire_of authority.mname ++ wire_of authority.rname
     ++ four_octets authority.serial ++ four_octets authority.refresh ++ four_octets authority.retry
     ++ four_octets authority.expire ++ four_octets authority.minimum
 
--- RDATA; of an address its octets (RFC 1035 3.4.1, 3596 2.2), of an alias its name (RFC 1035 3.3.1)
+-- the octets of RDATA: of an address its own (RFC 1035 3.4.1, 3596 2.2), of an alias those of its
+-- canonical name (RFC 1035 3.3.1)
 abbrev pub rdata_octets : Rdata → List ℕ
 rdata_octets (Addr4 octets) = octets
 rdata_octets (Addr6 octets) = octets
@@ -62,7 +65,7 @@ rdata_octets (Cname name) = wire_of name
 rdata_octets (Soa authority) = soa_octets authority
 rdata_octets (Other other) = other.octets
 
--- TYPE (RFC 1035 3.2.2, 3596 2.1, 2782, 3403 4.1)
+-- the number of the type of data (RFC 1035 3.2.2, 3596 2.1, 2782, 3403 4.1)
 abbrev pub rdata_code : Rdata → ℕ
 rdata_code (Addr4 octets) = 1
 rdata_code (Addr6 octets) = 28
@@ -72,7 +75,7 @@ rdata_code (Cname name) = 5
 rdata_code (Soa authority) = 6
 rdata_code (Other other) = other.code
 
--- CLASS: IN (1), but for data that is kept as it stands (RFC 1035 3.2.4)
+-- the number of the class of data: that of IN is 1, and other data has its own (RFC 1035 3.2.4)
 abbrev pub rdata_class : Rdata → ℕ
 rdata_class (Addr4 octets) = 1
 rdata_class (Addr6 octets) = 1
@@ -84,11 +87,11 @@ rdata_class (Other other) = other.class_code
 
 -- ---- questions and records
 
--- QNAME, QTYPE and QCLASS (RFC 1035 4.1.2)
+-- the octets of a question: QNAME, QTYPE and QCLASS (RFC 1035 4.1.2)
 unfoldable pub question_octets : Asked → List ℕ
 question_octets asked = wire_of asked.name ++ two_octets asked.code ++ two_octets asked.class_code
 
--- NAME, TYPE, CLASS, TTL, RDLENGTH and RDATA (RFC 1035 4.1.3)
+-- the octets of a record: NAME, TYPE, CLASS, TTL, RDLENGTH and RDATA (RFC 1035 4.1.3)
 unfoldable pub record_octets : Record → List ℕ
 record_octets entry =
     wire_of entry.owner ++ two_octets (rdata_code entry.rdata)
@@ -98,21 +101,21 @@ record_octets entry =
 
 -- ---- the header (RFC 1035 4.1.1)
 
--- QR, OPCODE, AA, TC and RD, from the highest bit down
+-- the octet of QR, OPCODE, AA, TC and RD, from the highest bit down
 abbrev pub high_flags : Header → ℕ
 high_flags header =
     128 * bit header.reply + 8 * header.opcode + 4 * bit header.authoritative
     + 2 * bit header.truncated + bit header.recursion_desired
 
--- RA, the three bits of Z, which are 0, and RCODE
+-- the octet of RA, the three bits of Z, which are 0, and RCODE
 abbrev pub low_flags : Header → ℕ
 low_flags header = 128 * bit header.recursion_available + header.rcode
 
--- ID and the flags
+-- the octets of ID and the flags
 unfoldable pub header_octets : Header → List ℕ
 header_octets header = two_octets header.id ++ high_flags header ∷ low_flags header ∷ []
 
--- QDCOUNT, ANCOUNT, NSCOUNT and ARCOUNT
+-- the octets of QDCOUNT, ANCOUNT, NSCOUNT and ARCOUNT
 unfoldable pub count_octets : ℕ → ℕ → ℕ → ℕ → List ℕ
 count_octets questions answers authority additional =
     two_octets questions ++ two_octets answers ++ two_octets authority ++ two_octets additional
@@ -131,7 +134,8 @@ plain message =
     ++ flat_map record_octets message.authority
     ++ flat_map record_octets message.additional
 
--- a message that was too long: TC is set, and no records are left (RFC 1035 4.1.1, 2181 9)
+-- a message with TC set and without records, in place of one that was too long (RFC 1035 4.1.1,
+-- 2181 9)
 abbrev pub cut : Message → Message
 cut message = record {
   header = record message.header { truncated = true };
@@ -141,7 +145,7 @@ cut message = record {
   additional = [];
 }
 
--- what is sent of a reply: at most 512 octets go into one datagram (RFC 1035 4.2.1)
+-- the message that is sent of a reply: at most 512 octets go into one datagram (RFC 1035 4.2.1)
 abbrev pub fitted : Message → Message
 fitted message = if nat_le (length (plain message)) 512 then message else cut message
 

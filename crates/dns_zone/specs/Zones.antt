@@ -51,8 +51,8 @@ first_alias entries = slice_get (filter_map alias_in entries) 0
 abbrev pub link_of : List (List ℕ) → ZoneAlias → Record
 link_of name alias = record { owner = name; ttl = alias.ttl; rdata = Cname alias.target }
 
--- the CNAME records from a name on, the first of each name, until a name has none or there are so
--- many; and the last name
+-- the CNAME records from a name on, the first of each name, until a name has none or there are as
+-- many as the limit says; and the last name
 unfoldable pub path_within : ℕ → List Owned → List (List ℕ) → Chain
 path_within zero zone name = ends_at name
 path_within (suc more) zone name =
@@ -66,7 +66,7 @@ path zone name = path_within 8 zone name
 
 -- ---- the same as a relation (RFC 1034 3.6.2)
 
--- from the first name these CNAME records of the zone lead to the other one, each the first of its
+-- these CNAME records of the zone lead from the first name to the other one, each the first of its
 -- name
 pub data Follows (zone : List Owned) : List (List ℕ) → List Record → List (List ℕ) → Type 0 where
   stays : {name last : List (List ℕ)} → last ≡ name → Follows zone name [] last

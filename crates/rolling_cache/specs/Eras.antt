@@ -29,16 +29,18 @@ begun_with (era ∷ older) = era.carried
 abbrev pub handed_to : List Era → List Store → List Offer
 handed_to past seen = map unseated (drop (length (begun_with past)) seen)
 
--- what was handed in to be stored in these, as far as it was told
+-- what was handed in to be stored in these generations, as far as their eras show it
 abbrev pub handed_before : List Era → List Offer
 handed_before [] = []
 handed_before (era ∷ older) = handed_before older ++ handed_to older era.told.seen
 
--- what was handed in to be stored in these or after them, as far as a seat has seen it
+-- what was handed in to be stored in these generations or the one after them, as far as a seat has
+-- seen it
 abbrev pub handed_in : List Era → List Store → List Offer
 handed_in past seen = handed_before past ++ handed_to past seen
 
--- A generation that began with these handed on what lived at some moment of what it told.
+-- A generation that began with these handed on what lived, at some moment, of the history that its
+-- era shows.
 pub record HandsOn (begun : List Offer) (era : Era) : Type 0 where
   pub begins : IsPrefix (carried_stores begun) era.told.seen
   pub before : List Store

@@ -52,7 +52,7 @@ LookedUp old new history now false =
 
 -- ---- all look-ups
 
--- With the answers gained this is what is next, and where that is a question, the book lacked its
+-- With the answers gained, this is what is next. Where that is a question, the book lacked its
 -- answer.
 pub record IsNext (old new : SelectionValue) (first last : List Store) (now : ℕ)
     (resolution : Resolution) : Type 0 where
@@ -60,7 +60,7 @@ pub record IsNext (old new : SelectionValue) (first last : List Store) (now : �
   pub is : resolution ≡ now_of new
   pub lacks : (question : Question) → resolution ≡ need question → Lacks first last now question
 
--- a question is asked
+-- a choice needs the answer to a question
 abbrev pub IsAsking : Resolution → Type 0
 IsAsking resolution = (question : Question) × (resolution ≡ need question)
 

@@ -31,9 +31,9 @@ pub record PollsAll (gives : List ℕ → Type 0) (shows : ℕ → Type 0) {I : 
 
 -- ---- what becomes of a question
 
--- Before its deadline it is as it was. From its deadline on it is sent once more, where it was sent
--- once or twice, and counts as sent at the later moment. Where it was sent three times it is given
--- up.
+-- A question before its deadline is as it was. From its deadline on it is sent once more, where it
+-- was sent once or twice, and counts as sent at the later moment. Where it was sent three times it
+-- is given up.
 pub data IsDealtWith (now asked : ℕ) (last : QuestionsView) (ticket : Ticket) : Type 0 where
   waits_on : now < ticket.deadline → Contains (tickets_of last) ticket
       → IsDealtWith now asked last ticket

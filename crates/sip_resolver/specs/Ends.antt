@@ -9,13 +9,13 @@ use Rattle.sip_resolver.specs.Outcomes.{Ended}
 use Rattle.sip_resolver.specs.declared.outcome.Outcome.{Outcome}
 use Rattle.sip_resolver.specs.declared.outcome.Outcome.TheVariants.{Targets, Refused, NoAnswer, BadReply, Memory}
 
--- those that ended before, and after them others whose outcomes are of this kind
+-- the requests that had ended, and after them more whose outcomes are of this kind
 pub record EndsMore (kind : Outcome → Type 0) (old new : List Ended) : Type 0 where
   pub more : List Ended
   pub after : new ≡ old ++ more
   pub are : All (λ ended. kind ended.outcome) more
 
--- an outcome is for want of memory
+-- an outcome is that memory was refused
 abbrev pub IsMemory : Outcome → Type 0
 IsMemory (Targets list) = ⊥
 IsMemory (Refused reason) = ⊥
@@ -31,7 +31,7 @@ IsByChoice (NoAnswer question) = ⊥
 IsByChoice (BadReply question refusal) = ⊥
 IsByChoice Memory = ⊤
 
--- an outcome is this fault of the reply to this question, or for want of memory
+-- an outcome is this fault of the reply to this question, or that memory was refused
 abbrev pub IsByFault : Question → ReplyRefusal → Outcome → Type 0
 IsByFault question refusal (Targets list) = ⊥
 IsByFault question refusal (Refused reason) = ⊥
@@ -47,7 +47,7 @@ IsBySilence question (NoAnswer other) = other ≡ question
 IsBySilence question (BadReply other fault) = ⊥
 IsBySilence question Memory = ⊤
 
--- how a reply to this question may end a request: by its fault, or for want of memory
+-- how a reply to this question may end a request: by its fault, or because memory is refused
 abbrev pub IsByReply : Question → Ending → Outcome → Type 0
 IsByReply question (Answered found) outcome = IsMemory outcome
 IsByReply question (Faulty refusal) outcome = IsByFault question refusal outcome

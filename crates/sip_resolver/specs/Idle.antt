@@ -10,11 +10,11 @@ use Rattle.sip_resolver.specs.Tasks.{WaitingView}
 
 -- ---- why a question can't be asked
 
--- as many questions are out as can be
+-- as many questions are out as the limit allows
 abbrev pub HasNoRoom : Asking → Type 0
 HasNoRoom asking = length asking.tickets ≡ asking.limit
 
--- as many questions are out over datagrams as can be, or over streams
+-- as many questions are out over datagrams, or over streams, as the limit allows
 abbrev pub IsFull : QuestionsView → Type 0
 IsFull it = HasNoRoom it.datagrams ⊎ HasNoRoom it.streams
 
@@ -23,7 +23,7 @@ abbrev pub IsOut : ℕ → QuestionsView → Type 0
 IsOut id it = IsSome (ticket_of id it.datagrams.tickets)
     ⊎ IsSome (ticket_of id it.streams.tickets)
 
--- so many ids were drawn one after the other, under each of which a question is out
+-- this number of ids were drawn one after the other, under each of which a question is out
 pub data DrawsOut {I : Type 0} (draws : I → ℕ → I → Type 0) (it : QuestionsView) (first : I)
     : ℕ → I → Type 0 where
   begun : DrawsOut draws it first 0 first
@@ -31,7 +31,7 @@ pub data DrawsOut {I : Type 0} (draws : I → ℕ → I → Type 0) (it : Questi
       → IsOut id it → DrawsOut draws it first (count + 1) new
 
 -- More ids were drawn one after the other than questions are out, and each is the id of one of
--- them. So the ids repeat: it is not so of ids that count up.
+-- these questions. So the ids repeat; ids that count up do not.
 pub record AreTaken {I : Type 0} (draws : I → ℕ → I → Type 0) (it : QuestionsView) : Type 0 where
   pub first : I
   pub last : I

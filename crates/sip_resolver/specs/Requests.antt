@@ -106,8 +106,8 @@ pub record HaveRoom (ready held : Queued TaskView) (waiting : Queued WaitingView
 
 -- ---- what is so of them, at a seat
 
--- Each answer that a request was given counts; what a waiting one needs was lacking; and what
--- became of each that ended is so.
+-- What holds of the requests inside: each answer that a request was given counts, what a waiting
+-- request needs was lacking, and the outcome of each that ended is true.
 pub record Stand (gives : List ℕ → Type 0) (shows : ℕ → Type 0) (seat : SeatView)
     (it : RequestsView) : Type 0 where
   pub ready : All (IsCounted gives shows seat) it.ready

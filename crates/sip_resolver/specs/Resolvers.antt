@@ -124,11 +124,11 @@ pub record IsTaken (ended : Ended) (old new : ResolverView) : Type 0 where
 
 -- ---- what is sent
 
--- The requests are the same, and what is so of them goes on to be so. A request ends by its choice,
--- or as a question was in vain, or for want of memory. What is sent are the octets of a question
--- that is out, under an id of its own. Where nothing is sent, nothing is left to do at this moment.
--- What is due is due by the first moment, and what is sent waits until a full second behind the
--- second one, at least.
+-- What a poll leaves. The same requests are inside, and what holds of them still holds. A request
+-- ends by its choice, because a question was in vain, or because memory was refused. What is sent
+-- are the octets of a question that is out, under an id of its own. Where nothing is sent, nothing
+-- is left to do at this moment. What is due is due by the first moment; what is sent waits until at
+-- least a full second after the second one.
 pub record Polls (gives : List ℕ → Type 0) (shows : ℕ → Type 0) {I : Type 0}
     (draws : I → ℕ → I → Type 0) (seat : SeatView) (now asked : ℕ) (old new : ResolverView)
     (result : Option Transmit) : Type 0 where

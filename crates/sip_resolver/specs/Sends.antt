@@ -43,8 +43,8 @@ pub record IsUnanswered (tickets : List Ticket) (now : ℕ) (question : Question
 abbrev pub tickets_of : QuestionsView → List Ticket
 tickets_of it = it.datagrams.tickets ++ it.streams.tickets
 
--- How a request may end at a moment: for want of an answer to a question only that was in vain, and
--- not by a reply.
+-- how a request may end at a moment: without an answer only where the question was in vain, and by
+-- no reply
 abbrev pub IsInTime : List Ticket → ℕ → Outcome → Type 0
 IsInTime tickets now (Targets list) = ⊤
 IsInTime tickets now (Refused reason) = ⊤
@@ -54,7 +54,8 @@ IsInTime tickets now Memory = ⊤
 
 -- ---- what is sent
 
--- the questions over this are so, and the others as they were
+-- the questions that are out, with these over datagrams or over streams, and the others as they
+-- were
 abbrev pub with_over : Over → Asking → QuestionsView → QuestionsView
 with_over Datagram asking it = record it { datagrams = asking }
 with_over Stream asking it = record it { streams = asking }
@@ -88,7 +89,7 @@ pub data SendsOne (now asked id : ℕ) (waiting : List WaitingView) (old new : Q
       → IsResent (asking_over over old) asking (max now asked) id octets
       → new ≡ with_over over asking old → SendsOne now asked id waiting old new
 
--- some are given up, and then one is sent
+-- some questions are given up, and then one is sent
 pub record SendsAfter (now asked id : ℕ) (waiting : List WaitingView) (old new : QuestionsView)
     : Type 0 where
   pub middle : QuestionsView
@@ -104,8 +105,8 @@ Sends now asked waiting old new (Some transmit) =
     (id : ℕ) × SendsAfter now asked id waiting old new
     × IsOctetsOf transmit.octets.now id (asking_over transmit.over new).tickets
 
--- Each that is out now was out before and waits as long as it did; or it was sent, and its deadline
--- is a full second behind the moment rounded up, at least.
+-- Each question that is out was out before, and waits as long as it did; or it was sent, and its
+-- deadline is at least a full second after the moment rounded up.
 abbrev pub AreSpaced : ℕ → QuestionsView → QuestionsView → Type 0
 AreSpaced asked old new =
     All (λ ticket. Contains (tickets_of old) ticket ⊎ (asked < ticket.deadline)) (tickets_of new)

@@ -11,8 +11,8 @@ use Rattle.sip_resolver.specs.Requests.{RequestsView, requests_of, waiting_for, 
 use Rattle.sip_resolver.specs.Tasks.{TaskView, WaitingView, sought_of}
 use Rattle.sip_resolver.specs.declared.outcome.Outcome.{Outcome}
 
--- Requests that waited, those of them that go on, and those that ended, each in the order in which
--- they came to wait.
+-- Requests that waited, the ones of them that go on, and those that ended, each in the order in
+-- which they came to wait.
 pub data Settled (goes : TaskView → TaskView → Type 0) (kind : Outcome → Type 0)
     : List WaitingView → List TaskView → List Ended → Type 0 where
   none : Settled goes kind [] [] []

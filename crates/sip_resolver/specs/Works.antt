@@ -13,8 +13,8 @@ IsHeard gives shows offer = IsReplied gives offer.question offer.answer × shows
 abbrev pub offer_in : Store → Offer
 offer_in store = offer_of store.question store.answer store.moment
 
--- It goes on with the history, and hands to the book what replies had and nothing else. So what it
--- stores is of them.
+-- A seat goes on with the history, and hands to the book what replies had and nothing else. So each
+-- store that it makes is the answer of a reply.
 pub record Works (gives : List ℕ → Type 0) (shows : ℕ → Type 0) (old new : SeatView)
     : Type 0 where
   pub goes_on : GoesOn old new

@@ -229,7 +229,7 @@ module _ (secure : Bool) (caps : Caps) (words : List ℕ) (name : List (List ℕ
   Asks given Found found = ⊤
   Asks given (Refused reason) found = ⊤
 
-  -- a choice comes to this turn with these targets
+  -- a choice comes to this turn, with these targets found
   abbrev pub ComesTo : List Given → (List Given → Needing Settled) → Turn → List Target → Type 0
   ComesTo given choice turn found =
       ((all : List Given) → Extends given all → choice all ≡ turn_left turn found all)

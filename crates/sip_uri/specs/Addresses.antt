@@ -29,8 +29,8 @@ pub record GroupText (text octets : List ℕ) : Type 0 where
   pub digits : IsTrue (list_all is_ascii_hexdigit text)
   pub is : octets ≡ hexadecimal text / 256 ∷ hexadecimal text % 256 ∷ []
 
--- One or more groups, and the octets that they spell. Where it may, an IPv4 text stands for the
--- last two.
+-- Texts are one or more groups, with the octets that they spell. Where it is allowed, an IPv4 text
+-- takes the place of the last two groups.
 abbrev pub AreGroups : Bool → List (List ℕ) → List ℕ → Type 0
 AreGroups closing [] octets = ⊥
 AreGroups closing (text ∷ []) octets = GroupText text octets ⊎ (IsTrue closing × V4Text text octets)
@@ -44,11 +44,12 @@ pub record GroupsText (closing : Bool) (text octets : List ℕ) : Type 0 where
   pub joined : text ≡ join_with_byte 58 groups
   pub are : AreGroups closing groups octets
 
--- what stands beside two colons: groups with colons between them, or nothing
+-- a text is one side of two colons: groups with colons between them, or nothing
 abbrev pub SideText : Bool → List ℕ → List ℕ → Type 0
 SideText closing text octets = ((text ≡ []) × (octets ≡ [])) ⊎ GroupsText closing text octets
 
--- eight groups; or at most seven, where two colons stand for the groups of zero that lack
+-- a text is an IPv6 address: eight groups; or at most seven, with two colons in place of the groups
+-- of zero that are missing
 pub data V6Text (text octets : List ℕ) : Type 0 where
   whole : GroupsText true text octets → length octets ≡ 16 → V6Text text octets
   shortened : (left right front end : List ℕ)

@@ -22,7 +22,7 @@ abbrev pub SchemeText : List ℕ → Bool → Type 0
 SchemeText text false = small_letters text ≡ 115 ∷ 105 ∷ 112 ∷ []
 SchemeText text true = small_letters text ≡ 115 ∷ 105 ∷ 112 ∷ 115 ∷ []
 
--- a scheme and `:` stand in front of a text
+-- a scheme and `:` are in front of a text
 pub record HasScheme (text : List ℕ) : Type 0 where
   pub scheme : List ℕ
   pub rest : List ℕ
@@ -30,7 +30,7 @@ pub record HasScheme (text : List ℕ) : Type 0 where
   pub joined : text ≡ scheme ++ 58 ∷ rest
   pub is_scheme : SchemeText scheme secure
 
--- nothing; or a user, optionally with `:` and a password, and `@` after them
+-- a text is nothing, or a user, optionally with `:` and a password, and `@` after them
 pub data UserText (text : List ℕ) : Type 0 where
   nobody : text ≡ [] → UserText text
   alone : (user : List ℕ) → IsSomeRun is_user_octet user → text ≡ user ++ 64 ∷ [] → UserText text
@@ -46,7 +46,7 @@ pub record PortNumber (text : List ℕ) (port : ℕ) : Type 0 where
   pub from : 0 < port
   pub upto : port ≤ 65535
 
--- nothing, or `:` and a port
+-- a text is nothing, or `:` and a port
 abbrev pub PortText : List ℕ → Option ℕ → Type 0
 PortText text None = text ≡ []
 PortText text (Some port) = (digits : List ℕ) × (text ≡ 58 ∷ digits) × PortNumber digits port
@@ -65,7 +65,8 @@ valued_text name (Some value) = name ++ 61 ∷ value
 abbrev pub param_text : Param → List ℕ
 param_text param = valued_text param.name param.value
 
--- the name in small letters, by which parameters are told apart; escapes stay as they are written
+-- the key of a parameter, which no two parameters share: its name in small letters, with its
+-- escapes as they are written
 abbrev pub key_of : Param → List ℕ
 key_of param = small_letters param.name
 
@@ -111,7 +112,7 @@ pub record HeaderText (text : List ℕ) : Type 0 where
   pub is_name : IsSomeRun is_header_octet name
   pub is_value : IsRun is_header_octet value
 
--- nothing, or `?` and headers with `&` between them
+-- the text of headers: nothing, or `?` and headers with `&` between them
 abbrev pub headers_text : List (List ℕ) → List ℕ
 headers_text [] = []
 headers_text (header ∷ headers) = 63 ∷ join_with_byte 38 (header ∷ headers)

@@ -17,7 +17,7 @@ pub record IsToken (text : List ℕ) : Type 0 where
   pub some : 0 < length text
   pub octets : IsTrue (list_all is_token_octet text)
 
--- what stands between the quotes: characters other than `"`, `\`, CR and LF, and `\` with another
+-- the octets between two quotes: characters other than `"`, `\`, CR and LF, and `\` with another
 -- octet of ASCII than CR and LF
 pub data IsQuoted : List ℕ → Type 0 where
   done : IsQuoted []
@@ -32,7 +32,7 @@ pub data IsValue (text : List ℕ) : Type 0 where
   word : 0 < length text → IsTrue (list_all is_value_octet text) → IsValue text
   quoted : (inner : List ℕ) → IsQuoted inner → text ≡ 34 ∷ inner ++ 34 ∷ [] → IsValue text
 
--- nothing, or `=` with blanks around it and a value
+-- a text is nothing, or `=` with blanks around it and a value
 pub data ValueText (text : List ℕ) : Type 0 where
   without : text ≡ [] → ValueText text
   valued : (front behind value : List ℕ) → IsBlanks front → IsBlanks behind → IsValue value
@@ -53,7 +53,7 @@ pub record ViaParams (text : List ℕ) : Type 0 where
   pub are : ParamsText text keys
   pub apart : AllPairs (λ a b. a ≡ b → ⊥) keys
 
--- nothing, or `:` with blanks around it and a port
+-- a text is nothing, or `:` with blanks around it and a port
 abbrev pub ViaPort : List ℕ → Option ℕ → Type 0
 ViaPort text None = text ≡ []
 ViaPort text (Some port) = (front : List ℕ) × (behind : List ℕ) × (digits : List ℕ) × IsBlanks front
@@ -83,7 +83,7 @@ pub record ProtocolText (text transport : List ℕ) : Type 0 where
   pub last_blank : IsBlanks last
   pub apart : 0 < length last
 
--- a protocol and a transport stand in front of a text (RFC 3261 8.1.1.7)
+-- a text begins with a protocol and a transport (RFC 3261 8.1.1.7)
 pub record HasProtocol (text : List ℕ) : Type 0 where
   pub protocol : List ℕ
   pub transport : List ℕ

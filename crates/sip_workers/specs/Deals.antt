@@ -23,7 +23,7 @@ IsInside jobs batch = batch.first + batch.count ≤ length jobs
 abbrev pub IsSome : Batch → Type 0
 IsSome batch = 0 < batch.count
 
--- batches that are cut from so many of the jobs, from the first one on
+-- batches are cut from this number of the jobs, from the first one on
 pub record IsCut (jobs : List Job) (count : ℕ) (batches : List Batch) : Type 0 where
   pub whole : flat_map (jobs_of jobs) batches ≡ take count jobs
   pub inside : All (IsInside jobs) batches
@@ -52,7 +52,7 @@ pub record IsTaken (known : PassView) (ended : Bool) : Type 0 where
   pub took_end : ended ≡ true → 1 ≤ sum_by end_of known.taken
 
 module _ (gives : List ℕ → Type 0) (shows : ℕ → Type 0) where
-  -- what a result tells of its job
+  -- what a result says of its job
   abbrev pub IsTold : ResultView → Type 0
   IsTold it = IsOutcome gives shows it.notice.seen it.job it.outcome
 

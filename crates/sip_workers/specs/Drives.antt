@@ -11,19 +11,19 @@ use Rattle.sip_resolver.specs.declared.transmit.Transmit.{Transmit}
 
 -- ---- one call of the wire
 
--- it fails, or it can't count its faults any more and is left as it is
+-- a wire fails, or it can't count its faults any more and is left as it is
 abbrev pub Fails : {Wire : Type 0} → (Wire → ℕ) → (Wire → Event (Unit {0}) → Wire → Type 0)
     → Wire → Wire → Type 0
 Fails failed does before after =
     does before fault after ⊎ ((2 ^ 64 - 1 ≤ failed before) × (after ≡ before))
 
--- these octets are sent, unless it fails
+-- these octets are sent, unless the wire fails
 abbrev pub Sends : {Wire : Type 0} → (Wire → ℕ) → (Wire → Event (Unit {0}) → Wire → Type 0)
     → List ℕ → Wire → Wire → Type 0
 Sends failed does octets before after =
     does before (sent octets tt) after ⊎ Fails failed does before after
 
--- nothing is received, or it fails
+-- nothing is received, or the wire fails
 abbrev pub HearsNothing : {Wire : Type 0} → (Wire → ℕ)
     → (Wire → Event (Unit {0}) → Wire → Type 0) → Wire → Wire → Type 0
 HearsNothing failed does before after =

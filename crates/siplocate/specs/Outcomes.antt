@@ -11,7 +11,7 @@ use Rattle.siplocate.specs.Words.{target_line, reason_word, kind_word, refusal_w
 use Rattle.siplocate.specs.declared.fate.Fate.{Fate}
 use Rattle.siplocate.specs.declared.fate.Fate.TheVariants as fate
 
--- a number, and what follows it
+-- a line that begins with a number
 abbrev pub numbered : ℕ → List ℕ → List ℕ
 numbered number text = decimal number ++ 32 ∷ text
 
@@ -54,7 +54,7 @@ has_targets (fate.Became (outcome.BadReply question refusal)) = false
 has_targets (fate.Became outcome.Memory) = false
 has_targets (fate.Bad refusal) = false
 
--- a line became nothing for want of memory
+-- a line became nothing, since memory was refused
 abbrev pub lacks_memory : Fate → Bool
 lacks_memory (fate.Became (outcome.Targets list)) = false
 lacks_memory (fate.Became (outcome.Refused reason)) = false

@@ -1,7 +1,7 @@
 -- A text whose first empty line parts a zone from requests.
 use Rattle.std.specs.Prelude.{◌≡◌, ◌≤◌, ◌⊎◌, ◌++◌, ℕ, List, [], ◌∷◌, length}
 
--- what ends a line: a line feed, alone or behind a carriage return
+-- the end of a line: a line feed, alone or after a carriage return
 abbrev pub IsLineEnd : List ℕ → Type 0
 IsLineEnd octets = (octets ≡ 10 ∷ []) ⊎ (octets ≡ 13 ∷ 10 ∷ [])
 
@@ -9,14 +9,14 @@ IsLineEnd octets = (octets ≡ 10 ∷ []) ⊎ (octets ≡ 13 ∷ 10 ∷ [])
 abbrev pub BeginsLine : List ℕ → Type 0
 BeginsLine front = (front ≡ []) ⊎ ((before : List ℕ) × (front ≡ before ++ 10 ∷ []))
 
--- an empty line between these
+-- an empty line is between two parts of a text
 pub record HasEmptyLine (text front rest : List ℕ) : Type 0 where
   pub line : List ℕ
   pub joined : text ≡ front ++ line ++ rest
   pub begins : BeginsLine front
   pub ends : IsLineEnd line
 
--- the first empty line stands between these
+-- the first empty line of a text is between these parts
 pub record IsParted (text front rest : List ℕ) : Type 0 where
   pub here : HasEmptyLine text front rest
   pub first : (other others : List ℕ) → HasEmptyLine text other others → length front ≤ length other

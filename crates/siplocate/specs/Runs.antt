@@ -40,8 +40,7 @@ IsEntry number line jobs after entry.Request = (job : Job) × IsJob number line 
     × (after ≡ jobs ++ job ∷ [])
 IsEntry number line jobs after (entry.Bad refusal) = IsNoRequest line refusal × (after ≡ jobs)
 
--- what stands in lines that are numbered from this number on, and the jobs of those that are
--- requests
+-- what lines are that are numbered from this number on, and the jobs of those that are requests
 abbrev pub AreEntries : ℕ → List (List ℕ) → List Entry → List Job → Type 0
 AreEntries number [] [] [] = ⊤
 AreEntries number (line ∷ lines) (entry.Request ∷ entries) (job ∷ jobs) =
@@ -80,8 +79,7 @@ RefusesText text seats wires (Gathering refusal) = ⊤
 
 -- ---- what becomes of it
 
--- what becomes of lines, by what stands in them and what became of the requests among them, in
--- order
+-- what becomes of lines, by what they are and by what became of the requests among them, in order
 abbrev pub fates_of : List Entry → List (Outcome × Told) → List Fate
 fates_of [] made = []
 fates_of (entry.Bad refusal ∷ entries) made = fate.Bad refusal ∷ fates_of entries made

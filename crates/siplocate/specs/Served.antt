@@ -63,7 +63,7 @@ pub record IsOverfull (text : List ℕ) : Type 0 where
   pub parts : AreParts text zone requests
   pub many : HasTooMany requests
 
--- the line of a text that is no zone
+-- the line that is printed for a text that is no zone
 abbrev pub bad_zone_line : ZoneRefusal → List ℕ
 bad_zone_line (zone.BadLine number) = codes "bad zone " ++ decimal number ++ 10 ∷ []
 bad_zone_line zone.TooMany = codes "bad zone TooMany\n"

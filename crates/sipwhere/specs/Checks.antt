@@ -25,7 +25,7 @@ check_status fate.Memory = 3
 abbrev pub targets_front : ℕ → List ℕ
 targets_front count = codes "SIP OK - " ++ decimal count ++ codes " targets, first "
 
--- how many targets, and the first one
+-- the line of targets: how many there are, and the first one
 abbrev pub targets_line : AddressForm → List Target → List ℕ
 targets_line form [] = codes "SIP OK - 0 targets\n"
 targets_line form (only ∷ []) = target_line form (codes "SIP OK - 1 target: ") only

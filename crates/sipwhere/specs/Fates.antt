@@ -14,7 +14,7 @@ use Rattle.sipwhere.specs.declared.line.Line.{Line}
 use Rattle.sipwhere.specs.declared.sender.Sender.{Sender}
 use Rattle.sip_resolver.specs.declared.outcome.Outcome.{Outcome}
 
--- no number that is made of a request tells one from the other
+-- no number that is made of a request tells one of two requests from the other
 abbrev pub AreAlike : Sought → Sought → Type 0
 AreAlike sought other = (measure : Sought → ℕ) → measure sought ≡ measure other
 
@@ -28,7 +28,7 @@ MayBecome gives shows seat asked TimeOver = Unit {0}
 MayBecome gives shows seat asked (Bad refusal) = ⊥
 MayBecome gives shows seat asked Memory = Unit {0}
 
--- a text is no request: but for want of memory, where it may be one
+-- a text is no request, unless memory was refused, where it may be one
 abbrev pub IsNoRequest : List ℕ → UriRefusal → Type 0
 IsNoRequest text refusal =
     (request : Request) → RequestText text request → refusal ≡ uri.Memory

@@ -41,8 +41,8 @@ abbrev pub AreMeant : Sender → List Line → RequestsView → Type 0
 AreMeant sender lines requests =
     (h : Sought → ℕ) → VanishesOn sender lines h → weight h requests ≡ 0
 
--- So many of the lines were begun; each request inside is that of a line; and each line has a place
--- for what becomes of it.
+-- This number of the lines were begun; each request inside is that of a line; and each line has a
+-- place for what becomes of it.
 pub record Fits (sender : Sender) (lines : List Line) (begun : ℕ) (requests : RequestsView)
     (fates : List (Option Fate)) : Type 0 where
   pub few : begun ≤ length lines
@@ -63,7 +63,7 @@ pub record Stands (gives : List ℕ → Type 0) (shows : ℕ → Type 0) (seat :
   pub requests : Stand gives shows seat it.requests
   pub fates : AllZip (IsFateOf gives shows seat it.sender) it.lines it.fates
 
--- what became of the first line of which it was not told was told, with this status
+-- what became of the first line that was not reported is printed, with this status
 pub record TellsFirst (gives : List ℕ → Type 0) (shows : ℕ → Type 0) (seat : SeatView)
     (style : Style) (it : OpenView) (old new : Option (List ℕ)) (status : ℕ) : Type 0 where
   pub inside : it.told < length it.lines

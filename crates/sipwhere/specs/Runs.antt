@@ -10,14 +10,14 @@ use Rattle.sipwhere.specs.declared.line.Line.{Line}
 use Rattle.sipwhere.specs.declared.report.Style.{Style}
 use Rattle.sipwhere.specs.declared.sender.Sender.{Sender}
 
--- Its report was printed, and the status is that of what became of it; or the status is 5.
+-- the report of a text was printed, and the status is that of what became of it; or the status is 5
 abbrev pub IsTold : Option (List ℕ) → Option (List ℕ) → Style → List WireTry → List ℕ → Fate → ℕ
     → Type 0
 IsTold old new style tries text fate status =
     (Appends old new (traced_report style tries text fate) × (status ≡ status_in style.report fate))
     ⊎ (status ≡ 5)
 
--- what became of a line is told, and in front of it what went over the wire
+-- what became of a line is printed, after what went over the wire for it
 pub record Tells (gives : List ℕ → Type 0) (shows : ℕ → Type 0) (seat : SeatView) (sender : Sender)
     (style : Style) (line : Line) (old new : Option (List ℕ)) (status : ℕ) : Type 0 where
   pub tries : List WireTry

@@ -17,7 +17,7 @@ pub struct Progress {
 }
 
 impl Progress {
-    /// Progress of which nothing is known yet. It is shown from the first second on, if at all.
+    /// Progress of which nothing is known yet. It is shown after the first second, if at all.
     pub fn new(is_shown: bool) -> Progress {
         Progress {
             is_shown,
