@@ -10,16 +10,18 @@ use thiserror::Error;
 /// Why a message gives no answer to a question, in the order of the checks.
 #[derive(Clone, Copy, Debug, PartialEq, Eq, Error)]
 pub enum ReplyRefusal {
-    /// It is no reply to a standard query: QR is clear, or OPCODE is not 0 (RFC 1035 4.1.1).
+    /// The message is no reply to a standard query: QR is clear, or OPCODE is not 0 (RFC 1035
+    /// 4.1.1).
     #[error("it is no reply to a standard query")]
     NotReply,
-    /// Its questions are not this one alone, in class IN.
+    /// The questions of the message are not this one alone, in class IN.
     #[error("it does not repeat the question")]
     OtherQuestion,
-    /// It was cut: TC is set.
+    /// The message was cut: TC is set.
     #[error("it was cut")]
     Truncated,
-    /// The server could not say: RCODE, given here, is neither 0 nor 3, a name that does not exist.
+    /// The server gave no answer: RCODE, which this variant has, is neither 0 nor 3, a name that
+    /// does not exist.
     #[error("the server could not say")]
     ServerFault(u8),
     /// Memory was refused.

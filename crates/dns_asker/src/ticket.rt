@@ -9,7 +9,7 @@ use std::marker::Model;
 /// How often a question is sent.
 const SEND_LIMIT: u8 = 3;
 
-/// A question that was sent, its octets, and how often it was.
+/// A question that was sent, its octets, and how many times it was sent.
 #[derive(Drop)]
 pub(crate) struct Ticket {
     id: u16,

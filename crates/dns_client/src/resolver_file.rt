@@ -29,7 +29,8 @@ const ATTEMPTS: u32 = 2;
 /// The server of the local host.
 const LOCAL_HOST: Address = Address::V4([127, 0, 0, 1]);
 
-/// What the system's resolver file says of whom to ask, how long and how often.
+/// What the system's resolver file says: which servers to ask, how long to wait and how often to
+/// ask.
 #[derive(Debug, Drop)]
 pub struct ResolverFile {
     servers: Vec<Address>,

@@ -7,7 +7,7 @@ ghost use Rattle.dns_client.specs.WireCounts as spec;
 pub struct WireCounts {
     /// Queries that went out for the first time.
     pub questions: u64,
-    /// Queries that went out once more, to whatever server.
+    /// Queries that went out once more, to any server.
     pub again: u64,
     /// Queries that went over TCP, for the first time or once more.
     pub over_tcp: u64,

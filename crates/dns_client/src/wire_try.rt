@@ -25,7 +25,7 @@ pub struct WireReply {
     pub rcode: u16,
     /// How many octets the message has.
     pub octets: usize,
-    /// The message in front of them; none where they begin with no message (RFC 1035 4.1).
+    /// The message in front of the octets; none where they begin with no message (RFC 1035 4.1).
     pub message: Option<Message>,
     /// When the message came, since the wire was opened.
     pub came_at: Duration,
@@ -68,7 +68,7 @@ impl WireTry {
     }
 }
 
-/// What keeps the queries that went out.
+/// A wire that keeps the queries that went out.
 pub trait Tracer {
     /// Gives the queries that went out since the last call, in their order.
     fn take_tries(&mut self) -> Vec<WireTry>

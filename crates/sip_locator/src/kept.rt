@@ -6,9 +6,9 @@ use answer_cache::StoreRefusal;
 /// Whether the book stored an answer. The answer counts for its locator either way.
 #[derive(Clone, Copy, Debug, PartialEq, Eq)]
 pub enum Kept {
-    /// It is stored.
+    /// The answer is stored.
     Yes,
-    /// It is not, for this reason.
+    /// The answer is not stored, for this reason.
     No(StoreRefusal),
 }
 

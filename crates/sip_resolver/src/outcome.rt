@@ -97,7 +97,7 @@ impl Outcome {
     }
 }
 
-/// A request that ended, and what became of it.
+/// A request that ended, with what became of it.
 #[derive(Drop)]
 pub struct Resolved<B> {
     task: Task<B>,

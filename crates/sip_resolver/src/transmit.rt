@@ -1,6 +1,6 @@
 //! What is sent, and over what.
 
-/// Over what octets go, and come.
+/// What octets go over: a datagram or a stream.
 #[derive(Clone, Copy, Debug, PartialEq, Eq)]
 pub enum Over {
     /// A datagram, which is these octets (RFC 1035 4.2.1).
@@ -10,11 +10,11 @@ pub enum Over {
     Stream,
 }
 
-/// Octets to send.
+/// A message to send.
 #[derive(Debug, Drop)]
 pub struct Transmit<'a> {
     /// The message, which begins with its id.
     pub octets: &'a [u8],
-    /// Over what it goes.
+    /// What the message goes over.
     pub over: Over,
 }

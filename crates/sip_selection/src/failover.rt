@@ -80,7 +80,7 @@ impl Failover {
         self.targets.get(self.failures)
     }
 
-    /// How far the tries are.
+    /// How far the tries are: a target is tried, one answered, or all have failed.
     pub fn progress(&self) -> Progress
         ensures { result ≡ progress_of self.now }
     {

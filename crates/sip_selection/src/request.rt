@@ -37,7 +37,7 @@ impl Request {
         }
     }
 
-    /// The port, where one is written.
+    /// The port that the request writes, if it writes one.
     pub fn port(&self) -> Option<u16>
         ensures { result ≡ spec.port_of self.now }
     {
@@ -47,7 +47,7 @@ impl Request {
         }
     }
 
-    /// The transport that is named, if one is.
+    /// The transport that the request names, if it names one.
     pub fn spoken(&self) -> Option<Spoken>
         ensures { result ≡ spec.spoken_of self.now }
     {

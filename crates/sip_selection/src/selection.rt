@@ -25,7 +25,7 @@ use std::marker::Model;
 use std::sync::Arc;
 use thiserror::Error;
 
-/// What is next for a request.
+/// What is next for a request: a question, its targets, or the reason why it goes nowhere.
 #[derive(Clone, Copy)]
 pub enum Next<'a> {
     /// This question has to be answered.

@@ -70,7 +70,7 @@ fn workers_of(word: &str) -> Option<usize>
     }
 }
 
-/// The command of these words.
+/// The command that these words say.
 pub fn arguments(words: &[String]) -> Command
     ensures { Means (map string_bytes words.now) result }
 {

@@ -18,9 +18,9 @@ use std::alloc::{AllocError, Global};
 /// What becomes of a line of the requests.
 #[derive(Debug, Drop)]
 pub enum Fate {
-    /// It is a request, and this became of it.
+    /// The line is a request, and this became of it.
     Became(Outcome),
-    /// It is no request.
+    /// The line is no request, for this reason.
     Bad(UriRefusal),
 }
 

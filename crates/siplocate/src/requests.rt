@@ -62,7 +62,7 @@ pub enum Entry {
 pub struct Requests {
     /// What each line is.
     pub entries: Vec<Entry>,
-    /// The jobs of those that are requests.
+    /// The jobs of the lines that are requests.
     pub jobs: Vec<Job>,
 }
 

@@ -8,13 +8,13 @@ use sip_uri::UriRefusal;
 /// What becomes of a text.
 #[derive(Debug, Drop)]
 pub enum Fate {
-    /// It is a request, and this became of it.
+    /// The text is a request, and this became of it.
     Became(Outcome),
-    /// It is a request, and its time was over.
+    /// The text is a request, and its time was over.
     TimeOver,
-    /// It is no request.
+    /// The text is no request, for this reason.
     Bad(UriRefusal),
-    /// Memory was refused for it.
+    /// Memory was refused for the text.
     Memory,
 }
 

@@ -6,7 +6,7 @@ use std::alloc::{AllocError, Global};
 /// A text, and its number.
 #[derive(Clone, Copy, Debug)]
 pub struct Line<'a> {
-    /// Its number, by which its random words are drawn.
+    /// The number of the line, by which its random words are drawn.
     pub number: u64,
     /// A URI, or `Via: ..`.
     pub text: &'a str,

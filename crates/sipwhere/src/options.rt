@@ -19,7 +19,7 @@ use thiserror::Error;
 pub struct Options<'a> {
     /// The name servers, where they are named.
     pub servers: Vec<SocketAddr>,
-    /// The resolver file, for where they are not.
+    /// The resolver file that is read where no servers are named.
     pub resolver_file: &'a str,
     /// Whether servers are asked over TCP alone.
     pub over_tcp: bool,
@@ -37,7 +37,7 @@ pub struct Options<'a> {
     pub report: Report,
     /// The form of addresses.
     pub form: AddressForm,
-    /// Whether each try is printed.
+    /// Whether the program prints each query that went out.
     pub traced: bool,
     /// Whether the program reports at the end how much was asked.
     pub stats: bool,
@@ -91,7 +91,7 @@ impl<T: Drop> From<AllocFailed<T>> for OptionFault {
 }
 
 impl<'a> Options<'a> {
-    /// How what became of texts is printed.
+    /// The style in which what became of texts is printed.
     pub fn style(&self, several: bool) -> Style {
         Style {
             report: self.report,

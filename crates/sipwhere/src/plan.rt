@@ -17,7 +17,7 @@ use std::rt::Files;
 pub struct Plan {
     /// The name servers.
     pub servers: Vec<SocketAddr>,
-    /// Whether they are asked over TCP alone.
+    /// Whether the servers are asked over TCP alone.
     pub over_tcp: bool,
 }
 

@@ -13,7 +13,7 @@ use crate::trace::trace_lines;
 use dns_client::WireTry;
 use std::alloc::{AllocError, Global};
 
-/// What is printed of a text.
+/// The form of report of a text.
 #[derive(Clone, Copy, Debug, PartialEq, Eq)]
 pub enum Report {
     /// A line for each target, or why there is none.
@@ -24,7 +24,7 @@ pub enum Report {
     Check,
 }
 
-/// How what became of texts is printed.
+/// The style in which what became of texts is printed.
 #[derive(Clone, Copy, Debug)]
 pub struct Style {
     /// What is printed.

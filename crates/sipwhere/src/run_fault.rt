@@ -5,7 +5,7 @@ use std::alloc::{AllocError, AllocFailed};
 use std::io;
 use thiserror::Error;
 
-/// Why nothing is asked.
+/// Why the program asks nothing.
 #[derive(Debug, Drop, Error)]
 pub enum RunFault {
     /// The system has a fault: its files, its clock, its entropy, its sockets or its memory.
