@@ -14,7 +14,7 @@
 //! an earlier moment finds it too. When the life has ended, it finds nothing. An older store of the
 //! question does not come back.
 //!
-//! `store` adds an answer behind all others, at the moment that the caller gives. It refuses an
+//! `store` adds an answer after all others, at the moment that the caller gives. It refuses an
 //! answer of life 0, because that may not be kept. It also refuses an answer when the group of its
 //! question is full, when other stores came in between 16 times, and when there is no memory.
 //! `StoreRefusal` says which it was, and nothing was stored then.

@@ -40,7 +40,7 @@ pub record HadRoom (log : List Event) (node : ℕ) (question : Question) : Type 
   pub top : top (group_of question) seen ≡ node
   pub room : IsFull (history seen) question → ⊥
 
--- the tally is that of the seat, in the log of these names
+-- a tally is that of a seat, in the log of these names
 abbrev pub Fits : Tally → List ℕ → ℕ → Type 0
 Fits tally names seat = (tally.held ≡ true) × (tally.name ∷ [] ≡ names) × (tally.seat ≡ seat)
     × (seat < 64)

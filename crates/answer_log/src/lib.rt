@@ -33,7 +33,7 @@
 //! A step is of one of seven kinds. Four of them read or write one word that others may read:
 //!
 //! - a load of a head: `Log::walk`, and `Log::learn`, which first takes over what another has seen.
-//!   By the rule it tells the whole log, and not that group alone;
+//!   By the rule it shows the whole log, and not that group alone;
 //! - a load of a link: `Walk::pass`;
 //! - a store into the link of a node that is not placed yet: `Word::store`, by the pen that
 //!   `Log::claim` gives;

@@ -49,7 +49,7 @@ absent_life message (Some chain) = least_from (negative_ttl_of message.authority
 
 -- ---- the records of an answer, or that there are none
 
--- the CNAME records of a chain; of one without an end, none
+-- the CNAME records of a chain; none where the chain has no end
 abbrev pub links_of : Option Chain → List Record
 links_of None = []
 links_of (Some chain) = chain.links

@@ -1,4 +1,4 @@
-//! Laws of askers. A call of one does nothing: its contract tells its caller the law.
+//! Laws of askers. A call of one does nothing; its contract states the law.
 ghost use Rattle.std.specs.Prelude.{List};
 ghost use Rattle.dns_asker.specs.Runs.{Event, Runs};
 ghost use Rattle.dns_asker.specs.Tickets.{Asking, IsAsking};

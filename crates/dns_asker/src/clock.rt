@@ -1,4 +1,4 @@
-//! What tells the time.
+//! Clocks.
 ghost use Rattle.std.specs.Prelude.{ℕ};
 
 use dns_answers::Moment;

@@ -23,11 +23,11 @@
 //! let answered = matches!(heard, Incoming::Ended(0x1234, _, Ending::Answered(_)));
 //! ```
 //!
-//! `Wire` and `PeerWire` say what may be known of who carries datagrams, to one server or to many
-//! peers, and `Clock` of who tells the time. `serve` replies from a zone (`dns_zone`) over a
-//! `PeerWire`, until it is told to stop, and gives the count of replies. For tests and measurements
-//! there are a wire in memory to a zone's server (`ZoneWire`) and a clock that stands
-//! (`StandingClock`).
+//! `Wire` and `PeerWire` say what may be known of a wire that carries datagrams, to one server or
+//! to many peers, and `Clock` what may be known of a clock. `serve` replies from a zone
+//! (`dns_zone`) over a `PeerWire`, until it is told to stop, and gives the count of replies. For
+//! tests and measurements there are a wire in memory to a zone's server (`ZoneWire`) and a clock
+//! that stands (`StandingClock`).
 //!
 //! Read `specs/Tickets.antt` and `specs/Events.antt` first: what waits, and what each event does to
 //! it. Then `specs/Servers.antt`: what a server does.

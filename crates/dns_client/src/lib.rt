@@ -5,7 +5,7 @@
 //! once. They work over any `MessageWire` and any `Clock`. `ServerWire` is a wire over the system's
 //! sockets: UDP, TCP for replies that were cut, and several servers in turn. `QueryForm` says in
 //! which form queries go out: whether recursion is desired, and with EDNS or without. `WireCounts`
-//! and `WireTry` tell what went over such a wire. `RunClock` is a clock that counts from its start,
+//! and `WireTry` say what went over such a wire. `RunClock` is a clock that counts from its start,
 //! and a `Timer`. `random_ids` and `draw_words` make ids of queries and random words of a key,
 //! which `random_key` takes from the system's entropy. `read_request` reads the request of a line.
 //!

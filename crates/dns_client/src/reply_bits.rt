@@ -1,4 +1,4 @@
-//! What the header of a reply tells (RFC 1035 4.1.1), and its OPT record (RFC 6891 6.1.3).
+//! What the header of a reply says (RFC 1035 4.1.1), and its OPT record (RFC 6891 6.1.3).
 ghost use Rattle.std.specs.Prelude.{◌≡◌, ◌↔◌, ◌%◌, IfOk, IfSome, IsTrue, slice_get};
 ghost use Rattle.std.specs.List.{list_any};
 ghost use Rattle.dns_client.specs.ReplyBits as spec;

@@ -42,7 +42,8 @@ pub record SoaFits (authority : SoaRecord) : Type 0 where
   pub expire : authority.expire < 2 ^ 32
   pub minimum : authority.minimum < 2 ^ 32
 
--- RDATA fits: an address has 4 or 16 octets, and data of another type what its own definition asks
+-- RDATA fits: an address has 4 or 16 octets, a name is a name, and other data fits by its own
+-- definition
 abbrev pub RdataFits : Rdata → Type 0
 RdataFits (Addr4 octets) = length octets ≡ 4
 RdataFits (Addr6 octets) = length octets ≡ 16

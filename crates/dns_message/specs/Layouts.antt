@@ -20,20 +20,20 @@ pub record AddressAt (size : ℕ) (message : List ℕ) (place : ℕ) (octets : L
   pub size_is : length octets ≡ size
   pub stands : OctetsAt message place octets end
 
--- a character string stands at a place: how many octets it has, and these (RFC 1035 3.3)
+-- a character string is at a place: how many octets it has, and these (RFC 1035 3.3)
 pub record CharStringAt (message : List ℕ) (place : ℕ) (string : List ℕ) (end : ℕ) : Type 0 where
   pub short : length string ≤ 255
   pub stands : OctetsAt message place (length string ∷ string) end
 
--- SRV data stands at a place: priority, weight, port and target (RFC 2782)
+-- SRV data is at a place: priority, weight, port and target (RFC 2782)
 pub record SrvAt (message : List ℕ) (place : ℕ) (server : SrvRecord) (end : ℕ) : Type 0 where
   pub priority : NumberAt w16 message place server.priority
   pub weight : NumberAt w16 message (place + 2) server.weight
   pub port : NumberAt w16 message (place + 4) server.port
   pub target : NameAt message (place + 6) (place + 6) server.target end
 
--- NAPTR data stands at a place: ORDER, PREFERENCE, FLAGS, SERVICES, REGEXP and REPLACEMENT (RFC
--- 3403 4.1)
+-- NAPTR data is at a place: ORDER, PREFERENCE, FLAGS, SERVICES, REGEXP and REPLACEMENT (RFC 3403
+-- 4.1)
 pub record NaptrAt (message : List ℕ) (place : ℕ) (rule : NaptrRecord) (end : ℕ) : Type 0 where
   pub services_start : ℕ
   pub regexp_start : ℕ
@@ -45,7 +45,7 @@ pub record NaptrAt (message : List ℕ) (place : ℕ) (rule : NaptrRecord) (end 
   pub regexp : CharStringAt message regexp_start rule.regexp replacement_start
   pub replacement : NameAt message replacement_start replacement_start rule.replacement end
 
--- SOA data stands at a place: MNAME, RNAME, SERIAL, REFRESH, RETRY, EXPIRE and MINIMUM (RFC 1035
+-- SOA data is at a place: MNAME, RNAME, SERIAL, REFRESH, RETRY, EXPIRE and MINIMUM (RFC 1035
 -- 3.3.13)
 pub record SoaAt (message : List ℕ) (place : ℕ) (authority : SoaRecord) (end : ℕ) : Type 0 where
   pub rname_start : ℕ
@@ -59,7 +59,7 @@ pub record SoaAt (message : List ℕ) (place : ℕ) (authority : SoaRecord) (end
   pub minimum : NumberAt w32 message (numbers_start + 16) authority.minimum
   pub ends : end ≡ numbers_start + 20
 
--- data of any other type or class stands at a place, as its octets
+-- data of any other type or class is at a place, as its octets
 pub record OtherAt (message : List ℕ) (place code class_code : ℕ) (octets : List ℕ)
     (end : ℕ) : Type 0 where
   pub short : length octets ≤ 65535
@@ -67,7 +67,7 @@ pub record OtherAt (message : List ℕ) (place code class_code : ℕ) (octets : 
 
 -- ---- the data
 
--- data of a layout stands from a place to another
+-- data of a layout lies from one place to another
 abbrev pub FormatAt : DataFormat → List ℕ → ℕ → ℕ → ℕ → Rdata → ℕ → Type 0
 FormatAt format.A message place code class_code rdata end =
     (octets : List ℕ) × (rdata ≡ Addr4 octets) × AddressAt 4 message place octets end
@@ -86,7 +86,7 @@ FormatAt format.Other message place code class_code rdata end =
     × (rdata ≡ Other (record { code = code; class_code = class_code; octets = octets }))
     × OtherAt message place code class_code octets end
 
--- RDATA of this type and class stands from a place to another, by its layout (RFC 1035 3.2.1)
+-- RDATA of this type and class lies from one place to another, by its layout (RFC 1035 3.2.1)
 abbrev pub RdataAt : List ℕ → ℕ → ℕ → ℕ → Rdata → ℕ → Type 0
 RdataAt message place code class_code rdata end =
     FormatAt (data_format code class_code) message place code class_code rdata end

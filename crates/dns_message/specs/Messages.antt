@@ -41,13 +41,13 @@ pub record Begins (octets : List ℕ) (it : Message) : Type 0 where
 
 -- ---- octets that begin with no message
 
--- as many questions as the header counts stand after it, up to this end (RFC 1035 4.1.1)
+-- as many questions as the header counts come after it, up to this end (RFC 1035 4.1.1)
 pub record QuestionsStand (octets : List ℕ) (end : ℕ) : Type 0 where
   pub questions : List Asked
   pub count : NumberAt w16 octets 4 (length questions)
   pub stand : AllAt (QuestionAt octets) 12 questions end
 
--- as many records as this number of the header counts stand from one place to another (RFC 1035
+-- as many records as this number of the header counts lie from one place to another (RFC 1035
 -- 4.1.1)
 pub record RecordsStand (octets : List ℕ) (count_place start end : ℕ) : Type 0 where
   pub records : List Record

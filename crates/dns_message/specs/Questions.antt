@@ -8,7 +8,7 @@ use Rattle.dns_message.specs.Places.{NumberAt}
 use Rattle.dns_message.specs.declared.question.Asked.{Asked}
 use Rattle.dns_message.specs.declared.question.Question.{Question}
 
--- QNAME, QTYPE and QCLASS stand from a place to another
+-- a question lies from one place to another: QNAME, QTYPE and QCLASS
 pub record QuestionAt (message : List ℕ) (place : ℕ) (asked : Asked) (end : ℕ) : Type 0 where
   pub after : ℕ
   pub name : NameAt message place place asked.name after

@@ -6,14 +6,14 @@ use Rattle.dns_message.specs.Places.{NumberAt}
 use Rattle.dns_message.specs.Layouts.{RdataAt}
 use Rattle.dns_message.specs.declared.resource.Record.{Record}
 
--- TYPE, CLASS, TTL and RDLENGTH stand at a place
+-- TYPE, CLASS, TTL and RDLENGTH are at a place
 pub record FixedAt (message : List ℕ) (place code class_code ttl size : ℕ) : Type 0 where
   pub code_at : NumberAt w16 message place code
   pub class_code_at : NumberAt w16 message (place + 2) class_code
   pub ttl_at : NumberAt w32 message (place + 4) ttl
   pub size_at : NumberAt w16 message (place + 8) size
 
--- NAME, TYPE, CLASS, TTL, RDLENGTH and RDATA stand from a place to another
+-- a record lies from one place to another: NAME, TYPE, CLASS, TTL, RDLENGTH and RDATA
 pub record RecordAt (message : List ℕ) (place : ℕ) (entry : Record) (end : ℕ) : Type 0 where
   pub after : ℕ
   pub code : ℕ

@@ -1,4 +1,4 @@
-//! Data that is kept as it stands (RFC 3597 3).
+//! Data that is kept as its octets (RFC 3597 3).
 ghost use Rattle.std.specs.Prelude.{◌≡◌, ◌↔◌, IsSome, IfSome, IfOk};
 ghost use Rattle.dns_message.specs.Data.{CanBeOther};
 

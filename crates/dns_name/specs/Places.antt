@@ -3,12 +3,12 @@
 use Rattle.std.specs.Prelude.{◌≡◌, ℕ, ◌+◌, ◌*◌, ◌<◌, ◌≤◌, List, [], ◌∷◌, length, slice_index, slice_range}
 use Rattle.dns_name.specs.Labels.{small_letters, wire_of}
 
--- an octet of the message stands at a place
+-- this octet is at a place of a message
 pub record OctetAt (message : List ℕ) (place octet : ℕ) : Type 0 where
   pub within : place < length message
   pub is : slice_index message place ≡ octet
 
--- At place p, in a run of labels that began at s, these labels stand. The run, its closing 0 or
+-- These labels are at place p, in a run of labels that began at s. The run, its closing 0 or
 -- pointer included, ends at end.
 pub data LabelsAt (message : List ℕ) : ℕ → ℕ → List (List ℕ) → ℕ → Type 0 where
   -- 0: there is no further label
@@ -29,8 +29,8 @@ pub data LabelsAt (message : List ℕ) : ℕ → ℕ → List (List ℕ) → ℕ
       → end ≡ p + 2
       → LabelsAt message p s labels end
 
--- A name of at most 255 octets stands at place p, in a run that began at s, and end is the place
--- after it: after its closing 0, or after its first pointer.
+-- A name of at most 255 octets is at place p, in a run that began at s, and end is the place after
+-- it: after its closing 0, or after its first pointer.
 pub record NameAt (message : List ℕ) (p s : ℕ) (name : List (List ℕ)) (end : ℕ) : Type 0 where
   pub labels : LabelsAt message p s name end
   pub short : length (wire_of name) ≤ 255

@@ -8,7 +8,7 @@ use Rattle.dns_name.specs.Labels.{small_letters, wire_of}
 use Rattle.dns_name.specs.declared.refusal.NameRefusal.{NameRefusal}
 use Rattle.dns_name.specs.declared.refusal.NameRefusal.TheVariants.{EmptyLabel, LongLabel, LongName, BadOctet}
 
--- a letter, a digit, `_` or `-` (RFC 1035 2.3.1, RFC 2782)
+-- an octet is a letter, a digit, `_` or `-` (RFC 1035 2.3.1, RFC 2782)
 abbrev pub is_text_octet : ℕ → Bool
 is_text_octet octet = is_ascii_alphanumeric octet || octet == 95 || octet == 45
 
@@ -20,12 +20,12 @@ pub record IsTextLabel (label : List ℕ) : Type 0 where
   pub octets : IsTrue (list_all is_text_octet label)
   pub short : length label ≤ 63
 
--- labels with dots between them, and optionally one after the last
+-- a text is labels with dots between them, and optionally one after the last
 abbrev pub IsDotted : List (List ℕ) → List ℕ → Type 0
 IsDotted labels text = (text ≡ join_with_byte 46 labels)
     ⊎ (text ≡ join_with_byte 46 labels ++ 46 ∷ [])
 
--- a text of a name: its labels in letters of any case, or a dot alone for the root
+-- a text spells a name: its labels in letters of any case, or a dot alone for the root
 pub data TextOf : List (List ℕ) → List ℕ → Type 0 where
   root : {text : List ℕ} → text ≡ 46 ∷ [] → TextOf [] text
   dotted : {name : List (List ℕ)} {text : List ℕ} (written : List (List ℕ)) → 0 < length written
@@ -35,7 +35,7 @@ pub data TextOf : List (List ℕ) → List ℕ → Type 0 where
       → length (wire_of name) ≤ 255
       → TextOf name text
 
--- a name of letters, digits, `_` and `-` alone (RFC 1035 2.3.1, RFC 2782)
+-- a name has letters, digits, `_` and `-` alone (RFC 1035 2.3.1, RFC 2782)
 abbrev pub IsPlain : List (List ℕ) → Type 0
 IsPlain name = AllByRecursion (λ label. IsTrue (list_all is_text_octet label)) name
 
@@ -53,7 +53,7 @@ abbrev pub labels_fault : List (List ℕ) → Option NameRefusal
 labels_fault [] = None
 labels_fault (label ∷ labels) = option_or (label_fault label) (labels_fault labels)
 
--- the fault of labels whose name is too long
+-- the fault of labels together: their name is too long
 abbrev pub length_fault : List (List ℕ) → Option NameRefusal
 length_fault labels = if nat_lt 255 (length (wire_of labels)) then Some LongName else None
 
@@ -62,7 +62,7 @@ abbrev pub without_closing_dot : List ℕ → List ℕ
 without_closing_dot text =
     if slice_index text (length text - 1) == 46 then take (length text - 1) text else text
 
--- the labels as dots part them
+-- the labels of a text, which dots part
 abbrev pub parted : List ℕ → List (List ℕ)
 parted text = slice_split (λ octet. octet == 46) text
 

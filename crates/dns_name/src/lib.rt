@@ -1,7 +1,7 @@
 //! Domain names of RFC 1035: read from texts and from messages, and written to both.
 //!
-//! A name is read exactly where one stands, and each refusal says why not. Capitals of ASCII become
-//! small letters, so that two names are equal exactly where their octets are. A pointer in a
+//! A name is read exactly where there is one, and each refusal says why not. Capitals of ASCII
+//! become small letters, so that two names are equal exactly where their octets are. A pointer in a
 //! message leads to a whole run of labels before the one that it closes, so no message makes a
 //! reader go round.
 //!

@@ -1,11 +1,11 @@
 //! A list of items that wait for their deadlines, as questions do that were sent and have no reply
 //! yet.
 //!
-//! The entries stand by deadline, and of one deadline in the order in which they got it. An entry
-//! is known by its id, which no other entry of the list ever has. A deadline is a number, and a
-//! list knows no clock: who has it says what time it is.
+//! The entries are ordered by deadline, and those of one deadline in the order in which they got
+//! it. An entry is known by its id, which no other entry of the list ever has. A deadline is a
+//! number, and a list knows no clock: its user says what time it is.
 //!
-//! A list has a limit. When it is made it makes a table of so many places, and `insert` makes a
+//! A list has a limit. When it is made it makes a table of as many places, and `insert` makes a
 //! node for its entry, which has one of these places and is linked to its neighbours. An id finds
 //! its node by the place. No other call takes memory, and all others always answer.
 //!

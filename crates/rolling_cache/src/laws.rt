@@ -1,4 +1,4 @@
-//! Laws of a rolling cache. A call of one does nothing: its contract tells its caller the law.
+//! Laws of a rolling cache. A call of one does nothing; its contract states the law.
 ghost use denote.Param.Send.{IsSync};
 ghost use Rattle.std.specs.Prelude.{◌≡◌, ◌≤◌, ℕ, List, Some};
 ghost use Rattle.std.specs.List.{Any};

@@ -1,4 +1,4 @@
-//! Laws of replies. A call of one does nothing: its contract tells its caller the law.
+//! Laws of replies. A call of one does nothing; its contract states the law.
 ghost use Rattle.std.specs.Prelude.{◌≡◌, ◌⊎◌, ℕ, List, None, Some};
 ghost use Rattle.dns_answers.specs.Answers.{answer};
 ghost use Rattle.dns_answers.specs.Replies.{reply_refusal};

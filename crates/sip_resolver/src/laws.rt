@@ -1,4 +1,4 @@
-//! Laws of resolvers. A call of one does nothing: its contract tells its caller the law.
+//! Laws of resolvers. A call of one does nothing; its contract states the law.
 ghost use Rattle.std.specs.Prelude.{◌<◌, ◌≤◌, ℕ, List, Some};
 ghost use Rattle.sip_resolver.specs.Dues.{AreAsBefore, AreDealtWith, IsOneDue, PollsAll};
 ghost use Rattle.sip_resolver.specs.Idle.{AreAwaited};

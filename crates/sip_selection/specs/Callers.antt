@@ -14,7 +14,7 @@ are_distinct [] = true
 are_distinct (first ∷ others) =
     not (list_any (λ other. same_transport other first) others) && are_distinct others
 
--- 1 to 4 transports, none of them twice
+-- a caller has 1 to 4 transports, none of them twice
 pub record AreOffered (transports : List Transport) : Type 0 where
   pub some : 0 < length transports
   pub few : length transports ≤ 4
@@ -33,7 +33,7 @@ slots_of transports = take 4 (map Some transports ++ None ∷ None ∷ None ∷ 
 abbrev pub held_in : List (Option Transport) → List Transport
 held_in slots = filter_map (λ slot. slot) slots
 
--- the slots of transports that a caller may have, the empty ones last
+-- the slots of the transports that a caller may have, with the empty ones last
 pub record AreSlots (slots : List (Option Transport)) : Type 0 where
   pub offered : AreOffered (held_in slots)
   pub packed : slots_of (held_in slots) ≡ slots

@@ -2,8 +2,8 @@
 //!
 //! A `Selection` does no input or output. It says which question it needs, takes the answer, and
 //! ends with targets in the order in which they are to be tried, or with the reason why there are
-//! none. A `Failover` then goes through the targets as the caller tells how each try went
-//! (RFC 3263 4.3).
+//! none. A `Failover` then goes through the targets as the caller says how each try went (RFC 3263
+//! 4.3).
 //!
 //! ```
 //! let caps = Caps::new(&[Udp], Families::V4)?;
@@ -43,8 +43,8 @@
 //! request goes over TLS alone (`secure_requests_go_over_tls`), each target has an address that was
 //! answered or written (`targets_are_answered`), and where a request goes stays so when further
 //! answers are given (`resolutions_are_final`). There are at most 521 questions
-//! (`questions_are_few`) and 16,384 targets (`targets_are_few`); of a selection as it stands,
-//! `Selection::answers_are_few` tells both.
+//! (`questions_are_few`) and 16,384 targets (`targets_are_few`); of a selection as it is,
+//! `Selection::answers_are_few` says both.
 //!
 //! Each `give` goes on from where the choice stopped. It takes memory for the answer, for the
 //! targets that it leads to and for the next question, and keeps what was found before.

@@ -6,7 +6,7 @@ use Rattle.sip_uri.specs.Numbers.{decimal, hexadecimal}
 use Rattle.sip_uri.specs.declared.address.Address.{Address}
 use Rattle.sip_uri.specs.declared.address.Address.TheVariants.{V4, V6}
 
--- one to three digits, leading zeros among them, that spell a number of at most 255
+-- a text is one to three digits, leading zeros among them, that spell a number of at most 255
 pub record NumberText (text : List ℕ) (number : ℕ) : Type 0 where
   pub some : 0 < length text
   pub short : length text ≤ 3
@@ -14,7 +14,8 @@ pub record NumberText (text : List ℕ) (number : ℕ) : Type 0 where
   pub is : number ≡ decimal text
   pub low : number ≤ 255
 
--- four numbers of at most 255, of one to three digits, with dots between them (RFC 3261 25.1)
+-- a text is four numbers of at most 255, of one to three digits, with dots between them (RFC 3261
+-- 25.1)
 pub data V4Text (text octets : List ℕ) : Type 0 where
   numbers : (first second third fourth : List ℕ) (a b c d : ℕ)
       → text ≡ first ++ 46 ∷ (second ++ 46 ∷ (third ++ 46 ∷ fourth))
@@ -22,7 +23,7 @@ pub data V4Text (text octets : List ℕ) : Type 0 where
       → octets ≡ a ∷ b ∷ c ∷ d ∷ []
       → V4Text text octets
 
--- one to four hexadecimal digits, which spell two octets
+-- a text is one to four hexadecimal digits, which spell two octets
 pub record GroupText (text octets : List ℕ) : Type 0 where
   pub some : 0 < length text
   pub short : length text ≤ 4
@@ -38,7 +39,7 @@ AreGroups closing (text ∷ next ∷ texts) octets =
     (group : List ℕ) × (others : List ℕ) × GroupText text group
     × AreGroups closing (next ∷ texts) others × (octets ≡ group ++ others)
 
--- groups with colons between them
+-- a text is groups with colons between them
 pub record GroupsText (closing : Bool) (text octets : List ℕ) : Type 0 where
   pub groups : List (List ℕ)
   pub joined : text ≡ join_with_byte 58 groups

@@ -7,7 +7,7 @@ use Rattle.std.specs.Char.{is_ascii_alphanumeric, is_ascii_hexdigit}
 abbrev pub is_among : List ℕ → ℕ → Bool
 is_among octets octet = list_any (λ (x : ℕ). x == octet) octets
 
--- a letter, a digit or one of `-_.!~*'()`
+-- an octet is a letter, a digit or one of `-_.!~*'()`
 abbrev pub is_unreserved : ℕ → Bool
 is_unreserved octet =
     is_ascii_alphanumeric octet || is_among (45 ∷ 95 ∷ 46 ∷ 33 ∷ 126 ∷ 42 ∷ 39 ∷ 40 ∷ 41 ∷ []) octet
@@ -30,7 +30,7 @@ abbrev pub is_header_octet : ℕ → Bool
 is_header_octet octet =
     is_unreserved octet || is_among (91 ∷ 93 ∷ 47 ∷ 63 ∷ 58 ∷ 43 ∷ 36 ∷ []) octet
 
--- octets of a class, and escaped ones: `%` and two hexadecimal digits
+-- a text is octets of a class, and escaped ones: `%` and two hexadecimal digits
 pub data IsRun (class : ℕ → Bool) : List ℕ → Type 0 where
   none : IsRun class []
   plain : (octet : ℕ) (text : List ℕ) → IsTrue (class octet) → IsRun class text

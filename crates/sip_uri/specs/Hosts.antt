@@ -8,7 +8,7 @@ use Rattle.sip_uri.specs.Addresses.{V4Text, V6Text}
 use Rattle.sip_uri.specs.declared.host.Host.{Host}
 use Rattle.sip_uri.specs.declared.host.Host.TheVariants.{V4, V6, Domain}
 
--- a letter, a digit or a hyphen
+-- an octet is a letter, a digit or a hyphen
 abbrev pub is_label_octet : ℕ → Bool
 is_label_octet octet = is_ascii_alphanumeric octet || octet == 45
 
@@ -21,14 +21,14 @@ pub record HostLabel (label : List ℕ) : Type 0 where
   pub first : IsTrue (is_ascii_alphanumeric (slice_index label 0))
   pub last : IsTrue (is_ascii_alphanumeric (slice_index label (length label - 1)))
 
--- one or more labels, the last of which begins with a letter
+-- labels of a hostname: one or more, the last of which begins with a letter
 abbrev pub AreHostLabels : List (List ℕ) → Type 0
 AreHostLabels [] = ⊥
 AreHostLabels (label ∷ []) = HostLabel label × IsTrue (is_ascii_alphabetic (slice_index label 0))
 AreHostLabels (label ∷ next ∷ labels) = HostLabel label × AreHostLabels (next ∷ labels)
 
--- a hostname: labels with dots between them, and optionally one after the last, which spell a name
--- of at most 255 octets
+-- a text is a hostname: labels with dots between them, and optionally one after the last, which
+-- spell a name of at most 255 octets
 pub record DomainText (text : List ℕ) (name : List (List ℕ)) : Type 0 where
   pub labels : List (List ℕ)
   pub are : AreHostLabels labels
@@ -36,7 +36,7 @@ pub record DomainText (text : List ℕ) (name : List (List ℕ)) : Type 0 where
   pub named : name ≡ map small_letters labels
   pub short : length (wire_of name) ≤ 255
 
--- an IPv4 address, an IPv6 address in brackets, or a hostname
+-- a text is a host: an IPv4 address, an IPv6 address in brackets, or a hostname
 abbrev pub HostText : List ℕ → Host → Type 0
 HostText text (V4 octets) = V4Text text octets
 HostText text (V6 octets) = (inner : List ℕ) × (text ≡ 91 ∷ inner ++ 93 ∷ []) × V6Text inner octets

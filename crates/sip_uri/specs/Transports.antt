@@ -5,8 +5,8 @@ use Rattle.sip_uri.specs.declared.transport.Transport.TheVariants.{Udp, Tcp, Sct
 use Rattle.sip_uri.specs.declared.transport.Spoken.{Spoken}
 use Rattle.sip_uri.specs.declared.transport.Spoken.TheVariants.{Known, Other}
 
--- the transport of a name: of `udp`, `tcp`, `sctp` and `tls`, in letters of any case, that one; of
--- any other name another one
+-- the transport that a name means: `udp`, `tcp`, `sctp` or `tls`, in letters of any case; any other
+-- name means another transport
 abbrev pub spoken_of : List ℕ → Spoken
 spoken_of name =
     if str_eq_ignore_ascii_case name (117 ∷ 100 ∷ 112 ∷ []) then Known Udp else

@@ -12,12 +12,12 @@ use Rattle.sip_uri.specs.Transports.{spoken_of}
 use Rattle.sip_uri.specs.declared.host.Host.{Host}
 use Rattle.sip_uri.specs.declared.uri.SipUri.{SipUri}
 
--- a run of at least one octet
+-- a text is a run of at least one octet
 pub record IsSomeRun (class : ℕ → Bool) (text : List ℕ) : Type 0 where
   pub some : 0 < length text
   pub run : IsRun class text
 
--- `sip` or `sips`, in letters of any case, and whether it is `sips`
+-- a text is `sip` or `sips`, in letters of any case, and whether it is `sips`
 abbrev pub SchemeText : List ℕ → Bool → Type 0
 SchemeText text false = small_letters text ≡ 115 ∷ 105 ∷ 112 ∷ []
 SchemeText text true = small_letters text ≡ 115 ∷ 105 ∷ 112 ∷ 115 ∷ []
@@ -38,7 +38,7 @@ pub data UserText (text : List ℕ) : Type 0 where
       → IsRun is_password_octet password
       → text ≡ user ++ 58 ∷ (password ++ 64 ∷ []) → UserText text
 
--- decimal digits that spell a number from 1 to 65535, leading zeros among them
+-- a text is decimal digits, leading zeros among them, that spell a number from 1 to 65535
 pub record PortNumber (text : List ℕ) (port : ℕ) : Type 0 where
   pub some : 0 < length text
   pub digits : IsTrue (list_all is_ascii_digit text)
@@ -104,7 +104,7 @@ HostValue (Some text) (Some host) = HostText text host
 abbrev pub params_text : List Param → List ℕ
 params_text params = flat_map (λ (param : Param). 59 ∷ param_text param) params
 
--- a header: a name, `=`, and a value, which may be empty
+-- a text is a header: a name, `=`, and a value, which may be empty
 pub record HeaderText (text : List ℕ) : Type 0 where
   pub name : List ℕ
   pub value : List ℕ

@@ -7,7 +7,7 @@ use Rattle.sip_uri.specs.Classes.{is_among}
 abbrev pub is_blank : ℕ → Bool
 is_blank octet = octet == 32 || octet == 9
 
--- a letter, a digit or one of -.!%*_+`'~
+-- an octet is a letter, a digit or one of -.!%*_+`'~
 abbrev pub is_token_octet : ℕ → Bool
 is_token_octet octet =
     is_ascii_alphanumeric octet

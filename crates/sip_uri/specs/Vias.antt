@@ -8,11 +8,11 @@ use Rattle.sip_uri.specs.Transports.{spoken_of}
 use Rattle.sip_uri.specs.ViaClasses.{is_blank, is_token_octet, is_value_octet}
 use Rattle.sip_uri.specs.declared.via.Via.{Via}
 
--- blanks and tabs, or nothing
+-- a text is blanks and tabs, or nothing
 abbrev pub IsBlanks : List ℕ → Type 0
 IsBlanks text = IsTrue (list_all is_blank text)
 
--- one or more octets of a token
+-- a text is one or more octets of a token
 pub record IsToken (text : List ℕ) : Type 0 where
   pub some : 0 < length text
   pub octets : IsTrue (list_all is_token_octet text)
@@ -26,8 +26,8 @@ pub data IsQuoted : List ℕ → Type 0 where
   pair : (octet : ℕ) (text : List ℕ) → octet < 128 → (octet ≡ 13 → ⊥) → (octet ≡ 10 → ⊥)
       → IsQuoted text → IsQuoted (92 ∷ octet ∷ text)
 
--- the value of a parameter: octets from 33 to 126 other than `;`, `,` and `"` (RFC 5118 4.5), or a
--- quoted string
+-- a text is the value of a parameter: octets from 33 to 126 other than `;`, `,` and `"` (RFC 5118
+-- 4.5), or a quoted string
 pub data IsValue (text : List ℕ) : Type 0 where
   word : 0 < length text → IsTrue (list_all is_value_octet text) → IsValue text
   quoted : (inner : List ℕ) → IsQuoted inner → text ≡ 34 ∷ inner ++ 34 ∷ [] → IsValue text
@@ -38,8 +38,8 @@ pub data ValueText (text : List ℕ) : Type 0 where
   valued : (front behind value : List ℕ) → IsBlanks front → IsBlanks behind → IsValue value
       → text ≡ front ++ 61 ∷ (behind ++ value) → ValueText text
 
--- parameters, each with `;` in front and blanks around that, their names in small letters, and
--- blanks after them
+-- a text is parameters, each with `;` in front and blanks around that, their names in small
+-- letters, and blanks after them
 pub data ParamsText : List ℕ → List (List ℕ) → Type 0 where
   nothing : (text : List ℕ) → IsBlanks text → ParamsText text []
   param : (text : List ℕ) (keys : List (List ℕ)) (front behind name value rest : List ℕ)
@@ -59,8 +59,8 @@ ViaPort text None = text ≡ []
 ViaPort text (Some port) = (front : List ℕ) × (behind : List ℕ) × (digits : List ℕ) × IsBlanks front
     × IsBlanks behind × PortNumber digits port × (text ≡ front ++ 58 ∷ (behind ++ digits))
 
--- `SIP / 2.0 / ` and a transport (RFC 3261 8.1.1.7), with optional blanks beside each of them, and
--- at least one after the transport
+-- a text is `SIP / 2.0 / ` and a transport (RFC 3261 8.1.1.7), with optional blanks beside each of
+-- them, and at least one after the transport
 pub record ProtocolText (text transport : List ℕ) : Type 0 where
   pub first : List ℕ
   pub sip : List ℕ

@@ -24,12 +24,12 @@
 //! - An IPv6 address is one by RFC 4291 2.2: eight groups, or `::` for those that lack. The three
 //!   colons of RFC 5118 4.10 (`[2001:db8:::192.0.2.1]`), which the grammar derives, are refused.
 //! - A label of a hostname has at most 63 octets, and its name at most 255 (RFC 1035 2.3.4).
-//! - No parameter stands twice (RFC 3261 19.1.1, 7.3.1), and `transport` and `maddr` of a URI need
+//! - No parameter is repeated (RFC 3261 19.1.1, 7.3.1), and `transport` and `maddr` of a URI need
 //!   values. That of `maddr` is a host.
 //! - The value of a URI's parameter has the octets of `pvalue` alone: a token with `` ` `` or with
 //!   a `%` that escapes nothing is none.
 //! - A user is one by the rule `user`: other characters of a telephone number have to be escaped.
-//! - A Via is a single one, of `SIP/2.0`, on one line: CR and LF stand nowhere in it.
+//! - A Via is a single one, of `SIP/2.0`, on one line: it has no CR and no LF.
 //!
 //! Wider:
 //!

@@ -1,4 +1,4 @@
-//! What stands before the `@` of a URI (RFC 3261 25.1).
+//! What is before the `@` of a URI (RFC 3261 25.1).
 ghost use Rattle.std.specs.Prelude.{◌≡◌};
 ghost use Rattle.sip_uri.specs.Readers.Uris as spec;
 

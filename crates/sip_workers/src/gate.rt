@@ -1,4 +1,4 @@
-//! Who is told how far the work is.
+//! What a run reports its work to.
 
 /// What a run reports its work to. Both calls come on the threads of the workers, and hold them up.
 pub trait Gate {

@@ -22,7 +22,7 @@
 //! Some(made.iter().all(|it| copy_goes(rt.alloc(), it)))
 //! ```
 //!
-//! A result tells its job, the outcome and a notice of what the seat had seen by then. Here
+//! A result has its job, the outcome and a notice of what the seat had seen by then. Here
 //! `copy_goes` says of a copy whether its outcome is the target that was wanted.
 //!
 //! `run_workers` runs a worker for each seat, in a thread of its own, and gives what became of each

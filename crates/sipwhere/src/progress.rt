@@ -1,4 +1,4 @@
-//! How many texts are done, told on standard error.
+//! How many texts are done, shown on standard error.
 use std::time::Duration;
 
 /// How many seconds pass at least from one time to the next.

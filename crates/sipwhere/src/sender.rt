@@ -1,4 +1,4 @@
-//! Who wants to send.
+//! The sender of requests: what it can do.
 use sip_selection::Caps;
 use std::time::Duration;
 
