@@ -57,7 +57,8 @@ abbrev pub tally_owns : Bool → ℕ → ℕ → ℕ → Fml
 tally_owns true δ s n = part δ s quarter n
 tally_owns false δ s n = ftrue
 
--- the quarters of the seats' counts, which are held in one place until they are dealt out
+-- a quarter of each of the counts of n seats from s on, which are all 0: what is held for seats
+-- until it is dealt out
 abbrev pub tallies_own : ℕ → ℕ → ℕ → Fml
 tallies_own δ s n = pens_own δ s n
 

@@ -34,7 +34,7 @@ history (Asks seat count ∷ log) = history log
 history (Named node store link ∷ log) = history log
 history (Placed node store link ∷ log) = store ∷ history log
 
--- a node was placed, for a store whose question is in the group
+-- an event places a node, for a store whose question is in the group
 abbrev pub is_in : ℕ → Event → Bool
 is_in group (Opened seats) = false
 is_in group (Asks seat count) = false

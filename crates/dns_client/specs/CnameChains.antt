@@ -85,12 +85,12 @@ pub record OpenValue : Type 0 where
   pub further : Question
   pub further_query : List ℕ
 
--- what is asked next follows from what came, and has the id of the query
+-- the question that is asked next follows from what came, and its query has the id of the first one
 pub record IsAskedOn (before : ℕ) (it : OpenValue) : Type 0 where
   pub asks : AsksOn it.question it.so_far before it.further it.links
   pub octets : it.further_query ≡ plain (query_of it.id it.further)
 
--- a query whose reply is cut short begins it
+-- a chain begins with a query whose reply is cut short
 pub record Begun (query reply : List ℕ) (it : OpenValue) : Type 0 where
   pub octets : it.query ≡ query
   pub asks : Asks query it.id it.question
@@ -102,7 +102,7 @@ abbrev pub IsNotCut : List ℕ → List ℕ → Type 0
 IsNotCut query reply = (id : ℕ) (question : Question) (message : Message) → Asks query id question
     → Begins reply message → IsWhole question message 0
 
--- a message is a reply to what is asked on
+-- a message is a reply to the question that is asked next
 pub record IsNext (it : OpenValue) (reply : List ℕ) (message : Message) : Type 0 where
   pub read : Begins reply message
   pub is : is_reply_to it.further message ≡ true
@@ -130,7 +130,7 @@ pub record EndsWith (it : OpenValue) (reply octets : List ℕ) : Type 0 where
 
 -- ---- what is handed on
 
--- a reply as it came, or the end of a chain that was open, put together
+-- what is handed on: a reply as it came, or the replies of a chain that ends, put together
 abbrev pub IsHandedOn : List OpenValue → List ℕ → List ℕ → Type 0
 IsHandedOn chains reply octets =
     (octets ≡ reply) ⊎ ((it : OpenValue) × Contains chains it × EndsWith it reply octets)

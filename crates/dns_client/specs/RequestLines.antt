@@ -6,7 +6,7 @@ use Rattle.sip_uri.specs.Vias.{ViaText}
 use Rattle.sip_selection.specs.declared.request.Request.{Request}
 use Rattle.sip_selection.specs.declared.request.Request.TheVariants.{Uri, Via}
 
--- a line is `Via:`, in letters of any case, and this
+-- a line is `Via:`, in letters of any case, and this rest
 pub record BeginsVia (line rest : List ℕ) : Type 0 where
   pub word : List ℕ
   pub joined : line ≡ word ++ 58 ∷ rest

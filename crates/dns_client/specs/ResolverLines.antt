@@ -17,7 +17,7 @@ use Rattle.dns_client.specs.declared.warning.LineFault.TheVariants.{NoKeyword, I
 abbrev pub lines_of : List ℕ → List (List ℕ)
 lines_of text = slice_split (λ octet. octet == 10) text
 
--- a space, a tab or a carriage return
+-- an octet is a space, a tab or a carriage return
 abbrev pub is_blank : ℕ → Bool
 is_blank octet = octet == 32 || octet == 9 || octet == 13
 
@@ -137,7 +137,7 @@ abbrev pub timeout_fact : Option (List ℕ) → List ℕ → Option Fact
 timeout_fact (Some text) word = Some (number_fact Timeout (capped 30 text))
 timeout_fact None word = attempts_fact (behind (codes "attempts:") word) word
 
--- an option: `timeout:` or `attempts:` with a number, or `use-vc`; others say nothing
+-- what an option says: `timeout:` or `attempts:` with a number, or `use-vc`; others say nothing
 abbrev pub option_fact : List ℕ → Option Fact
 option_fact word = timeout_fact (behind (codes "timeout:") word) word
 

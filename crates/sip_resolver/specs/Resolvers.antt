@@ -86,8 +86,8 @@ abbrev pub IsCut : ResolverView → Over → Ending → Type 0
 IsCut it over ending =
     (it.streams ≡ true) × (over ≡ Datagram) × (ending ≡ endings.Faulty refusals.Truncated)
 
--- A reply to a question that is out over this closes it, and no request waits for it any more: all
--- that did go on or end so, in the order in which they came to wait.
+-- A reply to a question that is out closes it, and no request waits for it any more: all that did
+-- go on or end so, in the order in which they came to wait.
 pub record IsClosed (old new : ResolverView) (over : Over) (octets : List ℕ) (ending : Ending)
     (goes : Question → TaskView → TaskView → Type 0) (kind : Question → Outcome → Type 0)
     : Type 0 where

@@ -25,7 +25,7 @@ pub record TaskView : Type 0 where
 abbrev pub over_of : TaskView → Over
 over_of task = if task.cut then Stream else Datagram
 
--- a request that waits for the reply to the message of this id
+-- a request that waits for the reply to the question of this id
 pub record WaitingView : Type 0 where
   pub id : ℕ
   pub task : TaskView
@@ -39,7 +39,7 @@ sought_of task = record {
   words = task.selection.words;
 }
 
--- each answer that it was given counts
+-- each answer that a request was given counts
 abbrev pub IsCounted : (List ℕ → Type 0) → (ℕ → Type 0) → SeatView → TaskView → Type 0
 IsCounted gives shows seat task = All (Counts gives shows seat) task.selection.given
 

@@ -26,7 +26,7 @@ first_line text = slice_index_or (lines text) 0 []
 abbrev pub other_lines : List ℕ → List (List ℕ)
 other_lines text = drop 1 (lines text)
 
--- a line is `Via:`, in letters of any case, and this
+-- a line is `Via:`, in letters of any case, and this rest
 pub record BeginsVia (line rest : List ℕ) : Type 0 where
   pub word : List ℕ
   pub joined : line ≡ word ++ 58 ∷ rest

@@ -158,7 +158,8 @@ used_line used count =
     ++ codes "records are used\n"
     else []
 
--- the line about how many records are used, for a question of a kind that there is
+-- the line that says how many records are used, where the question is of a kind that requests ask;
+-- else nothing
 abbrev pub used_of : Asked → Message → Option Kind → List ℕ
 used_of asked message None = []
 used_of asked message (Some kind) =

@@ -205,8 +205,8 @@ impl<'a, B: AnswerBook + Drop, W: MessageWire, C: Clock> OpenLines<'a, B, W, C> 
 }
 
 impl<'a, B: AnswerBook + Drop, W: MessageWire + Tracer, C: Clock> OpenLines<'a, B, W, C> {
-    /// Tells what became of the first line of which that was not told, if it is known or the time
-    /// of the line is over by now, and gives the status.
+    /// Prints what became of the first line that was not reported, if it is known or the time of
+    /// the line is over by now, and gives the status.
     fn tell_first<O: Write>(
         &mut self,
         now: Duration,
