@@ -7,7 +7,7 @@ use dns_message::Question;
 pub enum Incoming {
     /// The question of this id waits no longer.
     Ended(u16, Question, Ending),
-    /// They are no reply to a question that waits. All stays as it was.
+    /// The octets are no reply to a question that waits. All stays as it was.
     Ignored(Why),
 }
 
@@ -23,12 +23,12 @@ pub enum Ending {
 /// Why octets are no reply to a question that waits, in the order of the checks.
 #[derive(Clone, Copy, Debug, PartialEq, Eq)]
 pub enum Why {
-    /// There are more than 65,535 octets, or they begin with no message.
+    /// There are more than 65,535 octets, or the octets begin with no message.
     NotSpelled,
     /// No question of the message's id waits.
     UnknownId,
     /// The message is no reply to a standard query.
     NotReply,
-    /// It does not repeat the question of this id alone.
+    /// The message does not repeat the question of this id alone.
     OtherQuestion,
 }

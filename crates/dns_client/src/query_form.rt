@@ -15,7 +15,7 @@ const TYPE_OPT: u8 = 41;
 pub struct QueryForm {
     /// Whether recursion is desired: RD (RFC 1035 4.1.1).
     pub recursion: bool,
-    /// Where the query has an OPT record: the most octets of a datagram that may come back (RFC
+    /// The most octets of a datagram that may come back, where the query has an OPT record (RFC
     /// 6891 6.2.3).
     pub edns: Option<u16>,
 }

@@ -63,7 +63,7 @@ impl ResolverFile {
         self.servers.as_slice()
     }
 
-    /// For how many seconds a reply is waited for: 1 to 30.
+    /// The seconds for which a reply is waited for: 1 to 30.
     #[must_use]
     pub fn timeout(&self) -> u32
         ensures { result ≡ self.now.timeout }

@@ -4,7 +4,7 @@ use thiserror::Error;
 /// Why a line, or an option on it, can't be read.
 #[derive(Clone, Copy, Debug, PartialEq, Eq, Error)]
 pub enum LineFault {
-    /// Its first word is no keyword of resolv.conf(5).
+    /// The first word of the line is no keyword of resolv.conf(5).
     #[error("no keyword")]
     NoKeyword,
     /// A blank is in front of the keyword, which has to begin the line.

@@ -11,7 +11,7 @@ use thiserror::Error;
 /// Why a text is no zone.
 #[derive(Clone, Copy, Debug, PartialEq, Eq, Error)]
 pub enum ZoneRefusal {
-    /// This line, by its number from 1, says no record: the first such line.
+    /// The first line that says no record, by its number from 1.
     #[error("line {0} is no record")]
     BadLine(usize),
     /// There are more than 4,096 records.

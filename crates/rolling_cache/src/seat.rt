@@ -33,8 +33,8 @@ impl RollingSeat {
         &self.generation
     }
 
-    /// Its generation, and its seat there, for what owns its seat, as a worker does. The generation
-    /// is not freed before both are dropped.
+    /// The generation of the seat, and its seat there, for what owns its seat, as a worker does.
+    /// The generation is not freed before both are dropped.
     #[must_use]
     pub fn into_parts(self) -> (Arc<Generation>, Seat)
         ensures generation { arc_value result.0 ≡ self.generation }

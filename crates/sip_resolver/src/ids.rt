@@ -5,7 +5,7 @@ ghost use Rattle.rand_core.specs.Stream.{next_u32};
 use rand_core::Rng;
 use std::marker::Model;
 
-/// Where the ids of queries come from. An id under which a question is out is skipped: the next one
+/// The source of the ids of queries. An id under which a question is out is skipped: the next one
 /// is drawn then.
 pub trait Ids {
     // What a draw gives: the ids before it, the id, and the ids after it.

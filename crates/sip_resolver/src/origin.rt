@@ -11,7 +11,7 @@ pub trait Origin {
     ghost shows: { ℕ → Type 0 };
 }
 
-/// Nothing is known of them: any octets may come in, and any moment may be shown.
+/// An origin of which nothing is known: any octets may come in, and any moment may be shown.
 #[derive(Clone, Copy, Debug)]
 pub struct Anything;
 

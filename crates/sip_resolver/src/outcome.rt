@@ -10,7 +10,7 @@ use sip_selection::{Reason, Target};
 use std::alloc::{AllocError, Global};
 use std::marker::Model;
 
-/// Where a request can be sent, in the order in which the targets are to be tried.
+/// The targets of a request, in the order in which they are to be tried.
 ///
 /// It is made from a `Vec` and gives it back, and takes no memory for either.
 #[derive(Debug, Drop)]
@@ -66,11 +66,11 @@ impl TargetList {
 /// What becomes of a request.
 #[derive(Debug, Drop)]
 pub enum Outcome {
-    /// It can be sent to these targets.
+    /// The request can be sent to these targets.
     Targets(TargetList),
-    /// It goes nowhere.
+    /// The request goes nowhere, for this reason.
     Refused(Reason),
-    /// This question has no answer: it was sent three times.
+    /// This question was sent three times, and has no answer.
     NoAnswer(Question),
     /// The reply to this question was cut (`Truncated`), or its RCODE is neither 0 nor 3
     /// (`ServerFault`).

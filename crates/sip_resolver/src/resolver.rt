@@ -39,10 +39,10 @@ use std::sync::{Arc, Wait};
 /// How many requests and questions a resolver has at once.
 #[derive(Clone, Copy, Debug)]
 pub struct Limits {
-    /// How many requests are inside at most, from 1 to 1,024. One that ended counts until its
-    /// outcome is taken.
+    /// The most requests that are inside, from 1 to 1,024. One that ended counts until its outcome
+    /// is taken.
     pub requests: usize,
-    /// How many questions are out at most over datagrams, and as many over streams, from 1 to 256.
+    /// The most questions that are out over datagrams, and the most over streams, from 1 to 256.
     pub questions: usize,
     /// Whether a question goes on over a stream where the reply to it over a datagram was cut. Else
     /// the requests that wait for it end.
@@ -52,11 +52,11 @@ pub struct Limits {
 /// What octets that came in meant.
 #[derive(Clone, Copy, Debug, PartialEq, Eq)]
 pub enum Heard {
-    /// They ended the wait for the reply to a question.
+    /// The octets ended the wait for the reply to a question.
     Reply,
-    /// They are a reply that was cut: its question goes over a stream next.
+    /// The octets are a reply that was cut: its question goes over a stream next.
     Cut,
-    /// They are no reply to a question that is out, and all stays as it was.
+    /// The octets are no reply to a question that is out, and all stays as it was.
     Ignored(Why),
 }
 

@@ -20,7 +20,7 @@ pub enum Failure {
 /// How the try of a target went.
 #[derive(Clone, Copy, Debug, PartialEq, Eq)]
 pub enum Event {
-    /// It failed.
+    /// The try failed in this way.
     Failed(Failure),
     /// A final response other than 503 came.
     Responded,

@@ -30,16 +30,17 @@ use thiserror::Error;
 pub enum Next<'a> {
     /// This question has to be answered.
     Ask(&'a Question),
-    /// It can be sent to these targets, which are to be tried in this order. There is one at least.
+    /// The request can be sent to these targets, which are to be tried in this order. There is at
+    /// least one.
     Targets(&'a [Target]),
-    /// It goes nowhere.
+    /// The request goes nowhere, for this reason.
     Refused(Reason),
 }
 
 /// Why an answer was not taken, in the order of the checks.
 #[derive(Clone, Copy, Debug, PartialEq, Eq, Error)]
 pub enum GiveRefusal {
-    /// This question is not the one that is asked.
+    /// The question is not the one that is asked.
     #[error("the question is not asked")]
     NotAsked,
     /// The records are of another kind than the question.

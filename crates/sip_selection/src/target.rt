@@ -1,7 +1,7 @@
 //! Where a request can be sent.
 use sip_uri::{Address, Transport};
 
-/// Where a request can be sent.
+/// A target: where a request can be sent.
 #[derive(Clone, Copy, Debug, PartialEq, Eq)]
 pub struct Target {
     /// The transport to send over.

@@ -7,7 +7,7 @@ pub enum UriRefusal {
     /// The text has more than 1,024 octets.
     #[error("the text has more than 1024 octets")]
     TooLong,
-    /// It does not begin with `sip:` or `sips:` (RFC 3261 19.1.1).
+    /// The text does not begin with `sip:` or `sips:` (RFC 3261 19.1.1).
     #[error("the scheme is neither sip nor sips")]
     BadScheme,
     /// What is before the `@` is no user, or no user and password (RFC 3261 25.1).

@@ -20,7 +20,7 @@ use Rattle.siplocate.specs.declared.fate.Fate.TheVariants as fate
 use Rattle.siplocate.specs.declared.requests.Entry.{Entry}
 use Rattle.siplocate.specs.declared.requests.Entry.TheVariants as entry
 
--- ---- what stands in a line of the requests
+-- ---- what a line of the requests is
 
 -- the job of the request in the line of this number (RFC 3263 4)
 pub record IsJob (number : ℕ) (line : List ℕ) (job : Job) : Type 0 where

@@ -32,19 +32,19 @@ pub enum Job {
 /// What the program prints, and its exit status.
 #[derive(Debug, Drop)]
 pub enum Told {
-    /// This text under this status: what becomes of a request, or what is wrong with it.
+    /// This text, with this status: what becomes of a request, or what is wrong with it.
     Text(String, u8),
     /// How it is used.
     Usage,
-    /// That there is no input that it can take.
+    /// There is no input that the program can take.
     NoInput,
-    /// That memory was refused.
+    /// Memory was refused.
     NoMemory,
-    /// That a thread could not be made.
+    /// A thread could not be made.
     NoThread,
-    /// That the results of a run were not those of its requests.
+    /// The results of a run were not those of its requests.
     NotGathered,
-    /// That a socket could not be opened.
+    /// A socket could not be opened.
     NoNet,
 }
 

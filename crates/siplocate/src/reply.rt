@@ -14,7 +14,7 @@ use std::alloc::{AllocError, Global};
 pub enum BadReply {
     /// The digits of the line are not hexadecimal, or not even in number.
     NotHex,
-    /// Nothing is asked.
+    /// No question is asked.
     NothingAsked,
     /// There are more octets than a message can have.
     TooLong,

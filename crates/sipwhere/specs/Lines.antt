@@ -66,7 +66,7 @@ why_word refusal.Truncated = codes "Truncated"
 why_word (refusal.ServerFault rcode) = codes "rcode " ++ decimal rcode
 why_word refusal.Memory = codes "Memory"
 
--- ---- lines, each behind the front
+-- ---- lines, each after the front
 
 -- the line of a target
 abbrev pub target_line : AddressForm → List ℕ → Target → List ℕ

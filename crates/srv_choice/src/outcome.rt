@@ -4,11 +4,11 @@ use crate::places::Places;
 /// What SRV records say of a service.
 #[derive(Debug, Drop)]
 pub enum SrvOutcome {
-    /// Nothing: there are none.
+    /// There are no records, so nothing is said.
     Absent,
-    /// That it is not offered: the target of the one record is the root.
+    /// The service is not offered: the target of the one record is the root (RFC 2782, "Target").
     Denied,
-    /// Where it is to be tried: the places of the records, in the order in which they are to be
+    /// The service is listed: the places of the records, in the order in which they are to be
     /// tried, and the place of the first random word that is still unused.
     Listed(Places, usize),
 }
