@@ -9,9 +9,9 @@ use Rattle.answer_log.specs.Logs.{history}
 use Rattle.answer_log.specs.declared.hand.Hand.{Hand}
 use Rattle.answer_log.specs.declared.store.Store.{Store}
 use Rattle.answer_cache.specs.Seats.{HasSeenRoom, Offer, SeatView, IsSeat}
-use Rattle.answer_cache.specs.declared.cache_refusal.CacheRefusal.{CacheRefusal}
-use Rattle.answer_cache.specs.declared.cache_refusal.CacheRefusal.TheVariants.{BadCount}
-use Rattle.answer_cache.specs.declared.cache_refusal.CacheRefusal.TheVariants.{Memory as NoMemory}
+use Rattle.answer_cache.specs.declared.refusal.CacheRefusal.{CacheRefusal}
+use Rattle.answer_cache.specs.declared.refusal.CacheRefusal.TheVariants.{BadCount}
+use Rattle.answer_cache.specs.declared.refusal.CacheRefusal.TheVariants.{Memory as NoMemory}
 use Rattle.answer_cache.specs.declared.refusal.StoreRefusal.{StoreRefusal}
 use Rattle.answer_cache.specs.declared.refusal.StoreRefusal.TheVariants.{Lifeless, GenerationFull}
 use Rattle.answer_cache.specs.declared.refusal.StoreRefusal.TheVariants.{Contended, Memory}

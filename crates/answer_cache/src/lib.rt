@@ -62,7 +62,6 @@
 #![tactic(auto)]
 
 mod book;
-mod cache_refusal;
 mod carried;
 mod carry;
 mod index;
@@ -78,10 +77,9 @@ mod successor;
 
 pub use answer_log::group;
 pub use book::AnswerBook;
-pub use cache_refusal::CacheRefusal;
 pub use carried::{Carried, carried_answers_as_before};
 pub use list_cache::{ListCache, ListSeat};
-pub use refusal::StoreRefusal;
+pub use refusal::{CacheRefusal, StoreRefusal};
 pub use rival::Rival;
 pub use seat::{
     Notice, Seat, notices_tell_one_history, seats_see_one_history, stores_are_of_the_seats,

@@ -1,10 +1,21 @@
-//! Why an answer was not stored.
+//! Why there is no cache, and why an answer was not stored.
 ghost use Rattle.std.specs.Prelude.{◌≡◌};
 ghost use Rattle.answer_cache.specs.declared.refusal.StoreRefusal.TheVariants as refusals;
 
 use crate::node::ShelfRefusal;
 use std::alloc::{AllocError, AllocFailed};
 use thiserror::Error;
+
+/// Why no shared cache was made.
+#[derive(Clone, Copy, Debug, PartialEq, Eq, Error)]
+pub enum CacheRefusal {
+    /// The number of seats is not from 1 to 64.
+    #[error("a cache has from 1 to 64 seats")]
+    BadCount,
+    /// Memory was refused.
+    #[error("out of memory")]
+    Memory,
+}
 
 /// Why an answer was not stored. A life of 0 is checked first; memory may be needed before the
 /// other two checks.

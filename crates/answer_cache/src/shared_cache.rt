@@ -29,11 +29,10 @@ ghost use Rattle.answer_log.specs.Walks.{Ahead};
 ghost use Rattle.answer_log.specs.declared.event.Event.{Event as Noticed};
 
 use crate::book::AnswerBook;
-use crate::cache_refusal::CacheRefusal;
 use crate::index::{Index, IndexEntry};
 use crate::node::{ByBook, Hashed, Node, Shelf, ShelfRefusal, Shelved};
 use crate::notes::Notes;
-use crate::refusal::StoreRefusal;
+use crate::refusal::{CacheRefusal, StoreRefusal};
 use crate::rival::{NoRival, Rival};
 use crate::seat::{Notice, Seat};
 use answer_log::{

@@ -8,10 +8,10 @@ ghost use Rattle.answer_cache.specs.Carried.{carried_stores, seat_after};
 ghost use Rattle.answer_cache.specs.Nodes.{Holds};
 ghost use Rattle.answer_cache.specs.Shared.{Belongs, Refuses, cache_view};
 
-use crate::cache_refusal::CacheRefusal;
 use crate::carried::Carried;
 use crate::index::Index;
 use crate::notes::Notes;
+use crate::refusal::CacheRefusal;
 use crate::rival::NoRival;
 use crate::seat::Seat;
 use crate::shared_cache::{SharedCache, Wanted, empty_shelves};

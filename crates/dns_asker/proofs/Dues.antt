@@ -8,8 +8,8 @@ use Rattle.dns_asker.specs.Events.{Dues}
 use Rattle.dns_asker.specs.Listed.{IsOverdue, ToldBy, asking_of, resent, ticket_in}
 use Rattle.dns_asker.specs.TicketLists.{TicketList}
 use Rattle.dns_asker.specs.Tickets.{Sent, Ticket}
-use Rattle.dns_asker.specs.declared.due.Due.{Due}
-use Rattle.dns_asker.specs.declared.due.Due.TheVariants.{Resend, GaveUp}
+use Rattle.dns_asker.specs.declared.incoming.Due.{Due}
+use Rattle.dns_asker.specs.declared.incoming.Due.TheVariants.{Resend, GaveUp}
 use Rattle.dns_asker.specs.declared.tickets.Overdue.{Overdue}
 use Rattle.dns_asker.specs.declared.tickets.Overdue.TheVariants.{Again, Over}
 

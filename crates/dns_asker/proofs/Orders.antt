@@ -10,7 +10,7 @@ use Rattle.dns_asker.specs.Events.{again}
 use Rattle.dns_asker.specs.Runs.{Event, Runs, Step}
 use Rattle.dns_asker.specs.Runs as runs
 use Rattle.dns_asker.specs.Tickets.{Asking, IsAsking, IsSent, Ticket, has_id, waiting_too}
-use Rattle.dns_asker.specs.declared.due.Due.TheVariants.{Resend, GaveUp}
+use Rattle.dns_asker.specs.declared.incoming.Due.TheVariants.{Resend, GaveUp}
 use Rattle.dns_asker.specs.declared.incoming.Incoming.TheVariants.{Ended, Ignored}
 
 abbrev InOrder : Ticket → Ticket → Type 0

@@ -14,8 +14,8 @@ use Rattle.dns_message.specs.declared.message.Message.{Message}
 use Rattle.dns_message.specs.declared.question.Question.{Question}
 use Rattle.dns_message.specs.Messages.{Begins}
 use Rattle.dns_asker.specs.Tickets.{Asking, Sent, Ticket, ticket_of, waiting_too, without}
-use Rattle.dns_asker.specs.declared.due.Due.{Due}
-use Rattle.dns_asker.specs.declared.due.Due.TheVariants.{Resend, GaveUp}
+use Rattle.dns_asker.specs.declared.incoming.Due.{Due}
+use Rattle.dns_asker.specs.declared.incoming.Due.TheVariants.{Resend, GaveUp}
 use Rattle.dns_asker.specs.declared.incoming.Ending.{Ending}
 use Rattle.dns_asker.specs.declared.incoming.Ending.TheVariants.{Answered, Faulty}
 use Rattle.dns_asker.specs.declared.incoming.Incoming.{Incoming}

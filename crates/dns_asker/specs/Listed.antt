@@ -8,8 +8,8 @@ use Rattle.pending_list.specs.declared.entry.Entry.{Entry}
 use Rattle.dns_asker.specs.Events.{sent_again, sent_octets}
 use Rattle.dns_asker.specs.TicketLists.{TicketList}
 use Rattle.dns_asker.specs.Tickets.{Asking, IsAsking, Sent, Ticket}
-use Rattle.dns_asker.specs.declared.due.Due.{Due}
-use Rattle.dns_asker.specs.declared.due.Due.TheVariants.{Resend, GaveUp}
+use Rattle.dns_asker.specs.declared.incoming.Due.{Due}
+use Rattle.dns_asker.specs.declared.incoming.Due.TheVariants.{Resend, GaveUp}
 use Rattle.dns_asker.specs.declared.refusal.AskRefusal.{AskRefusal}
 use Rattle.dns_asker.specs.declared.refusal.AskRefusal.TheVariants.{IdTaken, Full, Spent, Memory}
 use Rattle.dns_asker.specs.declared.tickets.Overdue.{Overdue}

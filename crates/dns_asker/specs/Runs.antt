@@ -4,7 +4,7 @@ use Rattle.std.specs.Borrow.{Bor}
 use Rattle.dns_message.specs.declared.question.Question.{Question}
 use Rattle.dns_asker.specs.Events.{Asks, Dues, Means, left_by}
 use Rattle.dns_asker.specs.Tickets.{Asking}
-use Rattle.dns_asker.specs.declared.due.Due.{Due}
+use Rattle.dns_asker.specs.declared.incoming.Due.{Due}
 use Rattle.dns_asker.specs.declared.incoming.Incoming.{Incoming}
 use Rattle.dns_asker.specs.declared.refusal.AskRefusal.{AskRefusal}
 

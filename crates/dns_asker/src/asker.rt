@@ -7,8 +7,7 @@ ghost use Rattle.dns_asker.specs.Events.{Asks, Dues, EndsBy, IsNoReply, MayWant,
 ghost use Rattle.dns_asker.specs.Out.{HasQuestion, IsOctetsOf, LacksQuestion};
 ghost use Rattle.dns_asker.specs.Tickets.{IsAsking, ticket_of};
 
-use crate::due::Due;
-use crate::incoming::{Ending, Incoming, Why};
+use crate::incoming::{Due, Ending, Incoming, Why};
 use crate::refusal::AskRefusal;
 use crate::tickets::Tickets;
 use dns_answers::{Moment, ReplyRefusal, answer_of};

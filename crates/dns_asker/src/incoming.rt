@@ -1,4 +1,4 @@
-//! What octets that came in mean.
+//! What octets that came in mean, and what a moment asks for.
 use dns_answers::{Answer, ReplyRefusal};
 use dns_message::Question;
 
@@ -31,4 +31,13 @@ pub enum Why {
     NotReply,
     /// The message does not repeat the question of this id alone.
     OtherQuestion,
+}
+
+/// What is to be done about a question whose reply did not come in time.
+#[derive(Debug, Drop)]
+pub enum Due<'a> {
+    /// The octets of the question of this id are to be sent once more.
+    Resend(u16, &'a [u8]),
+    /// The question of this id was sent three times, and waits no longer.
+    GaveUp(u16, &'a Question),
 }

@@ -36,7 +36,6 @@
 mod asker;
 mod asker_laws;
 mod clock;
-mod due;
 mod id_table;
 mod incoming;
 mod refusal;
@@ -50,8 +49,7 @@ pub use asker::Asker;
 pub use asker_laws::asking_stays_in_order;
 pub use clock::{Clock, StandingClock};
 pub use dns_zone::{Zone, ZoneEntry, ZoneRefusal, zone_follows_aliases, zone_names_its_authority};
-pub use due::Due;
-pub use incoming::{Ending, Incoming, Why};
+pub use incoming::{Due, Ending, Incoming, Why};
 pub use refusal::AskRefusal;
 pub use server::serve;
 pub use wire::{DATAGRAM_LIMIT, PeerWire, Wire, WireFault};

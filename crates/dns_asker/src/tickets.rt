@@ -9,8 +9,8 @@ ghost use Rattle.dns_asker.specs.Listed.{Finds, IsOverdue, IsThere, Opens, ToldB
 ghost use Rattle.dns_asker.specs.Out.{HasQuestion, LacksQuestion};
 ghost use Rattle.dns_asker.specs.Tickets.{IsAsking, Sent};
 
-use crate::due::Due;
 use crate::id_table::IdTable;
+use crate::incoming::Due;
 use crate::refusal::AskRefusal;
 use crate::ticket::Ticket;
 use dns_answers::Moment;

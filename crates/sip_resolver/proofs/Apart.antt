@@ -7,8 +7,8 @@ use Rattle.std.proofs.lemmas.List.Kept.{AllPairs-cons, AllPairs-filter}
 use Rattle.dns_asker.specs.Events.{Dues, again, asked, left_by}
 use Rattle.dns_asker.specs.Out.{LacksQuestion}
 use Rattle.dns_asker.specs.Tickets.{Asking, Ticket, has_id, ticket_of, waiting_too}
-use Rattle.dns_asker.specs.declared.due.Due.{Due}
-use Rattle.dns_asker.specs.declared.due.Due.TheVariants.{Resend, GaveUp}
+use Rattle.dns_asker.specs.declared.incoming.Due.{Due}
+use Rattle.dns_asker.specs.declared.incoming.Due.TheVariants.{Resend, GaveUp}
 use Rattle.dns_asker.specs.declared.incoming.Incoming.{Incoming}
 use Rattle.dns_asker.specs.declared.incoming.Incoming.TheVariants.{Ended, Ignored}
 use Rattle.dns_message.specs.declared.question.Question.{Question}

@@ -5,8 +5,8 @@ use Rattle.std.specs.Str.Lines.{lines}
 use Rattle.std.specs.declared.io.ErrorKind.{ErrorKind}
 use Rattle.std.specs.declared.io.ErrorKind.TheVariants.{OutOfMemory}
 use Rattle.answer_cache.specs.Shared.{CacheView}
-use Rattle.answer_cache.specs.declared.cache_refusal.CacheRefusal.{CacheRefusal}
-use Rattle.answer_cache.specs.declared.cache_refusal.CacheRefusal.TheVariants as cache
+use Rattle.answer_cache.specs.declared.refusal.CacheRefusal.{CacheRefusal}
+use Rattle.answer_cache.specs.declared.refusal.CacheRefusal.TheVariants as cache
 use Rattle.dns_message.specs.declared.resource.Record.{Record}
 use Rattle.dns_zone.specs.Lines.{LinesSay}
 use Rattle.dns_zone.specs.Refusals.{RefusedFor}
