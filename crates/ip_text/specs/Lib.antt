@@ -1,0 +1,4 @@
+pub mod Addresses
+pub mod Numbers
+pub mod Readers
+pub mod Shown
