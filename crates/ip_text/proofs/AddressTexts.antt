@@ -1,14 +1,14 @@
 -- A text is one for at most one address.
-use Rattle.std.proofs.Common.{◌≡◌, ℕ, true, false, List, [], ◌∷◌, ◌++◌, length, Some, None, sym, ap, ◌∙◌, inl, inr, arith}
+use Rattle.std.proofs.Common.{◌≡◌, ℕ, true, false, List, [], ◌∷◌, ◌++◌, length, Option, Some, None, IfSome, sym, ap, ◌∙◌, inl, inr, arith}
 use Rattle.std.specs.List.{join_with_byte}
 use Rattle.std.proofs.lemmas.Option.{same_Some}
 use Rattle.ip_text.specs.declared.address.Address.{Address}
 use Rattle.ip_text.specs.declared.address.Address.TheVariants.{V4, V6}
 use Rattle.ip_text.specs.Addresses.{V4Text, numbers, AreGroups, V6Text, whole, shortened, AddressText}
-use Rattle.ip_text.specs.Readers.Texts.{ipv4, ipv6}
+use Rattle.ip_text.specs.Readers.{ipv4, ipv6}
 use Rattle.ip_text.proofs.Lists.{all_of-append}
 use Rattle.ip_text.proofs.V4Texts.{ipv4_read, ipv4_again, is_dotted_octet, ipv4_octets}
-use Rattle.ip_text.proofs.V6Texts.{ipv6_again}
+use Rattle.ip_text.proofs.V6Texts.{ipv6_read, ipv6_again}
 
 four_octets : (text octets : List ℕ) → V4Text text octets → length octets ≡ 4
 four_octets text octets (numbers first second third fourth a b c d is one two three four octets-is) = ap length octets-is
@@ -46,3 +46,12 @@ of_ipv6 text octets none e (V6 other) is = ap (λ (o : List ℕ). Some (V6 o)) (
 pub of_nothing : (text : List ℕ) → ipv4 text ≡ None → ipv6 text ≡ None → (address : Address) → AddressText text address → ⊥
 of_nothing text none none' (V4 other) is = (let no : None ≡ Some other = sym none ∙ ipv4_again text other is in absurd cc)
 of_nothing text none none' (V6 other) is = (let no : None ≡ Some other = sym none' ∙ ipv6_again text other is in absurd cc)
+
+-- what a reader gives is what the text spells
+pub ipv4_found : (text : List ℕ) (found : Option (List ℕ)) → found ≡ ipv4 text → IfSome found (λ octets. V4Text text octets)
+ipv4_found text None e = tt
+ipv4_found text (Some octets) e = ipv4_read text octets (sym e)
+
+pub ipv6_found : (text : List ℕ) (found : Option (List ℕ)) → found ≡ ipv6 text → IfSome found (λ octets. V6Text text octets)
+ipv6_found text None e = tt
+ipv6_found text (Some octets) e = ipv6_read text octets (sym e)

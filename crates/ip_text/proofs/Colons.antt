@@ -3,8 +3,8 @@ use Rattle.std.proofs.Common.{◌≡◌, ℕ, ◌+◌, ◌-◌, ◌<◌, List, [
 use Rattle.std.specs.Option.{option_map, option_and_then}
 use Rattle.std.proofs.lemmas.Bool.{cases_Bool}
 use Rattle.std.proofs.lemmas.List.{append-nil, length-drop, take_all, take_more, drop_more}
-use Rattle.ip_text.specs.Readers.Parts.{behind_front}
-use Rattle.ip_text.specs.Readers.Texts.{behind_colons, with_front, around_colons}
+use Rattle.ip_text.specs.Parts.{behind_front}
+use Rattle.ip_text.specs.Readers.{behind_colons, with_front, around_colons}
 
 -- what is around two colons, from what stands here and what stands further on
 abbrev pub around : ℕ → List ℕ → Option (List ℕ) → Option (List ℕ × List ℕ)

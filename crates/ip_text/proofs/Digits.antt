@@ -7,7 +7,7 @@ use Rattle.std.proofs.lemmas.Bool.Decides.{nat_tests}
 use Rattle.std.proofs.lemmas.Option.{same_Some}
 use Rattle.std.proofs.lemmas.List.{drop_more, drop_all}
 use Rattle.ip_text.specs.Numbers.{decimal_from, decimal, decimal_within, hexadecimal_from, hexadecimal}
-use Rattle.ip_text.specs.Readers.Texts.{hexadecimal_digit, hexadecimal_group}
+use Rattle.ip_text.specs.Readers.{hexadecimal_digit, hexadecimal_group}
 
 decimal_grows : (number : ℕ) (digits : List ℕ) → number ≤ decimal_from number digits
 decimal_grows number [] = omega arith

@@ -3,8 +3,8 @@ use Rattle.std.proofs.Common.{◌≡◌, ℕ, ◌+◌, ◌<◌, ◌≤◌, Bool,
 use Rattle.std.specs.Option.{option_map, option_and_then}
 use Rattle.std.proofs.lemmas.Bool.Decides.{nat_tests}
 use Rattle.std.proofs.lemmas.List.{length-append, drop-replicate, length-replicate}
-use Rattle.ip_text.specs.Readers.Parts.{before, behind, parted}
-use Rattle.ip_text.specs.Readers.Texts.{group, last_group, groups, filled}
+use Rattle.ip_text.specs.Parts.{before, behind, parted}
+use Rattle.ip_text.specs.Readers.{group, last_group, groups, filled}
 use Rattle.ip_text.proofs.Cutting.{others, parts_are}
 
 -- the groups here complete those of the text

@@ -5,9 +5,9 @@ use Rattle.std.specs.Char.{is_ascii_digit}
 use Rattle.std.proofs.lemmas.Bool.Decides.{nat_tests}
 use Rattle.std.proofs.lemmas.Option.{same_Some}
 use Rattle.std.proofs.lemmas.List.{length-append}
-use Rattle.ip_text.specs.Readers.Parts.{before, behind}
+use Rattle.ip_text.specs.Parts.{before, behind}
 use Rattle.ip_text.specs.Addresses.{NumberText, V4Text, numbers}
-use Rattle.ip_text.specs.Readers.Texts.{ipv4_number, ipv4}
+use Rattle.ip_text.specs.Readers.{ipv4_number, ipv4}
 use Rattle.ip_text.proofs.Cutting.{lacks, joined, at_first}
 use Rattle.ip_text.proofs.Lists.{steps_of, all_weaker, all-append}
 

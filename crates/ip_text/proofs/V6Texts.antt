@@ -9,9 +9,9 @@ use Rattle.std.proofs.lemmas.Option.{same_Some}
 use Rattle.std.proofs.lemmas.List.{append-nil}
 use Rattle.std.proofs.lemmas.List.Splits.{join_with_byte-slice_split}
 use Rattle.ip_text.specs.Numbers.{hexadecimal}
-use Rattle.ip_text.specs.Readers.Parts.{parted}
+use Rattle.ip_text.specs.Parts.{parted}
 use Rattle.ip_text.specs.Addresses.{V4Text, GroupText, AreGroups, GroupsText, SideText, V6Text, whole, shortened}
-use Rattle.ip_text.specs.Readers.Texts.{hexadecimal_group, ipv4, group, last_group, groups, side, filled, sixteen, behind_colons, with_front, around_colons, ipv6, ipv6_around}
+use Rattle.ip_text.specs.Readers.{hexadecimal_group, ipv4, group, last_group, groups, side, filled, sixteen, behind_colons, with_front, around_colons, ipv6, ipv6_around}
 use Rattle.ip_text.proofs.Colons.{around, colons_are, front_nothing, front_twice}
 use Rattle.ip_text.proofs.Cutting.{lacks, alone, parts-joined}
 use Rattle.ip_text.proofs.Lists.{steps_of, mapped_from, either_of, all_weaker}

@@ -1,12 +1,12 @@
 //! Addresses, and how texts have them (RFC 3261 25.1, RFC 4291 2.2).
-ghost use Rattle.std.specs.Prelude.{◌≡◌, ◌∷◌, ◌++◌, IfSome, IfOk, OnOk, Some};
+ghost use Rattle.std.specs.Prelude.{◌≡◌, ◌∷◌, ◌++◌, ℕ, List, IfSome, IfOk, OnOk, Some};
 ghost use Rattle.std.specs.String.{string_bytes};
-ghost use Rattle.ip_text.specs.Addresses.{AddressText};
+ghost use Rattle.ip_text.specs.Addresses.{AddressText, V4Text, V6Text};
 ghost use Rattle.ip_text.specs.Shown as spec;
 ghost use Rattle.ip_text.specs.declared.address.Address.{Address};
 
-use crate::ipv4::ipv4_octets;
-use crate::ipv6::ipv6_octets;
+use crate::ipv4::ipv4;
+use crate::ipv6::ipv6;
 use std::alloc::{AllocError, Global};
 
 /// An address without a port.
@@ -26,10 +26,30 @@ pub fn address_from_text(text: &str) -> Option<Address>
     ensures read { (address : Address) → AddressText text.now address → result ≡ Some address }
 {
     let text = text.as_bytes();
-    match ipv4_octets(text) {
+    match ipv4(text) {
         Some(octets) => Some(Address::V4(octets)),
-        None => Some(Address::V6(ipv6_octets(text)?)),
+        None => Some(Address::V6(ipv6(text)?)),
     }
+}
+
+/// The octets of an IPv4 address: four numbers with dots between them.
+pub fn ipv4_octets(text: &[u8]) -> Option<[u8; 4]>
+    // What is read is what the text spells.
+    ensures found { IfSome result (λ octets. V4Text text.now octets) }
+    // What the text spells is read.
+    ensures read { (octets : List ℕ) → V4Text text.now octets → result ≡ Some octets }
+{
+    ipv4(text)
+}
+
+/// The octets of an IPv6 address, without brackets.
+pub fn ipv6_octets(text: &[u8]) -> Option<[u8; 16]>
+    // What is read is what the text spells.
+    ensures found { IfSome result (λ octets. V6Text text.now octets) }
+    // What the text spells is read.
+    ensures read { (octets : List ℕ) → V6Text text.now octets → result ≡ Some octets }
+{
+    ipv6(text)
 }
 
 /// Adds a number in decimal digits, without leading zeros.

@@ -1,7 +1,7 @@
 //! IPv4 addresses as texts (RFC 3261 25.1).
 ghost use Rattle.std.specs.Prelude.{◌≡◌, slice_index};
 ghost use Rattle.std.specs.Char.{is_ascii_digit};
-ghost use Rattle.ip_text.specs.Readers.Texts as spec;
+ghost use Rattle.ip_text.specs.Readers as spec;
 
 use crate::numbers::decimal;
 use crate::parts::next_part;
@@ -27,8 +27,8 @@ fn begins_with_digit(text: &[u8]) -> bool
 }
 
 /// The address of four numbers with dots between them.
-#[tactic(auto, unfolding(crate::specs::Readers::Texts::ipv4))]
-pub fn ipv4_octets(text: &[u8]) -> Option<[u8; 4]>
+#[tactic(auto, unfolding(crate::specs::Readers::ipv4))]
+pub(crate) fn ipv4(text: &[u8]) -> Option<[u8; 4]>
     ensures { result ≡ spec.ipv4 text.now }
 {
     // So most names are told apart at once.

@@ -1,10 +1,10 @@
 //! IPv6 addresses as texts (RFC 3261 25.1, RFC 4291 2.2).
 ghost use Rattle.std.specs.Prelude.{◌≡◌, ◌<◌, ◌+◌, ◌++◌, ℕ, List, length, None, Some, MatchOption};
 ghost use Rattle.std.specs.Option.{option_map};
-ghost use Rattle.ip_text.specs.Readers.Parts.{parted};
-ghost use Rattle.ip_text.specs.Readers.Texts as spec;
+ghost use Rattle.ip_text.specs.Parts.{parted};
+ghost use Rattle.ip_text.specs.Readers as spec;
 
-use crate::ipv4::ipv4_octets;
+use crate::ipv4::ipv4;
 use crate::numbers::hexadecimal;
 use crate::parts::{behind_front, next_part};
 use arrayvec::ArrayVec;
@@ -53,7 +53,7 @@ fn push_last(octets: &mut ArrayVec<u8, 16>, text: &[u8], closing: bool) -> Optio
         (λ _. option_map (λ more. octets.old.items ++ more) (spec.last_group closing text.now)
         ≡ Some octets.new.items) }
 {
-    if closing && let Some(address) = ipv4_octets(text) {
+    if closing && let Some(address) = ipv4(text) {
         return push_octets(octets, &address);
     }
     push_octets(octets, &group(text)?)
@@ -125,7 +125,7 @@ fn shortened(left: &[u8], right: &[u8]) -> Option<[u8; 16]>
 }
 
 /// The address of an IPv6 text.
-pub fn ipv6_octets(text: &[u8]) -> Option<[u8; 16]>
+pub(crate) fn ipv6(text: &[u8]) -> Option<[u8; 16]>
     ensures { result ≡ spec.ipv6 text.now }
 {
     match around_colons(text) {

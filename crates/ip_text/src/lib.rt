@@ -30,10 +30,8 @@ mod laws;
 mod numbers;
 mod parts;
 
-pub use address::{Address, address_from_text, address_text};
-pub use ipv4::ipv4_octets;
-pub use ipv6::ipv6_octets;
-pub use laws::{octets_are_those_spelled, written_address_is_read};
+pub use address::{Address, address_from_text, address_text, ipv4_octets, ipv6_octets};
+pub use laws::written_address_is_read;
 pub use numbers::decimal;
 pub use parts::{behind_front, next_part};
 

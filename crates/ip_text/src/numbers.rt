@@ -1,7 +1,7 @@
 //! Numbers in texts.
 ghost use Rattle.std.specs.Prelude.{◌≡◌, ◌≤◌};
 ghost use Rattle.ip_text.specs.Numbers.{decimal_within};
-ghost use Rattle.ip_text.specs.Readers.Texts as spec;
+ghost use Rattle.ip_text.specs.Readers as spec;
 
 /// The number that decimal digits spell, one at least, where it is at most `limit`.
 pub fn decimal(text: &[u8], limit: u32) -> Option<u32>

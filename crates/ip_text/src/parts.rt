@@ -1,7 +1,7 @@
 //! A text, cut at an octet.
 ghost use Rattle.std.specs.Prelude.{◌≡◌};
 ghost use Rattle.std.specs.Option.{option_map};
-ghost use Rattle.ip_text.specs.Readers.Parts.{before, behind, behind_front};
+ghost use Rattle.ip_text.specs.Parts.{before, behind, behind_front};
 
 /// What stands before the first octet of a kind, and what stands after it, if there is one.
 pub fn next_part(text: &[u8], octet: u8) -> (&[u8], Option<&[u8]>)

@@ -8,7 +8,7 @@ use Rattle.std.proofs.lemmas.List.{length-append, length-map}
 use Rattle.dns_name.proofs.ClosingDots.{joined, dotted_parts, parts_of}
 use Rattle.dns_name.specs.Labels.{small_letters, wire_of}
 use Rattle.dns_name.specs.Texts.{is_text_octet, IsTextLabel, TextOf, dotted, without_closing_dot}
-use Rattle.ip_text.specs.Readers.Parts.{parted}
+use Rattle.ip_text.specs.Parts.{parted}
 use Rattle.sip_uri.specs.Hosts.{is_label_octet, HostLabel, AreHostLabels, DomainText}
 use Rattle.sip_uri.specs.Readers.Hostnames.{is_label, are_labels, is_hostname}
 use Rattle.sip_uri.specs.Readers.Hosts.{name_of}

@@ -7,7 +7,7 @@ use Rattle.std.proofs.lemmas.Bool.Decides.{nat_tests}
 use Rattle.sip_uri.specs.Hosts.{is_label_octet}
 use Rattle.sip_uri.specs.ViaClasses.{row, behind_row}
 use Rattle.sip_uri.proofs.RunSteps.{no_octet}
-use Rattle.ip_text.specs.Readers.Parts.{before, behind, behind_front, parted}
+use Rattle.ip_text.specs.Parts.{before, behind, behind_front, parted}
 use Rattle.sip_uri.specs.Readers.Hostnames.{is_label, are_labels}
 use Rattle.ip_text.proofs.Cutting.{others, parts_are}
 

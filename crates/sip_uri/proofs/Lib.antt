@@ -1,3 +1,4 @@
+mod AddressOctets
 mod ClassTable
 mod Fronts
 mod Hostnames

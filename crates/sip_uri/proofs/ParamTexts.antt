@@ -4,7 +4,7 @@ use Rattle.std.proofs.lemmas.Bool.{cases_Bool}
 use Rattle.std.proofs.lemmas.Slice.Eq.{bytes_eq-Decides}
 use Rattle.std.proofs.lemmas.List.{append-nil}
 use Rattle.dns_name.specs.Labels.{small_letters}
-use Rattle.ip_text.specs.Readers.Parts.{before, behind}
+use Rattle.ip_text.specs.Parts.{before, behind}
 use Rattle.sip_uri.specs.Classes.{is_param_octet}
 use Rattle.sip_uri.specs.Uris.{IsSomeRun, Param, valued_text, param_text, key_of, transport_key, maddr_key, IsParam}
 use Rattle.sip_uri.specs.Readers.Hosts.{host}

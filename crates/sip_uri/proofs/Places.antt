@@ -7,10 +7,10 @@ use Rattle.std.proofs.lemmas.Bool.Decides.{nat_tests}
 use Rattle.std.proofs.lemmas.Option.{same_Some}
 use Rattle.std.proofs.lemmas.List.{append-nil, length-append}
 use Rattle.dns_name.specs.Texts.{IsDotted}
-use Rattle.ip_text.specs.Readers.Parts.{before, behind}
+use Rattle.ip_text.specs.Parts.{before, behind}
 use Rattle.ip_text.specs.Addresses.{V4Text}
 use Rattle.sip_uri.specs.Hosts.{HostLabel, AreHostLabels, DomainText, HostText, is_label_octet}
-use Rattle.ip_text.specs.Readers.Texts.{ipv4, ipv6}
+use Rattle.ip_text.specs.Readers.{ipv4, ipv6}
 use Rattle.sip_uri.specs.Readers.Hostnames.{is_hostname}
 use Rattle.sip_uri.specs.Readers.Hosts.{name_of, plain_host, port_part, host_in_brackets, host_in_front, without_port, host}
 use Rattle.sip_uri.specs.declared.host.Host.{Host}

@@ -4,7 +4,7 @@ use Rattle.std.specs.List.{AllByRecursion, list_all, join_with_byte}
 use Rattle.std.specs.Char.{is_ascii_hexdigit}
 use Rattle.std.proofs.lemmas.Bool.{cases_Bool}
 use Rattle.std.proofs.lemmas.List.Splits.{join_with_byte-slice_split, length-slice_split}
-use Rattle.ip_text.specs.Readers.Parts.{before, behind, parted}
+use Rattle.ip_text.specs.Parts.{before, behind, parted}
 use Rattle.sip_uri.specs.Classes.{is_header_octet}
 use Rattle.sip_uri.specs.Readers.Runs.{is_some_run}
 use Rattle.sip_uri.specs.Uris.{IsSomeRun, HeaderText, headers_text}

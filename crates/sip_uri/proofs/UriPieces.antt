@@ -8,7 +8,7 @@ use Rattle.std.proofs.lemmas.Option.{same_Some}
 use Rattle.std.proofs.lemmas.List.{append-nil}
 use Rattle.dns_name.specs.Labels.{small_letters}
 use Rattle.ip_text.specs.Numbers.{decimal, decimal_within}
-use Rattle.ip_text.specs.Readers.Parts.{before, behind}
+use Rattle.ip_text.specs.Parts.{before, behind}
 use Rattle.sip_uri.specs.Classes.{is_user_octet, is_password_octet}
 use Rattle.sip_uri.specs.Hosts.{HostText}
 use Rattle.sip_uri.specs.Readers.Runs.{is_some_run}

@@ -2,7 +2,7 @@
 use Rattle.std.proofs.Common.{◌≡◌, ℕ, ◌≤◌, Bool, true, false, not, List, ◌∷◌, ◌++◌, length, Option, Some, None, Result, Ok, Err, refl, sym, ap, ◌∙◌, inl, inr, eqb, append_assoc}
 use Rattle.std.specs.Char.{is_ascii_digit}
 use Rattle.std.specs.Prelude.{MatchResult, IfOk}
-use Rattle.ip_text.specs.Readers.Parts.{before, behind}
+use Rattle.ip_text.specs.Parts.{before, behind}
 use Rattle.sip_uri.specs.Uris.{params_text, headers_text, UriText, HasScheme, IsNamedUri}
 use Rattle.sip_uri.specs.Readers.Uris.{is_secure, both, behind_scheme, behind_user, place_of, said_by, check_headers, uri_parts}
 use Rattle.sip_uri.specs.declared.host.Host.{Host}

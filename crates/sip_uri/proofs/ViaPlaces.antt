@@ -6,10 +6,10 @@ use Rattle.std.specs.Char.{is_ascii_digit}
 use Rattle.std.proofs.lemmas.Bool.{cases_Bool}
 use Rattle.std.proofs.lemmas.Bool.Decides.{nat_tests}
 use Rattle.std.proofs.lemmas.Option.{same_Some}
-use Rattle.ip_text.specs.Readers.Parts.{before, behind}
+use Rattle.ip_text.specs.Parts.{before, behind}
 use Rattle.ip_text.specs.Addresses.{V6Text}
 use Rattle.sip_uri.specs.Hosts.{HostText}
-use Rattle.ip_text.specs.Readers.Texts.{ipv6}
+use Rattle.ip_text.specs.Readers.{ipv6}
 use Rattle.sip_uri.specs.Readers.Hosts.{plain_host}
 use Rattle.sip_uri.specs.Readers.Uris.{port_number}
 use Rattle.sip_uri.specs.ViaClasses.{is_blank, is_in_host, is_in_port, row, behind_row}

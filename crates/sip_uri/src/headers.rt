@@ -1,7 +1,7 @@
 //! Headers of a URI (RFC 3261 19.1.1, 25.1).
 ghost use Rattle.std.specs.Prelude.{◌≡◌};
 ghost use Rattle.std.specs.List.{list_all};
-ghost use Rattle.ip_text.specs.Readers.Parts.{parted};
+ghost use Rattle.ip_text.specs.Parts.{parted};
 ghost use Rattle.sip_uri.specs.Readers.Uris as spec;
 
 use crate::classes::{Class, is_run, is_some_run};

@@ -2,7 +2,7 @@
 ghost use Rattle.std.specs.Prelude.{◌≡◌, true};
 ghost use Rattle.std.specs.List.{list_all};
 ghost use Rattle.sip_uri.specs.Hosts as host;
-ghost use Rattle.ip_text.specs.Readers.Parts.{parted};
+ghost use Rattle.ip_text.specs.Parts.{parted};
 ghost use Rattle.sip_uri.specs.Readers.Hostnames as spec;
 ghost use Rattle.dns_name.specs.Texts.{without_closing_dot};
 

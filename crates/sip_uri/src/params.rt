@@ -2,7 +2,7 @@
 ghost use Rattle.std.specs.Prelude.{◌≡◌, take, IfOk, IfSome, Some, is_some};
 ghost use Rattle.std.specs.Option.{option_map, option_and_then};
 ghost use Rattle.std.specs.Result.{result_err};
-ghost use Rattle.ip_text.specs.Readers.Parts.{parted};
+ghost use Rattle.ip_text.specs.Parts.{parted};
 ghost use Rattle.sip_uri.specs.Readers.Hosts as host;
 ghost use Rattle.sip_uri.specs.Readers.Params as spec;
 

@@ -3,7 +3,7 @@ use Rattle.std.specs.Prelude.{ℕ, ◌-◌, nat_lt, nat_le, slice_index, Bool, f
 use Rattle.std.specs.List.{list_all}
 use Rattle.std.specs.Char.{is_ascii_alphanumeric, is_ascii_alphabetic}
 use Rattle.dns_name.specs.Texts.{without_closing_dot}
-use Rattle.ip_text.specs.Readers.Parts.{parted}
+use Rattle.ip_text.specs.Parts.{parted}
 use Rattle.sip_uri.specs.Hosts.{is_label_octet}
 
 abbrev pub is_label : List ℕ → Bool

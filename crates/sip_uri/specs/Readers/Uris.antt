@@ -3,7 +3,7 @@ use Rattle.std.specs.Prelude.{ℕ, zero, suc, Bool, true, false, ◌&&◌, List,
 use Rattle.std.specs.List.{list_all}
 use Rattle.std.specs.Option.{option_map, option_and_then, ok_or}
 use Rattle.std.specs.Str.{str_eq_ignore_ascii_case}
-use Rattle.ip_text.specs.Readers.Parts.{before, behind, parted}
+use Rattle.ip_text.specs.Parts.{before, behind, parted}
 use Rattle.sip_uri.specs.Classes.{is_user_octet, is_password_octet, is_header_octet}
 use Rattle.sip_uri.specs.Readers.Runs.{is_run, is_some_run}
 use Rattle.ip_text.specs.Numbers.{decimal_within}

@@ -1,6 +1,6 @@
 use Rattle.std.proofs.Common.{◌≡◌, take, drop}
 use Rattle.std.specs.Option.{option_map}
-use Rattle.ip_text.specs.Readers.Texts.{around_colons, with_front}
+use Rattle.ip_text.specs.Readers.{around_colons, with_front}
 use Rattle.ip_text.proofs.ipv6.around_colons.Given as goal
 
 abbrev pub invariant-loop-at : goal.invariant-loop-at

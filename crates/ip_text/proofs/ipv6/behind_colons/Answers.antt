@@ -1,6 +1,6 @@
 use Rattle.std.proofs.Common.{sym, ap, ◌∙◌}
 use Rattle.std.specs.Option.{option_and_then}
-use Rattle.ip_text.specs.Readers.Parts.{behind_front}
+use Rattle.ip_text.specs.Parts.{behind_front}
 use Rattle.ip_text.proofs.Colons.{colons_in_front}
 use Rattle.ip_text.proofs.ipv6.behind_colons.Goals as goal
 

@@ -1,6 +1,6 @@
 use Rattle.std.proofs.Common.{◌≡◌, Some, None, sym, ◌∙◌}
-use Rattle.ip_text.specs.Readers.Parts.{behind, before}
-use Rattle.ip_text.specs.Readers.Texts.{group}
+use Rattle.ip_text.specs.Parts.{behind, before}
+use Rattle.ip_text.specs.Readers.{group}
 use Rattle.ip_text.proofs.Cutting.{length_behind}
 use Rattle.ip_text.proofs.Groups.{no_group, no_room, goes_on, ends, no_room_at_end}
 use Rattle.ip_text.proofs.ipv6.groups.Goals as goal

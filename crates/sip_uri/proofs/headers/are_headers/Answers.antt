@@ -1,5 +1,5 @@
 use Rattle.std.proofs.Common.{◌≡◌, true, false, Some, None, sym, ◌∙◌}
-use Rattle.ip_text.specs.Readers.Parts.{before, behind}
+use Rattle.ip_text.specs.Parts.{before, behind}
 use Rattle.sip_uri.specs.Readers.Uris.{is_header}
 use Rattle.ip_text.proofs.Cutting.{length_behind}
 use Rattle.sip_uri.proofs.ParamSteps.{all_more, all_good, all_bad}

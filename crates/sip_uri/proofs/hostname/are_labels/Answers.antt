@@ -1,7 +1,7 @@
 use Rattle.std.proofs.Common.{◌≡◌, ◌<◌, List, ℕ, true, false, Some, None, length, refl, sym, ap, arith, ◌∙◌, slice_index}
 use Rattle.std.proofs.lemmas.Bool.Decides.{nat_tests}
 use Rattle.sip_uri.specs.Hosts.{is_label_octet}
-use Rattle.ip_text.specs.Readers.Parts.{before, behind, behind_front}
+use Rattle.ip_text.specs.Parts.{before, behind, behind_front}
 use Rattle.sip_uri.specs.Readers.Hostnames.{is_label}
 use Rattle.sip_uri.specs.ViaClasses.{row, behind_row}
 use Rattle.std.specs.Char.{is_ascii_alphabetic}

@@ -1,5 +1,5 @@
 use Rattle.std.proofs.Common.{◌≡◌, length}
-use Rattle.ip_text.specs.Readers.Parts.{parted}
+use Rattle.ip_text.specs.Parts.{parted}
 use Rattle.sip_uri.specs.Readers.Hostnames.{are_labels}
 use Rattle.sip_uri.proofs.hostname.are_labels.Given as goal
 

@@ -1,7 +1,7 @@
 use Rattle.std.proofs.Common.{◌≡◌, ◌<◌, List, ℕ, length, take, true, false, Some, None, sym, ap, ◌∙◌}
 use Rattle.std.proofs.Math.ListN.{length-set}
 use Rattle.std.specs.Option.{option_map, option_or}
-use Rattle.ip_text.specs.Readers.Parts.{before, behind, parted}
+use Rattle.ip_text.specs.Parts.{before, behind, parted}
 use Rattle.sip_uri.specs.Readers.Params.{name_of, is_param, stands_in, value_so_far, transport_name, maddr_of}
 use Rattle.ip_text.proofs.Cutting.{length_behind}
 use Rattle.sip_uri.specs.Readers.Hosts.{host_of, IsHostPart}

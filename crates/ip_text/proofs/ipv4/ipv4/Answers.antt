@@ -3,9 +3,9 @@ use Rattle.std.specs.Char.{is_ascii_digit}
 use Rattle.std.specs.Option.{option_and_then}
 use Rattle.std.proofs.lemmas.Bool.Decides.{nat_tests}
 use Rattle.std.proofs.lemmas.Bool.{cases_Bool}
-use Rattle.ip_text.specs.Readers.Parts.{before, behind}
-use Rattle.ip_text.specs.Readers.Texts.{ipv4_number, ipv4}
-use Rattle.ip_text.proofs.ipv4.ipv4_octets.Goals as goal
+use Rattle.ip_text.specs.Parts.{before, behind}
+use Rattle.ip_text.specs.Readers.{ipv4_number, ipv4}
+use Rattle.ip_text.proofs.ipv4.ipv4.Goals as goal
 
 -- a number begins with a digit
 number_begins : (octet : ℕ) (text : List ℕ) → is_ascii_digit octet ≡ false → ipv4_number (octet ∷ text) ≡ None
