@@ -1,6 +1,4 @@
--- What the readers of addresses and numbers give, as functions on lists. They follow the code, and
--- are words of private contracts alone: the definitions beside this file do without them, and the
--- proofs tie both together, in both directions.
+-- What the readers of addresses and numbers give, as functions on lists.
 use Rattle.std.specs.Prelude.{ℕ, ◌+◌, ◌-◌, ◌/◌, ◌%◌, ◌==◌, nat_lt, Bool, true, false, not, ◌||◌, ◌&&◌, List, [], ◌∷◌, ◌++◌, length, replicate, Option, Some, None, if◌then◌else◌}
 use Rattle.std.specs.List.{list_all}
 use Rattle.std.specs.Option.{option_map, option_and_then, option_or}
