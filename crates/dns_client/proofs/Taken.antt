@@ -6,8 +6,8 @@ use Rattle.std.proofs.lemmas.List.{append-nil, length-take-le, take_all, take_mo
 use Rattle.std.proofs.lemmas.List.Elements.{filter_map-append}
 use Rattle.std.proofs.lemmas.List.Folds.{list_any-append}
 use Rattle.std.proofs.lemmas.List.FromFn.{get_or-enumerate_from, length-enumerate_from}
-use Rattle.sip_uri.specs.declared.address.Address.{Address}
-use Rattle.sip_uri.specs.declared.address.Address.TheVariants.{V4}
+use Rattle.ip_text.specs.declared.address.Address.{Address}
+use Rattle.ip_text.specs.declared.address.Address.TheVariants.{V4}
 use Rattle.dns_client.specs.ResolverFiles.{FileSays, FileValue, LinesSay, Said, at_line, attempts_in, is_over_tcp, last_or, or_local, server_in, timeout_in, value_of, warning_in, with_local}
 use Rattle.dns_client.specs.ResolverLines.{LineSays, lines_of}
 use Rattle.dns_client.specs.Views.{with_fact, with_facts}

@@ -1,8 +1,8 @@
 -- What the system's resolver file says in all (resolv.conf(5)).
 use Rattle.std.specs.Prelude.{◌≡◌, ℕ, ◌+◌, Bool, true, false, List, [], ◌∷◌, ◌++◌, map, take, Option, Some, None}
 use Rattle.std.specs.List.{filter_map, list_any}
-use Rattle.sip_uri.specs.declared.address.Address.{Address}
-use Rattle.sip_uri.specs.declared.address.Address.TheVariants.{V4}
+use Rattle.ip_text.specs.declared.address.Address.{Address}
+use Rattle.ip_text.specs.declared.address.Address.TheVariants.{V4}
 use Rattle.dns_client.specs.ResolverLines.{LineSays, lines_of}
 use Rattle.dns_client.specs.declared.resolver_fact.Fact.{Fact}
 use Rattle.dns_client.specs.declared.resolver_fact.Fact.TheVariants.{Server, Timeout, Attempts, OverTcp, Fault}

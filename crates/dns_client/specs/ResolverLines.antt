@@ -3,9 +3,9 @@ use Rattle.std.specs.Prelude.{◌≡◌, ℕ, ◌==◌, min, max, Bool, true, fa
 use Rattle.std.specs.Char.{is_ascii_digit}
 use Rattle.std.specs.List.{filter, filter_map, list_all, list_any, slice_split}
 use Rattle.std.specs.Str.{IsUtf8, bytes_eq}
-use Rattle.sip_uri.specs.Addresses.{AddressText}
-use Rattle.sip_uri.specs.Numbers.{decimal}
-use Rattle.sip_uri.specs.declared.address.Address.{Address}
+use Rattle.ip_text.specs.Addresses.{AddressText}
+use Rattle.ip_text.specs.Numbers.{decimal}
+use Rattle.ip_text.specs.declared.address.Address.{Address}
 use Rattle.dns_client.specs.declared.resolver_fact.Fact.{Fact}
 use Rattle.dns_client.specs.declared.resolver_fact.Fact.TheVariants.{Server, Timeout, Attempts, OverTcp, Fault}
 use Rattle.dns_client.specs.declared.warning.LineFault.{LineFault}

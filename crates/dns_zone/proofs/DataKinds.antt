@@ -7,8 +7,8 @@ use Rattle.dns_message.specs.declared.rdata.Rdata.TheVariants.{Addr4, Addr6, Srv
 use Rattle.dns_message.specs.declared.soa.SoaRecord.{SoaRecord}
 use Rattle.dns_message.specs.declared.srv.SrvRecord.{SrvRecord}
 use Rattle.dns_name.specs.Texts.{TextOf}
-use Rattle.sip_uri.specs.Addresses.{AddressText}
-use Rattle.sip_uri.specs.declared.address.Address.TheVariants.{V4, V6}
+use Rattle.ip_text.specs.Addresses.{AddressText}
+use Rattle.ip_text.specs.declared.address.Address.TheVariants.{V4, V6}
 use Rattle.dns_zone.specs.Lines.{DataFields, NaptrFields, OneField, SoaFields, SrvFields}
 
 module _ (fields : List (List ℕ)) where

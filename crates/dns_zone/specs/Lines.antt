@@ -11,9 +11,9 @@ use Rattle.dns_message.specs.declared.soa.SoaRecord.{SoaRecord}
 use Rattle.dns_message.specs.declared.srv.SrvRecord.{SrvRecord}
 use Rattle.dns_name.specs.Labels.{same_name}
 use Rattle.dns_name.specs.Texts.{TextOf}
-use Rattle.sip_uri.specs.Addresses.{AddressText}
-use Rattle.sip_uri.specs.Numbers.{decimal}
-use Rattle.sip_uri.specs.declared.address.Address.TheVariants as address
+use Rattle.ip_text.specs.Addresses.{AddressText}
+use Rattle.ip_text.specs.Numbers.{decimal}
+use Rattle.ip_text.specs.declared.address.Address.TheVariants as address
 use Rattle.dns_zone.specs.Zones.{Owned, records_at}
 
 -- ---- fields

@@ -7,7 +7,7 @@ ghost use Rattle.dns_zone.specs.Views.{texts};
 use crate::refusal::LineRefusal;
 use arrayvec::ArrayVec;
 use dns_message::CharString;
-use sip_uri::decimal;
+use ip_text::decimal;
 use std::alloc::Global;
 
 /// The most fields of a line: those of SOA.

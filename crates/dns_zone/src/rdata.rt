@@ -2,8 +2,8 @@
 //! RFC 3403 4.1).
 ghost use Rattle.std.specs.Prelude.{◌≡◌, List, ℕ, Ok, IfErr, IfOk, MatchResult};
 ghost use Rattle.dns_name.specs.Texts.{TextOf};
-ghost use Rattle.sip_uri.specs.Addresses.{AddressText};
-ghost use Rattle.sip_uri.specs.declared.address.Address.TheVariants as address;
+ghost use Rattle.ip_text.specs.Addresses.{AddressText};
+ghost use Rattle.ip_text.specs.declared.address.Address.TheVariants as address;
 ghost use Rattle.dns_zone.specs.Lines as spec;
 ghost use Rattle.dns_zone.specs.Views.{texts};
 ghost use Rattle.dns_message.specs.declared.rdata.Rdata as rdata;
@@ -15,7 +15,7 @@ use crate::field::{char_string, number_of_16_bits, number_of_32_bits};
 use crate::refusal::LineRefusal;
 use dns_message::{NaptrRecord, Rdata, SoaRecord, SrvRecord};
 use dns_name::Name;
-use sip_uri::{Address, address_from_text};
+use ip_text::{Address, address_from_text};
 use std::alloc::Global;
 
 /// The address of IPv4 in the one field.

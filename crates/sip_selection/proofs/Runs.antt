@@ -20,8 +20,8 @@ use Rattle.dns_message.specs.declared.question.Question.{Question}
 use Rattle.dns_message.specs.declared.srv.SrvRecord.{SrvRecord}
 use Rattle.sip_uri.specs.declared.host.Host.{Host}
 use Rattle.sip_uri.specs.declared.host.Host.TheVariants as host
-use Rattle.sip_uri.specs.declared.address.Address.{Address}
-use Rattle.sip_uri.specs.declared.address.Address.TheVariants as address
+use Rattle.ip_text.specs.declared.address.Address.{Address}
+use Rattle.ip_text.specs.declared.address.Address.TheVariants as address
 use Rattle.sip_uri.specs.declared.transport.Spoken.{Spoken}
 use Rattle.sip_uri.specs.declared.transport.Transport.{Transport}
 use Rattle.sip_selection.specs.Callers.{kinds_of}

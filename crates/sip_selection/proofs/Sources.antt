@@ -7,7 +7,7 @@ use Rattle.dns_message.specs.declared.kind.Kind.{Kind}
 use Rattle.dns_message.specs.declared.kind.Kind.TheVariants as kind
 use Rattle.dns_message.specs.declared.question.Question.{Question}
 use Rattle.dns_message.specs.declared.srv.SrvRecord.{SrvRecord}
-use Rattle.sip_uri.specs.declared.address.Address.{Address}
+use Rattle.ip_text.specs.declared.address.Address.{Address}
 use Rattle.sip_uri.specs.declared.transport.Transport.{Transport}
 use Rattle.srv_choice.specs.Outcomes.{order_from, is_root}
 use Rattle.srv_choice.specs.declared.outcome.SrvOutcome.{SrvOutcome}

@@ -9,8 +9,8 @@ use Rattle.dns_message.specs.Questions.{same_question}
 use Rattle.dns_message.specs.declared.naptr.NaptrRecord.{NaptrRecord}
 use Rattle.dns_message.specs.declared.question.Question.{Question}
 use Rattle.dns_message.specs.declared.srv.SrvRecord.{SrvRecord}
-use Rattle.sip_uri.specs.declared.address.Address.{Address}
-use Rattle.sip_uri.specs.declared.address.Address.TheVariants as address
+use Rattle.ip_text.specs.declared.address.Address.{Address}
+use Rattle.ip_text.specs.declared.address.Address.TheVariants as address
 
 -- a question with its answer
 pub record Given : Type 0 where

@@ -6,7 +6,7 @@ use Rattle.dns_name.specs.Labels.{wire_of}
 use Rattle.dns_message.specs.declared.kind.Kind.{Kind}
 use Rattle.dns_message.specs.declared.kind.Kind.TheVariants as kind
 use Rattle.dns_message.specs.declared.srv.SrvRecord.{SrvRecord}
-use Rattle.sip_uri.specs.declared.address.Address.{Address}
+use Rattle.ip_text.specs.declared.address.Address.{Address}
 use Rattle.sip_uri.specs.declared.transport.Transport.{Transport}
 use Rattle.sip_uri.specs.declared.transport.Transport.TheVariants.{Udp, Tcp, Sctp, Tls}
 use Rattle.srv_choice.specs.Outcomes.{order_from, is_root}

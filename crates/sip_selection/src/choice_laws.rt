@@ -7,7 +7,7 @@ ghost use Rattle.dns_answers.specs.Values.{AnswerValue};
 ghost use Rattle.dns_message.specs.declared.kind.Kind.TheVariants as kind;
 ghost use Rattle.dns_message.specs.declared.question.Question.{Question};
 ghost use Rattle.sip_uri.specs.declared.host.Host.TheVariants as host;
-ghost use Rattle.sip_uri.specs.declared.address.Address.TheVariants as address;
+ghost use Rattle.ip_text.specs.declared.address.Address.TheVariants as address;
 ghost use Rattle.sip_uri.specs.declared.transport.Transport.TheVariants.{Tls};
 ghost use Rattle.sip_selection.specs.Callers.{kinds_of, offers};
 ghost use Rattle.sip_selection.specs.Choice.{locate, need, targets};

@@ -8,11 +8,11 @@ use Rattle.std.proofs.lemmas.List.{length-append, length-map}
 use Rattle.dns_name.proofs.ClosingDots.{joined, dotted_parts, parts_of}
 use Rattle.dns_name.specs.Labels.{small_letters, wire_of}
 use Rattle.dns_name.specs.Texts.{is_text_octet, IsTextLabel, TextOf, dotted, without_closing_dot}
-use Rattle.sip_uri.specs.Readers.Parts.{parted}
+use Rattle.ip_text.specs.Parts.{parted}
 use Rattle.sip_uri.specs.Hosts.{is_label_octet, HostLabel, AreHostLabels, DomainText}
-use Rattle.sip_uri.specs.Readers.Texts.{is_label, are_labels, is_hostname}
+use Rattle.sip_uri.specs.Readers.Hostnames.{is_label, are_labels, is_hostname}
 use Rattle.sip_uri.specs.Readers.Hosts.{name_of}
-use Rattle.sip_uri.proofs.Lists.{all_weaker}
+use Rattle.ip_text.proofs.Lists.{all_weaker}
 
 pub both_of : (a b : Bool) → a && b ≡ true → (a ≡ true) × (b ≡ true)
 both_of true b e = (refl, e)

@@ -5,7 +5,7 @@ use Rattle.std.specs.Prelude.{⊤}
 use Rattle.std.specs.Option.{option_map, ok_or}
 use Rattle.std.specs.List.{list_all}
 use Rattle.std.proofs.lemmas.Bool.{cases_Bool}
-use Rattle.sip_uri.specs.Readers.Parts.{before, behind, parted}
+use Rattle.ip_text.specs.Parts.{before, behind, parted}
 use Rattle.sip_uri.specs.Readers.Params.{is_param, stands_in, fault_behind, params_fault}
 use Rattle.sip_uri.specs.Readers.Uris.{is_userinfo, is_header, behind_scheme, without_user, behind_user, port_number, port_of, place_of, said_unless, said_by, check_headers, uri_parts}
 use Rattle.sip_uri.specs.Readers.Uris as reader

@@ -3,7 +3,7 @@ use Rattle.std.proofs.Common.{◌≡◌, ℕ, false, List, [], ◌∷◌, slice_
 use Rattle.std.proofs.lemmas.Bool.{cases_Bool}
 use Rattle.std.proofs.lemmas.Bool.Decides.{nat_tests}
 use Rattle.std.proofs.lemmas.Option.{same_Some}
-use Rattle.sip_uri.specs.Readers.Parts.{before, behind, behind_front}
+use Rattle.ip_text.specs.Parts.{before, behind, behind_front}
 use Rattle.sip_uri.specs.Readers.Hosts.{plain_host, host_in_brackets, host_in_front}
 use Rattle.sip_uri.specs.Readers.Vias.{behind_quoted, some_value, behind_value}
 use Rattle.sip_uri.specs.Readers.ViaFronts.{via_host}

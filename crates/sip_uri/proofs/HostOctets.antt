@@ -8,8 +8,8 @@ use Rattle.std.proofs.lemmas.Bool.Decides.{nat_tests}
 use Rattle.std.proofs.lemmas.Str.{IsUtf8-from_ascii}
 use Rattle.dns_name.specs.Texts.{IsDotted}
 use Rattle.sip_uri.specs.Hosts.{HostLabel, AreHostLabels, DomainText, is_label_octet}
-use Rattle.sip_uri.specs.Readers.Texts.{is_hostname}
-use Rattle.sip_uri.proofs.Lists.{all_weaker, all-append}
+use Rattle.sip_uri.specs.Readers.Hostnames.{is_hostname}
+use Rattle.ip_text.proofs.Lists.{all_weaker, all-append}
 use Rattle.sip_uri.proofs.DomainTexts.{hostname_read}
 use Rattle.sip_uri.specs.Readers.Hosts.{name_of}
 

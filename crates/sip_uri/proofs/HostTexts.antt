@@ -3,13 +3,13 @@ use Rattle.std.proofs.Common.{◌≡◌, ℕ, Bool, true, false, not, List, [], 
 use Rattle.std.specs.List.{list_all, join_with_byte}
 use Rattle.std.specs.Char.{is_ascii_hexdigit}
 use Rattle.std.proofs.lemmas.Bool.Decides.{nat_tests}
-use Rattle.sip_uri.specs.Addresses.{V4Text, GroupText, AreGroups, SideText, V6Text, whole, shortened}
+use Rattle.ip_text.specs.Addresses.{V4Text, GroupText, AreGroups, SideText, V6Text, whole, shortened}
 use Rattle.sip_uri.specs.Hosts.{HostText}
 use Rattle.sip_uri.specs.declared.host.Host.{Host}
 use Rattle.sip_uri.specs.declared.host.Host.TheVariants.{V4, V6, Domain}
-use Rattle.sip_uri.proofs.Cutting.{lacks}
-use Rattle.sip_uri.proofs.Lists.{all_weaker, all-append}
-use Rattle.sip_uri.proofs.V4Texts.{is_dotted_octet, ipv4_octets}
+use Rattle.ip_text.proofs.Cutting.{lacks}
+use Rattle.ip_text.proofs.Lists.{all_weaker, all-append}
+use Rattle.ip_text.proofs.V4Texts.{is_dotted_octet, ipv4_octets}
 use Rattle.sip_uri.proofs.HostOctets.{is_host_octet, hostname_octets}
 
 -- ---- the octets of addresses

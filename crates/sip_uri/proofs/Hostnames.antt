@@ -7,9 +7,9 @@ use Rattle.std.proofs.lemmas.Bool.Decides.{nat_tests}
 use Rattle.sip_uri.specs.Hosts.{is_label_octet}
 use Rattle.sip_uri.specs.ViaClasses.{row, behind_row}
 use Rattle.sip_uri.proofs.RunSteps.{no_octet}
-use Rattle.sip_uri.specs.Readers.Parts.{before, behind, behind_front, parted}
-use Rattle.sip_uri.specs.Readers.Texts.{is_label, are_labels}
-use Rattle.sip_uri.proofs.Cutting.{others, parts_are}
+use Rattle.ip_text.specs.Parts.{before, behind, behind_front, parted}
+use Rattle.sip_uri.specs.Readers.Hostnames.{is_label, are_labels}
+use Rattle.ip_text.proofs.Cutting.{others, parts_are}
 
 module _ (text rest : List ℕ) (so_far : are_labels (parted 46 rest) ≡ are_labels (parted 46 text)) where
   pub last_label : behind 46 rest ≡ None

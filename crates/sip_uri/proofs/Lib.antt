@@ -1,15 +1,6 @@
-mod Cutting
+mod AddressOctets
 mod ClassTable
-mod Colons
-mod Digits
 mod Fronts
-mod GroupSteps
-mod Groups
-mod Lists
-mod V4Texts
-mod V6Texts
-mod AddressTexts
-mod Written
 mod Hostnames
 mod DomainTexts
 mod HostOctets

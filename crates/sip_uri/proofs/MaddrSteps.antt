@@ -1,7 +1,7 @@
 -- The host of maddr, of parameters that were read up to a place.
 use Rattle.std.proofs.Common.{◌≡◌, Bool, true, false, List, ℕ, Option, Some, None, is_some, IfSome, refl, sym, ap}
 use Rattle.std.specs.Option.{option_map, option_or, option_and_then}
-use Rattle.sip_uri.specs.Readers.Parts.{before, behind, parted}
+use Rattle.ip_text.specs.Parts.{before, behind, parted}
 use Rattle.sip_uri.specs.Readers.Hosts.{host}
 use Rattle.sip_uri.specs.Readers.Params.{is_param, is_same, name_of, value_of, maddr_name, maddr_of}
 use Rattle.sip_uri.specs.declared.host.Host.{Host}

@@ -8,7 +8,7 @@ use Rattle.std.proofs.lemmas.Bool.{cases_Bool}
 use Rattle.std.proofs.lemmas.Slice.Eq.{bytes_eq-Decides}
 use Rattle.std.proofs.lemmas.List.{append-nil}
 use Rattle.std.proofs.lemmas.List.Splits.{join_with_byte-slice_split, length-slice_split}
-use Rattle.sip_uri.specs.Readers.Parts.{behind, parted}
+use Rattle.ip_text.specs.Parts.{behind, parted}
 use Rattle.sip_uri.specs.Classes.{is_param_octet}
 use Rattle.sip_uri.specs.Transports.{spoken_of}
 use Rattle.sip_uri.specs.Uris.{IsSomeRun, Param, valued_text, param_text, key_of, transport_key, maddr_key, IsParam, value_at, HostValue, params_text}
@@ -18,8 +18,8 @@ use Rattle.sip_uri.specs.Readers.Uris.{said, said_unless, said_by}
 use Rattle.sip_uri.specs.declared.host.Host.{Host}
 use Rattle.sip_uri.specs.declared.transport.Spoken.{Spoken}
 use Rattle.sip_uri.specs.declared.refusal.UriRefusal.{UriRefusal}
-use Rattle.sip_uri.proofs.Cutting.{lacks, back, parts-joined}
-use Rattle.sip_uri.proofs.Lists.{all-append, same_Ok}
+use Rattle.ip_text.proofs.Cutting.{lacks, back, parts-joined}
+use Rattle.ip_text.proofs.Lists.{all-append, same_Ok}
 use Rattle.sip_uri.proofs.RunTexts.{run_lacks}
 use Rattle.sip_uri.proofs.Places.{host_read, host_again}
 use Rattle.sip_uri.proofs.ParamTexts.{same_names, param_of, param_text-of, IsHosted, param_read, param_again, part_of, hosted_read, valued_of}

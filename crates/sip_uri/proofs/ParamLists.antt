@@ -6,7 +6,7 @@ use Rattle.std.proofs.lemmas.Bool.{cases_Bool}
 use Rattle.std.proofs.lemmas.List.{append-nil, map-append, length-append, get_or_append_left, get_or_at}
 use Rattle.std.proofs.lemmas.List.Quantifiers.{all_pairs_push}
 use Rattle.dns_name.specs.Labels.{small_letters}
-use Rattle.sip_uri.specs.Readers.Parts.{before}
+use Rattle.ip_text.specs.Parts.{before}
 use Rattle.sip_uri.specs.Uris.{value_at}
 use Rattle.sip_uri.specs.Readers.Params.{name_of, is_same, is_param, stands_in, fault_behind, params_fault, value_of}
 use Rattle.sip_uri.specs.declared.refusal.UriRefusal.TheVariants.{BadParam, RepeatedParam}

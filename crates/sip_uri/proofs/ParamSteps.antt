@@ -7,10 +7,10 @@ use Rattle.std.proofs.lemmas.Bool.Decides.{nat_tests}
 use Rattle.std.proofs.lemmas.Grind.{get_or-set_at}
 use Rattle.std.proofs.lemmas.Slice.Eq.{bytes_eq-Decides}
 use Rattle.std.proofs.lemmas.List.{length-map, get_or-set_same, get_or-set_other, length-append, length-take-le, take_more, get_or_at, take_all}
-use Rattle.sip_uri.specs.Readers.Parts.{before, behind, parted}
+use Rattle.ip_text.specs.Parts.{before, behind, parted}
 use Rattle.sip_uri.specs.Readers.Params.{is_param, is_same, name_of, has_name, stands_in, fault_behind, params_fault, value_of, value_so_far, transport_name, maddr_name, AreMarked}
 use Rattle.sip_uri.specs.declared.refusal.UriRefusal.TheVariants.{BadParam, RepeatedParam}
-use Rattle.sip_uri.proofs.Cutting.{parts_more, parts_last}
+use Rattle.ip_text.proofs.Cutting.{parts_more, parts_last}
 
 -- ---- headers
 

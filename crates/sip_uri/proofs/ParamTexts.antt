@@ -4,13 +4,13 @@ use Rattle.std.proofs.lemmas.Bool.{cases_Bool}
 use Rattle.std.proofs.lemmas.Slice.Eq.{bytes_eq-Decides}
 use Rattle.std.proofs.lemmas.List.{append-nil}
 use Rattle.dns_name.specs.Labels.{small_letters}
-use Rattle.sip_uri.specs.Readers.Parts.{before, behind}
+use Rattle.ip_text.specs.Parts.{before, behind}
 use Rattle.sip_uri.specs.Classes.{is_param_octet}
 use Rattle.sip_uri.specs.Uris.{IsSomeRun, Param, valued_text, param_text, key_of, transport_key, maddr_key, IsParam}
 use Rattle.sip_uri.specs.Readers.Hosts.{host}
 use Rattle.sip_uri.specs.Readers.Runs.{is_some_run}
 use Rattle.sip_uri.specs.Readers.Params.{name_of, is_same, is_value_of, is_valued, is_param, transport_name, maddr_name}
-use Rattle.sip_uri.proofs.Cutting.{back, joined, cut_back}
+use Rattle.ip_text.proofs.Cutting.{back, joined, cut_back}
 use Rattle.sip_uri.proofs.DomainTexts.{both_of}
 use Rattle.sip_uri.proofs.RunTexts.{some_read, some_again, run_lacks}
 

@@ -7,17 +7,18 @@ use Rattle.std.proofs.lemmas.Bool.Decides.{nat_tests}
 use Rattle.std.proofs.lemmas.Option.{same_Some}
 use Rattle.std.proofs.lemmas.List.{append-nil, length-append}
 use Rattle.dns_name.specs.Texts.{IsDotted}
-use Rattle.sip_uri.specs.Readers.Parts.{before, behind}
-use Rattle.sip_uri.specs.Addresses.{V4Text}
+use Rattle.ip_text.specs.Parts.{before, behind}
+use Rattle.ip_text.specs.Addresses.{V4Text}
 use Rattle.sip_uri.specs.Hosts.{HostLabel, AreHostLabels, DomainText, HostText, is_label_octet}
-use Rattle.sip_uri.specs.Readers.Texts.{ipv4, ipv6, is_hostname}
+use Rattle.ip_text.specs.Readers.{ipv4, ipv6}
+use Rattle.sip_uri.specs.Readers.Hostnames.{is_hostname}
 use Rattle.sip_uri.specs.Readers.Hosts.{name_of, plain_host, port_part, host_in_brackets, host_in_front, without_port, host}
 use Rattle.sip_uri.specs.declared.host.Host.{Host}
 use Rattle.sip_uri.specs.declared.host.Host.TheVariants.{V4, V6, Domain}
-use Rattle.sip_uri.proofs.Cutting.{lacks, back, joined, cut_back, at_first}
-use Rattle.sip_uri.proofs.Lists.{steps_of, mapped_from, either_of, all_weaker, all-append, all_of-append}
-use Rattle.sip_uri.proofs.V4Texts.{ipv4_read, ipv4_again, is_dotted_octet, ipv4_octets, some_in_ipv4}
-use Rattle.sip_uri.proofs.V6Texts.{ipv6_read, ipv6_again}
+use Rattle.ip_text.proofs.Cutting.{lacks, back, joined, cut_back, at_first}
+use Rattle.ip_text.proofs.Lists.{steps_of, mapped_from, either_of, all_weaker, all-append, all_of-append}
+use Rattle.ip_text.proofs.V4Texts.{ipv4_read, ipv4_again, is_dotted_octet, ipv4_octets, some_in_ipv4}
+use Rattle.ip_text.proofs.V6Texts.{ipv6_read, ipv6_again}
 use Rattle.sip_uri.proofs.DomainTexts.{hostname_read, hostname_again}
 use Rattle.sip_uri.proofs.HostTexts.{v4_lacks, v6_brackets}
 

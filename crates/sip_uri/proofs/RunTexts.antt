@@ -6,7 +6,7 @@ use Rattle.std.proofs.lemmas.Bool.Decides.{nat_tests}
 use Rattle.sip_uri.specs.Classes.{IsRun, none, plain, escaped}
 use Rattle.sip_uri.specs.Uris.{IsSomeRun}
 use Rattle.sip_uri.specs.Readers.Runs.{run_from, is_run, is_some_run}
-use Rattle.sip_uri.proofs.Cutting.{lacks}
+use Rattle.ip_text.proofs.Cutting.{lacks}
 use Rattle.sip_uri.proofs.DomainTexts.{both_of}
 
 -- what is left of a run: so many hexadecimal digits, and then a run

@@ -4,14 +4,14 @@ use Rattle.std.specs.List.{AllByRecursion, list_all, join_with_byte}
 use Rattle.std.specs.Char.{is_ascii_hexdigit}
 use Rattle.std.proofs.lemmas.Bool.{cases_Bool}
 use Rattle.std.proofs.lemmas.List.Splits.{join_with_byte-slice_split, length-slice_split}
-use Rattle.sip_uri.specs.Readers.Parts.{before, behind, parted}
+use Rattle.ip_text.specs.Parts.{before, behind, parted}
 use Rattle.sip_uri.specs.Classes.{is_header_octet}
 use Rattle.sip_uri.specs.Readers.Runs.{is_some_run}
 use Rattle.sip_uri.specs.Uris.{IsSomeRun, HeaderText, headers_text}
 use Rattle.sip_uri.specs.Readers.Uris.{is_header_value, is_header, check_headers}
 use Rattle.sip_uri.specs.declared.refusal.UriRefusal.TheVariants.{BadHeader}
-use Rattle.sip_uri.proofs.Cutting.{lacks, back, joined, at_first, parts-joined}
-use Rattle.sip_uri.proofs.Lists.{all-append}
+use Rattle.ip_text.proofs.Cutting.{lacks, back, joined, at_first, parts-joined}
+use Rattle.ip_text.proofs.Lists.{all-append}
 use Rattle.sip_uri.proofs.RunTexts.{run_read, run_again, some_read, some_again, run_lacks}
 use Rattle.sip_uri.proofs.DomainTexts.{both_of}
 

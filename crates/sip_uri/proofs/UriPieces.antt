@@ -7,8 +7,8 @@ use Rattle.std.proofs.lemmas.Bool.Decides.{nat_tests}
 use Rattle.std.proofs.lemmas.Option.{same_Some}
 use Rattle.std.proofs.lemmas.List.{append-nil}
 use Rattle.dns_name.specs.Labels.{small_letters}
-use Rattle.sip_uri.specs.Numbers.{decimal, decimal_within}
-use Rattle.sip_uri.specs.Readers.Parts.{before, behind}
+use Rattle.ip_text.specs.Numbers.{decimal, decimal_within}
+use Rattle.ip_text.specs.Parts.{before, behind}
 use Rattle.sip_uri.specs.Classes.{is_user_octet, is_password_octet}
 use Rattle.sip_uri.specs.Hosts.{HostText}
 use Rattle.sip_uri.specs.Readers.Runs.{is_some_run}
@@ -20,9 +20,9 @@ use Rattle.sip_uri.specs.Readers.Uris as reader
 use Rattle.sip_uri.specs.declared.host.Host.{Host}
 use Rattle.sip_uri.specs.declared.refusal.UriRefusal.{UriRefusal}
 use Rattle.sip_uri.specs.declared.refusal.UriRefusal.TheVariants.{BadScheme, BadUser, BadHost, BadPort}
-use Rattle.sip_uri.proofs.Cutting.{lacks, back, joined, cut_back, at_first}
-use Rattle.sip_uri.proofs.Cutting as cutting
-use Rattle.sip_uri.proofs.Lists.{steps_of, all_weaker, all-append, same_Ok}
+use Rattle.ip_text.proofs.Cutting.{lacks, back, joined, cut_back, at_first}
+use Rattle.ip_text.proofs.Cutting as cutting
+use Rattle.ip_text.proofs.Lists.{steps_of, all_weaker, all-append, same_Ok}
 use Rattle.sip_uri.proofs.RunTexts.{run_read, run_again, some_read, some_again, run_lacks}
 use Rattle.sip_uri.proofs.DomainTexts.{both_of}
 use Rattle.sip_uri.proofs.HostOctets.{is_host_octet}

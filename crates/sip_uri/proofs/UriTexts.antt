@@ -2,7 +2,7 @@
 use Rattle.std.proofs.Common.{◌≡◌, ℕ, ◌≤◌, Bool, true, false, not, List, ◌∷◌, ◌++◌, length, Option, Some, None, Result, Ok, Err, refl, sym, ap, ◌∙◌, inl, inr, eqb, append_assoc}
 use Rattle.std.specs.Char.{is_ascii_digit}
 use Rattle.std.specs.Prelude.{MatchResult, IfOk}
-use Rattle.sip_uri.specs.Readers.Parts.{before, behind}
+use Rattle.ip_text.specs.Parts.{before, behind}
 use Rattle.sip_uri.specs.Uris.{params_text, headers_text, UriText, HasScheme, IsNamedUri}
 use Rattle.sip_uri.specs.Readers.Uris.{is_secure, both, behind_scheme, behind_user, place_of, said_by, check_headers, uri_parts}
 use Rattle.sip_uri.specs.declared.host.Host.{Host}
@@ -10,8 +10,8 @@ use Rattle.sip_uri.specs.declared.transport.Spoken.{Spoken}
 use Rattle.sip_uri.specs.declared.uri.SipUri.{SipUri}
 use Rattle.sip_uri.specs.declared.refusal.UriRefusal.{UriRefusal}
 use Rattle.sip_uri.specs.declared.refusal.UriRefusal.TheVariants.{BadScheme, Memory}
-use Rattle.sip_uri.proofs.Cutting.{lacks, joined, cut_back}
-use Rattle.sip_uri.proofs.Lists.{all-append, same_Ok}
+use Rattle.ip_text.proofs.Cutting.{lacks, joined, cut_back}
+use Rattle.ip_text.proofs.Lists.{all-append, same_Ok}
 use Rattle.sip_uri.proofs.HostOctets.{is_host_octet}
 use Rattle.sip_uri.proofs.Faults.{IsOfOctets, of_octets, uri_fault, or_fault}
 use Rattle.sip_uri.proofs.ParamBlocks.{ParamsRead, said_read, said_again, block_of, block_text, block_lacks}

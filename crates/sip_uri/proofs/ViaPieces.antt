@@ -11,7 +11,7 @@ use Rattle.sip_uri.specs.ViaClasses.{is_blank, is_token_octet, row, behind_row}
 use Rattle.sip_uri.specs.Readers.ViaFronts.{behind_token, with_blanks, transport_in, behind_protocol}
 use Rattle.sip_uri.specs.Vias.{IsBlanks, IsToken, ProtocolText}
 use Rattle.std.proofs.lemmas.List.{length-append}
-use Rattle.sip_uri.proofs.Lists.{steps_of, all-append}
+use Rattle.ip_text.proofs.Lists.{steps_of, all-append}
 use Rattle.sip_uri.proofs.ParamTexts.{same_names, names_same}
 use Rattle.sip_uri.proofs.ViaRows.{Ends, row_and, row_all, behind_ends, row_again, MarkRead, mark_read, mark_again, begins_apart}
 use Rattle.sip_uri.proofs.ViaSteps.{blanks_end}

@@ -6,10 +6,10 @@ use Rattle.std.specs.Char.{is_ascii_digit}
 use Rattle.std.proofs.lemmas.Bool.{cases_Bool}
 use Rattle.std.proofs.lemmas.Bool.Decides.{nat_tests}
 use Rattle.std.proofs.lemmas.Option.{same_Some}
-use Rattle.sip_uri.specs.Readers.Parts.{before, behind}
-use Rattle.sip_uri.specs.Addresses.{V6Text}
+use Rattle.ip_text.specs.Parts.{before, behind}
+use Rattle.ip_text.specs.Addresses.{V6Text}
 use Rattle.sip_uri.specs.Hosts.{HostText}
-use Rattle.sip_uri.specs.Readers.Texts.{ipv6}
+use Rattle.ip_text.specs.Readers.{ipv6}
 use Rattle.sip_uri.specs.Readers.Hosts.{plain_host}
 use Rattle.sip_uri.specs.Readers.Uris.{port_number}
 use Rattle.sip_uri.specs.ViaClasses.{is_blank, is_in_host, is_in_port, row, behind_row}
@@ -19,10 +19,10 @@ use Rattle.sip_uri.specs.Vias.{ViaPort}
 use Rattle.sip_uri.specs.declared.host.Host.{Host}
 use Rattle.sip_uri.specs.declared.host.Host.TheVariants.{V4, V6, Domain}
 use Rattle.sip_uri.specs.declared.refusal.UriRefusal.TheVariants.{BadPort}
-use Rattle.sip_uri.proofs.Cutting.{lacks, joined, at_first}
-use Rattle.sip_uri.proofs.Lists.{steps_of, mapped_from, all_weaker, same_Ok}
-use Rattle.sip_uri.proofs.V4Texts.{some_in_ipv4}
-use Rattle.sip_uri.proofs.V6Texts.{ipv6_read, ipv6_again}
+use Rattle.ip_text.proofs.Cutting.{lacks, joined, at_first}
+use Rattle.ip_text.proofs.Lists.{steps_of, mapped_from, all_weaker, same_Ok}
+use Rattle.ip_text.proofs.V4Texts.{some_in_ipv4}
+use Rattle.ip_text.proofs.V6Texts.{ipv6_read, ipv6_again}
 use Rattle.sip_uri.proofs.HostOctets.{is_host_octet}
 use Rattle.sip_uri.proofs.HostTexts.{host_octets, v6_brackets}
 use Rattle.sip_uri.proofs.Places.{plain_read, some_in_dotted, IsPlain, plain_v4, plain_domain, first_no_bracket, first_bracket}

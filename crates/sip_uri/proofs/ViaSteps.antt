@@ -11,7 +11,7 @@ use Rattle.sip_uri.specs.ViaClasses.{is_blank, is_token_octet, is_value_octet, r
 use Rattle.sip_uri.specs.Readers.Vias.{behind_mark, quoted_from, behind_quoted, some_value, behind_value, valued, behind_valued, named, next_param, names, stands_in}
 use Rattle.sip_uri.specs.Vias.{IsBlanks, IsToken, IsQuoted, done, character, pair, IsValue, word, quoted, ValueText, without, ParamsText, nothing, param}
 use Rattle.sip_uri.specs.Vias as via
-use Rattle.sip_uri.proofs.Lists.{steps_of, mapped_from}
+use Rattle.ip_text.proofs.Lists.{steps_of, mapped_from}
 use Rattle.sip_uri.proofs.ViaRows.{Ends, row_and, row_all, row_again, mark_read, mark_again, Differs, no_mark, begins_apart}
 
 -- ---- a name among the first parameters

@@ -15,7 +15,7 @@ use Rattle.sip_uri.specs.declared.via.Via.{Via}
 use Rattle.sip_uri.specs.declared.via_parts.ViaParts.{ViaParts}
 use Rattle.sip_uri.specs.declared.refusal.UriRefusal.{UriRefusal}
 use Rattle.sip_uri.specs.declared.refusal.UriRefusal.TheVariants.{BadVia, BadHost, BadPort}
-use Rattle.sip_uri.proofs.Lists.{same_Ok}
+use Rattle.ip_text.proofs.Lists.{same_Ok}
 use Rattle.sip_uri.proofs.HostOctets.{is_host_octet}
 use Rattle.sip_uri.proofs.HostTexts.{host_octets}
 use Rattle.sip_uri.proofs.UriPieces.{bind_of, from_ok_or}

@@ -4,7 +4,7 @@ use Rattle.std.specs.List.{list_all}
 use Rattle.std.specs.Char.{is_ascii_alphanumeric, is_ascii_alphabetic}
 use Rattle.dns_name.specs.Labels.{small_letters, wire_of}
 use Rattle.dns_name.specs.Texts.{IsDotted}
-use Rattle.sip_uri.specs.Addresses.{V4Text, V6Text}
+use Rattle.ip_text.specs.Addresses.{V4Text, V6Text}
 use Rattle.sip_uri.specs.declared.host.Host.{Host}
 use Rattle.sip_uri.specs.declared.host.Host.TheVariants.{V4, V6, Domain}
 

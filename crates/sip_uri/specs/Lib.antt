@@ -1,10 +1,7 @@
-pub mod Addresses
 pub mod Classes
 pub mod Hosts
-pub mod Numbers
 pub mod Readers
 pub mod Same
-pub mod Shown
 pub mod Transports
 pub mod Uris
 pub mod ViaClasses

@@ -5,7 +5,7 @@ use Rattle.std.specs.Option.{option_map}
 use Rattle.std.specs.Char.{is_ascii_digit}
 use Rattle.std.specs.Str.{bytes_eq}
 use Rattle.dns_name.specs.Labels.{small_letters}
-use Rattle.sip_uri.specs.Numbers.{decimal}
+use Rattle.ip_text.specs.Numbers.{decimal}
 use Rattle.sip_uri.specs.Classes.{IsRun, is_user_octet, is_password_octet, is_param_octet, is_header_octet}
 use Rattle.sip_uri.specs.Hosts.{HostText, IsNamed}
 use Rattle.sip_uri.specs.Transports.{spoken_of}

@@ -1,11 +1,11 @@
 //! Headers of a URI (RFC 3261 19.1.1, 25.1).
 ghost use Rattle.std.specs.Prelude.{◌≡◌};
 ghost use Rattle.std.specs.List.{list_all};
-ghost use Rattle.sip_uri.specs.Readers.Parts.{parted};
+ghost use Rattle.ip_text.specs.Parts.{parted};
 ghost use Rattle.sip_uri.specs.Readers.Uris as spec;
 
 use crate::classes::{Class, is_run, is_some_run};
-use crate::parts::next_part;
+use ip_text::next_part;
 
 /// Whether a text is a header: a name, `=` and a value.
 fn is_header(text: &[u8]) -> bool

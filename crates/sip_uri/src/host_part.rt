@@ -9,11 +9,9 @@ ghost use Rattle.sip_uri.specs.Readers.Hosts as spec;
 
 use crate::host::Host;
 use crate::hostname::is_hostname;
-use crate::ipv4::ipv4;
-use crate::ipv6::ipv6;
-use crate::parts::{behind_front, next_part};
 use crate::refusal::UriRefusal;
 use dns_name::Name;
+use ip_text::{behind_front, ipv4_octets, ipv6_octets, next_part};
 use std::alloc::Global;
 use std::str;
 
@@ -34,7 +32,7 @@ pub(crate) fn plain_host(text: &[u8]) -> Option<HostPart<'_>>
     ensures host { option_map spec.host_of result ≡ spec.plain_host text.now }
     ensures hostname { IfSome result spec.IsHostPart }
 {
-    if let Some(octets) = ipv4(text) {
+    if let Some(octets) = ipv4_octets(text) {
         return Some(HostPart::V4(octets));
     }
     if !is_hostname(text) {
@@ -68,7 +66,7 @@ fn host_in_brackets(text: &[u8]) -> Option<(HostPart<'_>, Option<&[u8]>)>
 {
     let (inner, behind) = next_part(text, b']');
     let port = port_part(behind?)?;
-    Some((HostPart::V6(ipv6(inner)?), port))
+    Some((HostPart::V6(ipv6_octets(inner)?), port))
 }
 
 /// The host at the front of a text, and the port after it, if a colon stands there.

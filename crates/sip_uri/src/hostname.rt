@@ -2,13 +2,13 @@
 ghost use Rattle.std.specs.Prelude.{◌≡◌, true};
 ghost use Rattle.std.specs.List.{list_all};
 ghost use Rattle.sip_uri.specs.Hosts as host;
-ghost use Rattle.sip_uri.specs.Readers.Parts.{parted};
-ghost use Rattle.sip_uri.specs.Readers.Texts as spec;
+ghost use Rattle.ip_text.specs.Parts.{parted};
+ghost use Rattle.sip_uri.specs.Readers.Hostnames as spec;
 ghost use Rattle.dns_name.specs.Texts.{without_closing_dot};
 
 use crate::classes::Class;
-use crate::parts::behind_front;
 use crate::runs::cut;
+use ip_text::behind_front;
 
 /// Whether letters, digits and hyphens are a label: with a letter or digit in front and at the end.
 fn is_label(octets: &[u8]) -> bool

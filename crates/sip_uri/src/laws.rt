@@ -1,12 +1,9 @@
 //! Laws of texts: a call of one does nothing, and its contract states the law.
 ghost use Rattle.std.specs.Prelude.{◌≡◌, ◌↔◌, ℕ, List, IsTrue};
-ghost use Rattle.sip_uri.specs.Addresses.{AddressFits, AddressText};
 ghost use Rattle.sip_uri.specs.Same.{same_host, same_uri, same_via};
-ghost use Rattle.sip_uri.specs.Shown.{address_text};
 ghost use Rattle.sip_uri.specs.Uris.{UriText};
 ghost use Rattle.sip_uri.specs.Vias.{ViaText};
 ghost use Rattle.sip_uri.specs.declared.host.Host.{Host};
-ghost use Rattle.sip_uri.specs.declared.address.Address.{Address};
 ghost use Rattle.sip_uri.specs.declared.uri.SipUri.{SipUri};
 ghost use Rattle.sip_uri.specs.declared.via.Via.{Via};
 
@@ -27,10 +24,4 @@ pub fn same_exactly_where_equal()
     ensures host { (host other : Host) → IsTrue (same_host host other) ↔ (host ≡ other) }
     ensures uri { (uri other : SipUri) → IsTrue (same_uri uri other) ↔ (uri ≡ other) }
     ensures via { (via other : Via) → IsTrue (same_via via other) ↔ (via ≡ other) }
-{}
-
-/// The text that is written for an address is a text of it. Each address of the type fits.
-pub fn written_address_is_read()
-    ensures { (address : Address) → AddressFits address
-        → AddressText (address_text address) address }
 {}

@@ -4,8 +4,7 @@
 //! one by the profile of RFC 3261 25.1 below, and of one text at most one. Else the first fault
 //! from the left is named. Escapes are checked and never undone; parameters and headers that say
 //! nothing of where a request goes are checked and dropped. Memory is taken for the names of hosts
-//! alone. `address_from_text` and `address_text` read and write addresses of IPv4 and IPv6, and
-//! `decimal` reads a decimal number up to a limit.
+//! alone. What `ip_text` has of addresses and numbers is exported here too.
 //!
 //! ```
 //! let uri = read_uri(alloc, "sips:alice@c.example:5061;transport=tcp")?;
@@ -45,18 +44,13 @@
 //! no name of TCP.
 #![tactic(auto)]
 
-mod address;
 mod classes;
 mod headers;
 mod host;
 mod host_part;
 mod hostname;
-mod ipv4;
-mod ipv6;
 mod laws;
-mod numbers;
 mod params;
-mod parts;
 mod refusal;
 mod runs;
 mod transport;
@@ -70,12 +64,9 @@ mod via_params;
 mod via_parts;
 mod via_text;
 
-pub use address::{Address, address_from_text, address_text};
 pub use host::Host;
-pub use laws::{
-    one_uri_of_a_text, one_via_of_a_text, same_exactly_where_equal, written_address_is_read,
-};
-pub use numbers::decimal;
+pub use ip_text::{Address, address_from_text, address_text, decimal, written_address_is_read};
+pub use laws::{one_uri_of_a_text, one_via_of_a_text, same_exactly_where_equal};
 pub use refusal::UriRefusal;
 pub use transport::{Spoken, Transport};
 pub use uri::SipUri;

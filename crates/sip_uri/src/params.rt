@@ -2,14 +2,14 @@
 ghost use Rattle.std.specs.Prelude.{◌≡◌, take, IfOk, IfSome, Some, is_some};
 ghost use Rattle.std.specs.Option.{option_map, option_and_then};
 ghost use Rattle.std.specs.Result.{result_err};
-ghost use Rattle.sip_uri.specs.Readers.Parts.{parted};
+ghost use Rattle.ip_text.specs.Parts.{parted};
 ghost use Rattle.sip_uri.specs.Readers.Hosts as host;
 ghost use Rattle.sip_uri.specs.Readers.Params as spec;
 
 use crate::classes::{Class, is_some_run};
 use crate::host_part::{HostPart, host_part};
-use crate::parts::next_part;
 use crate::refusal::UriRefusal;
+use ip_text::next_part;
 
 /// What parameters say of where a request goes, as it stands in a text.
 #[derive(Clone, Copy)]

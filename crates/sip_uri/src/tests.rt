@@ -1,9 +1,9 @@
-//! Addresses, URIs and Vias, as tables.
+//! URIs and Vias, as tables.
 use crate::UriRefusal;
 use std::test::Fail;
 
-mod address;
 mod allocations;
+mod host;
 mod page;
 mod uri;
 mod via;

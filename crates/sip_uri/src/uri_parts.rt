@@ -6,12 +6,11 @@ ghost use Rattle.sip_uri.specs.Readers.Uris as spec;
 
 use crate::headers::are_headers;
 use crate::host_part::{HostPart, host_in_front};
-use crate::numbers::decimal;
 use crate::params::check_params;
-use crate::parts::next_part;
 use crate::refusal::UriRefusal;
 use crate::transport::{Spoken, spoken_of};
 use crate::userinfo::is_userinfo;
+use ip_text::{decimal, next_part};
 
 /// A URI as it stands in a text.
 #[derive(Clone, Copy)]

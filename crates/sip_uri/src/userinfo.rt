@@ -3,7 +3,7 @@ ghost use Rattle.std.specs.Prelude.{◌≡◌};
 ghost use Rattle.sip_uri.specs.Readers.Uris as spec;
 
 use crate::classes::{Class, is_run, is_some_run};
-use crate::parts::next_part;
+use ip_text::next_part;
 
 /// Whether a text is a user, or a user, `:` and a password.
 pub(crate) fn is_userinfo(text: &[u8]) -> bool

@@ -5,10 +5,10 @@ ghost use Rattle.sip_uri.specs.Readers.Vias as spec;
 ghost use Rattle.sip_uri.specs.Vias.{ViaParams};
 
 use crate::params::is_same;
-use crate::parts::behind_front;
 use crate::refusal::UriRefusal;
 use crate::runs::cut;
 use crate::via_classes::{Row, behind_blanks, behind_mark};
+use ip_text::behind_front;
 
 /// What follows a quoted string, of which the first `"` is passed.
 fn behind_quoted(text: &[u8]) -> Option<&[u8]>

@@ -6,13 +6,12 @@ ghost use Rattle.sip_uri.specs.Readers.Uris.{seen};
 ghost use Rattle.sip_uri.specs.Readers.ViaFronts as spec;
 
 use crate::host_part::{HostPart, plain_host};
-use crate::ipv6::ipv6;
-use crate::parts::{behind_front, next_part};
 use crate::refusal::UriRefusal;
 use crate::runs::cut;
 use crate::transport::{Spoken, spoken_of};
 use crate::uri_parts::port_number;
 use crate::via_classes::{Row, behind_blanks, behind_mark};
+use ip_text::{behind_front, ipv6_octets, next_part};
 
 /// A Via as it stands in a text, without its parameters.
 #[derive(Clone, Copy)]
@@ -66,7 +65,7 @@ fn via_host_in_brackets(text: &[u8]) -> Option<(HostPart<'_>, &[u8])>
     if !cut(Row::Host, behind).0.is_empty() {
         return None;
     }
-    Some((HostPart::V6(ipv6(inner)?), behind))
+    Some((HostPart::V6(ipv6_octets(inner)?), behind))
 }
 
 /// The host in front, and what follows it.

@@ -6,7 +6,7 @@ use Rattle.dns_name.specs.Texts.{text_of}
 use Rattle.dns_message.specs.declared.kind.Kind.{Kind}
 use Rattle.dns_message.specs.declared.kind.Kind.TheVariants.{A, Aaaa, Srv, Naptr}
 use Rattle.dns_message.specs.declared.question.Question.{Question}
-use Rattle.sip_uri.specs.Shown.{address_text}
+use Rattle.ip_text.specs.Shown.{address_text}
 use Rattle.sip_uri.specs.declared.transport.Transport.{Transport}
 use Rattle.sip_uri.specs.declared.transport.Transport.TheVariants.{Udp, Tcp, Sctp, Tls}
 use Rattle.sip_uri.specs.declared.refusal.UriRefusal.{UriRefusal}

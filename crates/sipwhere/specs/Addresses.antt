@@ -2,9 +2,9 @@
 use Rattle.std.specs.Prelude.{ℕ, List}
 use Rattle.std.specs.Net.Addr.{segments_of}
 use Rattle.std.specs.Net.Text.{ipv6_text}
-use Rattle.sip_uri.specs.Shown.{address_text}
-use Rattle.sip_uri.specs.declared.address.Address.{Address}
-use Rattle.sip_uri.specs.declared.address.Address.TheVariants.{V4, V6}
+use Rattle.ip_text.specs.Shown.{address_text}
+use Rattle.ip_text.specs.declared.address.Address.{Address}
+use Rattle.ip_text.specs.declared.address.Address.TheVariants.{V4, V6}
 use Rattle.sipwhere.specs.declared.address.AddressForm.{AddressForm}
 use Rattle.sipwhere.specs.declared.address.AddressForm.TheVariants.{Full, Short}
 

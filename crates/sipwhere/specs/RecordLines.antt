@@ -20,8 +20,8 @@ use Rattle.dns_message.specs.declared.rdata.Rdata.TheVariants as rdata
 use Rattle.dns_message.specs.declared.resource.Record.{Record}
 use Rattle.dns_message.specs.declared.soa.SoaRecord.{SoaRecord}
 use Rattle.dns_message.specs.declared.srv.SrvRecord.{SrvRecord}
-use Rattle.sip_uri.specs.declared.address.Address.{Address}
-use Rattle.sip_uri.specs.declared.address.Address.TheVariants.{V4, V6}
+use Rattle.ip_text.specs.declared.address.Address.{Address}
+use Rattle.ip_text.specs.declared.address.Address.TheVariants.{V4, V6}
 use Rattle.sipwhere.specs.Addresses.{address_words}
 use Rattle.sipwhere.specs.declared.address.AddressForm.{AddressForm}
 

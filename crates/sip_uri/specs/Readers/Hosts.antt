@@ -3,8 +3,9 @@ use Rattle.std.specs.Prelude.{◌≡◌, ℕ, ◌==◌, true, List, [], ◌∷�
 use Rattle.std.specs.Option.{option_map, option_or}
 use Rattle.dns_name.specs.Labels.{small_letters}
 use Rattle.dns_name.specs.Texts.{without_closing_dot}
-use Rattle.sip_uri.specs.Readers.Parts.{before, behind, parted}
-use Rattle.sip_uri.specs.Readers.Texts.{◌>>=◌, ipv4, ipv6, is_hostname}
+use Rattle.ip_text.specs.Parts.{before, behind, parted}
+use Rattle.ip_text.specs.Readers.{◌>>=◌, ipv4, ipv6}
+use Rattle.sip_uri.specs.Readers.Hostnames.{is_hostname}
 use Rattle.sip_uri.specs.declared.host.Host.{Host}
 use Rattle.sip_uri.specs.declared.host.Host.TheVariants.{V4, V6, Domain}
 use Rattle.sip_uri.specs.declared.host_part.HostPart.{HostPart}

@@ -3,10 +3,10 @@ use Rattle.std.specs.Prelude.{ℕ, zero, suc, Bool, true, false, ◌&&◌, List,
 use Rattle.std.specs.List.{list_all}
 use Rattle.std.specs.Option.{option_map, option_and_then, ok_or}
 use Rattle.std.specs.Str.{str_eq_ignore_ascii_case}
-use Rattle.sip_uri.specs.Readers.Parts.{before, behind, parted}
+use Rattle.ip_text.specs.Parts.{before, behind, parted}
 use Rattle.sip_uri.specs.Classes.{is_user_octet, is_password_octet, is_header_octet}
 use Rattle.sip_uri.specs.Readers.Runs.{is_run, is_some_run}
-use Rattle.sip_uri.specs.Numbers.{decimal_within}
+use Rattle.ip_text.specs.Numbers.{decimal_within}
 use Rattle.sip_uri.specs.Readers.Hosts.{host_of, host, host_in_front}
 use Rattle.sip_uri.specs.Readers.Params.{transport_name, maddr_name, params_fault, value_of}
 use Rattle.sip_uri.specs.Transports.{spoken_of}

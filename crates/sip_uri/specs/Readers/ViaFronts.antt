@@ -2,8 +2,8 @@
 use Rattle.std.specs.Prelude.{ℕ, ◌==◌, List, [], ◌∷◌, slice_index, drop, Option, Some, None, Result, Ok, if◌then◌else◌}
 use Rattle.std.specs.Option.{option_map, option_and_then, ok_or}
 use Rattle.std.specs.Str.{str_eq_ignore_ascii_case}
-use Rattle.sip_uri.specs.Readers.Parts.{before, behind}
-use Rattle.sip_uri.specs.Readers.Texts.{ipv6}
+use Rattle.ip_text.specs.Parts.{before, behind}
+use Rattle.ip_text.specs.Readers.{ipv6}
 use Rattle.sip_uri.specs.Readers.Hosts.{host_of, plain_host}
 use Rattle.sip_uri.specs.Transports.{spoken_of}
 use Rattle.sip_uri.specs.Readers.Uris.{port_number, ◌>>=◌}

@@ -4,7 +4,7 @@ use Rattle.std.specs.List.{AllPairs, list_any}
 use Rattle.std.specs.Option.{option_map}
 use Rattle.std.specs.Str.{str_eq_ignore_ascii_case}
 use Rattle.dns_name.specs.Labels.{small_letters}
-use Rattle.sip_uri.specs.Readers.Texts.{◌>>=◌}
+use Rattle.ip_text.specs.Readers.{◌>>=◌}
 use Rattle.sip_uri.specs.ViaClasses.{is_blank, is_token_octet, is_in_host, is_in_port, is_value_octet, row, behind_row}
 use Rattle.sip_uri.specs.declared.via_classes.Row.{Row}
 use Rattle.sip_uri.specs.declared.via_classes.Row.TheVariants as class

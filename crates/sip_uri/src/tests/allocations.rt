@@ -48,16 +48,3 @@ fn is_via_read(alloc: Global) -> bool {
 fn via_refused(rt: HostRuntime) {
     assert!(rt; is_via_read(rt.alloc()));
 }
-
-/// Whether an address is written, or memory was refused for its text.
-fn is_written(alloc: Global) -> bool {
-    match address_text(alloc, Address::V4([192, 0, 2, 7])) {
-        Ok(text) => text.as_str() == "192.0.2.7",
-        Err(_) => true,
-    }
-}
-
-#[test]
-fn text_refused(rt: HostRuntime) {
-    assert!(rt; is_written(rt.alloc()));
-}

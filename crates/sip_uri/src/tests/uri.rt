@@ -1,5 +1,5 @@
 //! Tests of URIs, with values of RFC 3261, RFC 4475 and RFC 5118 and by hand.
-use super::address::host_text;
+use super::host::host_text;
 use super::is_fault;
 use crate::{Host, SipUri, UriRefusal, one_uri_of_a_text, read_uri, same_exactly_where_equal};
 use std::alloc::Global;

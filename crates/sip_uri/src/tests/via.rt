@@ -1,5 +1,5 @@
 //! Tests of Vias, with values of RFC 3261, RFC 4475 and RFC 5118 and by hand.
-use super::address::host_text;
+use super::host::host_text;
 use super::is_fault;
 use crate::{UriRefusal, Via, one_via_of_a_text, read_via};
 use std::alloc::Global;

@@ -1,6 +1,6 @@
 use Rattle.std.proofs.Common.{ℕ, List, arith}
-use Rattle.sip_uri.specs.Addresses.{AddressText}
-use Rattle.sip_uri.specs.declared.address.Address.TheVariants.{V4}
+use Rattle.ip_text.specs.Addresses.{AddressText}
+use Rattle.ip_text.specs.declared.address.Address.TheVariants.{V4}
 use Rattle.dns_zone.proofs.Texts.{one_is, one_text}
 use Rattle.dns_zone.proofs.rdata.ipv4.Goals as goal
 

@@ -1,6 +1,6 @@
 use Rattle.std.proofs.Common.{ℕ, List}
-use Rattle.sip_uri.specs.Addresses.{AddressText}
-use Rattle.sip_uri.specs.declared.address.Address.TheVariants.{V6}
+use Rattle.ip_text.specs.Addresses.{AddressText}
+use Rattle.ip_text.specs.declared.address.Address.TheVariants.{V6}
 use Rattle.dns_zone.proofs.Texts.{one_is}
 use Rattle.dns_zone.proofs.rdata.ipv6.Goals as goal
 

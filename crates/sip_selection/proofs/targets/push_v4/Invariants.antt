@@ -1,5 +1,5 @@
 use Rattle.std.proofs.Common.{◌≡◌, ◌++◌, map, take}
-use Rattle.sip_uri.specs.declared.address.Address.TheVariants.{V4}
+use Rattle.ip_text.specs.declared.address.Address.TheVariants.{V4}
 use Rattle.sip_selection.specs.Services.{target_at}
 use Rattle.sip_selection.proofs.targets.push_v4.Given as goal
 

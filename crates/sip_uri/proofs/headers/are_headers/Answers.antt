@@ -1,7 +1,7 @@
 use Rattle.std.proofs.Common.{◌≡◌, true, false, Some, None, sym, ◌∙◌}
-use Rattle.sip_uri.specs.Readers.Parts.{before, behind}
+use Rattle.ip_text.specs.Parts.{before, behind}
 use Rattle.sip_uri.specs.Readers.Uris.{is_header}
-use Rattle.sip_uri.proofs.Groups.{length_behind}
+use Rattle.ip_text.proofs.Cutting.{length_behind}
 use Rattle.sip_uri.proofs.ParamSteps.{all_more, all_good, all_bad}
 use Rattle.sip_uri.proofs.headers.are_headers.Goals as goal
 use Rattle.sip_uri.proofs.headers.are_headers.Goals.{In-Some}

@@ -1,5 +1,5 @@
 use Rattle.std.proofs.Common.{◌≡◌, Some, None, sym, ◌∙◌}
-use Rattle.sip_uri.specs.Readers.Parts.{before, behind_front}
+use Rattle.ip_text.specs.Parts.{before, behind_front}
 use Rattle.sip_uri.specs.Readers.Hosts.{host_of, plain_host}
 use Rattle.sip_uri.proofs.Fronts.{bracketed, no_host, host_there}
 use Rattle.sip_uri.proofs.host_part.host_in_front.Goals as goal

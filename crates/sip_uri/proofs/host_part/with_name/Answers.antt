@@ -1,5 +1,5 @@
 use Rattle.std.proofs.Common.{◌≡◌, true, refl}
-use Rattle.sip_uri.specs.Readers.Texts.{is_hostname}
+use Rattle.sip_uri.specs.Readers.Hostnames.{is_hostname}
 use Rattle.sip_uri.specs.Readers.Hosts.{name_of}
 use Rattle.sip_uri.proofs.DomainTexts.{hostname_read, TextOf-hostname}
 use Rattle.sip_uri.proofs.host_part.with_name.Goals as goal

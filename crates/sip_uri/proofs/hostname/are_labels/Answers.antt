@@ -1,11 +1,11 @@
 use Rattle.std.proofs.Common.{◌≡◌, ◌<◌, List, ℕ, true, false, Some, None, length, refl, sym, ap, arith, ◌∙◌, slice_index}
 use Rattle.std.proofs.lemmas.Bool.Decides.{nat_tests}
 use Rattle.sip_uri.specs.Hosts.{is_label_octet}
-use Rattle.sip_uri.specs.Readers.Parts.{before, behind, behind_front}
-use Rattle.sip_uri.specs.Readers.Texts.{is_label}
+use Rattle.ip_text.specs.Parts.{before, behind, behind_front}
+use Rattle.sip_uri.specs.Readers.Hostnames.{is_label}
 use Rattle.sip_uri.specs.ViaClasses.{row, behind_row}
 use Rattle.std.specs.Char.{is_ascii_alphabetic}
-use Rattle.sip_uri.proofs.Groups.{length_behind}
+use Rattle.ip_text.proofs.Cutting.{length_behind}
 use Rattle.sip_uri.proofs.ViaRows.{row_all}
 use Rattle.sip_uri.proofs.Hostnames.{whole_row, row_dot, other_row, bad_row, last_label, goes_on, bad_label}
 use Rattle.sip_uri.proofs.hostname.are_labels.Goals as goal

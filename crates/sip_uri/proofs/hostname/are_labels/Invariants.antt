@@ -1,6 +1,6 @@
 use Rattle.std.proofs.Common.{◌≡◌, length}
-use Rattle.sip_uri.specs.Readers.Parts.{parted}
-use Rattle.sip_uri.specs.Readers.Texts.{are_labels}
+use Rattle.ip_text.specs.Parts.{parted}
+use Rattle.sip_uri.specs.Readers.Hostnames.{are_labels}
 use Rattle.sip_uri.proofs.hostname.are_labels.Given as goal
 
 abbrev pub invariant-loop-label : goal.invariant-loop-label

@@ -1,5 +1,5 @@
 use Rattle.std.proofs.Common.{sym, ◌∙◌}
-use Rattle.sip_uri.proofs.Lists.{same_Ok}
+use Rattle.ip_text.proofs.Lists.{same_Ok}
 use Rattle.sip_uri.proofs.UriTexts.{uri_again}
 use Rattle.sip_uri.proofs.laws.one_uri_of_a_text.Goals as goal
 

@@ -1,9 +1,9 @@
 use Rattle.std.proofs.Common.{◌≡◌, ◌<◌, List, ℕ, length, take, true, false, Some, None, sym, ap, ◌∙◌}
 use Rattle.std.proofs.Math.ListN.{length-set}
 use Rattle.std.specs.Option.{option_map, option_or}
-use Rattle.sip_uri.specs.Readers.Parts.{before, behind, parted}
+use Rattle.ip_text.specs.Parts.{before, behind, parted}
 use Rattle.sip_uri.specs.Readers.Params.{name_of, is_param, stands_in, value_so_far, transport_name, maddr_of}
-use Rattle.sip_uri.proofs.Groups.{length_behind}
+use Rattle.ip_text.proofs.Cutting.{length_behind}
 use Rattle.sip_uri.specs.Readers.Hosts.{host_of, IsHostPart}
 use Rattle.sip_uri.proofs.MaddrSteps.{maddr_whole, maddr_more, same_is_some, map_or, either_some}
 use Rattle.sip_uri.proofs.ParamSteps.{bad_here, repeated_here, none_bad, checked_more, taken_more, marked_more, kept_whole, kept_more, transport_valued}

@@ -1,6 +1,6 @@
 use Rattle.std.proofs.Common.{◌≡◌, length, take, IfSome}
 use Rattle.std.specs.Option.{option_map}
-use Rattle.sip_uri.specs.Readers.Parts.{parted}
+use Rattle.ip_text.specs.Parts.{parted}
 use Rattle.sip_uri.specs.Readers.Params.{AreMarked, transport_name}
 use Rattle.sip_uri.specs.Readers.Hosts.{host_of, IsHostPart}
 use Rattle.sip_uri.proofs.MaddrSteps.{MaddrKept}

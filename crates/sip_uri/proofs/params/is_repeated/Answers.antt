@@ -1,5 +1,5 @@
 use Rattle.std.proofs.Common.{take, sym}
-use Rattle.sip_uri.specs.Readers.Parts.{parted}
+use Rattle.ip_text.specs.Parts.{parted}
 use Rattle.sip_uri.proofs.ParamSteps.{unmarked}
 use Rattle.sip_uri.proofs.params.is_repeated.Goals as goal
 

@@ -1,5 +1,5 @@
 use Rattle.std.proofs.Common.{◌≡◌, true, false, Some, None, sym, ◌∙◌}
-use Rattle.sip_uri.specs.Readers.Parts.{before, behind}
+use Rattle.ip_text.specs.Parts.{before, behind}
 use Rattle.sip_uri.specs.Readers.Params.{is_same, name_of}
 use Rattle.sip_uri.proofs.ParamSteps.{stands_here, stands_nowhere, stands_further}
 use Rattle.sip_uri.proofs.params.stands_before.Goals as goal

@@ -1,5 +1,5 @@
 use Rattle.std.proofs.Common.{◌≡◌, Some, sym, ◌∙◌}
-use Rattle.sip_uri.specs.Readers.Parts.{behind_front}
+use Rattle.ip_text.specs.Parts.{behind_front}
 use Rattle.sip_uri.proofs.Fronts.{quoted}
 use Rattle.sip_uri.proofs.via_params.behind_value.Goals as goal
 

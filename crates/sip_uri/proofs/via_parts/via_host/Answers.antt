@@ -1,5 +1,5 @@
 use Rattle.std.proofs.Common.{◌≡◌, Some, None, sym, ◌∙◌}
-use Rattle.sip_uri.specs.Readers.Parts.{behind_front}
+use Rattle.ip_text.specs.Parts.{behind_front}
 use Rattle.sip_uri.specs.Readers.Hosts.{host_of, plain_host}
 use Rattle.sip_uri.specs.ViaClasses.{is_in_host, row}
 use Rattle.sip_uri.proofs.Fronts.{via_bracketed, no_via_host, via_host_there}

@@ -6,7 +6,7 @@ use Rattle.std.proofs.lemmas.List.FromFn.{length-enumerate_from}
 use Rattle.dns_client.proofs.Taken.{local_put, no_more, not_local, numbered, says, says_only, some_more, taken_more}
 use Rattle.dns_client.specs.ResolverFiles.{FileValue, with_local}
 use Rattle.dns_client.specs.contracts.resolver_file.ResolverFile.{the_view}
-use Rattle.sip_uri.specs.declared.address.Address.{Address}
+use Rattle.ip_text.specs.declared.address.Address.{Address}
 use Rattle.dns_client.specs.ResolverLines.{lines_of}
 use Rattle.dns_client.proofs.resolver_file.ResolverFile.read.Goals as goal
 use Rattle.dns_client.proofs.resolver_file.ResolverFile.read.Goals.{In-Some, In-None, Joined-is_empty, then-is_empty+in_ok-push, else-is_empty}

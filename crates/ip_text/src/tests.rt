@@ -1,0 +1,4 @@
+//! Addresses and numbers, as tables.
+mod address;
+mod allocations;
+mod page;
