@@ -1,8 +1,8 @@
 -- What calls cost, one after the other.
 use Rattle.std.proofs.Common.{◌≡◌, ◌+◌, ◌<◌, ◌≤◌, ℕ, sym, ◌∙◌, arith, subst}
-use Rattle.answer_log.specs.Hands.{IsSame}
+use Rattle.answer_log.specs.Handles.{IsSame}
 use Rattle.answer_log.specs.Spending.{Spending, one_try}
-use Rattle.answer_log.specs.declared.hand.Hand.{Hand}
+use Rattle.answer_log.specs.declared.handle.Handle.{Handle}
 use Rattle.answer_cache.specs.Nodes.{Costs}
 
 pub free : (spent : Spending) → Costs spent spent 0 0
@@ -39,11 +39,11 @@ pub more : (old new : Spending) → new ≡ one_try old → old.tries < new.trie
 more old new is = let M : Spending → Type 0 = λ spent. old.tries < spent.tries in subst M (sym is) (omega arith)
 
 -- the hand is the same after both
-pub same-hand : (old mid new : Hand) → IsSame old mid → IsSame mid new → IsSame old new
-same-hand old mid new one two = record {
-  hand = two.hand;
+pub same-handle : (old mid new : Handle) → IsSame old mid → IsSame mid new → IsSame old new
+same-handle old mid new one two = record {
+  handle = two.handle;
   number = two.number ∙ one.number;
   seats = two.seats ∙ one.seats;
-  places = two.places ∙ one.places;
+  node_count = two.node_count ∙ one.node_count;
   book = two.book ∙ one.book;
 }

@@ -11,15 +11,15 @@ use mathlib.Core.List.{IsPrefix}
 use Rattle.dns_message.specs.Questions.{same_question}
 use Rattle.dns_message.specs.declared.question.Question.{Question}
 use Rattle.logbook.specs.Pages.{Book}
-use Rattle.answer_log.specs.Hands.{SeesMore}
+use Rattle.answer_log.specs.Handles.{SeesMore}
 use Rattle.answer_log.specs.Histories.{in_group}
 use Rattle.answer_log.specs.Logs.{history}
 use Rattle.answer_log.specs.declared.event.Event.{Event}
-use Rattle.answer_log.specs.declared.hand.Hand.{Hand}
+use Rattle.answer_log.specs.declared.handle.Handle.{Handle}
 use Rattle.answer_cache.specs.Nodes.{Holds}
-use Rattle.answer_log.specs.Walks.{Ahead}
+use Rattle.answer_log.specs.Cursors.{Ahead}
 use Rattle.answer_log.specs.declared.store.Store.{Store}
-use Rattle.answer_log.specs.declared.walk.Walk.{Walk}
+use Rattle.answer_log.specs.declared.cursor.Cursor.{Cursor}
 use Rattle.answer_cache.specs.Carried.{IsCarriedOf, has_question, last_stores, living_of, unseated}
 use Rattle.answer_cache.specs.Seats.{Offer}
 
@@ -74,16 +74,16 @@ module _ (same : (question other : Question) → IsTrue (same_question question 
       ∙ (any-stores question (last_stores done) ∙ has-lasts question done)))
 
 -- what was gathered on a walk along these stores after so many links
-pub record Gathers (whole : List Store) (walk : Walk) (links : ℕ) (offers : List Offer) : Type 0 where
+pub record Gathers (whole : List Store) (cursor : Cursor) (links : ℕ) (offers : List Offer) : Type 0 where
   pub left : List Store
   pub done : List Store
   pub split : whole ≡ left ++ done
-  pub ahead : Ahead walk left
+  pub ahead : Ahead cursor left
   pub size : length done ≡ links
   pub met : offers ≡ reverse (map unseated (last_stores done))
 
-pub gathers-none : (whole : List Store) (walk : Walk) → Ahead walk whole → Gathers whole walk 0 []
-gathers-none whole walk ahead = record {
+pub gathers-none : (whole : List Store) (cursor : Cursor) → Ahead cursor whole → Gathers whole cursor 0 []
+gathers-none whole cursor ahead = record {
   left = whole;
   done = [];
   split = sym (append-nil whole);
@@ -92,7 +92,7 @@ gathers-none whole walk ahead = record {
   met = refl;
 }
 
-module _ (whole : List Store) (walk : Walk) (links : ℕ) (offers : List Offer) (it : Gathers whole walk links offers) where
+module _ (whole : List Store) (cursor : Cursor) (links : ℕ) (offers : List Offer) (it : Gathers whole cursor links offers) where
   -- at the end all were met
   pub gathered : it.left ≡ [] → offers ≡ reverse (map unseated (last_stores whole))
   gathered none = it.met ∙ ap (λ stores. reverse (map unseated (last_stores stores))) (sym (it.split ∙ ap (λ l. l ++ it.done) none))
@@ -114,7 +114,7 @@ module _ (whole : List Store) (walk : Walk) (links : ℕ) (offers : List Offer) 
   split-on rest store is = it.split ∙ (ap (λ l. l ++ it.done) is ∙ append_assoc rest (store ∷ []) it.done)
 
   -- one more, whose question was met
-  pub gathers-met : (rest : List Store) (store : Store) (new : Walk) → it.left ≡ rest ++ store ∷ [] → Ahead new rest
+  pub gathers-met : (rest : List Store) (store : Store) (new : Cursor) → it.left ≡ rest ++ store ∷ [] → Ahead new rest
       → has_question store.question it.done ≡ true → Gathers whole new (links + 1) offers
   gathers-met rest store new is ahead met = record {
     left = rest;
@@ -126,7 +126,7 @@ module _ (whole : List Store) (walk : Walk) (links : ℕ) (offers : List Offer) 
   }
 
   -- one more, whose question was not met
-  pub gathers-new : (rest : List Store) (store : Store) (new : Walk) → it.left ≡ rest ++ store ∷ [] → Ahead new rest
+  pub gathers-new : (rest : List Store) (store : Store) (new : Cursor) → it.left ≡ rest ++ store ∷ [] → Ahead new rest
       → has_question store.question it.done ≡ false → Gathers whole new (links + 1) (offers ++ unseated store ∷ [])
   gathers-new rest store new is ahead none = record {
     left = rest;
@@ -176,9 +176,9 @@ from-nodes f turned group stores said some none =
     some (nil_from_length turned (omega arith))
 
 -- what holds of a hand goes on
-pub holds-on : (book : Book) (old mid new : Hand) → Holds book old mid → Holds book mid new → Holds book old new
+pub holds-on : (book : Book) (old mid new : Handle) → Holds book old mid → Holds book mid new → Holds book old new
 holds-on book old mid new one two = record {
-  hand = two.hand;
+  handle = two.handle;
   number = two.number ∙ one.number;
   seats = two.seats ∙ one.seats;
   same = two.same;

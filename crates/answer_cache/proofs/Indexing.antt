@@ -8,14 +8,14 @@ use mathlib.Core.List.{IsPrefix}
 use Rattle.dns_message.specs.Questions.{same_question}
 use Rattle.dns_message.specs.declared.question.Question.{Question}
 use Rattle.answer_log.specs.Groups.{hash_of, hashed_of}
-use Rattle.answer_log.specs.Hands.{IsLog, IsPlaced}
+use Rattle.answer_log.specs.Handles.{IsLog, IsPlaced}
 use Rattle.answer_log.specs.Histories.{in_group, stores_of}
 use Rattle.answer_log.specs.Logs.{In, history, top}
-use Rattle.answer_log.specs.Walks.{Ahead}
+use Rattle.answer_log.specs.Cursors.{Ahead}
 use Rattle.answer_log.specs.declared.event.Event.{Event}
 use Rattle.answer_log.specs.declared.event.Event.TheVariants.{Placed}
 use Rattle.answer_log.specs.declared.store.Store.{Store}
-use Rattle.answer_log.specs.declared.walk.Walk.{Walk}
+use Rattle.answer_log.specs.declared.cursor.Cursor.{Cursor}
 use Rattle.answer_cache.specs.Indexes.{IsIndex, Tells, TellsAll, top_from, top_of}
 use Rattle.answer_cache.specs.Nodes.{IsLastOf}
 use Rattle.answer_cache.specs.declared.node.Node.{Node}
@@ -103,32 +103,32 @@ index-on book old new it same later kept =
     }
 
 -- what is ahead of a walk is one list
-pub ahead-one : (walk : Walk) (left other : List Store) → IsLog walk.seen.log → Ahead walk left → Ahead walk other → left ≡ other
-ahead-one walk left other log it its =
+pub ahead-one : (cursor : Cursor) (left other : List Store) → IsLog cursor.seen.log → Ahead cursor left → Ahead cursor other → left ≡ other
+ahead-one cursor left other log it its =
     it.stores
     ∙ (log.tops it.front its.front it.group its.group (it.back, sym it.split) (its.back, sym its.split) (sym it.at ∙ its.at)
     ∙ sym its.stores)
 
 -- where a walk has come to what an index tells
-pub ahead-told : (book : Book) (walk : Walk) (index : Index) (log : List Event) (left : List Store) → IsLog log
-    → IsPrefix walk.seen.log log → IsPrefix index.seen.log log
-    → IsIndex book index → Ahead walk left → walk.next ≡ top_of index.entries.items → TellsAll index.seen.log index.entries.items left
-ahead-told book walk index log left rule p q it ahead same =
+pub ahead-told : (book : Book) (cursor : Cursor) (index : Index) (log : List Event) (left : List Store) → IsLog log
+    → IsPrefix cursor.seen.log log → IsPrefix index.seen.log log
+    → IsIndex book index → Ahead cursor left → cursor.next ≡ top_of index.entries.items → TellsAll index.seen.log index.entries.items left
+ahead-told book cursor index log left rule p q it ahead same =
     let T : List Store → Type 0 = λ stores. TellsAll index.seen.log index.entries.items stores in
     let one = rule.tops it.front ahead.front it.group ahead.group
     (front_trans it.front index.seen.log log (it.back, sym it.split) q)
-    (front_trans ahead.front walk.seen.log log (ahead.back, sym ahead.split) p)
+    (front_trans ahead.front cursor.seen.log log (ahead.back, sym ahead.split) p)
     (sym it.at ∙ (sym same ∙ ahead.at)) in
     subst T (one ∙ sym ahead.stores) it.tells
 
 -- a node is added to an index that tells all before it
-pub index-more : (book : Book) (old new : Index) (walk : Walk) (rest left : List Store) (entry : IndexEntry) (store : Store)
-    → new.seen.book ≡ book → IsPrefix old.seen.log new.seen.log → IsPrefix walk.seen.log new.seen.log
+pub index-more : (book : Book) (old new : Index) (cursor : Cursor) (rest left : List Store) (entry : IndexEntry) (store : Store)
+    → new.seen.book ≡ book → IsPrefix old.seen.log new.seen.log → IsPrefix cursor.seen.log new.seen.log
     → TellsAll old.seen.log old.entries.items rest → Tells new.seen.log entry store → left ≡ rest ++ store ∷ []
-    → Ahead walk left → walk.next ≡ entry.node → new.entries.items ≡ old.entries.items ++ entry ∷ [] → IsIndex book new
-index-more book old new walk rest left entry store same later p tells here split ahead at more =
+    → Ahead cursor left → cursor.next ≡ entry.node → new.entries.items ≡ old.entries.items ++ entry ∷ [] → IsIndex book new
+index-more book old new cursor rest left entry store same later p tells here split ahead at more =
     let T : List IndexEntry × List Store → Type 0 = λ it. TellsAll new.seen.log it.0 it.1 in
-    let whole = front_trans ahead.front walk.seen.log new.seen.log (ahead.back, sym ahead.split) p in
+    let whole = front_trans ahead.front cursor.seen.log new.seen.log (ahead.back, sym ahead.split) p in
     let all : TellsAll new.seen.log (old.entries.items ++ entry ∷ []) (rest ++ store ∷ []) =
     tells-more new.seen.log old.entries.items rest entry store
     (tells-on old.seen.log new.seen.log old.entries.items rest later tells) here in
@@ -143,14 +143,14 @@ index-more book old new walk rest left entry store same later p tells here split
     }
 
 -- the same, where there may be no memory for the node
-pub index-pushed : (book : Book) (old new : Index) (walk : Walk) (rest left : List Store) (entry : IndexEntry) (store : Store)
+pub index-pushed : (book : Book) (old new : Index) (cursor : Cursor) (rest left : List Store) (entry : IndexEntry) (store : Store)
     → (pushed : Bool) → new.entries.items ≡ (if pushed then old.entries.items ++ entry ∷ [] else old.entries.items)
-    → IsIndex book old → new.seen.book ≡ book → IsPrefix old.seen.log new.seen.log → IsPrefix walk.seen.log new.seen.log
+    → IsIndex book old → new.seen.book ≡ book → IsPrefix old.seen.log new.seen.log → IsPrefix cursor.seen.log new.seen.log
     → TellsAll old.seen.log old.entries.items rest → Tells new.seen.log entry store → left ≡ rest ++ store ∷ []
-    → Ahead walk left → walk.next ≡ entry.node → IsIndex book new
-index-pushed book old new walk rest left entry store true more it same later p tells here split ahead at =
-    index-more book old new walk rest left entry store same later p tells here split ahead at more
-index-pushed book old new walk rest left entry store false kept it same later p tells here split ahead at =
+    → Ahead cursor left → cursor.next ≡ entry.node → IsIndex book new
+index-pushed book old new cursor rest left entry store true more it same later p tells here split ahead at =
+    index-more book old new cursor rest left entry store same later p tells here split ahead at more
+index-pushed book old new cursor rest left entry store false kept it same later p tells here split ahead at =
     index-on book old new it same later kept
 
 -- one store less is ahead

@@ -9,19 +9,19 @@ use Rattle.dns_message.specs.Questions.{same_question}
 use Rattle.dns_message.specs.declared.question.Question.{Question}
 use Rattle.answer_log.specs.Groups.{group_of}
 use Rattle.answer_log.specs.Histories.{in_group, stores_of}
-use Rattle.answer_log.specs.Walks.{Ahead}
+use Rattle.answer_log.specs.Cursors.{Ahead}
 use Rattle.answer_log.specs.declared.store.Store.{Store}
-use Rattle.answer_log.specs.declared.walk.Walk.{Walk}
+use Rattle.answer_log.specs.declared.cursor.Cursor.{Cursor}
 
 -- what is left of a walk along these stores after so many links
-pub record Passes (whole : List Store) (walk : Walk) (links : ℕ) : Type 0 where
+pub record Passes (whole : List Store) (cursor : Cursor) (links : ℕ) : Type 0 where
   pub left : List Store
-  pub ahead : Ahead walk left
+  pub ahead : Ahead cursor left
   pub size : length left + links ≡ length whole
 
 -- none of those that were passed is of the question
-pub record Searches (question : Question) (whole : List Store) (walk : Walk) (links : ℕ) : Type 0 where
-  pub passes : Passes whole walk links
+pub record Searches (question : Question) (whole : List Store) (cursor : Cursor) (links : ℕ) : Type 0 where
+  pub passes : Passes whole cursor links
   pub last : last_or None (stores_of question whole) ≡ last_or None (stores_of question passes.left)
 
 last-append : {X : Type 0} (o : Option X) (xs : List X) (x : X) → last_or o (xs ++ x ∷ []) ≡ Some x
@@ -65,20 +65,20 @@ pub one-less : (rest : List Store) (store : Store) (links size : ℕ) → length
 one-less rest store links size sum = let n = length-append rest (store ∷ []) in omega arith
 
 -- a walk begins with all stores
-abbrev pub passes : (whole : List Store) (walk : Walk) → Ahead walk whole → Passes whole walk 0
-passes whole walk ahead = record { left = whole; ahead = ahead; size = omega arith }
+abbrev pub passes : (whole : List Store) (cursor : Cursor) → Ahead cursor whole → Passes whole cursor 0
+passes whole cursor ahead = record { left = whole; ahead = ahead; size = omega arith }
 
-pub begins : (question : Question) (whole : List Store) (walk : Walk) → Ahead walk whole → Searches question whole walk 0
-begins question whole walk ahead = record { passes = passes whole walk ahead; last = refl }
+pub begins : (question : Question) (whole : List Store) (cursor : Cursor) → Ahead cursor whole → Searches question whole cursor 0
+begins question whole cursor ahead = record { passes = passes whole cursor ahead; last = refl }
 
-module _ (whole : List Store) (walk : Walk) (links : ℕ) (it : Passes whole walk links) where
+module _ (whole : List Store) (cursor : Cursor) (links : ℕ) (it : Passes whole cursor links) where
   pub passed-all : it.left ≡ [] → length whole ≡ links
   passed-all none = let sum : 0 + links ≡ length whole = rw none at it.size in omega arith
 
   pub passed-some : links ≤ length whole
   passed-some = let sum = it.size in omega arith
 
-  abbrev pub passes-on : (rest : List Store) (store : Store) (new : Walk) → it.left ≡ rest ++ store ∷ [] → Ahead new rest
+  abbrev pub passes-on : (rest : List Store) (store : Store) (new : Cursor) → it.left ≡ rest ++ store ∷ [] → Ahead new rest
       → Passes whole new (links + 1)
   passes-on rest store new split ahead = record {
     left = rest;
@@ -86,7 +86,7 @@ module _ (whole : List Store) (walk : Walk) (links : ℕ) (it : Passes whole wal
     size = one-less rest store links (length whole) (rw split at it.size);
   }
 
-module _ (question : Question) (whole : List Store) (walk : Walk) (links : ℕ) (it : Searches question whole walk links) where
+module _ (question : Question) (whole : List Store) (cursor : Cursor) (links : ℕ) (it : Searches question whole cursor links) where
   pub ends : it.passes.left ≡ [] → last_or None (stores_of question whole) ≡ None
   ends none = it.last ∙ rw none refl
 
@@ -100,10 +100,10 @@ module _ (question : Question) (whole : List Store) (walk : Walk) (links : ℕ) 
       → last_or None (stores_of question whole) ≡ Some store
   finds rest store split is = it.last ∙ (ap (λ stores. last_or None (stores_of question stores)) split ∙ last-here question rest store is)
 
-  pub goes-on : (rest : List Store) (store : Store) (new : Walk) → it.passes.left ≡ rest ++ store ∷ []
+  pub goes-on : (rest : List Store) (store : Store) (new : Cursor) → it.passes.left ≡ rest ++ store ∷ []
       → same_question store.question question ≡ false
       → Ahead new rest → Searches question whole new (links + 1)
   goes-on rest store new split not ahead = record {
-    passes = passes-on whole walk links it.passes rest store new split ahead;
+    passes = passes-on whole cursor links it.passes rest store new split ahead;
     last = it.last ∙ (ap (λ stores. last_or None (stores_of question stores)) split ∙ last-before question rest store not);
   }

@@ -4,14 +4,14 @@ use Rattle.std.proofs.Common.{subst, arith, append_assoc, length-append}
 use mathlib.Core.List.{IsPrefix}
 use Rattle.std.specs.declared.result.Result.{Result}
 use Rattle.logbook.specs.Pages.{Book, Nib, may_write}
-use Rattle.answer_log.specs.Hands.{EndsWith, SeesMore, spent_of}
+use Rattle.answer_log.specs.Handles.{EndsWith, SeesMore, spent_of}
 use Rattle.answer_log.specs.Groups.{group_of}
 use Rattle.answer_log.specs.Logs.{history, top}
 use Rattle.answer_log.specs.Spending.{Spending}
 use Rattle.answer_log.specs.Steps.{store_by}
 use Rattle.dns_answers.specs.Values.{AnswerValue}
 use Rattle.answer_log.specs.declared.event.Event.{Event}
-use Rattle.answer_log.specs.declared.hand.Hand.{Hand}
+use Rattle.answer_log.specs.declared.handle.Handle.{Handle}
 use Rattle.answer_log.specs.declared.store.Store.{Store}
 use Rattle.dns_message.specs.declared.question.Question.{Question}
 use Rattle.answer_cache.specs.Nodes.{IsReady, Says, WhyLost, WhyNotPut, store_in}
@@ -109,7 +109,7 @@ lost-on (Err refusal) its question old mid now new was begun spent same before l
     why-on question (history old) (history mid) (history new) begun spent refusal before (subst W same (why mid later) (sym last))
 
 -- what is left after the tries were lost
-leaves-why : (question its : Question) (h k new : Hand) (before : List Store) (refusal : StoreRefusal)
+leaves-why : (question its : Question) (h k new : Handle) (before : List Store) (refusal : StoreRefusal)
     → (spent_of h).tries ≤ (spent_of k).tries → (spent_of h).missed ≤ (spent_of k).missed → (spent_of k).tries < (spent_of new).tries
     → WhyLost its before (history new.book.log) (spent_of k) (spent_of new) refusal
     → (old more : List Offer) → Leaves question (view_of h old) (view_of new more) refusal
@@ -118,7 +118,7 @@ leaves-why question its h k new before GenerationFull tries missed tried why old
 leaves-why question its h k new before Contended tries missed tried why old more = omega (arith, tries, tried)
 leaves-why question its h k new before Memory tries missed tried why old more = inr (omega (arith, missed, why))
 
-pub leaves-on : {A : Type 0} (result : Result A StoreRefusal) (its question : Question) (h k new : Hand) (mid : List Event) (was : ℕ)
+pub leaves-on : {A : Type 0} (result : Result A StoreRefusal) (its question : Question) (h k new : Handle) (mid : List Event) (was : ℕ)
     → (spent_of h).tries ≤ (spent_of k).tries → (spent_of h).missed ≤ (spent_of k).missed → (spent_of k).tries < (spent_of new).tries
     → its ≡ question → IsPrefix mid k.book.log → was ≡ top (group_of question) mid
     → IfErr result (λ refusal. (seen : List Event) → IsPrefix seen k.book.log → top (group_of its) seen ≡ was

@@ -10,12 +10,12 @@ use Rattle.logbook.specs.Pages.{Book}
 use Rattle.dns_answers.specs.Values.{AnswerValue}
 use Rattle.dns_message.specs.declared.question.Question.{Question}
 use Rattle.answer_log.specs.Groups.{group_of}
-use Rattle.answer_log.specs.Hands.{EndsWith, IsNew, SeesMore}
+use Rattle.answer_log.specs.Handles.{EndsWith, IsNew, SeesMore}
 use Rattle.answer_log.specs.Histories.{IsFull, IsHistory, IsSound, in_group, mine}
 use Rattle.answer_log.specs.Logs.{history}
 use Rattle.answer_log.specs.Steps.{store_by}
 use Rattle.answer_log.specs.declared.event.Event.{Event}
-use Rattle.answer_log.specs.declared.hand.Hand.{Hand}
+use Rattle.answer_log.specs.declared.handle.Handle.{Handle}
 use Rattle.answer_log.specs.declared.store.Store.{Store}
 use Rattle.answer_cache.specs.Seats.{IsStored, Offer, offer_of}
 use Rattle.answer_cache.specs.Shared.{Belongs, CacheView, SharedView, cache_view, new_seat, view_of}
@@ -38,11 +38,12 @@ seats-more cache size =
     ∙ ap (λ n. map (new_seat cache) (range_with_len 0 size) ++ new_seat cache n ∷ []) first))
 
 -- what is dealt for a new seat
-pub new-view : (hand : Hand) (offered : List Offer) (cache : CacheView) (its : Book) (number seats size : ℕ) → IsNew hand its number seats
+pub new-view : (handle : Handle) (offered : List Offer) (cache : CacheView) (its : Book) (number seats size : ℕ)
+    → IsNew handle its number seats
     → cache_view its seats ≡ cache → number ≡ size
-    → offered ≡ [] → view_of hand offered ≡ new_seat cache size
-new-view hand offered cache its number seats size it same is none =
-    let at : cache_view hand.book.book hand.seats ≡ cache = (λ i. cache_view (it.book i) (it.count i)) ∙ same in
+    → offered ≡ [] → view_of handle offered ≡ new_seat cache size
+new-view handle offered cache its number seats size it same is none =
+    let at : cache_view handle.book.book handle.seats ≡ cache = (λ i. cache_view (it.book i) (it.count i)) ∙ same in
     let n = it.number ∙ is in
     λ i. record {
       cache = at i;
@@ -50,7 +51,7 @@ new-view hand offered cache its number seats size it same is none =
       links = (it.spent i).links;
       tries = (it.spent i).tries;
       missed = (it.spent i).missed;
-      places = it.places i;
+      node_count = it.node_count i;
     }
 
 all-of : {X : Type 0} (P : X → Type 0) → ((x : X) → P x) → (xs : List X) → All P xs
@@ -83,16 +84,16 @@ module _ (front whole : List Store) (store : Store) (last : whole ≡ front ++ s
       ap (λ h. mine h store.seat) last
       ∙ (filter-append (λ it. it.seat == store.seat) front (store ∷ []) ∙ ap (λ l. mine front store.seat ++ l) one)
 
-pub stored : {A E : Type 0} (result : Result A E) (hand : Hand) (noted : List Offer) (view : SharedView) (new : List Event) (number : ℕ)
+pub stored : {A E : Type 0} (result : Result A E) (handle : Handle) (noted : List Offer) (view : SharedView) (new : List Event) (number : ℕ)
     (offered : List Offer)
-    (question : Question) (answer : AnswerValue) (moment : ℕ) → view_of hand noted ≡ view → number ≡ hand.number → 0 < answer.life
+    (question : Question) (answer : AnswerValue) (moment : ℕ) → view_of handle noted ≡ view → number ≡ handle.number → 0 < answer.life
     → IsHistory (history new)
-    → MatchResult result (λ _. EndsWith (store_by hand.number question answer moment) (history hand.book.log) (history new))
-    (λ _. SeesMore hand.number hand.book.log new)
+    → MatchResult result (λ _. EndsWith (store_by handle.number question answer moment) (history handle.book.log) (history new))
+    (λ _. SeesMore handle.number handle.book.log new)
     → OnOk result (IsStored view.seat (record { number = number; seen = history new; own = mine (history new) number; offered = offered })
     (offer_of question answer moment))
-stored (Ok a) hand noted view new number offered question answer moment is same lives it end =
-    let store : Store = store_by hand.number question answer moment in
+stored (Ok a) handle noted view new number offered question answer moment is same lives it end =
+    let store : Store = store_by handle.number question answer moment in
     let V : SharedView → Type 0 =
     λ v. IsStored v.seat (record { number = number; seen = history new; own = mine (history new) number; offered = offered })
     (offer_of question answer moment) in
@@ -105,4 +106,4 @@ stored (Ok a) hand noted view new number offered question answer moment is same 
       last = end.last;
       own = ap (λ n. mine (history new) n) same ∙ (own-one-more end.front (history new) store end.last ∙ ap (λ l. l ++ store ∷ []) end.own);
     })
-stored (Err e) hand noted view new number offered question answer moment is same lives it end = tt
+stored (Err e) handle noted view new number offered question answer moment is same lives it end = tt

@@ -8,13 +8,13 @@ use Rattle.std.proofs.lemmas.List.FromFn.{map-range_with_len_more}
 use Rattle.std.specs.Arc.{arc_value}
 use Rattle.std.specs.List.{All, range_with_len}
 use mathlib.Core.List.{IsPrefix}
-use Rattle.answer_log.specs.Hands.{EndsWith}
+use Rattle.answer_log.specs.Handles.{EndsWith}
 use Rattle.answer_log.specs.Histories.{IsHistory, IsSound, mine}
 use Rattle.answer_log.specs.Logs.{history, seats_in}
 use Rattle.answer_log.specs.Steps.{store_by}
 use Rattle.answer_log.specs.declared.event.Event.{Event}
 use Rattle.answer_log.specs.declared.event.Event.TheVariants.{Asks, Named, Opened, Placed}
-use Rattle.answer_log.specs.declared.hand.Hand.{Hand}
+use Rattle.answer_log.specs.declared.handle.Handle.{Handle}
 use Rattle.answer_log.specs.declared.store.Store.{Store}
 use Rattle.answer_cache.specs.Carried.{carried_stores, offer_in, offers_in, own_of, seat_after}
 use Rattle.answer_cache.specs.Lists.{own_store}
@@ -97,18 +97,18 @@ abbrev pub seat_seen : List Store → ℕ → SeatView
 seat_seen stores number = record { number = number; seen = stores; own = mine stores number; offered = [] }
 
 -- a seat that has seen just what was told
-pub seat-seen : (hand : Hand) (offered : List Offer) (log : List Event) (number : ℕ) → hand.book.log ≡ log → hand.number ≡ number
-    → offered ≡ [] → (view_of hand offered).seat ≡ seat_seen (history log) number
-seat-seen hand offered log number grown num none = λ i. record {
+pub seat-seen : (handle : Handle) (offered : List Offer) (log : List Event) (number : ℕ) → handle.book.log ≡ log → handle.number ≡ number
+    → offered ≡ [] → (view_of handle offered).seat ≡ seat_seen (history log) number
+seat-seen handle offered log number grown num none = λ i. record {
   number = num i;
   seen = history (grown i);
   own = mine (history (grown i)) (num i);
   offered = none i;
 }
 
-pub seat-belongs : (hand : Hand) (offered : List Offer) (cache : CacheView) (log : List Event) → hand.book.log ≡ log
-    → cache_view hand.book.book hand.seats ≡ cache → IsHistory (history log) → Belongs cache (view_of hand offered)
-seat-belongs hand offered cache log grown same kept =
+pub seat-belongs : (handle : Handle) (offered : List Offer) (cache : CacheView) (log : List Event) → handle.book.log ≡ log
+    → cache_view handle.book.book handle.seats ≡ cache → IsHistory (history log) → Belongs cache (view_of handle offered)
+seat-belongs handle offered cache log grown same kept =
     let K : List Event → Type 0 = λ l. IsHistory (history l) in record {
       made = same;
       is = record { own = refl; history = subst K (sym grown) kept };

@@ -3,7 +3,7 @@ use Rattle.std.specs.Prelude.{◌≡◌, ℕ, List, [], ◌∷◌, ◌++◌, len
 use Rattle.std.specs.List.{All}
 use Rattle.logbook.specs.Pages.{Book}
 use Rattle.answer_log.specs.Groups.{hash_of, hashed_of}
-use Rattle.answer_log.specs.Hands.{IsPlaced}
+use Rattle.answer_log.specs.Handles.{IsPlaced}
 use Rattle.answer_log.specs.Histories.{in_group}
 use Rattle.answer_log.specs.Logs.{history, top}
 use Rattle.answer_log.specs.declared.event.Event.{Event}

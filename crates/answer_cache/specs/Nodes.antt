@@ -8,14 +8,14 @@ use Rattle.answer_log.specs.declared.event.Event.{Event}
 use Rattle.logbook.specs.Pages.{Book, Nib, may_write}
 use Rattle.dns_message.specs.declared.question.Question.{Question}
 use Rattle.answer_log.specs.Groups.{hash_of, hashed_of}
-use Rattle.answer_log.specs.Hands.{IsHand, IsNamed, IsPlaced}
+use Rattle.answer_log.specs.Handles.{IsHandle, IsNamed, IsPlaced}
 use Rattle.answer_log.specs.Histories.{IsFull, stores_of}
 use Rattle.answer_log.specs.Spending.{Spending}
 use Rattle.answer_log.specs.Steps.{store_by}
-use Rattle.answer_log.specs.Walks.{Ahead}
-use Rattle.answer_log.specs.declared.hand.Hand.{Hand}
+use Rattle.answer_log.specs.Cursors.{Ahead}
+use Rattle.answer_log.specs.declared.handle.Handle.{Handle}
 use Rattle.answer_log.specs.declared.store.Store.{Store}
-use Rattle.answer_log.specs.declared.walk.Walk.{Walk}
+use Rattle.answer_log.specs.declared.cursor.Cursor.{Cursor}
 use Rattle.answer_cache.specs.Seats.{Offer, offer_of}
 use Rattle.answer_cache.specs.declared.node.Node.{Node}
 use Rattle.answer_cache.specs.declared.node.ShelfRefusal.{ShelfRefusal}
@@ -48,11 +48,11 @@ IsShelved tag it = (numbers_of it.seen.book ≡ tag) × IsNode it.seen.book it
 
 -- what a walk meets: nothing where nothing is ahead, else the node of the last store ahead, which
 -- was placed for it
-abbrev pub Meets : Book → Walk → List Store → Option Node → Type 0
-Meets book walk left None = left ≡ []
-Meets book walk left (Some node) = (rest : List Store) × (seat : ℕ)
-    × (left ≡ rest ++ store_in seat node ∷ []) × Ahead walk rest
-    × IsPlaced walk.seen.log node.node (store_in seat node)
+abbrev pub Meets : Book → Cursor → List Store → Option Node → Type 0
+Meets book cursor left None = left ≡ []
+Meets book cursor left (Some node) = (rest : List Store) × (seat : ℕ)
+    × (left ≡ rest ++ store_in seat node ∷ []) × Ahead cursor rest
+    × IsPlaced cursor.seen.log node.node (store_in seat node)
 
 -- the node of the last store of a question
 abbrev pub IsLastOf : Question → List Store → Option Node → Type 0
@@ -68,8 +68,8 @@ pub record Costs (old new : Spending) (links tries : ℕ) : Type 0 where
   pub missed : old.missed ≤ new.missed
 
 -- the hand goes on at its book
-pub record Holds (book : Book) (old new : Hand) : Type 0 where
-  pub hand : IsHand new
+pub record Holds (book : Book) (old new : Handle) : Type 0 where
+  pub handle : IsHandle new
   pub number : new.number ≡ old.number
   pub seats : new.seats ≡ old.seats
   pub same : new.book.book ≡ book
@@ -89,8 +89,8 @@ Says node question answer moment = (node.question ≡ question) × (arc_value no
     × (node.moment ≡ moment) × (node.tag ≡ hash_of (hashed_of node.question))
 
 -- a node that was not named leaves the places of its seat as they were
-abbrev pub LeavesPlaces : Hand → Hand → ShelfRefusal → Type 0
-LeavesPlaces old new Unnamed = new.places ≡ old.places
+abbrev pub LeavesPlaces : Handle → Handle → ShelfRefusal → Type 0
+LeavesPlaces old new Unnamed = new.node_count ≡ old.node_count
 LeavesPlaces old new Untaken = Unit {0}
 
 -- why a try does not begin

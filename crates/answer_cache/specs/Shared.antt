@@ -4,9 +4,9 @@ use base.Stored.{Coded, coded×, coded_ℕ, coded_via}
 use Rattle.logbook.specs.Pages.{Book, book_coded}
 use Rattle.dns_message.specs.declared.question.Question.{Question}
 use Rattle.answer_log.specs.Histories.{cached, mine}
-use Rattle.answer_log.specs.Hands.{spent_of}
+use Rattle.answer_log.specs.Handles.{spent_of}
 use Rattle.answer_log.specs.Logs.{history}
-use Rattle.answer_log.specs.declared.hand.Hand.{Hand}
+use Rattle.answer_log.specs.declared.handle.Handle.{Handle}
 use Rattle.answer_log.specs.declared.store.Store.{Store}
 use Rattle.answer_cache.specs.Seats.{HasSeenRoom, Offer, SeatView, IsSeat}
 use Rattle.answer_cache.specs.declared.refusal.CacheRefusal.{CacheRefusal}
@@ -37,25 +37,25 @@ pub record SharedView : Type 0 where
   pub links : ℕ
   pub tries : ℕ
   pub missed : ℕ
-  pub places : ℕ
+  pub node_count : ℕ
 
-abbrev pub view_of : Hand → List Offer → SharedView
-view_of hand offered = record {
-  cache = cache_view hand.book.book hand.seats;
+abbrev pub view_of : Handle → List Offer → SharedView
+view_of handle offered = record {
+  cache = cache_view handle.book.book handle.seats;
   seat = record {
-    number = hand.number;
-    seen = history hand.book.log;
-    own = mine (history hand.book.log) hand.number;
+    number = handle.number;
+    seen = history handle.book.log;
+    own = mine (history handle.book.log) handle.number;
     offered = offered;
   };
-  links = (spent_of hand).links;
-  tries = (spent_of hand).tries;
-  missed = (spent_of hand).missed;
-  places = hand.places;
+  links = (spent_of handle).links;
+  tries = (spent_of handle).tries;
+  missed = (spent_of handle).missed;
+  node_count = handle.node_count;
 }
 
 -- what a notice tells: the cache, and the history that a seat had seen
-pub record Told : Type 0 where
+pub record NoticeView : Type 0 where
   pub cache : CacheView
   pub seen : List Store
 
@@ -79,7 +79,7 @@ new_seat cache number =
       links = 0;
       tries = 0;
       missed = 0;
-      places = 0;
+      node_count = 0;
     }
 
 -- the number of seats is bad exactly outside 1 to 64; memory is needed only for a good one
@@ -101,8 +101,8 @@ WantsForAnswer question now old new =
 -- no node was named. Memory is needed before a try, where the group was not full at the first look,
 -- unless a number led to no node.
 abbrev pub Leaves : Question → SharedView → SharedView → StoreRefusal → Type 0
-Leaves question old new Lifeless = (new.tries ≡ old.tries) × (new.places ≡ old.places)
-Leaves question old new GenerationFull = new.tries ≡ old.tries → new.places ≡ old.places
+Leaves question old new Lifeless = (new.tries ≡ old.tries) × (new.node_count ≡ old.node_count)
+Leaves question old new GenerationFull = new.tries ≡ old.tries → new.node_count ≡ old.node_count
 Leaves question old new Contended = old.tries < new.tries
 Leaves question old new Memory =
     ((new.tries ≡ old.tries) × HasSeenRoom question old.seat.seen new.seat.seen)

@@ -10,7 +10,7 @@ ghost use Rattle.answer_cache.specs.Carried.{IsCarried, carried_stores};
 ghost use Rattle.answer_cache.specs.Seats.{offer_of};
 
 use dns_answers::{Answer, Moment};
-use dns_message::{Question, same_questions_are_equal};
+use dns_message::{Question, law_same_questions_are_equal};
 use std::marker::Model;
 use std::sync::Arc;
 
@@ -73,7 +73,7 @@ impl Carried {
 /// A law: at the moment of the carrying and at each later one, what was carried answers a question
 /// as the history did at which its group was carried. What it doesn't answer it doesn't answer
 /// later either.
-pub fn carried_answers_as_before(carried: &Carried)
+pub fn law_carried_answers_as_before(carried: &Carried)
     ensures same { (before after : List Store) (now later : ℕ) → now ≤ later
         → (it : IsCarried before after now carried.now) → (question : Asked)
         → cached (carried_stores carried.now) question later
@@ -83,5 +83,5 @@ pub fn carried_answers_as_before(carried: &Carried)
         → cached (carried_stores carried.now) question later ≡ None }
 {
     let _ = &carried.entries;
-    same_questions_are_equal();
+    law_same_questions_are_equal();
 }

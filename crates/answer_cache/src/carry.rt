@@ -5,10 +5,10 @@ ghost use Rattle.std.specs.List.{All, filter, list_any};
 ghost use Rattle.dns_message.specs.Questions.{same_question};
 ghost use Rattle.dns_message.specs.declared.question.Question.{Question as Asked};
 ghost use Rattle.answer_log.specs.Groups.{group_limit, group_of, hash_of, hashed_of};
-ghost use Rattle.answer_log.specs.Hands.{IsHand, IsSame, SeesMore, spent_of};
+ghost use Rattle.answer_log.specs.Handles.{IsHandle, IsSame, SeesMore, spent_of};
 ghost use Rattle.answer_log.specs.Histories.{cached, in_group};
 ghost use Rattle.answer_log.specs.Logs.{history};
-ghost use Rattle.answer_log.specs.Walks.{Ahead};
+ghost use Rattle.answer_log.specs.Cursors.{Ahead};
 ghost use Rattle.answer_log.specs.declared.store.Store.{Store};
 ghost use Rattle.answer_cache.specs.Carried.{IsCarried, IsCarriedOf, carried_stores, lives_at};
 ghost use Rattle.answer_cache.specs.Carried.{last_stores, living_of, offers_in, unseated};
@@ -20,9 +20,9 @@ use crate::carried::{Carried, Entry};
 use crate::node::Node;
 use crate::seat::Seat;
 use crate::shared_cache::SharedCache;
-use answer_log::{GROUP_COUNT, GROUP_LIMIT, Hand, Walk, log_keeps_its_rule};
+use answer_log::{Cursor, GROUP_COUNT, GROUP_LIMIT, Handle, law_log_keeps_its_rule};
 use dns_answers::Moment;
-use dns_message::same_questions_are_equal;
+use dns_message::law_same_questions_are_equal;
 use std::alloc::{AllocError, Global};
 use std::sync::Arc;
 
@@ -64,26 +64,26 @@ impl SharedCache {
     fn last_nodes(
         &self,
         alloc: Global,
-        walk: &mut Walk,
-        hand: &mut Hand,
+        cursor: &mut Cursor,
+        handle: &mut Handle,
     ) -> Result<Vec<&Node>, AllocError>
-        requires books { (walk.old.seen.book ≡ self.now.book)
-            × (hand.old.book.book ≡ self.now.book) }
-        requires hand { IsHand hand.old }
-        requires ahead { (left : List Store) × Ahead walk.old left × (length left ≤ group_limit) }
-        ensures same { IsSame hand.old hand.new }
-        ensures last { IfOk result (λ nodes. (left : List Store) → Ahead walk.old left
+        requires books { (cursor.old.seen.book ≡ self.now.book)
+            × (handle.old.book.book ≡ self.now.book) }
+        requires handle { IsHandle handle.old }
+        requires ahead { (left : List Store) × Ahead cursor.old left × (length left ≤ group_limit) }
+        ensures same { IsSame handle.old handle.new }
+        ensures last { IfOk result (λ nodes. (left : List Store) → Ahead cursor.old left
             → length left ≤ group_limit
             → map (λ node. offer_of_node node.now) nodes.items
             ≡ reverse (map unseated (last_stores left))) }
-        ensures costs { Costs (spent_of hand.old) (spent_of hand.new) group_limit 0 }
-        ensures wanted { OnErr result (((left : List Store) → Ahead walk.old left → left ≢ [])
-            ⊎ ((spent_of hand.old).missed < (spent_of hand.new).missed)) }
+        ensures costs { Costs (spent_of handle.old) (spent_of handle.new) group_limit 0 }
+        ensures wanted { OnErr result (((left : List Store) → Ahead cursor.old left → left ≢ [])
+            ⊎ ((spent_of handle.old).missed < (spent_of handle.new).missed)) }
     {
-        same_questions_are_equal();
+        law_same_questions_are_equal();
         let mut nodes: Vec<&Node> = Vec::new(alloc);
         'links: for _link in 0..GROUP_LIMIT {
-            let Some(node) = self.step(walk, hand)? else {
+            let Some(node) = self.step(cursor, handle)? else {
                 return Ok(nodes);
             };
             if !is_among(node, &nodes) {
@@ -97,26 +97,26 @@ impl SharedCache {
     fn carry_group(
         &self,
         alloc: Global,
-        hand: &mut Hand,
+        handle: &mut Handle,
         group: u8,
         now: Moment,
         entries: &mut Vec<Entry>,
     ) -> Result<(), AllocError>
-        requires hand { IsHand hand.old }
-        requires book { hand.old.book.book ≡ self.now.book }
+        requires handle { IsHandle handle.old }
+        requires book { handle.old.book.book ≡ self.now.book }
         requires group { group < 64 }
-        ensures holds { Holds self.now.book hand.old hand.new }
-        ensures seen { SeesMore hand.old.number hand.old.book.log hand.new.book.log }
-        ensures places { hand.new.places ≡ hand.old.places }
-        ensures costs { Costs (spent_of hand.old) (spent_of hand.new) group_limit 0 }
+        ensures holds { Holds self.now.book handle.old handle.new }
+        ensures seen { SeesMore handle.old.number handle.old.book.log handle.new.book.log }
+        ensures node_count { handle.new.node_count ≡ handle.old.node_count }
+        ensures costs { Costs (spent_of handle.old) (spent_of handle.new) group_limit 0 }
         ensures added { OnOk result (offers_in entries.new.items ≡ offers_in entries.old.items
-            ++ living_of now (in_group group (history hand.new.book.log))) }
-        ensures wanted { OnErr result ((history hand.new.book.log ≢ [])
-            ⊎ ((spent_of hand.old).missed < (spent_of hand.new).missed)) }
+            ++ living_of now (in_group group (history handle.new.book.log))) }
+        ensures wanted { OnErr result ((history handle.new.book.log ≢ [])
+            ⊎ ((spent_of handle.old).missed < (spent_of handle.new).missed)) }
     {
-        let mut walk = self.log.walk(hand, group);
-        log_keeps_its_rule(&walk.seen);
-        let mut nodes = self.last_nodes(alloc, &mut walk, hand)?;
+        let mut cursor = self.log.cursor(handle, group);
+        law_log_keeps_its_rule(&cursor.seen);
+        let mut nodes = self.last_nodes(alloc, &mut cursor, handle)?;
         nodes.reverse();
         add_living(entries, &nodes, now)
     }
@@ -125,24 +125,24 @@ impl SharedCache {
     fn carry_groups(
         &self,
         alloc: Global,
-        hand: &mut Hand,
+        handle: &mut Handle,
         now: Moment,
     ) -> Result<Vec<Entry>, AllocError>
-        requires hand { IsHand hand.old }
-        requires book { hand.old.book.book ≡ self.now.book }
-        ensures holds { Holds self.now.book hand.old hand.new }
-        ensures seen { SeesMore hand.old.number hand.old.book.log hand.new.book.log }
-        ensures places { hand.new.places ≡ hand.old.places }
-        ensures costs { Costs (spent_of hand.old) (spent_of hand.new) (64 * group_limit) 0 }
+        requires handle { IsHandle handle.old }
+        requires book { handle.old.book.book ≡ self.now.book }
+        ensures holds { Holds self.now.book handle.old handle.new }
+        ensures seen { SeesMore handle.old.number handle.old.book.log handle.new.book.log }
+        ensures node_count { handle.new.node_count ≡ handle.old.node_count }
+        ensures costs { Costs (spent_of handle.old) (spent_of handle.new) (64 * group_limit) 0 }
         ensures carried { IfOk result
-            (λ entries. IsCarried (history hand.old.book.log) (history hand.new.book.log) now
+            (λ entries. IsCarried (history handle.old.book.log) (history handle.new.book.log) now
             (offers_in entries.items)) }
-        ensures wanted { OnErr result ((history hand.new.book.log ≢ [])
-            ⊎ ((spent_of hand.old).missed < (spent_of hand.new).missed)) }
+        ensures wanted { OnErr result ((history handle.new.book.log ≢ [])
+            ⊎ ((spent_of handle.old).missed < (spent_of handle.new).missed)) }
     {
         let mut entries = Vec::new(alloc);
         'groups: for group in 0..GROUP_COUNT {
-            self.carry_group(alloc, hand, group, now, &mut entries)?;
+            self.carry_group(alloc, handle, group, now, &mut entries)?;
         }
         Ok(entries)
     }
@@ -158,14 +158,14 @@ impl SharedCache {
         ensures stays { Belongs self.now seat.new }
         ensures goes_on { GoesOn seat.old.seat seat.new.seat }
         ensures stores_nothing { StoresNothing seat.old.seat seat.new.seat }
-        ensures places { seat.new.places ≡ seat.old.places }
+        ensures node_count { seat.new.node_count ≡ seat.old.node_count }
         ensures takes { Takes seat.old seat.new (64 * group_limit) 0 }
         ensures carried { IfOk result (IsCarried seat.old.seat.seen seat.new.seat.seen now) }
         ensures wanted { OnErr result
             ((seat.new.seat.seen ≢ []) ⊎ (seat.old.missed < seat.new.missed)) }
     {
-        let entries = self.carry_groups(alloc, &mut seat.hand, now);
-        log_keeps_its_rule(&seat.hand.book);
+        let entries = self.carry_groups(alloc, &mut seat.handle, now);
+        law_log_keeps_its_rule(&seat.handle.book);
         Ok(Carried { entries: entries? })
     }
 }

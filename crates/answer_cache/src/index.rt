@@ -2,7 +2,7 @@
 ghost use Rattle.std.specs.Prelude.{◌≡◌, IfOk};
 ghost use Rattle.answer_cache.specs.Indexes.{AreIndexes, IsIndex, top_of};
 
-use answer_log::{Book, GROUP_COUNT};
+use answer_log::{GROUP_COUNT, SeenLog};
 use std::alloc::{AllocError, Global};
 
 /// A placed node: the hash of its question, and its number.
@@ -16,13 +16,13 @@ pub(crate) struct IndexEntry {
 /// stay what they are, so a seat walks along each node once.
 #[derive(Drop)]
 pub(crate) struct Index {
-    pub seen: Book,
+    pub seen: SeenLog,
     pub entries: Vec<IndexEntry>,
 }
 
 impl Index {
     /// One without nodes. Takes no memory.
-    fn empty(alloc: Global, seen: &Book) -> Index
+    fn empty(alloc: Global, seen: &SeenLog) -> Index
         ensures { IsIndex seen.now.book result }
     {
         Index {
@@ -32,7 +32,7 @@ impl Index {
     }
 
     /// An index without nodes for each group.
-    pub(crate) fn empty_ones(alloc: Global, seen: &Book) -> Result<Vec<Index>, AllocError>
+    pub(crate) fn empty_ones(alloc: Global, seen: &SeenLog) -> Result<Vec<Index>, AllocError>
         ensures { IfOk result (λ indexes. AreIndexes seen.now.book indexes.items) }
     {
         let mut indexes = Vec::new(alloc);

@@ -77,12 +77,13 @@ mod successor;
 
 pub use answer_log::group;
 pub use book::AnswerBook;
-pub use carried::{Carried, carried_answers_as_before};
+pub use carried::{Carried, law_carried_answers_as_before};
 pub use list_cache::{ListCache, ListSeat};
 pub use refusal::{CacheRefusal, StoreRefusal};
 pub use rival::Rival;
 pub use seat::{
-    Notice, Seat, notices_tell_one_history, seats_see_one_history, stores_are_of_the_seats,
+    Notice, Seat, law_notices_tell_one_history, law_seats_see_one_history,
+    law_stores_are_of_the_seats,
 };
 pub use shared_cache::SharedCache;
 

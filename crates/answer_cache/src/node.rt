@@ -5,11 +5,11 @@ ghost use Rattle.dns_message.specs.Questions.{same_question};
 ghost use Rattle.answer_log.specs.Groups.{hash_of, hashed_of};
 ghost use Rattle.answer_cache.specs.declared.node.ShelfRefusal.TheVariants as refusals;
 
-use answer_log::{Book, Word};
+use answer_log::{SeenLog, Word};
 use boxcar::Keeps;
 use boxcar::tag::Names;
 use dns_answers::{Answer, Moment};
-use dns_message::{Question, same_questions_are_equal};
+use dns_message::{Question, law_same_questions_are_equal};
 use std::alloc::{AllocError, Global};
 use std::sync::Arc;
 
@@ -31,7 +31,7 @@ pub struct Node {
     pub question: Question,
     pub answer: Arc<Answer>,
     pub moment: Moment,
-    pub seen: Book,
+    pub seen: SeenLog,
 }
 
 impl Node {
@@ -41,7 +41,7 @@ impl Node {
         requires question { tag ≡ hash_of (hashed_of question.now) }
         ensures { result ≡ same_question self.now.question question.now }
     {
-        same_questions_are_equal();
+        law_same_questions_are_equal();
         self.tag == tag && self.question == *question
     }
 
@@ -85,7 +85,7 @@ pub(crate) type Shelf = boxcar::Vec<Node, Global, Shelved>;
 /// The tag of a shelf has the numbers of the book.
 pub(crate) struct ByBook;
 
-impl Names<Book> for ByBook {
+impl Names<SeenLog> for ByBook {
     ghost use Rattle.answer_cache.specs.Nodes.{numbers_of};
 
     ghost numbers = { λ seen. numbers_of seen.book };

@@ -9,7 +9,7 @@ ghost use Rattle.std.specs.Arc.{arc_value};
 ghost use Rattle.std.specs.List.{All, range_with_len};
 ghost use Rattle.std.specs.Option.{option_map};
 ghost use Rattle.answer_log.specs.Groups.{group_limit, group_of, hash_of, hashed_of};
-ghost use Rattle.answer_log.specs.Hands.{AreHands, EndsWith, IsHand, IsSame, SeesMore, spent_of};
+ghost use Rattle.answer_log.specs.Handles.{AreHandles, EndsWith, IsHandle, IsSame, SeesMore, spent_of};
 ghost use Rattle.answer_log.specs.Spending.{one_try};
 ghost use Rattle.answer_log.specs.Histories.{IsFull, IsSound, cached, in_group};
 ghost use Rattle.answer_log.specs.Logs.{history, top};
@@ -25,7 +25,7 @@ ghost use Rattle.answer_cache.specs.Seats.{GoesOn, IsRefused, IsStored, Offer, S
 ghost use Rattle.answer_cache.specs.Seats.{offer_of};
 ghost use Rattle.answer_cache.specs.Shared.{Belongs, Leaves, Takes, Refuses, WantsForAnswer};
 ghost use Rattle.answer_cache.specs.Shared.{cache_view, new_seat, view_of};
-ghost use Rattle.answer_log.specs.Walks.{Ahead};
+ghost use Rattle.answer_log.specs.Cursors.{Ahead};
 ghost use Rattle.answer_log.specs.declared.event.Event.{Event as Noticed};
 
 use crate::book::AnswerBook;
@@ -36,13 +36,13 @@ use crate::refusal::{CacheRefusal, StoreRefusal};
 use crate::rival::{NoRival, Rival};
 use crate::seat::{Notice, Seat};
 use answer_log::{
-    Book, Claimed, Draft, GROUP_LIMIT, Hand, Hands, Log, MOST_SEATS, Pen, Walk, group_of_hash,
-    hash, log_keeps_its_rule, placed_is_named, seat_and_place,
+    ClaimedNode, Cursor, GROUP_LIMIT, Handle, Handles, Log, MOST_SEATS, NewStore, Pen, SeenLog,
+    group_of_hash, hash, law_log_keeps_its_rule, law_placed_is_named, seat_and_place,
 };
 use boxcar::Pushed;
 use boxcar::tag::Tag;
 use dns_answers::{Answer, Moment};
-use dns_message::{Question, same_questions_are_equal};
+use dns_message::{Question, law_same_questions_are_equal};
 use std::alloc::{AllocError, Global};
 use std::marker::Model;
 use std::sync::{Arc, Wait};
@@ -88,7 +88,7 @@ pub(crate) struct Wanted<'a> {
 pub(crate) fn empty_shelves(
     alloc: Global,
     seats: usize,
-    seen: &Book,
+    seen: &SeenLog,
 ) -> Result<Vec<Shelf>, AllocError>
     ensures tagged { IfOk result
         (λ shelves. All (λ shelf. shelf.tag ≡ numbers_of seen.now.book) shelves.items) }
@@ -96,23 +96,23 @@ pub(crate) fn empty_shelves(
 {
     let mut shelves = Vec::new(alloc);
     'shelves: for _seat in 0..seats {
-        shelves.push(Shelf::with_rule(alloc, Tag::of::<Book, ByBook>(seen))?)?;
+        shelves.push(Shelf::with_rule(alloc, Tag::of::<SeenLog, ByBook>(seen))?)?;
     }
     Ok(shelves)
 }
 
 /// The seats of a new log.
-fn new_seats(alloc: Global, seats: usize, hands: &mut Hands) -> Result<Vec<Seat>, AllocError>
-    requires hands { AreHands hands.old }
-    requires first { (hands.old.next ≡ 0) × (hands.old.seats ≡ seats) }
+fn new_seats(alloc: Global, seats: usize, handles: &mut Handles) -> Result<Vec<Seat>, AllocError>
+    requires handles { AreHandles handles.old }
+    requires first { (handles.old.next ≡ 0) × (handles.old.seats ≡ seats) }
     ensures { IfOk result (λ made. made.items
-        ≡ map (new_seat (cache_view hands.old.seen.book seats)) (range_with_len 0 seats)) }
+        ≡ map (new_seat (cache_view handles.old.seen.book seats)) (range_with_len 0 seats)) }
 {
     let mut made = Vec::new(alloc);
     'seats: for _seat in 0..seats {
-        let indexes = Index::empty_ones(alloc, &hands.seen)?;
+        let indexes = Index::empty_ones(alloc, &handles.seen)?;
         made.push(Seat {
-            hand: hands.deal(),
+            handle: handles.deal(),
             notes: Notes::none(),
             indexes,
         })?;
@@ -135,13 +135,13 @@ impl SharedCache {
         if seats == 0 || seats as u64 > MOST_SEATS {
             return Err(CacheRefusal::BadCount);
         }
-        let Ok((log, mut hands)) = Log::open(alloc, seats as u64) else {
+        let Ok((log, mut handles)) = Log::open(alloc, seats as u64) else {
             return Err(CacheRefusal::Memory);
         };
-        let Ok(shelves) = empty_shelves(alloc, seats, &hands.seen) else {
+        let Ok(shelves) = empty_shelves(alloc, seats, &handles.seen) else {
             return Err(CacheRefusal::Memory);
         };
-        let Ok(made) = new_seats(alloc, seats, &mut hands) else {
+        let Ok(made) = new_seats(alloc, seats, &mut handles) else {
             return Err(CacheRefusal::Memory);
         };
         Ok((SharedCache { log, shelves }, made))
@@ -162,32 +162,36 @@ impl SharedCache {
     }
 
     /// The next node of a walk: one load of its link.
-    pub(crate) fn step(&self, walk: &mut Walk, hand: &mut Hand) -> Result<Option<&Node>, AllocError>
-        requires books { (walk.old.seen.book ≡ self.now.book)
-            × (hand.old.book.book ≡ self.now.book) }
-        requires hand { IsHand hand.old }
-        requires ahead { (left : List Store) × Ahead walk.old left }
-        ensures same { IsSame hand.old hand.new }
-        ensures book { walk.new.seen.book ≡ self.now.book }
-        ensures later { IsPrefix walk.old.seen.log walk.new.seen.log }
+    pub(crate) fn step(
+        &self,
+        cursor: &mut Cursor,
+        handle: &mut Handle,
+    ) -> Result<Option<&Node>, AllocError>
+        requires books { (cursor.old.seen.book ≡ self.now.book)
+            × (handle.old.book.book ≡ self.now.book) }
+        requires handle { IsHandle handle.old }
+        requires ahead { (left : List Store) × Ahead cursor.old left }
+        ensures same { IsSame handle.old handle.new }
+        ensures book { cursor.new.seen.book ≡ self.now.book }
+        ensures later { IsPrefix cursor.old.seen.log cursor.new.seen.log }
         ensures number { IfOk result
-            (λ found. IfSome found (λ node. node.now.node ≡ walk.old.next)) }
-        ensures met { IfOk result (λ found. (left : List Store) → Ahead walk.old left
-            → Meets self.now.book walk.new left (option_map (λ node. node.now) found)) }
+            (λ found. IfSome found (λ node. node.now.node ≡ cursor.old.next)) }
+        ensures met { IfOk result (λ found. (left : List Store) → Ahead cursor.old left
+            → Meets self.now.book cursor.new left (option_map (λ node. node.now) found)) }
         ensures tagged { IfOk result
             (λ found. IfSome found (λ node. node.now.tag ≡ hash_of (hashed_of node.now.question))) }
-        ensures costs { Costs (spent_of hand.old) (spent_of hand.new) 1 0 }
+        ensures costs { Costs (spent_of handle.old) (spent_of handle.new) 1 0 }
         ensures missed { IfErr result
-            (λ _. (spent_of hand.old).missed < (spent_of hand.new).missed) }
+            (λ _. (spent_of handle.old).missed < (spent_of handle.new).missed) }
     {
-        let Some(next) = walk.next() else {
+        let Some(next) = cursor.next() else {
             return Ok(None);
         };
         let Some(node) = self.node(next) else {
-            hand.miss();
+            handle.miss();
             return Err(AllocError);
         };
-        walk.pass(hand, &node.link, &node.seen);
+        cursor.pass(handle, &node.link, &node.seen);
         Ok(Some(node))
     }
 
@@ -195,29 +199,29 @@ impl SharedCache {
     fn last_in(
         &self,
         index: &Index,
-        hand: &mut Hand,
+        handle: &mut Handle,
         asked: &Hashed<'_>,
     ) -> Result<Option<&Node>, AllocError>
         requires hash { asked.now.hash ≡ hash_of (hashed_of asked.now.question.now) }
         requires book { index.now.seen.book ≡ self.now.book }
-        requires hand { IsHand hand.old }
-        ensures same { IsSame hand.old hand.new }
+        requires handle { IsHandle handle.old }
+        ensures same { IsSame handle.old handle.new }
         ensures last { IfOk result (λ found. (stores : List Store)
             → TellsAll index.now.seen.log index.now.entries.items stores
             → IsLastOf asked.now.question.now stores (option_map (λ node. node.now) found)) }
-        ensures costs { Costs (spent_of hand.old) (spent_of hand.new) 0 0 }
+        ensures costs { Costs (spent_of handle.old) (spent_of handle.new) 0 0 }
         ensures missed { IfErr result
-            (λ _. (spent_of hand.old).missed < (spent_of hand.new).missed) }
+            (λ _. (spent_of handle.old).missed < (spent_of handle.new).missed) }
     {
-        same_questions_are_equal();
+        law_same_questions_are_equal();
         let mut left = index.entries.as_slice();
         while let [front @ .., last] = left {
             if last.hash == asked.hash {
                 let Some(node) = self.node(last.node) else {
-                    hand.miss();
+                    handle.miss();
                     return Err(AllocError);
                 };
-                placed_is_named(&index.seen, &node.seen);
+                law_placed_is_named(&index.seen, &node.seen);
                 if node.question == *asked.question {
                     return Ok(Some(node));
                 }
@@ -231,50 +235,50 @@ impl SharedCache {
     /// the index tells, and the nodes on its way are added to the index, as far as there is memory.
     fn last_ahead(
         &self,
-        walk: &mut Walk,
-        hand: &mut Hand,
+        cursor: &mut Cursor,
+        handle: &mut Handle,
         index: &mut Index,
         asked: &Hashed<'_>,
         links: usize,
     ) -> Result<Option<&Node>, AllocError>
         requires hash { asked.now.hash ≡ hash_of (hashed_of asked.now.question.now) }
-        requires books { (walk.old.seen.book ≡ self.now.book)
-            × (hand.old.book.book ≡ self.now.book) }
-        requires hand { IsHand hand.old }
+        requires books { (cursor.old.seen.book ≡ self.now.book)
+            × (handle.old.book.book ≡ self.now.book) }
+        requires handle { IsHandle handle.old }
         requires index { IsIndex self.now.book index.old }
-        requires behind { IsPrefix index.old.seen.log walk.old.seen.log }
-        requires ahead { (left : List Store) × Ahead walk.old left × (length left ≤ links) }
-        ensures same { IsSame hand.old hand.new }
-        ensures book { walk.new.seen.book ≡ self.now.book }
-        ensures later { IsPrefix walk.old.seen.log walk.new.seen.log }
+        requires behind { IsPrefix index.old.seen.log cursor.old.seen.log }
+        requires ahead { (left : List Store) × Ahead cursor.old left × (length left ≤ links) }
+        ensures same { IsSame handle.old handle.new }
+        ensures book { cursor.new.seen.book ≡ self.now.book }
+        ensures later { IsPrefix cursor.old.seen.log cursor.new.seen.log }
         ensures index { IsIndex self.now.book index.new }
-        ensures behind { IsPrefix index.new.seen.log walk.new.seen.log }
-        ensures last { IfOk result (λ found. (left : List Store) → Ahead walk.old left
+        ensures behind { IsPrefix index.new.seen.log cursor.new.seen.log }
+        ensures last { IfOk result (λ found. (left : List Store) → Ahead cursor.old left
             → IsLastOf asked.now.question.now left (option_map (λ node. node.now) found)) }
-        ensures costs { Costs (spent_of hand.old) (spent_of hand.new) links 0 }
+        ensures costs { Costs (spent_of handle.old) (spent_of handle.new) links 0 }
         ensures missed { IfErr result
-            (λ _. (spent_of hand.old).missed < (spent_of hand.new).missed) }
+            (λ _. (spent_of handle.old).missed < (spent_of handle.new).missed) }
     {
-        log_keeps_its_rule(&walk.seen);
-        if walk.next == index.top() {
-            return self.last_in(index, hand, asked);
+        law_log_keeps_its_rule(&cursor.seen);
+        if cursor.next == index.top() {
+            return self.last_in(index, handle, asked);
         }
         let Some(links) = links.checked_sub(1) else {
             return Ok(None);
         };
-        let Some(node) = self.step(walk, hand)? else {
+        let Some(node) = self.step(cursor, handle)? else {
             return Ok(None);
         };
-        let before = walk.next;
-        let older = self.last_ahead(walk, hand, index, asked, links)?;
+        let before = cursor.next;
+        let older = self.last_ahead(cursor, handle, index, asked, links)?;
         let last = if node.is_of(asked.hash, asked.question) {
             Some(node)
         } else {
             older
         };
-        log_keeps_its_rule(&walk.seen);
+        law_log_keeps_its_rule(&cursor.seen);
         if index.top() == before {
-            index.seen = walk.seen.again();
+            index.seen = cursor.seen.again();
             let _ = index.entries.push(IndexEntry {
                 hash: node.tag,
                 node: node.node,
@@ -287,48 +291,48 @@ impl SharedCache {
     /// head of its group, and of the link of each node that the seat has not passed yet.
     fn last_of(
         &self,
-        hand: &mut Hand,
+        handle: &mut Handle,
         indexes: &mut Vec<Index>,
         asked: &Hashed<'_>,
     ) -> Result<Option<&Node>, AllocError>
         requires hash { asked.now.hash ≡ hash_of (hashed_of asked.now.question.now) }
-        requires book { hand.old.book.book ≡ self.now.book }
-        requires hand { IsHand hand.old }
+        requires book { handle.old.book.book ≡ self.now.book }
+        requires handle { IsHandle handle.old }
         requires indexes { AreIndexes self.now.book indexes.old.items }
-        ensures holds { Holds self.now.book hand.old hand.new }
-        ensures seen { SeesMore hand.old.number hand.old.book.log hand.new.book.log }
-        ensures places { hand.new.places ≡ hand.old.places }
+        ensures holds { Holds self.now.book handle.old handle.new }
+        ensures seen { SeesMore handle.old.number handle.old.book.log handle.new.book.log }
+        ensures node_count { handle.new.node_count ≡ handle.old.node_count }
         ensures indexes { AreIndexes self.now.book indexes.new.items }
         ensures last { IfOk result
-            (λ found. IsLastOf asked.now.question.now (history hand.new.book.log)
+            (λ found. IsLastOf asked.now.question.now (history handle.new.book.log)
             (option_map (λ node. node.now) found)) }
-        ensures costs { Costs (spent_of hand.old) (spent_of hand.new) group_limit 0 }
+        ensures costs { Costs (spent_of handle.old) (spent_of handle.new) group_limit 0 }
         ensures missed { IfErr result
-            (λ _. (spent_of hand.old).missed < (spent_of hand.new).missed) }
+            (λ _. (spent_of handle.old).missed < (spent_of handle.new).missed) }
     {
-        same_questions_are_equal();
+        law_same_questions_are_equal();
         let group = group_of_hash(asked.hash);
         let index = &mut indexes[usize::from(group)];
-        let mut walk = self.log.walk_after(hand, &index.seen, group);
-        log_keeps_its_rule(&hand.book);
-        self.last_ahead(&mut walk, hand, index, asked, GROUP_LIMIT)
+        let mut cursor = self.log.cursor_after(handle, &index.seen, group);
+        law_log_keeps_its_rule(&handle.book);
+        self.last_ahead(&mut cursor, handle, index, asked, GROUP_LIMIT)
     }
 
     /// Whether as many stores are ahead of a walk as a group can have.
-    fn is_full(&self, walk: &mut Walk, hand: &mut Hand) -> Result<bool, AllocError>
-        requires books { (walk.old.seen.book ≡ self.now.book)
-            × (hand.old.book.book ≡ self.now.book) }
-        requires hand { IsHand hand.old }
-        requires ahead { (left : List Store) × Ahead walk.old left }
-        ensures same { IsSame hand.old hand.new }
-        ensures full { IfOk result (λ full. (left : List Store) → Ahead walk.old left
+    fn is_full(&self, cursor: &mut Cursor, handle: &mut Handle) -> Result<bool, AllocError>
+        requires books { (cursor.old.seen.book ≡ self.now.book)
+            × (handle.old.book.book ≡ self.now.book) }
+        requires handle { IsHandle handle.old }
+        requires ahead { (left : List Store) × Ahead cursor.old left }
+        ensures same { IsSame handle.old handle.new }
+        ensures full { IfOk result (λ full. (left : List Store) → Ahead cursor.old left
             → IsTrue full ↔ (group_limit ≤ length left)) }
-        ensures costs { Costs (spent_of hand.old) (spent_of hand.new) group_limit 0 }
+        ensures costs { Costs (spent_of handle.old) (spent_of handle.new) group_limit 0 }
         ensures missed { IfErr result
-            (λ _. (spent_of hand.old).missed < (spent_of hand.new).missed) }
+            (λ _. (spent_of handle.old).missed < (spent_of handle.new).missed) }
     {
         'stores: for _store in 0..GROUP_LIMIT {
-            let Some(_node) = self.step(walk, hand)? else {
+            let Some(_node) = self.step(cursor, handle)? else {
                 return Ok(false);
             };
         }
@@ -337,23 +341,23 @@ impl SharedCache {
 
     /// The start of a try: the node of the question's group placed last, where the group is not
     /// full.
-    fn room(&self, hand: &mut Hand, asked: &Hashed<'_>) -> Result<u64, StoreRefusal>
+    fn room(&self, handle: &mut Handle, asked: &Hashed<'_>) -> Result<u64, StoreRefusal>
         requires hash { asked.now.hash ≡ hash_of (hashed_of asked.now.question.now) }
-        requires hand { IsHand hand.old }
-        requires book { hand.old.book.book ≡ self.now.book }
-        ensures holds { Holds self.now.book hand.old hand.new }
-        ensures seen { SeesMore hand.old.number hand.old.book.log hand.new.book.log }
-        ensures places { hand.new.places ≡ hand.old.places }
-        ensures costs { Costs (spent_of hand.old) (spent_of hand.new) group_limit 0 }
+        requires handle { IsHandle handle.old }
+        requires book { handle.old.book.book ≡ self.now.book }
+        ensures holds { Holds self.now.book handle.old handle.new }
+        ensures seen { SeesMore handle.old.number handle.old.book.log handle.new.book.log }
+        ensures node_count { handle.new.node_count ≡ handle.old.node_count }
+        ensures costs { Costs (spent_of handle.old) (spent_of handle.new) group_limit 0 }
         ensures room { IfOk result
-            (λ old. (old ≡ top (group_of asked.now.question.now) hand.new.book.log)
-            × (IsFull (history hand.new.book.log) asked.now.question.now → ⊥)) }
-        ensures full { IfErr result (WhyNoRoom asked.now.question.now (history hand.new.book.log)
-            (spent_of hand.old) (spent_of hand.new)) }
+            (λ old. (old ≡ top (group_of asked.now.question.now) handle.new.book.log)
+            × (IsFull (history handle.new.book.log) asked.now.question.now → ⊥)) }
+        ensures full { IfErr result (WhyNoRoom asked.now.question.now (history handle.new.book.log)
+            (spent_of handle.old) (spent_of handle.new)) }
     {
-        let mut walk = self.log.walk(hand, group_of_hash(asked.hash));
-        let old = walk.next;
-        if self.is_full(&mut walk, hand)? {
+        let mut cursor = self.log.cursor(handle, group_of_hash(asked.hash));
+        let old = cursor.next;
+        if self.is_full(&mut cursor, handle)? {
             return Err(StoreRefusal::GenerationFull);
         }
         Ok(old)
@@ -365,24 +369,25 @@ impl SharedCache {
         &self,
         rt: &R,
         shelf: &Shelf,
-        hand: &mut Hand,
+        handle: &mut Handle,
         place: u64,
         wanted: &Wanted<'_>,
     ) -> Result<(Pushed<Node, Global, Shelved>, Pen), ShelfRefusal>
-        requires hand { IsHand hand.old }
-        requires book { hand.old.book.book ≡ self.now.book }
+        requires handle { IsHandle handle.old }
+        requires book { handle.old.book.book ≡ self.now.book }
         requires shelf { shelf.now.tag ≡ numbers_of self.now.book }
-        requires place { hand.old.places ≤ place }
+        requires place { handle.old.node_count ≤ place }
         requires hash { wanted.now.hash ≡ hash_of (hashed_of wanted.now.question.now) }
-        ensures holds { Holds self.now.book hand.old hand.new }
-        ensures seen { SeesMore hand.old.number hand.old.book.log hand.new.book.log }
-        ensures spent { spent_of hand.new ≡ spent_of hand.old }
-        ensures leaves { IfErr result (LeavesPlaces hand.old hand.new) }
+        ensures holds { Holds self.now.book handle.old handle.new }
+        ensures seen { SeesMore handle.old.number handle.old.book.log handle.new.book.log }
+        ensures spent { spent_of handle.new ≡ spent_of handle.old }
+        ensures leaves { IfErr result (LeavesPlaces handle.old handle.new) }
         ensures shown { IfOk result (λ ready. Shows shelf.now ready.0) }
         ensures ready { IfOk result (λ ready. (ready.1.book ≡ self.now.book)
-            × IsReady self.now.book hand.new.book.log hand.old.number ready.0.value ready.1.nib) }
+            × IsReady self.now.book handle.new.book.log handle.old.number ready.0.value
+            ready.1.nib) }
         ensures numbered { IfOk result
-            (λ ready. ready.0.value.node ≡ node_at hand.old.number place) }
+            (λ ready. ready.0.value.node ≡ node_at handle.old.number place) }
         ensures made { IfOk result
             (λ ready. Says ready.0.value wanted.now.question.now
             (arc_value wanted.now.answer.now) wanted.now.moment) }
@@ -393,9 +398,13 @@ impl SharedCache {
         let question = wanted.question.try_clone()?;
         let answer = Arc::try_clone(wanted.answer)?;
         shelf.reserve(1)?;
-        let Claimed { node, link, pen } = self
-            .log
-            .claim(hand, place, wanted.question, wanted.answer, wanted.moment);
+        let ClaimedNode { node, link, pen } = self.log.claim(
+            handle,
+            place,
+            wanted.question,
+            wanted.answer,
+            wanted.moment,
+        );
         let node = Node {
             node,
             tag: wanted.hash,
@@ -403,7 +412,7 @@ impl SharedCache {
             question,
             answer,
             moment: wanted.moment,
-            seen: hand.book.again(),
+            seen: handle.book.again(),
         };
         match shelf.push_shown(rt, node) {
             Ok(pushed) => Ok((pushed, pen)),
@@ -417,34 +426,35 @@ impl SharedCache {
         &self,
         rt: &R,
         shelf: &Shelf,
-        hand: &mut Hand,
+        handle: &mut Handle,
         wanted: &Wanted<'_>,
     ) -> Result<(Pushed<Node, Global, Shelved>, Pen), ShelfRefusal>
-        requires hand { IsHand hand.old }
-        requires book { hand.old.book.book ≡ self.now.book }
+        requires handle { IsHandle handle.old }
+        requires book { handle.old.book.book ≡ self.now.book }
         requires shelf { shelf.now.tag ≡ numbers_of self.now.book }
         requires hash { wanted.now.hash ≡ hash_of (hashed_of wanted.now.question.now) }
-        ensures holds { Holds self.now.book hand.old hand.new }
-        ensures seen { SeesMore hand.old.number hand.old.book.log hand.new.book.log }
-        ensures spent { spent_of hand.new ≡ spent_of hand.old }
-        ensures leaves { IfErr result (LeavesPlaces hand.old hand.new) }
+        ensures holds { Holds self.now.book handle.old handle.new }
+        ensures seen { SeesMore handle.old.number handle.old.book.log handle.new.book.log }
+        ensures spent { spent_of handle.new ≡ spent_of handle.old }
+        ensures leaves { IfErr result (LeavesPlaces handle.old handle.new) }
         ensures shown { IfOk result (λ ready. Shows shelf.now ready.0) }
         ensures ready { IfOk result (λ ready. (ready.1.book ≡ self.now.book)
-            × IsReady self.now.book hand.new.book.log hand.old.number ready.0.value ready.1.nib) }
+            × IsReady self.now.book handle.new.book.log handle.old.number ready.0.value
+            ready.1.nib) }
         ensures numbered { IfOk result
-            (λ ready. ready.0.value.node ≡ node_at hand.old.number ready.0.index) }
+            (λ ready. ready.0.value.node ≡ node_at handle.old.number ready.0.index) }
         ensures made { IfOk result
             (λ ready. Says ready.0.value wanted.now.question.now
             (arc_value wanted.now.answer.now) wanted.now.moment) }
     {
-        let place = hand.places;
-        let (pushed, pen) = self.shelve(rt, shelf, hand, place, wanted)?;
+        let place = handle.node_count;
+        let (pushed, pen) = self.shelve(rt, shelf, handle, place, wanted)?;
         let landed = pushed.index() as u64;
         if landed == place {
             return Ok((pushed, pen));
         }
-        let place = hand.places.max(landed.saturating_add(1));
-        match self.shelve(rt, shelf, hand, place, wanted) {
+        let place = handle.node_count.max(landed.saturating_add(1));
+        match self.shelve(rt, shelf, handle, place, wanted) {
             Ok((pushed, pen)) if pushed.index() as u64 == place => Ok((pushed, pen)),
             _ => Err(ShelfRefusal::Untaken),
         }
@@ -453,76 +463,78 @@ impl SharedCache {
     /// One try to place a node before the node `old`.
     fn attempt<V: Rival>(
         &self,
-        hand: &mut Hand,
+        handle: &mut Handle,
         node: &Node,
         pen: &mut Pen,
         old: u64,
         number: u8,
         rival: &mut V,
     ) -> bool
-        requires hand { IsHand hand.old }
-        requires book { (hand.old.book.book ≡ self.now.book) × (pen.old.book ≡ self.now.book) }
-        requires ready { IsReady self.now.book hand.old.book.log hand.old.number
+        requires handle { IsHandle handle.old }
+        requires book { (handle.old.book.book ≡ self.now.book) × (pen.old.book ≡ self.now.book) }
+        requires ready { IsReady self.now.book handle.old.book.log handle.old.number
             node.now pen.old.nib }
-        requires sound { IsSound (store_in hand.old.number node.now) }
+        requires sound { IsSound (store_in handle.old.number node.now) }
         requires tagged { node.now.tag ≡ hash_of (hashed_of node.now.question) }
-        requires room { HadRoom hand.old.book.log old node.now.question }
-        ensures holds { Holds self.now.book hand.old hand.new }
-        ensures spent { spent_of hand.new ≡ one_try (spent_of hand.old) }
-        ensures places { hand.new.places ≡ hand.old.places }
+        requires room { HadRoom handle.old.book.log old node.now.question }
+        ensures holds { Holds self.now.book handle.old handle.new }
+        ensures spent { spent_of handle.new ≡ one_try (spent_of handle.old) }
+        ensures node_count { handle.new.node_count ≡ handle.old.node_count }
         ensures placed { MatchBool result
-            (EndsWith (store_in hand.old.number node.now) (history hand.old.book.log)
-            (history hand.new.book.log))
-            (SeesMore hand.old.number hand.old.book.log hand.new.book.log) }
+            (EndsWith (store_in handle.old.number node.now) (history handle.old.book.log)
+            (history handle.new.book.log))
+            (SeesMore handle.old.number handle.old.book.log handle.new.book.log) }
         ensures lost { MatchBool result (Unit {0})
-            ((seen : List Noticed) → IsPrefix seen hand.old.book.log
+            ((seen : List Noticed) → IsPrefix seen handle.old.book.log
             → top (group_of node.now.question) seen ≡ old
-            → length (history seen) < length (history hand.new.book.log)) }
+            → length (history seen) < length (history handle.new.book.log)) }
         ensures again { MatchBool result (Unit {0})
             ((pen.new.book ≡ self.now.book)
-            × IsReady self.now.book hand.new.book.log hand.old.number node.now pen.new.nib) }
+            × IsReady self.now.book handle.new.book.log handle.old.number node.now pen.new.nib) }
     {
         rival.between(number);
         node.link.store(pen, old);
-        let draft = Draft {
+        let new_store = NewStore {
             node: node.node,
-            seat: hand.number,
+            seat: handle.number,
             question: &node.question,
             answer: &node.answer,
             moment: node.moment,
         };
         let group = group_of_hash(node.tag);
-        self.log.place(hand, pen, old, &draft, group, &node.link)
+        self.log
+            .place(handle, pen, old, &new_store, group, &node.link)
     }
 
     /// Up to sixteen tries to place a node. The first one knows the node of its group placed last.
     fn compete<V: Rival>(
         &self,
-        hand: &mut Hand,
+        handle: &mut Handle,
         node: &Node,
         mut pen: Pen,
         old: u64,
         rival: &mut V,
     ) -> Result<(), StoreRefusal>
-        requires hand { IsHand hand.old }
-        requires book { (hand.old.book.book ≡ self.now.book) × (pen.book ≡ self.now.book) }
-        requires ready { IsReady self.now.book hand.old.book.log hand.old.number node.now pen.nib }
-        requires sound { IsSound (store_in hand.old.number node.now) }
+        requires handle { IsHandle handle.old }
+        requires book { (handle.old.book.book ≡ self.now.book) × (pen.book ≡ self.now.book) }
+        requires ready { IsReady self.now.book handle.old.book.log handle.old.number node.now
+            pen.nib }
+        requires sound { IsSound (store_in handle.old.number node.now) }
         requires tagged { node.now.tag ≡ hash_of (hashed_of node.now.question) }
-        requires room { HadRoom hand.old.book.log old node.now.question }
-        ensures holds { Holds self.now.book hand.old hand.new }
-        ensures costs { Costs (spent_of hand.old) (spent_of hand.new) (15 * group_limit) 16 }
-        ensures tried { (spent_of hand.old).tries < (spent_of hand.new).tries }
+        requires room { HadRoom handle.old.book.log old node.now.question }
+        ensures holds { Holds self.now.book handle.old handle.new }
+        ensures costs { Costs (spent_of handle.old) (spent_of handle.new) (15 * group_limit) 16 }
+        ensures tried { (spent_of handle.old).tries < (spent_of handle.new).tries }
         ensures competed { MatchResult result
-            (λ _. EndsWith (store_in hand.old.number node.now) (history hand.old.book.log)
-            (history hand.new.book.log))
-            (λ _. SeesMore hand.old.number hand.old.book.log hand.new.book.log) }
+            (λ _. EndsWith (store_in handle.old.number node.now) (history handle.old.book.log)
+            (history handle.new.book.log))
+            (λ _. SeesMore handle.old.number handle.old.book.log handle.new.book.log) }
         ensures lost { IfErr result (λ refusal. (seen : List Noticed)
-            → IsPrefix seen hand.old.book.log → top (group_of node.now.question) seen ≡ old
-            → WhyLost node.now.question (history seen) (history hand.new.book.log)
-            (spent_of hand.old) (spent_of hand.new) refusal) }
+            → IsPrefix seen handle.old.book.log → top (group_of node.now.question) seen ≡ old
+            → WhyLost node.now.question (history seen) (history handle.new.book.log)
+            (spent_of handle.old) (spent_of handle.new) refusal) }
     {
-        if self.attempt(hand, node, &mut pen, old, 1, rival) {
+        if self.attempt(handle, node, &mut pen, old, 1, rival) {
             return Ok(());
         }
         let asked = Hashed {
@@ -530,8 +542,8 @@ impl SharedCache {
             hash: node.tag,
         };
         'tries: for number in 2..TRIES + 1 {
-            let old = self.room(hand, &asked)?;
-            if self.attempt(hand, node, &mut pen, old, number, rival) {
+            let old = self.room(handle, &asked)?;
+            if self.attempt(handle, node, &mut pen, old, number, rival) {
                 return Ok(());
             }
         }
@@ -542,39 +554,39 @@ impl SharedCache {
     pub(crate) fn put<R: Wait, V: Rival>(
         &self,
         rt: &R,
-        hand: &mut Hand,
+        handle: &mut Handle,
         wanted: &Wanted<'_>,
         rival: &mut V,
     ) -> Result<(), StoreRefusal>
-        requires hand { IsHand hand.old }
-        requires book { hand.old.book.book ≡ self.now.book }
-        requires shelf { hand.old.number < self.now.seats }
+        requires handle { IsHandle handle.old }
+        requires book { handle.old.book.book ≡ self.now.book }
+        requires shelf { handle.old.number < self.now.seats }
         requires sound { IsSound
-            (store_by hand.old.number wanted.now.question.now
+            (store_by handle.old.number wanted.now.question.now
             (arc_value wanted.now.answer.now) wanted.now.moment) }
         requires hash { wanted.now.hash ≡ hash_of (hashed_of wanted.now.question.now) }
-        ensures holds { Holds self.now.book hand.old hand.new }
-        ensures costs { Costs (spent_of hand.old) (spent_of hand.new) (16 * group_limit) 16 }
+        ensures holds { Holds self.now.book handle.old handle.new }
+        ensures costs { Costs (spent_of handle.old) (spent_of handle.new) (16 * group_limit) 16 }
         ensures put { MatchResult result
-            (λ _. EndsWith (store_by hand.old.number wanted.now.question.now
-            (arc_value wanted.now.answer.now) wanted.now.moment) (history hand.old.book.log)
-            (history hand.new.book.log))
-            (λ _. SeesMore hand.old.number hand.old.book.log hand.new.book.log) }
+            (λ _. EndsWith (store_by handle.old.number wanted.now.question.now
+            (arc_value wanted.now.answer.now) wanted.now.moment) (history handle.old.book.log)
+            (history handle.new.book.log))
+            (λ _. SeesMore handle.old.number handle.old.book.log handle.new.book.log) }
         ensures lost { IfErr result
-            (WhyNotPut wanted.now.question.now (history hand.old.book.log)
-            (history hand.new.book.log)) }
+            (WhyNotPut wanted.now.question.now (history handle.old.book.log)
+            (history handle.new.book.log)) }
         ensures leaves { IfErr result (λ refusal. (before after : List Offer)
-            → Leaves wanted.now.question.now (view_of hand.old before) (view_of hand.new after)
+            → Leaves wanted.now.question.now (view_of handle.old before) (view_of handle.new after)
             refusal) }
     {
         let asked = Hashed {
             question: wanted.question,
             hash: wanted.hash,
         };
-        let old = self.room(hand, &asked)?;
-        let shelf = &self.shelves[hand.number as usize];
-        let (pushed, pen) = self.make_ready(rt, shelf, hand, wanted)?;
-        self.compete(hand, shelf.value(&pushed), pen, old, rival)
+        let old = self.room(handle, &asked)?;
+        let shelf = &self.shelves[handle.number as usize];
+        let (pushed, pen) = self.make_ready(rt, shelf, handle, wanted)?;
+        self.compete(handle, shelf.value(&pushed), pen, old, rival)
     }
 
     /// As `store`, with something that comes between the load of a head and the exchange of each
@@ -613,8 +625,8 @@ impl SharedCache {
             answer,
             moment: now,
         };
-        let stored = self.put(rt, &mut seat.hand, &wanted, rival);
-        log_keeps_its_rule(&seat.hand.book);
+        let stored = self.put(rt, &mut seat.handle, &wanted, rival);
+        law_log_keeps_its_rule(&seat.handle.book);
         stored
     }
 
@@ -629,8 +641,8 @@ impl SharedCache {
         ensures takes { Takes seat.old seat.new 0 0 }
         ensures told { IsPrefix notice.now.seen seat.new.seat.seen }
     {
-        self.log.learn(&mut seat.hand, &notice.seen);
-        log_keeps_its_rule(&seat.hand.book);
+        self.log.learn(&mut seat.handle, &notice.seen);
+        law_log_keeps_its_rule(&seat.handle.book);
     }
 }
 
@@ -664,8 +676,8 @@ impl AnswerBook for SharedCache {
             question,
             hash: hash(question),
         };
-        let found = self.last_of(&mut seat.hand, &mut seat.indexes, &asked);
-        log_keeps_its_rule(&seat.hand.book);
+        let found = self.last_of(&mut seat.handle, &mut seat.indexes, &asked);
+        law_log_keeps_its_rule(&seat.handle.book);
         match found? {
             Some(node) if node.lives_at(now) => Ok(Some(Arc::try_clone(&node.answer)?)),
             _ => Ok(None),

@@ -13,7 +13,7 @@ ghost use Rattle.answer_cache.specs.Seats.{offer_of};
 use crate::refusal::StoreRefusal;
 use answer_log::{GROUP_COUNT, GROUP_LIMIT, group};
 use dns_answers::{Answer, Moment};
-use dns_message::{Question, same_questions_are_equal};
+use dns_message::{Question, law_same_questions_are_equal};
 use std::alloc::{AllocError, Global};
 use std::marker::Model;
 use std::sync::Arc;
@@ -89,7 +89,7 @@ impl StoreList {
         ensures { last_or None (stores_of question.now self.now)
             ≡ option_map (λ entry. store_in entry.now) result }
     {
-        same_questions_are_equal();
+        law_same_questions_are_equal();
         let group = self.groups[group(question) as usize];
         let mut place = group.last;
         for _step in 0..group.count {

@@ -1,7 +1,7 @@
 //! The cache that comes after another one.
 ghost use Rattle.std.specs.Prelude.{◌≡◌, ◌<◌, ◌≤◌, [], IfErr, IfOk, OnOk, map};
 ghost use Rattle.std.specs.List.{All, range_with_len};
-ghost use Rattle.answer_log.specs.Hands.{AreHands, IsHand};
+ghost use Rattle.answer_log.specs.Handles.{AreHandles, IsHandle};
 ghost use Rattle.answer_log.specs.Histories.{mine};
 ghost use Rattle.answer_log.specs.Logs.{history};
 ghost use Rattle.answer_cache.specs.Carried.{carried_stores, seat_after};
@@ -15,20 +15,25 @@ use crate::refusal::CacheRefusal;
 use crate::rival::NoRival;
 use crate::seat::Seat;
 use crate::shared_cache::{SharedCache, Wanted, empty_shelves};
-use answer_log::{Hand, Hands, Log, MOST_SEATS, hash, log_keeps_its_rule};
+use answer_log::{Handle, Handles, Log, MOST_SEATS, hash, law_log_keeps_its_rule};
 use std::alloc::{AllocError, Global};
 use std::sync::Wait;
 
 impl SharedCache {
     /// Stores what is carried, in its order, through a seat that has stored nothing.
-    fn restore<R: Wait>(&self, rt: &R, hand: &mut Hand, carried: &Carried) -> Result<(), AllocError>
-        requires hand { IsHand hand.old }
-        requires book { hand.old.book.book ≡ self.now.book }
-        requires first { (hand.old.number ≡ 0) × (mine (history hand.old.book.log) 0 ≡ []) }
+    fn restore<R: Wait>(
+        &self,
+        rt: &R,
+        handle: &mut Handle,
+        carried: &Carried,
+    ) -> Result<(), AllocError>
+        requires handle { IsHandle handle.old }
+        requires book { handle.old.book.book ≡ self.now.book }
+        requires first { (handle.old.number ≡ 0) × (mine (history handle.old.book.log) 0 ≡ []) }
         requires shelf { 0 < self.now.seats }
-        ensures holds { OnOk result (Holds self.now.book hand.old hand.new) }
+        ensures holds { OnOk result (Holds self.now.book handle.old handle.new) }
         ensures own { OnOk result
-            (mine (history hand.new.book.log) 0 ≡ carried_stores carried.now) }
+            (mine (history handle.new.book.log) 0 ≡ carried_stores carried.now) }
     {
         'entries: for at in 0..carried.entries.len() {
             let entry = &carried.entries[at];
@@ -38,7 +43,7 @@ impl SharedCache {
                 answer: &entry.answer,
                 moment: entry.moment,
             };
-            let Ok(()) = self.put(rt, hand, &wanted, &mut NoRival) else {
+            let Ok(()) = self.put(rt, handle, &wanted, &mut NoRival) else {
                 return Err(AllocError);
             };
         }
@@ -49,17 +54,17 @@ impl SharedCache {
     fn seats_after(
         &self,
         alloc: Global,
-        hands: &mut Hands,
-        first: Hand,
+        handles: &mut Handles,
+        first: Handle,
         seats: usize,
         carried: &Carried,
     ) -> Result<Vec<Seat>, AllocError>
-        requires hands { AreHands hands.old }
-        requires next { (hands.old.next ≡ 1) × (hands.old.seats ≡ seats) × (0 < seats) }
-        requires here { (hands.old.seen.book ≡ self.now.book)
+        requires handles { AreHandles handles.old }
+        requires next { (handles.old.next ≡ 1) × (handles.old.seats ≡ seats) × (0 < seats) }
+        requires here { (handles.old.seen.book ≡ self.now.book)
             × (first.book.book ≡ self.now.book)
-            × (first.book.names ≡ hands.old.seen.names) }
-        requires first { IsHand first × (first.number ≡ 0) × (first.seats ≡ seats) }
+            × (first.book.names ≡ handles.old.seen.names) }
+        requires first { IsHandle first × (first.number ≡ 0) × (first.seats ≡ seats) }
         requires own { mine (history first.book.log) 0 ≡ carried_stores carried.now }
         ensures seats { IfOk result (λ made. map (λ seat. seat.seat) made.items
             ≡ map (seat_after carried.now) (range_with_len 0 seats)) }
@@ -67,20 +72,20 @@ impl SharedCache {
             (λ made. All (Belongs (cache_view self.now.book seats)) made.items) }
     {
         let told = first.book.again();
-        log_keeps_its_rule(&told);
+        law_log_keeps_its_rule(&told);
         let mut made = Vec::new(alloc);
         let indexes = Index::empty_ones(alloc, &told)?;
         made.push(Seat {
-            hand: first,
+            handle: first,
             notes: Notes::none(),
             indexes,
         })?;
         'seats: for _seat in 1..seats {
             let indexes = Index::empty_ones(alloc, &told)?;
-            let mut hand = hands.deal();
-            self.log.meet(&mut hand, &told);
+            let mut handle = handles.deal();
+            self.log.meet(&mut handle, &told);
             made.push(Seat {
-                hand,
+                handle,
                 notes: Notes::none(),
                 indexes,
             })?;
@@ -109,18 +114,18 @@ impl SharedCache {
         if seats == 0 || seats as u64 > MOST_SEATS {
             return Err(CacheRefusal::BadCount);
         }
-        let Ok((log, mut hands)) = Log::open(alloc, seats as u64) else {
+        let Ok((log, mut handles)) = Log::open(alloc, seats as u64) else {
             return Err(CacheRefusal::Memory);
         };
-        let Ok(shelves) = empty_shelves(alloc, seats, &hands.seen) else {
+        let Ok(shelves) = empty_shelves(alloc, seats, &handles.seen) else {
             return Err(CacheRefusal::Memory);
         };
         let cache = SharedCache { log, shelves };
-        let mut first = hands.deal();
+        let mut first = handles.deal();
         let Ok(()) = cache.restore(rt, &mut first, carried) else {
             return Err(CacheRefusal::Memory);
         };
-        let Ok(made) = cache.seats_after(alloc, &mut hands, first, seats, carried) else {
+        let Ok(made) = cache.seats_after(alloc, &mut handles, first, seats, carried) else {
             return Err(CacheRefusal::Memory);
         };
         Ok((cache, made))

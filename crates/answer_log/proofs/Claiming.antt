@@ -15,9 +15,9 @@ use Rattle.answer_log.proofs.Counting.{count-same}
 abbrev Was : Event → List Event → Counted → Type 0
 Was a w r = Kept (seat_of a) w r × IsTaken (node_of a) w
 
-was-not : (v w : List Event) (n places : ℕ) (x : Store) (r : Counted) → NamesBelow x.seat places v → n ≡ node_at x.seat places
+was-not : (v w : List Event) (n node_count : ℕ) (x : Store) (r : Counted) → NamesBelow x.seat node_count v → n ≡ node_at x.seat node_count
     → x.seat < 64 → count x.seat v ≡ r.before → IsPrefix v w → Was (Named n x 0) w r → ⊥
-was-not v w n places x r low num some counted pre was =
+was-not v w n node_count x r low num some counted pre was =
     let y : Store = was.1.0 in
     let quiet : Quiet x.seat pre.0 = count-same x.seat v pre.0 w pre.1 (sym was.0.0 ∙ sym counted) in
     let below : y.seat < 64 = was.1.3 in
@@ -29,9 +29,9 @@ was-not v w n places x r low num some counted pre was =
       | inr j ↦ absurd (quiet-in x.seat pre.0 (Named n y was.1.1) quiet j same)
     ]
 
-pub claim_told : (v w : List Event) (a : Event) (n places : ℕ) (x : Store) (k : ℕ) (r : Counted) → a ≡ Named n x 0
-    → NamesBelow x.seat places v → n ≡ node_at x.seat places → x.seat < 64 → count x.seat v ≡ r.before → IsPrefix v w
+pub claim_told : (v w : List Event) (a : Event) (n node_count : ℕ) (x : Store) (k : ℕ) (r : Counted) → a ≡ Named n x 0
+    → NamesBelow x.seat node_count v → n ≡ node_at x.seat node_count → x.seat < 64 → count x.seat v ≡ r.before → IsPrefix v w
     → Rose (linked_to a k) v w r ⊎ Was a w r → Rose (Named n x k) v w r
-claim_told v w a n places x k r is low num some counted pre alt =
+claim_told v w a n node_count x k r is low num some counted pre alt =
     let P : Event → Type 0 = λ e. Rose (linked_to e k) v w r ⊎ Was e w r in
-    elim (subst P is alt) [ inl h ↦ h | inr h ↦ absurd (was-not v w n places x r low num some counted pre h) ]
+    elim (subst P is alt) [ inl h ↦ h | inr h ↦ absurd (was-not v w n node_count x r low num some counted pre h) ]

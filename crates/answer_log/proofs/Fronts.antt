@@ -6,7 +6,7 @@ use Rattle.std.proofs.lemmas.List.Elements.{filter-append, All-cons, All-nil, Al
 use Rattle.std.specs.List.{All}
 use Rattle.logbook.specs.Pages.{Cell}
 use mathlib.Core.List.{IsPrefix}
-use Rattle.answer_log.specs.Hands.{IsLog}
+use Rattle.answer_log.specs.Handles.{IsLog}
 use Rattle.answer_log.specs.Groups.{group_of}
 use Rattle.answer_log.specs.Histories.{IsHistory, IsSound, in_group}
 use Rattle.answer_log.specs.Logs.{history, seats_in, In}

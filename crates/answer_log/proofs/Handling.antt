@@ -7,7 +7,7 @@ use Rattle.std.proofs.lemmas.List.Elements.{filter-append}
 use mathlib.Core.List.{IsPrefix}
 use Rattle.logbook.specs.Pages.{Nib, Book, Named as Word}
 use Rattle.answer_log.specs.Counts.{count}
-use Rattle.answer_log.specs.Hands.{EndsWith, IsHand, IsNamed, SeesMore}
+use Rattle.answer_log.specs.Handles.{EndsWith, IsHandle, IsNamed, SeesMore}
 use Rattle.answer_log.specs.Groups.{group_of}
 use Rattle.answer_log.specs.Histories.{mine}
 use Rattle.answer_log.specs.Logs.{seat_of, seats_in, history, placed_of, top, top_from, In}
@@ -15,7 +15,7 @@ use Rattle.answer_log.specs.Rules.{node_at}
 use Rattle.answer_log.specs.Steps.{Adds, Fits, NamesBelow, Same, Stays}
 use Rattle.answer_log.specs.declared.event.Event.{Event}
 use Rattle.answer_log.specs.declared.event.Event.TheVariants.{Asks, Named, Opened, Placed}
-use Rattle.answer_log.specs.declared.hand.Hand.{Hand}
+use Rattle.answer_log.specs.declared.handle.Handle.{Handle}
 use Rattle.answer_log.specs.declared.store.Store.{Store}
 use Rattle.answer_log.specs.declared.tally.Tally.{Tally}
 use Rattle.answer_log.proofs.Counting.{count-same, count-here}
@@ -59,54 +59,62 @@ names_on old more new seat place whole quiet low n x l i same =
     ]
 
 -- a hand goes on with the seats that its log was opened for
-seats_on : (h k : Hand) (more : List Event) → IsHand h → k.seats ≡ h.seats → h.book.log ++ more ≡ k.book.log → seats_in k.book.log ≡ k.seats
-seats_on h k more hand same grown =
-    let some : 0 < seats_in h.book.log = (let seats = hand.seats in let below = hand.below in omega arith) in
-    ap seats_in (sym grown) ∙ (seats-append h.book.log more some ∙ (hand.seats ∙ sym same))
+seats_on : (h k : Handle) (more : List Event) → IsHandle h → k.seats ≡ h.seats → h.book.log ++ more ≡ k.book.log → seats_in k.book.log
+    ≡ k.seats
+seats_on h k more handle same grown =
+    let some : 0 < seats_in h.book.log = (let seats = handle.seats in let below = handle.below in omega arith) in
+    ap seats_in (sym grown) ∙ (seats-append h.book.log more some ∙ (handle.seats ∙ sym same))
 
-below_on : (h k : Hand) → IsHand h → k.number ≡ h.number → k.seats ≡ h.seats → k.number < k.seats
-below_on h k hand number seats = let below = hand.below in omega arith
+below_on : (h k : Handle) → IsHandle h → k.number ≡ h.number → k.seats ≡ h.seats → k.number < k.seats
+below_on h k handle number seats = let below = handle.below in omega arith
 
 -- a hand whose book has grown, with nothing of its seat
-hand_quiet : (h : Hand) (more new : List Event) → IsHand h → h.book.log ++ more ≡ new → count h.number new ≡ h.tally.count
+handle_quiet : (h : Handle) (more new : List Event) → IsHandle h → h.book.log ++ more ≡ new → count h.number new ≡ h.tally.count
     → Quiet h.number more
-hand_quiet h more new hand grown same = count-same h.number h.book.log more new grown (same ∙ sym hand.counted)
+handle_quiet h more new handle grown same = count-same h.number h.book.log more new grown (same ∙ sym handle.counted)
 
-fits_on : (h k : Hand) → IsHand h → k.number ≡ h.number → k.book.names ≡ h.book.names → Stays h.tally k.tally
+fits_on : (h k : Handle) → IsHandle h → k.number ≡ h.number → k.book.names ≡ h.book.names → Stays h.tally k.tally
     → Fits k.tally k.book.names k.number
-fits_on h k hand number names stays =
-    let F : ℕ → Type 0 = λ n. n < 64 in
-    (stays.0, ap (λ n. n ∷ []) stays.1 ∙ (hand.fits.1 ∙ sym names), stays.2 ∙ (hand.fits.2 ∙ sym number), subst F (sym number) hand.fits.3)
+fits_on h k handle number names stays =
+    let F : ℕ → Type 0 = λ n. n < 64 in (
+      stays.0,
+      ap (λ n. n ∷ []) stays.1 ∙ (handle.fits.1 ∙ sym names),
+      stays.2 ∙ (handle.fits.2 ∙ sym number),
+      subst F (sym number)
+          handle.fits.3,
+    )
 
-pub hand_on : (h k : Hand) (more : List Event) → IsHand h → k.number ≡ h.number → k.seats ≡ h.seats → k.places ≡ h.places
+pub hand_on : (h k : Handle) (more : List Event) → IsHandle h → k.number ≡ h.number → k.seats ≡ h.seats → k.node_count ≡ h.node_count
     → k.book.names ≡ h.book.names → Same h.tally k.tally (count h.number k.book.log) → h.book.log ++ more ≡ k.book.log
-    → IsHand k
-hand_on h k more hand number seats places names same grown =
-    let N : ℕ → Type 0 = λ n. NamesBelow n k.places k.book.log in
+    → IsHandle k
+hand_on h k more handle number seats node_count names same grown =
+    let N : ℕ → Type 0 = λ n. NamesBelow n k.node_count k.book.log in
     let M : ℕ → Type 0 = λ n. NamesBelow h.number n k.book.log in record {
-      seats = seats_on h k more hand seats grown;
-      below = below_on h k hand number seats;
-      fits = fits_on h k hand number names same.0;
+      seats = seats_on h k more handle seats grown;
+      below = below_on h k handle number seats;
+      fits = fits_on h k handle number names same.0;
       counted = ap (λ n. count n k.book.log) number ∙ (same.2 ∙ sym same.1);
       names = subst N (sym number)
-          (subst M (sym places)
-          (names_on h.book.log more k.book.log h.number h.places grown (hand_quiet h more k.book.log hand grown same.2) hand.names));
+          (subst M (sym node_count)
+          (names_on h.book.log more k.book.log h.number h.node_count grown (handle_quiet h more k.book.log handle grown same.2)
+          handle.names));
     }
 
-pub hand_sees : (h : Hand) (new : List Event) → IsHand h → IsPrefix h.book.log new → count h.number new ≡ h.tally.count
+pub handle_sees : (h : Handle) (new : List Event) → IsHandle h → IsPrefix h.book.log new → count h.number new ≡ h.tally.count
     → SeesMore h.number h.book.log new
-hand_sees h new hand p same = record {
+handle_sees h new handle p same = record {
   later = p;
   stores = history-prefix h.book.log new p;
   names = named-on h.book.log new p;
   own =
-      own-more h.number h.book.log p.0 new p.1 (hand_quiet h p.0 new hand p.1 same);
+      own-more h.number h.book.log p.0 new p.1 (handle_quiet h p.0 new handle p.1 same);
 }
 
 -- till the event nothing of the seat had come
-adds_quiet : (h : Hand) (e : Event) (new : List Event) → IsHand h → (a : Adds e h.tally h.book.log new) → seat_of e ≡ h.number
+adds_quiet : (h : Handle) (e : Event) (new : List Event) → IsHandle h → (a : Adds e h.tally h.book.log new) → seat_of e ≡ h.number
     → Quiet h.number a.0
-adds_quiet h e new hand a seat = hand_quiet h a.0 (h.book.log ++ a.0) hand refl (ap (λ n. count n (h.book.log ++ a.0)) (sym seat) ∙ a.2)
+adds_quiet h e new handle a seat = handle_quiet h a.0 (h.book.log ++ a.0) handle refl
+    (ap (λ n. count n (h.book.log ++ a.0)) (sym seat) ∙ a.2)
 
 names_new : (log : List Event) (e : Event) (seat place : ℕ) → NamesBelow seat place log
     → ((n : ℕ) (x : Store) (l : ℕ) → e ≡ Named n x l → n < node_at seat place) → NamesBelow seat place (log ++ e ∷ [])
@@ -120,33 +128,34 @@ pub names_more : (seat p q : ℕ) (log : List Event) → p ≤ q → NamesBelow 
 names_more seat p q log le low n x l i same = let h = low n x l i same in omega arith
 
 -- a hand after an event of its seat
-pub hand_adds : (h k : Hand) (e : Event) → IsHand h → Adds e h.tally h.book.log k.book.log → k.number ≡ h.number → k.seats ≡ h.seats
-    → h.places ≤ k.places → k.book.names ≡ h.book.names → Stays h.tally k.tally → k.tally.count ≡ h.tally.count + 1 → seat_of e ≡ h.number
-    → ((n : ℕ) (x : Store) (l : ℕ) → e ≡ Named n x l → n < node_at h.number k.places)
-    → IsHand k
-hand_adds h k e hand a number seats places names stays more seat new =
-    let quiet = adds_quiet h e k.book.log hand a seat in
-    let N : ℕ → Type 0 = λ n. NamesBelow n k.places k.book.log in
-    let L : List Event → Type 0 = λ l. NamesBelow h.number k.places l in
-    let low = names_on h.book.log a.0 (h.book.log ++ a.0) h.number k.places refl quiet
-    (names_more h.number h.places k.places h.book.log places hand.names) in
+pub handle_adds : (h k : Handle) (e : Event) → IsHandle h → Adds e h.tally h.book.log k.book.log → k.number ≡ h.number → k.seats ≡ h.seats
+    → h.node_count ≤ k.node_count → k.book.names ≡ h.book.names → Stays h.tally k.tally → k.tally.count ≡ h.tally.count + 1 → seat_of e
+    ≡ h.number
+    → ((n : ℕ) (x : Store) (l : ℕ) → e ≡ Named n x l → n < node_at h.number k.node_count)
+    → IsHandle k
+handle_adds h k e handle a number seats node_count names stays more seat new =
+    let quiet = adds_quiet h e k.book.log handle a seat in
+    let N : ℕ → Type 0 = λ n. NamesBelow n k.node_count k.book.log in
+    let L : List Event → Type 0 = λ l. NamesBelow h.number k.node_count l in
+    let low = names_on h.book.log a.0 (h.book.log ++ a.0) h.number k.node_count refl quiet
+    (names_more h.number h.node_count k.node_count h.book.log node_count handle.names) in
     let was : count h.number (h.book.log ++ a.0) ≡ h.tally.count = ap (λ n. count n (h.book.log ++ a.0)) (sym seat) ∙ a.2 in
     let one : count h.number k.book.log ≡ suc (count h.number (h.book.log ++ a.0)) =
     ap (count h.number) a.1 ∙ count-here h.number (h.book.log ++ a.0) e seat in
     let all : count h.number k.book.log ≡ k.tally.count = omega (arith, one, was, more) in record {
-      seats = seats_on h k (a.0 ++ e ∷ []) hand seats (sym (append_assoc h.book.log a.0 (e ∷ [])) ∙ sym a.1);
-      below = below_on h k hand number seats;
-      fits = fits_on h k hand number names stays;
+      seats = seats_on h k (a.0 ++ e ∷ []) handle seats (sym (append_assoc h.book.log a.0 (e ∷ [])) ∙ sym a.1);
+      below = below_on h k handle number seats;
+      fits = fits_on h k handle number names stays;
       counted = ap (λ n. count n k.book.log) number ∙ all;
-      names = subst N (sym number) (subst L (sym a.1) (names_new (h.book.log ++ a.0) e h.number k.places low new));
+      names = subst N (sym number) (subst L (sym a.1) (names_new (h.book.log ++ a.0) e h.number k.node_count low new));
     }
 
 -- what a named event leaves of the stores
-pub named_sees : (h : Hand) (new : List Event) (n : ℕ) (x : Store) (l : ℕ) → IsHand h → x.seat ≡ h.number
+pub named_sees : (h : Handle) (new : List Event) (n : ℕ) (x : Store) (l : ℕ) → IsHandle h → x.seat ≡ h.number
     → Adds (Named n x l) h.tally h.book.log new → SeesMore h.number h.book.log new
-named_sees h new n x l hand same a =
+named_sees h new n x l handle same a =
     let old : List Event = h.book.log in
-    let quiet = adds_quiet h (Named n x l) new hand a same in
+    let quiet = adds_quiet h (Named n x l) new handle a same in
     let whole : old ++ (a.0 ++ Named n x l ∷ []) ≡ new = sym (append_assoc old a.0 (Named n x l ∷ [])) ∙ sym a.1 in record {
       later = (a.0 ++ Named n x l ∷ [], whole);
       stores = history-prefix old new (a.0 ++ Named n x l ∷ [], whole);
@@ -157,11 +166,11 @@ named_sees h new n x l hand same a =
     }
 
 -- what a placed event leaves of the stores
-placed_sees : (h : Hand) (new : List Event) (n : ℕ) (x : Store) (l : ℕ) → IsHand h → x.seat ≡ h.number
+placed_sees : (h : Handle) (new : List Event) (n : ℕ) (x : Store) (l : ℕ) → IsHandle h → x.seat ≡ h.number
     → Adds (Placed n x l) h.tally h.book.log new → EndsWith x (history h.book.log) (history new)
-placed_sees h new n x l hand same a =
+placed_sees h new n x l handle same a =
     let old : List Event = h.book.log in
-    let quiet = adds_quiet h (Placed n x l) new hand a same in
+    let quiet = adds_quiet h (Placed n x l) new handle a same in
     let O : ℕ → Type 0 = λ seat. mine (history (old ++ a.0)) seat ≡ mine (history old) seat in record {
       front = history (old ++ a.0);
       last = ap history a.1 ∙ history-append (old ++ a.0) (Placed n x l ∷ []);
@@ -195,25 +204,26 @@ placed_low : (seat place m : ℕ) (y : Store) (k : ℕ) (n : ℕ) (x : Store) (l
 placed_low seat place m y k n x l q = absurd (cc (q))
 
 -- what a try says
-abbrev pub Tried : Bool → Hand → List Event → Tally → ℕ → Store → ℕ → ℕ → Nib → Nib → Type 0
+abbrev pub Tried : Bool → Handle → List Event → Tally → ℕ → Store → ℕ → ℕ → Nib → Nib → Type 0
 Tried won h new tally n x l old before after =
     MatchBool won (Adds (Placed n x l) h.tally h.book.log new × (tally.count ≡ h.tally.count + 1))
     ((old ≢ top (group_of x.question) new) × (after ≡ before) × Same h.tally tally (count x.seat new))
 
-module _ (h : Hand) (n : ℕ) (x : Store) (l old : ℕ) (before after : Nib) (hand : IsHand h) (seat : x.seat ≡ h.number) where
-  pub tried_hand : (k : Hand) → k.number ≡ h.number → k.seats ≡ h.seats → k.places ≡ h.places → k.book.names ≡ h.book.names
+module _ (h : Handle) (n : ℕ) (x : Store) (l old : ℕ) (before after : Nib) (handle : IsHandle h) (seat : x.seat ≡ h.number) where
+  pub tried_handle : (k : Handle) → k.number ≡ h.number → k.seats ≡ h.seats → k.node_count ≡ h.node_count → k.book.names ≡ h.book.names
       → Stays h.tally k.tally → IsPrefix h.book.log k.book.log
-      → (won : Bool) → Tried won h k.book.log k.tally n x l old before after → IsHand k
-  tried_hand k number seats places names stays pre true m =
-      hand_adds h k (Placed n x l) hand m.0 number seats (omega (arith, places)) names stays m.1 seat (placed_low h.number k.places n x l)
-  tried_hand k number seats places names stays pre false m =
-      hand_on h k pre.0 hand number seats places names (m.2.0, m.2.1, ap (λ s. count s k.book.log) (sym seat) ∙ m.2.2) pre.1
+      → (won : Bool) → Tried won h k.book.log k.tally n x l old before after → IsHandle k
+  tried_handle k number seats node_count names stays pre true m =
+      handle_adds h k (Placed n x l) handle m.0 number seats (omega (arith, node_count)) names stays m.1 seat
+      (placed_low h.number k.node_count n x l)
+  tried_handle k number seats node_count names stays pre false m =
+      hand_on h k pre.0 handle number seats node_count names (m.2.0, m.2.1, ap (λ s. count s k.book.log) (sym seat) ∙ m.2.2) pre.1
 
   pub tried_sees : (new : List Event) (tally : Tally) → IsPrefix h.book.log new → (won : Bool)
       → Tried won h new tally n x l old before after
       → MatchBool won (EndsWith x (history h.book.log) (history new)) (SeesMore h.number h.book.log new)
-  tried_sees new tally pre true m = placed_sees h new n x l hand seat m.0
-  tried_sees new tally pre false m = hand_sees h new hand pre (ap (λ s. count s new) (sym seat) ∙ m.2.2)
+  tried_sees new tally pre true m = placed_sees h new n x l handle seat m.0
+  tried_sees new tally pre false m = handle_sees h new handle pre (ap (λ s. count s new) (sym seat) ∙ m.2.2)
 
   pub tried_lost : (new : List Event) (tally : Tally) → IsPrefix h.book.log new → (won : Bool)
       → Tried won h new tally n x l old before after

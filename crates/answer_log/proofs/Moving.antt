@@ -132,10 +132,10 @@ not-placed cs log n x l kept named out y k i =
     let e : (cell cs l).1 ≡ (cell cs k).1 = ap (λ j. (cell cs j).1) same.1 in
     absurd (cc (out, home, e))
 
-kept-named : (cs : List Cell) (log : List Event) (n : ℕ) (x : Store) (l places : ℕ) → IsKept cs log
-    → ((y : Store) (k : ℕ) → In (Named n y k) log → ⊥) → n ≡ node_at x.seat places → x.seat < seats_in log
+kept-named : (cs : List Cell) (log : List Event) (n : ℕ) (x : Store) (l node_count : ℕ) → IsKept cs log
+    → ((y : Store) (k : ℕ) → In (Named n y k) log → ⊥) → n ≡ node_at x.seat node_count → x.seat < seats_in log
     → IsKept cs (log ++ Named n x l ∷ [])
-kept-named cs log n x l places kept none is some =
+kept-named cs log n x l node_count kept none is some =
     let e : Event = Named n x l in record {
       seats = let same = seats-append log (e ∷ []) (omega arith) in let few = kept.seats in omega arith;
       heads = λ group low. kept.heads group low ∙ sym (ap (λ (m : ℕ). (m, true)) (top-on group 0 log (e ∷ [])));
@@ -151,7 +151,7 @@ kept-named cs log n x l places kept none is some =
         | inl j ↦ (let it = kept.named m y k j in (seat-append y.seat log (e ∷ []) it.0, it.1))
         | inr j ↦ elim j [
           | inl q ↦
-              new-named n m x y l k places (seats_in (log ++ e ∷ [])) q is (seat-append x.seat log (e ∷ []) some)
+              new-named n m x y l k node_count (seats_in (log ++ e ∷ [])) q is (seat-append x.seat log (e ∷ []) some)
           | inr z ↦ absurd z
         ]
       ];
@@ -178,12 +178,13 @@ kept-named cs log n x l places kept none is some =
           (sym (history-append log (e ∷ []) ∙ append-nil (history log))) kept.history;
     }
   where
-    new-named : (n m : ℕ) (x y : Store) (l k places seats : ℕ) → Named n x l ≡ Named m y k → n ≡ node_at x.seat places → x.seat < seats
+    new-named : (n m : ℕ) (x y : Store) (l k node_count seats : ℕ) → Named n x l ≡ Named m y k → n ≡ node_at x.seat node_count
+        → x.seat < seats
         → (y.seat < seats) × ((p : ℕ) × (m ≡ node_at y.seat p))
-    new-named n m x y l k places seats q is some =
+    new-named n m x y l k node_count seats q is some =
         let a : m ≡ n = cc (q) in
         let b : y.seat ≡ x.seat = cc (q) in
-        (omega arith, (places, omega arith))
+        (omega arith, (node_count, omega arith))
 
 -- whether the log has the name
 abbrev Has : ℕ → List Event → Type 0
@@ -206,12 +207,12 @@ has n (Asks s t ∷ log) = has-later n (Asks s t) log (λ y k q. absurd (cc (q))
 has n (Named m x l ∷ log) = has-when n m x l log (m == n) refl (has n log)
 has n (Placed m x l ∷ log) = has-later n (Placed m x l) log (λ y k q. absurd (cc (q))) (has n log)
 
-claim_goes : (v : List Event) (places n : ℕ) (x : Store) → n ≡ node_at x.seat places → x.seat < 64 → x.seat < seats_in v
+claim_goes : (v : List Event) (node_count n : ℕ) (x : Store) → n ≡ node_at x.seat node_count → x.seat < 64 → x.seat < seats_in v
     → (cs : List Cell) (log : List Event)
     → IsKept cs log → IsPrefix v log → 64 < length cs → Has n log
     → Goes IsKept shown (Counts (Named n x 0)) 64 (v, (no_nib, None)) (λ n. either (n == 0) 0 n)
     (Claims (step 64 0 0 (Named n x 0)) (v, (no_nib, None))) cs log
-claim_goes v places n x is some low cs log kept pre long h =
+claim_goes v node_count n x is some low cs log kept pre long h =
     let n0 : ℕ = either ((cell cs 64).0 == 0) 0 (cell cs 64).0 in
     let cs' : List Cell = set cs 64 (n0, true) in
     let same : cs' ≡ cs = same-cell cs 64 n0 (idle-home cs log kept) (idle (cell cs 64).0) in
@@ -251,19 +252,19 @@ claim_goes v places n x is some low cs log kept pre long h =
             e ∷ [],
             Some r,
             tt,
-            kept-adds cs' (log ++ e ∷ []) (kept-named cs' log n x (length cs) places kept' none is (seat-prefix x.seat v log pre low)),
+            kept-adds cs' (log ++ e ∷ []) (kept-named cs' log n x (length cs) node_count kept' none is (seat-prefix x.seat v log pre low)),
             inr (r, refl, refl, counts_add (Named n x 0) e log refl some),
             (length cs, long, refl, (r, refl, inl (refl, (pre.0, ap (λ w. w ++ e ∷ []) (sym pre.1), ap (count x.seat) (sym pre.1))))),
           ))
     ]
 
-pub claim_moves : (v : List Event) (places n : ℕ) (x : Store) → n ≡ node_at x.seat places → x.seat < 64 → x.seat < seats_in v
+pub claim_moves : (v : List Event) (node_count n : ℕ) (x : Store) → n ≡ node_at x.seat node_count → x.seat < 64 → x.seat < seats_in v
     → Moves IsKept shown (Counts (Named n x 0)) 64 (v, (no_nib, None)) (λ n. either (n == 0) 0 n)
     (Claims (step 64 0 0 (Named n x 0)) (v, (no_nib, None)))
-claim_moves v places n x is some low cs log kept pre away = (
+claim_moves v node_count n x is some low cs log kept pre away = (
   home-in cs 64 (idle-home cs log kept),
   idle-home cs log kept,
-  claim_goes v places n x is some low cs log kept pre (home-in cs 64 (idle-home cs log kept)) (has n log),
+  claim_goes v node_count n x is some low cs log kept pre (home-in cs 64 (idle-home cs log kept)) (has n log),
 )
 
 out-apart : (cs : List Cell) (k : ℕ) (v : ℕ) (j : ℕ) → (cell cs j).1 ≡ false → (cell cs k).1 ≡ true

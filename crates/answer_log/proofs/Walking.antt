@@ -1,20 +1,20 @@
 -- A walk along the placed nodes.
 use Rattle.std.proofs.Common.{◌≡◌, ◌≢◌, ℕ, inl, inr, List, [], ◌∷◌, ◌++◌, refl, ap, sym, ◌∙◌, subst, append_assoc}
 use mathlib.Core.List.{IsPrefix}
-use Rattle.answer_log.specs.Hands.{IsLog}
+use Rattle.answer_log.specs.Handles.{IsLog}
 use Rattle.answer_log.specs.Groups.{group_of}
 use Rattle.answer_log.specs.Histories.{in_group}
 use Rattle.answer_log.specs.Logs.{history, top}
-use Rattle.answer_log.specs.Walks.{Ahead}
+use Rattle.answer_log.specs.Cursors.{Ahead}
 use Rattle.answer_log.specs.declared.event.Event.{Event}
 use Rattle.answer_log.specs.declared.event.Event.TheVariants.{Placed}
 use Rattle.answer_log.specs.declared.store.Store.{Store}
-use Rattle.answer_log.specs.declared.walk.Walk.{Walk}
+use Rattle.answer_log.specs.declared.cursor.Cursor.{Cursor}
 use Rattle.answer_log.proofs.Chains.{last_placed, stores-last}
 
 -- where no node is next, nothing is ahead
-pub at-end : (walk : Walk) (left : List Store) → IsLog walk.seen.log → walk.next ≡ 0 → Ahead walk left → left ≡ []
-at-end walk left log none it = elim (last_placed it.group 0 it.front) [
+pub at-end : (cursor : Cursor) (left : List Store) → IsLog cursor.seen.log → cursor.next ≡ 0 → Ahead cursor left → left ≡ []
+at-end cursor left log none it = elim (last_placed it.group 0 it.front) [
   | inl h ↦ it.stores ∙ h.1
   | inr h ↦
       (let whole = it.split
@@ -24,21 +24,21 @@ at-end walk left log none it = elim (last_placed it.group 0 it.front) [
 ]
 
 -- the node that is next, as it was placed
-pub record Next (walk : Walk) (left : List Store) : Type 0 where
+pub record Next (cursor : Cursor) (left : List Store) : Type 0 where
   pub group : ℕ
   pub before : List Event
   pub after : List Event
   pub store : Store
   pub link : ℕ
-  pub whole : walk.seen.log ≡ before ++ Placed walk.next store link ∷ after
+  pub whole : cursor.seen.log ≡ before ++ Placed cursor.next store link ∷ after
   pub its : group_of store.question ≡ group
   pub stores : left ≡ in_group group (history before) ++ store ∷ []
 
-pub is-next : (walk : Walk) (left : List Store) → walk.next ≢ 0 → Ahead walk left → Next walk left
-is-next walk left some it = elim (last_placed it.group 0 it.front) [
+pub is-next : (cursor : Cursor) (left : List Store) → cursor.next ≢ 0 → Ahead cursor left → Next cursor left
+is-next cursor left some it = elim (last_placed it.group 0 it.front) [
   | inl h ↦ absurd (some (it.at ∙ h.0))
   | inr h ↦
-      (let W : ℕ → Type 0 = λ node. walk.seen.log ≡ h.before ++ Placed node h.store h.link ∷ (h.after ++ it.back) in record {
+      (let W : ℕ → Type 0 = λ node. cursor.seen.log ≡ h.before ++ Placed node h.store h.link ∷ (h.after ++ it.back) in record {
         group = it.group;
         before = h.before;
         after = h.after ++ it.back;
@@ -53,19 +53,19 @@ is-next walk left some it = elim (last_placed it.group 0 it.front) [
 ]
 
 -- the walk has passed it
-pub passed : (walk new : Walk) (left : List Store) (store : Store) → (it : Next walk left) → it.store ≡ store
-    → IsPrefix walk.seen.log new.seen.log
+pub passed : (cursor new : Cursor) (left : List Store) (store : Store) → (it : Next cursor left) → it.store ≡ store
+    → IsPrefix cursor.seen.log new.seen.log
     → new.next ≡ top (group_of it.store.question) it.before → (rest : List Store) × (left ≡ rest ++ store ∷ []) × Ahead new rest
-passed walk new left store it same later at =
+passed cursor new left store it same later at =
     let L : Store → Type 0 = λ s. left ≡ in_group it.group (history it.before) ++ s ∷ [] in (
       in_group it.group (history it.before),
       subst L same it.stores,
       record {
         group = it.group;
         front = it.before;
-        back = Placed walk.next it.store it.link ∷ (it.after ++ later.0);
+        back = Placed cursor.next it.store it.link ∷ (it.after ++ later.0);
         split = sym later.1 ∙ (ap (λ events. events ++ later.0) it.whole
-            ∙ append_assoc it.before (Placed walk.next it.store it.link ∷ it.after) later.0);
+            ∙ append_assoc it.before (Placed cursor.next it.store it.link ∷ it.after) later.0);
         at = at ∙ ap (λ group. top group it.before) it.its;
         stores = refl;
       },

@@ -2,7 +2,7 @@
 use Rattle.std.specs.Prelude.{ℕ, ◌*◌, ◌/◌, ◌%◌, ◌^◌, List, [], ◌∷◌, ◌++◌, bit_xor}
 use Rattle.std.specs.List.{fold}
 use Rattle.dns_name.specs.Labels.{wire_of}
-use Rattle.dns_message.specs.Kinds.{kind_code}
+use Rattle.dns_message.specs.Kinds.{type_of_kind}
 use Rattle.dns_message.specs.declared.question.Question.{Question}
 
 -- the hash with one octet more
@@ -16,8 +16,8 @@ hash_of octets = fold hash_more 2166136261 octets
 -- the octets of a question that are hashed: its name without pointers, and the two octets of its
 -- type
 abbrev pub hashed_of : Question → List ℕ
-hashed_of question = wire_of question.name ++ (kind_code question.kind / 256)
-    ∷ (kind_code question.kind % 256) ∷ []
+hashed_of question = wire_of question.name ++ (type_of_kind question.kind / 256)
+    ∷ (type_of_kind question.kind % 256) ∷ []
 
 -- how many stores one group can have: 128
 abbrev pub group_limit : ℕ

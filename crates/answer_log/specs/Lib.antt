@@ -4,7 +4,7 @@ pub mod Logs
 pub mod Counts
 pub mod Rules
 pub mod Steps
-pub mod Hands
-pub mod Walks
+pub mod Handles
+pub mod Cursors
 pub mod Spending
 pub mod Spent

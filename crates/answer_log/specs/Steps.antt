@@ -15,7 +15,7 @@ use Rattle.answer_log.specs.declared.event.Counted.{Counted}
 use Rattle.answer_log.specs.declared.event.Event.{Event}
 use Rattle.answer_log.specs.declared.event.Event.TheVariants.{Asks, Named, Opened, Placed}
 use Rattle.answer_log.specs.declared.store.Store.{Store}
-use Rattle.answer_log.specs.declared.store.Draft.{Draft}
+use Rattle.answer_log.specs.declared.store.NewStore.{NewStore}
 use Rattle.answer_log.specs.declared.tally.Tally.{Tally}
 
 -- the store of a seat, a question, its answer and a moment
@@ -24,8 +24,9 @@ store_by seat question answer moment =
     record { seat = seat; question = question; answer = answer; moment = moment }
 
 -- the store that a draft becomes
-abbrev pub store_of : Draft → Store
-store_of draft = store_by draft.seat draft.question.now (arc_value draft.answer.now) draft.moment
+abbrev pub store_of : NewStore → Store
+store_of new_store = store_by new_store.seat new_store.question.now (arc_value new_store.answer.now)
+    new_store.moment
 
 -- the nodes of the seat are at places below this one
 abbrev pub NamesBelow : ℕ → ℕ → List Event → Type 0

@@ -22,7 +22,7 @@ fn hash_more(hash: u32, octet: u8) -> u32
 pub fn hash(question: &Question) -> u32
     ensures { result ≡ hash_of (hashed_of question.now) }
 {
-    let [high, low] = question.kind.code().to_be_bytes();
+    let [high, low] = question.kind.type_number().to_be_bytes();
     let hash = question
         .name
         .wire()

@@ -32,9 +32,9 @@
 //!
 //! A step is of one of seven kinds. Four of them read or write one word that others may read:
 //!
-//! - a load of a head: `Log::walk`, and `Log::learn`, which first takes over what another has seen.
-//!   By the rule it shows the whole log, and not that group alone;
-//! - a load of a link: `Walk::pass`;
+//! - a load of a head: `Log::cursor`, and `Log::learn`, which first takes over what another has
+//!   seen. By the rule it shows the whole log, and not that group alone;
+//! - a load of a link: `Cursor::pass`;
 //! - a store into the link of a node that is not placed yet: `Word::store`, by the pen that
 //!   `Log::claim` gives;
 //! - an exchange of the head of a group, from the node that the link holds to the new one:
@@ -50,43 +50,45 @@
 //! - the link of a placed node is given over to the log, and nobody writes it again: within the
 //!   exchange of `Log::place`.
 //!
-//! Each seat has a `Hand`, which `Hands::deal` gives: how many events the seat has in the log, what
-//! it has seen, and what its calls have spent. Nobody else adds an event of that seat, so a seat
-//! knows that its next node has no name yet. What is spent is counted for contracts alone: a link
-//! more by `Walk::pass`, and a try more by `Log::place`.
+//! Each seat has a `Handle`, which `Handles::deal` gives: how many events the seat has in the log,
+//! what it has seen, and what its calls have spent. Nobody else adds an event of that seat, so a
+//! seat knows that its next node has no name yet. What is spent is counted for contracts alone: a
+//! link more by `Cursor::pass`, and a try more by `Log::place`.
 //!
-//! So a store is a row of calls: `Log::walk` tells the node of the group placed last, `Log::claim`
-//! names a node and gives its link and its pen, `Word::store` writes the node placed last into
-//! that link, and `Log::place` tries to place the node. The crate `answer_cache` is the one user,
-//! and its `SharedCache` makes these calls.
+//! So a store is a row of calls: `Log::cursor` tells the node of the group placed last,
+//! `Log::claim` names a node and gives its link and its pen, `Word::store` writes the node placed
+//! last into that link, and `Log::place` tries to place the node. The crate `answer_cache` is the
+//! one user, and its `SharedCache` makes these calls.
 //!
-//! A `Walk` goes from a group's node placed last to its first one. It says which node is next, and
-//! whoever finds that node passes its link.
+//! A `Cursor` goes from a group's node placed last to its first one. It says which node is next,
+//! and whoever finds that node passes its link.
 //!
 //! Read `specs/Histories.antt` and `specs/Logs.antt` first: what a history answers, and what events
 //! say of it. Then `specs/Rules.antt`, what holds at each moment, `specs/Steps.antt`, what each
-//! step says, `specs/Hands.antt`, what a seat has, `specs/Spending.antt`, what its calls spend, and
-//! `specs/Walks.antt`, what is ahead of a walk.
+//! step says, `specs/Handles.antt`, what a seat has, `specs/Spending.antt`, what its calls spend,
+//! and `specs/Cursors.antt`, what is ahead of a walk.
 #![tactic(auto)]
 
+mod cursor;
 mod event;
 mod groups;
-mod hand;
+mod handle;
 mod log;
 mod nodes;
 mod spent;
 mod steps;
 mod store;
 mod tally;
-mod walk;
 
+pub use cursor::Cursor;
 pub use event::{Counted, Event};
 pub use groups::{GROUP_COUNT, GROUP_LIMIT, group, group_of_hash, hash};
-pub use hand::{Hand, Hands};
-pub use log::{Claimed, Log, histories_are_one, log_keeps_its_rule, placed_is_named};
+pub use handle::{Handle, Handles};
+pub use log::{
+    ClaimedNode, Log, law_histories_are_one, law_log_keeps_its_rule, law_placed_is_named,
+};
 pub use nodes::{MOST_SEATS, node_at, seat_and_place};
 pub use spent::Spent;
-pub use steps::{Book, Pen, Word};
-pub use store::{Draft, Store};
+pub use steps::{Pen, SeenLog, Word};
+pub use store::{NewStore, Store};
 pub use tally::{Law, Tallies, Tally};
-pub use walk::Walk;

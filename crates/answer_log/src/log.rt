@@ -3,26 +3,26 @@ ghost use Rattle.std.specs.Prelude.{◌≡◌, ℕ, ◌+◌, ◌-◌, ◌<◌, �
 ghost use mathlib.Core.List.{IsPrefix};
 ghost use Rattle.std.specs.Arc.{arc_value};
 ghost use Rattle.logbook.specs.Pages.{Named as Link, may_write};
-ghost use Rattle.answer_log.specs.Hands.{AreHands, EndsWith, IsHand, IsLog, IsNamed, IsPlaced};
-ghost use Rattle.answer_log.specs.Hands.{SeesMore, spent_of};
+ghost use Rattle.answer_log.specs.Handles.{AreHandles, EndsWith, IsHandle, IsLog, IsNamed, IsPlaced};
+ghost use Rattle.answer_log.specs.Handles.{SeesMore, spent_of};
 ghost use Rattle.answer_log.specs.Spending.{one_try};
 ghost use Rattle.answer_log.specs.Groups.{group_of};
 ghost use Rattle.answer_log.specs.Histories.{IsSound, in_group};
 ghost use Rattle.answer_log.specs.Logs.{history, top};
 ghost use Rattle.answer_log.specs.Rules.{heads_of, node_at, word_at};
 ghost use Rattle.answer_log.specs.Steps.{HadRoom, store_by, store_of};
-ghost use Rattle.answer_log.specs.Walks.{Ahead};
+ghost use Rattle.answer_log.specs.Cursors.{Ahead};
 ghost use Rattle.answer_log.specs.declared.event.Event.{Event as Noted};
 ghost use Rattle.answer_log.specs.declared.store.Store.{Store};
 
+use crate::cursor::Cursor;
 use crate::event::Event;
 use crate::groups::GROUP_COUNT;
-use crate::hand::{Hand, Hands};
+use crate::handle::{Handle, Handles};
 use crate::nodes::node_at;
-use crate::steps::{Book, Pen, Word, claim_node, place, top_node};
-use crate::store::Draft;
+use crate::steps::{Pen, SeenLog, Word, claim_node, place, top_node};
+use crate::store::NewStore;
 use crate::tally::Tallies;
-use crate::walk::Walk;
 use dns_answers::{Answer, Moment};
 use dns_message::Question;
 use logbook::{Opening, Pens};
@@ -64,7 +64,7 @@ impl Model for Log {
 
 /// A node that was named, its link, and what writes the link.
 #[derive(Drop)]
-pub struct Claimed {
+pub struct ClaimedNode {
     pub node: u64,
     pub link: Word,
     pub pen: Pen,
@@ -87,24 +87,24 @@ fn make_heads(alloc: Global, pens: &mut Pens) -> Result<Vec<Word>, AllocError>
 
 impl Log {
     /// Opens a log without stores, and gives what its seats have at it.
-    pub fn open(alloc: Global, seats: u64) -> Result<(Log, Hands), AllocError>
+    pub fn open(alloc: Global, seats: u64) -> Result<(Log, Handles), AllocError>
         requires seats { seats ≤ 64 }
         ensures book { IfOk result (λ made. made.0 ≡ made.1.seen.book) }
         ensures first { IfOk result (λ made. (made.1.next ≡ 0) × (made.1.seats ≡ seats)) }
-        ensures hands { IfOk result (λ made. AreHands made.1) }
+        ensures handles { IfOk result (λ made. AreHandles made.1) }
     {
         let (start, tallies) = Tallies::open(seats);
-        let (seen, mut pens) = Book::open_row::<u64, Blank>(&seats, start, 65);
+        let (seen, mut pens) = SeenLog::open_row::<u64, Blank>(&seats, start, 65);
         let heads = make_heads(alloc, &mut pens)?;
         let mut pen = pens.take();
         let idle = Word::tracked(0, &mut pen);
-        let hands = Hands {
+        let handles = Handles {
             next: 0,
             seats,
             tallies,
             seen,
         };
-        Ok((Log { heads, idle }, hands))
+        Ok((Log { heads, idle }, handles))
     }
 
     /// The head of a group.
@@ -117,126 +117,143 @@ impl Log {
 
     /// Sees what a notice says, and what came since: a walk from the node of a group placed last,
     /// by one load of its head.
-    pub fn walk_after(&self, hand: &mut Hand, told: &Book, group: u8) -> Walk
-        requires book { hand.old.book.book ≡ self.now }
+    pub fn cursor_after(&self, handle: &mut Handle, told: &SeenLog, group: u8) -> Cursor
+        requires book { handle.old.book.book ≡ self.now }
         requires told { told.now.book ≡ self.now }
-        requires hand { IsHand hand.old }
+        requires handle { IsHandle handle.old }
         requires group { group < 64 }
-        ensures hand { IsHand hand.new }
-        ensures number { (hand.new.number ≡ hand.old.number) × (hand.new.seats ≡ hand.old.seats) }
-        ensures book { (hand.new.book.book ≡ self.now)
-            × (hand.new.book.names ≡ hand.old.book.names) }
-        ensures seen { SeesMore hand.old.number hand.old.book.log hand.new.book.log }
-        ensures told { IsPrefix told.now.log hand.new.book.log }
-        ensures places { hand.new.places ≡ hand.old.places }
-        ensures spent { spent_of hand.new ≡ spent_of hand.old }
-        ensures walk { (result.seen.book ≡ self.now) × (result.seen.log ≡ hand.new.book.log)
-            × (result.next ≡ top group hand.new.book.log) }
-        ensures ahead { Ahead result (in_group group (history hand.new.book.log)) }
+        ensures handle { IsHandle handle.new }
+        ensures number { (handle.new.number ≡ handle.old.number)
+            × (handle.new.seats ≡ handle.old.seats) }
+        ensures book { (handle.new.book.book ≡ self.now)
+            × (handle.new.book.names ≡ handle.old.book.names) }
+        ensures seen { SeesMore handle.old.number handle.old.book.log handle.new.book.log }
+        ensures told { IsPrefix told.now.log handle.new.book.log }
+        ensures node_count { handle.new.node_count ≡ handle.old.node_count }
+        ensures spent { spent_of handle.new ≡ spent_of handle.old }
+        ensures cursor { (result.seen.book ≡ self.now) × (result.seen.log ≡ handle.new.book.log)
+            × (result.next ≡ top group handle.new.book.log) }
+        ensures ahead { Ahead result (in_group group (history handle.new.book.log)) }
     {
-        hand.book.learn(told);
+        handle.book.learn(told);
         let head = self.head(group);
-        let next = top_node(head, group, &mut hand.book, &mut hand.tally, hand.number);
-        Walk {
-            seen: hand.book.again(),
+        let next = top_node(
+            head,
+            group,
+            &mut handle.book,
+            &mut handle.tally,
+            handle.number,
+        );
+        Cursor {
+            seen: handle.book.again(),
             next,
         }
     }
 
     /// A walk from the node of a group placed last: one load of its head.
-    pub fn walk(&self, hand: &mut Hand, group: u8) -> Walk
-        requires book { hand.old.book.book ≡ self.now }
-        requires hand { IsHand hand.old }
+    pub fn cursor(&self, handle: &mut Handle, group: u8) -> Cursor
+        requires book { handle.old.book.book ≡ self.now }
+        requires handle { IsHandle handle.old }
         requires group { group < 64 }
-        ensures hand { IsHand hand.new }
-        ensures number { (hand.new.number ≡ hand.old.number) × (hand.new.seats ≡ hand.old.seats) }
-        ensures book { (hand.new.book.book ≡ self.now)
-            × (hand.new.book.names ≡ hand.old.book.names) }
-        ensures seen { SeesMore hand.old.number hand.old.book.log hand.new.book.log }
-        ensures places { hand.new.places ≡ hand.old.places }
-        ensures spent { spent_of hand.new ≡ spent_of hand.old }
-        ensures walk { (result.seen.book ≡ self.now) × (result.seen.log ≡ hand.new.book.log)
-            × (result.next ≡ top group hand.new.book.log) }
-        ensures ahead { Ahead result (in_group group (history hand.new.book.log)) }
+        ensures handle { IsHandle handle.new }
+        ensures number { (handle.new.number ≡ handle.old.number)
+            × (handle.new.seats ≡ handle.old.seats) }
+        ensures book { (handle.new.book.book ≡ self.now)
+            × (handle.new.book.names ≡ handle.old.book.names) }
+        ensures seen { SeesMore handle.old.number handle.old.book.log handle.new.book.log }
+        ensures node_count { handle.new.node_count ≡ handle.old.node_count }
+        ensures spent { spent_of handle.new ≡ spent_of handle.old }
+        ensures cursor { (result.seen.book ≡ self.now) × (result.seen.log ≡ handle.new.book.log)
+            × (result.next ≡ top group handle.new.book.log) }
+        ensures ahead { Ahead result (in_group group (history handle.new.book.log)) }
     {
-        let told = hand.book.again();
-        self.walk_after(hand, &told, group)
+        let told = handle.book.again();
+        self.cursor_after(handle, &told, group)
     }
 
     /// Sees what a notice says, and what came since: one load of a head.
-    pub fn learn(&self, hand: &mut Hand, told: &Book)
-        requires book { hand.old.book.book ≡ self.now }
+    pub fn learn(&self, handle: &mut Handle, told: &SeenLog)
+        requires book { handle.old.book.book ≡ self.now }
         requires told { told.now.book ≡ self.now }
-        requires hand { IsHand hand.old }
-        ensures hand { IsHand hand.new }
-        ensures number { (hand.new.number ≡ hand.old.number) × (hand.new.seats ≡ hand.old.seats) }
-        ensures book { hand.new.book.book ≡ self.now }
-        ensures seen { SeesMore hand.old.number hand.old.book.log hand.new.book.log }
-        ensures spent { spent_of hand.new ≡ spent_of hand.old }
-        ensures told { IsPrefix (history told.now.log) (history hand.new.book.log) }
+        requires handle { IsHandle handle.old }
+        ensures handle { IsHandle handle.new }
+        ensures number { (handle.new.number ≡ handle.old.number)
+            × (handle.new.seats ≡ handle.old.seats) }
+        ensures book { handle.new.book.book ≡ self.now }
+        ensures seen { SeesMore handle.old.number handle.old.book.log handle.new.book.log }
+        ensures spent { spent_of handle.new ≡ spent_of handle.old }
+        ensures told { IsPrefix (history told.now.log) (history handle.new.book.log) }
     {
-        let _walk = self.walk_after(hand, told, 0);
+        let _walk = self.cursor_after(handle, told, 0);
     }
 
     /// Sees just what a notice says: one load of a head. What it says goes on from what the seat
     /// has seen. The load shows that it has no event of this seat that is new.
-    pub fn meet(&self, hand: &mut Hand, told: &Book)
-        requires book { hand.old.book.book ≡ self.now }
-        requires hand { IsHand hand.old }
-        requires told { (told.now.book ≡ self.now) × (told.now.names ≡ hand.old.book.names)
-            × IsPrefix hand.old.book.log told.now.log }
-        ensures hand { IsHand hand.new }
-        ensures number { (hand.new.number ≡ hand.old.number) × (hand.new.seats ≡ hand.old.seats) }
-        ensures places { hand.new.places ≡ hand.old.places }
-        ensures spent { spent_of hand.new ≡ spent_of hand.old }
-        ensures book { hand.new.book ≡ told.now }
-        ensures seen { SeesMore hand.old.number hand.old.book.log told.now.log }
+    pub fn meet(&self, handle: &mut Handle, told: &SeenLog)
+        requires book { handle.old.book.book ≡ self.now }
+        requires handle { IsHandle handle.old }
+        requires told { (told.now.book ≡ self.now) × (told.now.names ≡ handle.old.book.names)
+            × IsPrefix handle.old.book.log told.now.log }
+        ensures handle { IsHandle handle.new }
+        ensures number { (handle.new.number ≡ handle.old.number)
+            × (handle.new.seats ≡ handle.old.seats) }
+        ensures node_count { handle.new.node_count ≡ handle.old.node_count }
+        ensures spent { spent_of handle.new ≡ spent_of handle.old }
+        ensures book { handle.new.book ≡ told.now }
+        ensures seen { SeesMore handle.old.number handle.old.book.log told.now.log }
     {
-        let mut seen = hand.book.again();
+        let mut seen = handle.book.again();
         seen.learn(told);
         let head = self.head(0);
-        let _node = top_node(head, 0, &mut seen, &mut hand.tally, hand.number);
-        hand.book = told.again();
+        let _node = top_node(head, 0, &mut seen, &mut handle.tally, handle.number);
+        handle.book = told.again();
     }
 
     /// Names the node of a place for a store, and makes its link: one exchange on the idle word. A
     /// place is named once, so it is none below those that the seat has used.
     pub fn claim(
         &self,
-        hand: &mut Hand,
+        handle: &mut Handle,
         place: u64,
         question: &Question,
         answer: &Arc<Answer>,
         moment: Moment,
-    ) -> Claimed
-        requires book { hand.old.book.book ≡ self.now }
-        requires hand { IsHand hand.old }
-        requires place { (hand.old.places ≤ place) × (place < 2 ^ 32) }
-        ensures hand { IsHand hand.new }
-        ensures number { (hand.new.number ≡ hand.old.number) × (hand.new.seats ≡ hand.old.seats) }
-        ensures book { (hand.new.book.book ≡ self.now)
-            × (hand.new.book.names ≡ hand.old.book.names) }
-        ensures places { hand.new.places ≡ place + 1 }
-        ensures spent { spent_of hand.new ≡ spent_of hand.old }
-        ensures seen { SeesMore hand.old.number hand.old.book.log hand.new.book.log }
-        ensures node { result.node ≡ node_at hand.old.number place }
-        ensures named { IsNamed self.now hand.new.book.log result.node
-            (store_by hand.old.number question.now (arc_value answer.now) moment) result.link }
+    ) -> ClaimedNode
+        requires book { handle.old.book.book ≡ self.now }
+        requires handle { IsHandle handle.old }
+        requires place { (handle.old.node_count ≤ place) × (place < 2 ^ 32) }
+        ensures handle { IsHandle handle.new }
+        ensures number { (handle.new.number ≡ handle.old.number)
+            × (handle.new.seats ≡ handle.old.seats) }
+        ensures book { (handle.new.book.book ≡ self.now)
+            × (handle.new.book.names ≡ handle.old.book.names) }
+        ensures node_count { handle.new.node_count ≡ place + 1 }
+        ensures spent { spent_of handle.new ≡ spent_of handle.old }
+        ensures seen { SeesMore handle.old.number handle.old.book.log handle.new.book.log }
+        ensures node { result.node ≡ node_at handle.old.number place }
+        ensures named { IsNamed self.now handle.new.book.log result.node
+            (store_by handle.old.number question.now (arc_value answer.now) moment) result.link }
         ensures pen { (result.pen.book ≡ self.now) × (result.pen.nib.right ≡ may_write)
             × (result.pen.nib.key ≡ result.link.key) × (64 < result.link.key) }
     {
-        let node = node_at(hand.number, place);
-        let draft = Draft {
+        let node = node_at(handle.number, place);
+        let new_store = NewStore {
             node,
-            seat: hand.number,
+            seat: handle.number,
             question,
             answer,
             moment,
         };
-        let mut pen = claim_node(&self.idle, &mut hand.book, &mut hand.tally, place, &draft);
-        hand.places = place + 1;
+        let mut pen = claim_node(
+            &self.idle,
+            &mut handle.book,
+            &mut handle.tally,
+            place,
+            &new_store,
+        );
+        handle.node_count = place + 1;
         let link = Word::tracked(0, &mut pen);
-        Claimed { node, link, pen }
+        ClaimedNode { node, link, pen }
     }
 
     /// Tries to place a node on top of the node `old`, which its link holds: one exchange of the
@@ -244,50 +261,52 @@ impl Log {
     /// node by then. The seat has spent one try more.
     pub fn place(
         &self,
-        hand: &mut Hand,
+        handle: &mut Handle,
         pen: &mut Pen,
         old: u64,
-        draft: &Draft<'_>,
+        new_store: &NewStore<'_>,
         group: u8,
         link: &Word,
     ) -> bool
-        requires book { hand.old.book.book ≡ self.now }
-        requires hand { IsHand hand.old }
-        requires seat { draft.now.seat ≡ hand.old.number }
-        requires group { (group ≡ group_of draft.now.question.now) × (group < 64) }
-        requires room { HadRoom hand.old.book.log old draft.now.question.now }
-        requires sound { IsSound (store_of draft.now) }
-        requires named { IsNamed self.now hand.old.book.log
-            draft.now.node (store_of draft.now) link.now }
+        requires book { handle.old.book.book ≡ self.now }
+        requires handle { IsHandle handle.old }
+        requires seat { new_store.now.seat ≡ handle.old.number }
+        requires group { (group ≡ group_of new_store.now.question.now) × (group < 64) }
+        requires room { HadRoom handle.old.book.log old new_store.now.question.now }
+        requires sound { IsSound (store_of new_store.now) }
+        requires named { IsNamed self.now handle.old.book.log
+            new_store.now.node (store_of new_store.now) link.now }
         requires pen { (pen.old.book ≡ self.now) × (pen.old.nib.right ≡ may_write)
             × (pen.old.nib.key ≡ link.now.key)
             × (pen.old.nib.value ≡ old) × (64 < link.now.key) }
-        ensures hand { IsHand hand.new }
-        ensures number { (hand.new.number ≡ hand.old.number) × (hand.new.seats ≡ hand.old.seats) }
-        ensures book { (hand.new.book.book ≡ self.now)
-            × (hand.new.book.names ≡ hand.old.book.names) }
-        ensures places { hand.new.places ≡ hand.old.places }
-        ensures spent { spent_of hand.new ≡ one_try (spent_of hand.old) }
+        ensures handle { IsHandle handle.new }
+        ensures number { (handle.new.number ≡ handle.old.number)
+            × (handle.new.seats ≡ handle.old.seats) }
+        ensures book { (handle.new.book.book ≡ self.now)
+            × (handle.new.book.names ≡ handle.old.book.names) }
+        ensures node_count { handle.new.node_count ≡ handle.old.node_count }
+        ensures spent { spent_of handle.new ≡ one_try (spent_of handle.old) }
         ensures placed { MatchBool result
-            (EndsWith (store_of draft.now) (history hand.old.book.log) (history hand.new.book.log))
-            (SeesMore hand.old.number hand.old.book.log hand.new.book.log) }
+            (EndsWith (store_of new_store.now) (history handle.old.book.log)
+            (history handle.new.book.log))
+            (SeesMore handle.old.number handle.old.book.log handle.new.book.log) }
         // Other stores came in between.
         ensures lost { MatchBool result (Unit {0})
-            ((seen : List Noted) → IsPrefix seen hand.old.book.log
-            → top (group_of draft.now.question.now) seen ≡ old
-            → length (history seen) < length (history hand.new.book.log)) }
+            ((seen : List Noted) → IsPrefix seen handle.old.book.log
+            → top (group_of new_store.now.question.now) seen ≡ old
+            → length (history seen) < length (history handle.new.book.log)) }
         ensures pen { MatchBool result (Unit {0})
             ((pen.new.book ≡ self.now) × (pen.new.nib.right ≡ may_write)
             × (pen.new.nib.key ≡ link.now.key)) }
     {
-        hand.spent = hand.spent.with_try();
+        handle.spent = handle.spent.with_try();
         place(
             self.head(group),
-            &mut hand.book,
-            &mut hand.tally,
+            &mut handle.book,
+            &mut handle.tally,
             pen,
             old,
-            draft,
+            new_store,
             link,
         )
     }
@@ -295,7 +314,7 @@ impl Log {
 
 /// A law: each log that was seen has a history of sound stores of its seats, at most 128 in a
 /// group, and no node 0.
-pub fn log_keeps_its_rule(book: &Book)
+pub fn law_log_keeps_its_rule(book: &SeenLog)
     ensures { IsLog book.now.log }
 {
     let mut probe = book.again();
@@ -303,7 +322,7 @@ pub fn log_keeps_its_rule(book: &Book)
 }
 
 /// A law: a node was placed for the store that it was named for.
-pub fn placed_is_named(seen: &Book, named: &Book)
+pub fn law_placed_is_named(seen: &SeenLog, named: &SeenLog)
     requires { seen.now.book ≡ named.now.book }
     ensures { (node : ℕ) (store other : Store) (link : Link) → IsPlaced seen.now.log node store
         → IsNamed named.now.book named.now.log node other link → store ≡ other }
@@ -313,7 +332,7 @@ pub fn placed_is_named(seen: &Book, named: &Book)
 }
 
 /// A law: of two histories that were seen of one book, one goes on with the other.
-pub fn histories_are_one(one: &Book, other: &Book)
+pub fn law_histories_are_one(one: &SeenLog, other: &SeenLog)
     requires { one.now.book ≡ other.now.book }
     ensures { IsPrefix (history one.now.log) (history other.now.log)
         ⊎ IsPrefix (history other.now.log) (history one.now.log) }

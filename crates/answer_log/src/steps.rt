@@ -6,7 +6,7 @@ ghost use Rattle.logbook.specs.Pages.{nib, may_make, may_write};
 ghost use Rattle.answer_log.specs.Counts.{count, first_name, first_seat, first_count};
 ghost use Rattle.answer_log.specs.Groups.{group_of};
 ghost use Rattle.answer_log.specs.Histories.{IsSound};
-ghost use Rattle.answer_log.specs.Hands.{IsNamed};
+ghost use Rattle.answer_log.specs.Handles.{IsNamed};
 ghost use Rattle.answer_log.specs.Logs.{In, seats_in, top};
 ghost use Rattle.answer_log.specs.declared.event.Event.{Event as Noted};
 ghost use Rattle.answer_log.specs.Rules.{node_at, word_at};
@@ -16,7 +16,7 @@ ghost use Rattle.answer_log.specs.declared.event.Event.TheVariants.{Named, Place
 ghost use Rattle.answer_log.specs.declared.store.Store.{Store};
 
 use crate::event::{Counted, Event};
-use crate::store::Draft;
+use crate::store::NewStore;
 use crate::tally::{Back, Deal, Law, Tally};
 use logbook::{Gain, Offer, Plain, Play};
 
@@ -24,7 +24,7 @@ use logbook::{Gain, Offer, Plain, Play};
 pub type Pen = logbook::Pen;
 
 /// What was seen of the log.
-pub type Book = logbook::Seen<Event, Counted, Law>;
+pub type SeenLog = logbook::Seen<Event, Counted, Law>;
 
 /// A word of the log's book.
 pub type Word = logbook::Word<Event, Counted, Law>;
@@ -83,14 +83,14 @@ impl Play<Event, Counted> for Claim {
     ghost then = { Claims };
 }
 
-impl<'a> Plain<Draft<'a>, Event, Counted> for Claim {
+impl<'a> Plain<NewStore<'a>, Event, Counted> for Claim {
     ghost use Rattle.std.specs.Prelude.{None};
     ghost use Rattle.answer_log.specs.Steps.{store_of};
     ghost use Rattle.answer_log.specs.declared.event.Event.TheVariants.{Named};
 
-    ghost ask = { λ draft. Named draft.node (store_of draft) 0 };
+    ghost ask = { λ new_store. Named new_store.node (store_of new_store) 0 };
 
-    ghost state = { λ draft. None };
+    ghost state = { λ new_store. None };
 }
 
 /// A try to place a node.
@@ -102,14 +102,14 @@ impl Play<Event, Counted> for Try {
     ghost then = { Tries };
 }
 
-impl<'a> Plain<Draft<'a>, Event, Counted> for Try {
+impl<'a> Plain<NewStore<'a>, Event, Counted> for Try {
     ghost use Rattle.std.specs.Prelude.{None};
     ghost use Rattle.answer_log.specs.Steps.{store_of};
     ghost use Rattle.answer_log.specs.declared.event.Event.TheVariants.{Placed};
 
-    ghost ask = { λ draft. Placed draft.node (store_of draft) 0 };
+    ghost ask = { λ new_store. Placed new_store.node (store_of new_store) 0 };
 
-    ghost state = { λ draft. None };
+    ghost state = { λ new_store. None };
 }
 
 /// The count comes back from an offer that has run.
@@ -125,7 +125,13 @@ fn settle(tally: &mut Tally, deal: Deal)
 
 /// A load of the head of a group: its node placed last, 0 where there is none. Till then the log
 /// had as many events of the seat as the tally says.
-pub(crate) fn top_node(head: &Word, group: u8, book: &mut Book, tally: &mut Tally, seat: u64) -> u64
+pub(crate) fn top_node(
+    head: &Word,
+    group: u8,
+    book: &mut SeenLog,
+    tally: &mut Tally,
+    seat: u64,
+) -> u64
     requires head { head.now ≡ word_at book.old.book group }
     requires group { group < 64 }
     requires fits { Fits tally.old book.old.names seat }
@@ -143,7 +149,7 @@ pub(crate) fn top_node(head: &Word, group: u8, book: &mut Book, tally: &mut Tall
 /// The node of its group placed before a placed node, 0 where there is none: one load of its link.
 /// The log that `named` has seen names the node with that link. The store that was placed is the
 /// one that was named.
-pub(crate) fn node_before(link: &Word, named: &Book, node: u64, book: &mut Book) -> u64
+pub(crate) fn node_before(link: &Word, named: &SeenLog, node: u64, book: &mut SeenLog) -> u64
     requires books { named.now.book ≡ book.old.book }
     requires named { (store : Store) × IsNamed named.now.book named.now.log node store link.now }
     requires placed { (before : List Noted) × (after : List Noted) × (store : Store) × (key : ℕ)
@@ -166,25 +172,25 @@ pub(crate) fn node_before(link: &Word, named: &Book, node: u64, book: &mut Book)
 /// names the node.
 pub(crate) fn claim_node(
     idle: &Word,
-    book: &mut Book,
+    book: &mut SeenLog,
     tally: &mut Tally,
     place: u64,
-    draft: &Draft<'_>,
+    new_store: &NewStore<'_>,
 ) -> Pen
     requires idle { idle.now ≡ word_at book.old.book 64 }
-    requires fits { Fits tally.old book.old.names draft.now.seat }
-    requires counted { count draft.now.seat book.old.log ≡ tally.old.count }
-    requires below { NamesBelow draft.now.seat place book.old.log }
-    requires node { draft.now.node ≡ node_at draft.now.seat place }
-    requires seat { draft.now.seat < seats_in book.old.log }
+    requires fits { Fits tally.old book.old.names new_store.now.seat }
+    requires counted { count new_store.now.seat book.old.log ≡ tally.old.count }
+    requires below { NamesBelow new_store.now.seat place book.old.log }
+    requires node { new_store.now.node ≡ node_at new_store.now.seat place }
+    requires seat { new_store.now.seat < seats_in book.old.log }
     ensures book { (book.new.book ≡ book.old.book) × (book.new.names ≡ book.old.names)
         × (result.book ≡ book.old.book) }
     ensures pen { (64 < result.nib.key) × (result.nib ≡ nib may_make result.nib.key 0) }
     ensures tally { Stays tally.old tally.new × (tally.new.count ≡ tally.old.count + 1) }
-    ensures adds { Adds (Named draft.now.node (store_of draft.now) result.nib.key)
+    ensures adds { Adds (Named new_store.now.node (store_of new_store.now) result.nib.key)
         tally.old book.old.log book.new.log }
 {
-    let mut deal = tally.bid::<Draft<'_>, Claim>(draft);
+    let mut deal = tally.bid::<NewStore<'_>, Claim>(new_store);
     let mut pen = book.no_pen();
     idle.compare_exchange::<Claim, Back>(0, 0, book, &mut deal, &mut pen);
     settle(tally, deal);
@@ -195,35 +201,37 @@ pub(crate) fn claim_node(
 /// has written into its link.
 pub(crate) fn place(
     head: &Word,
-    book: &mut Book,
+    book: &mut SeenLog,
     tally: &mut Tally,
     pen: &mut Pen,
     old: u64,
-    draft: &Draft<'_>,
+    new_store: &NewStore<'_>,
     link: &Word,
 ) -> bool
-    requires head { head.now ≡ word_at book.old.book (group_of draft.now.question.now) }
-    requires fits { Fits tally.old book.old.names draft.now.seat }
+    requires head { head.now ≡ word_at book.old.book (group_of new_store.now.question.now) }
+    requires fits { Fits tally.old book.old.names new_store.now.seat }
     requires pen { (pen.old.book ≡ book.old.book) × (pen.old.nib.right ≡ may_write)
         × (pen.old.nib.key ≡ link.now.key)
         × (pen.old.nib.value ≡ old) }
-    requires room { HadRoom book.old.log old draft.now.question.now }
-    requires sound { IsSound (store_of draft.now) }
-    requires named { In (Named draft.now.node (store_of draft.now) link.now.key) book.old.log
+    requires room { HadRoom book.old.log old new_store.now.question.now }
+    requires sound { IsSound (store_of new_store.now) }
+    requires named { In (Named new_store.now.node (store_of new_store.now) link.now.key)
+        book.old.log
         × (64 < link.now.key) }
     ensures book { (book.new.book ≡ book.old.book) × (book.new.names ≡ book.old.names)
         × (pen.new.book ≡ pen.old.book) }
     ensures later { IsPrefix book.old.log book.new.log }
     ensures tally { Stays tally.old tally.new }
     ensures tried { MatchBool result
-        (Adds (Placed draft.now.node (store_of draft.now) link.now.key)
+        (Adds (Placed new_store.now.node (store_of new_store.now) link.now.key)
         tally.old book.old.log book.new.log
         × (tally.new.count ≡ tally.old.count + 1))
-        ((old ≢ top (group_of draft.now.question.now) book.new.log) × (pen.new.nib ≡ pen.old.nib)
-        × Same tally.old tally.new (count draft.now.seat book.new.log)) }
+        ((old ≢ top (group_of new_store.now.question.now) book.new.log)
+        × (pen.new.nib ≡ pen.old.nib)
+        × Same tally.old tally.new (count new_store.now.seat book.new.log)) }
 {
-    let mut deal = tally.bid::<Draft<'_>, Try>(draft);
-    let found = head.compare_exchange::<Try, Back>(old, draft.node, book, &mut deal, pen);
+    let mut deal = tally.bid::<NewStore<'_>, Try>(new_store);
+    let found = head.compare_exchange::<Try, Back>(old, new_store.node, book, &mut deal, pen);
     settle(tally, deal);
     found == old
 }

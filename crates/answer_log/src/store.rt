@@ -15,7 +15,7 @@ pub struct Store {
 
 /// A store that is to be made: the number of its node, and what the store says.
 #[derive(Clone, Copy)]
-pub struct Draft<'a> {
+pub struct NewStore<'a> {
     pub node: u64,
     pub seat: u64,
     pub question: &'a Question,

@@ -11,10 +11,10 @@ use dns_message::{Kind, Message, Question, read_message};
 use std::alloc::Global;
 
 /// The kind of this number (RFC 1035 3.2.2, 3596 2.1, 2782, 3403 4.1).
-fn kind_of(code: u16) -> Option<Kind> {
+fn kind_of(type_number: u16) -> Option<Kind> {
     [Kind::A, Kind::Aaaa, Kind::Srv, Kind::Naptr]
         .into_iter()
-        .find(|kind| kind.code() == code)
+        .find(|kind| kind.type_number() == type_number)
 }
 
 /// The first question of a message.
@@ -22,7 +22,7 @@ fn first_question(message: &Message) -> Option<Question> {
     let asked = message.questions.as_slice().first()?;
     Some(Question {
         name: asked.name.try_clone().ok()?,
-        kind: kind_of(asked.code)?,
+        kind: kind_of(asked.type_number)?,
     })
 }
 

@@ -5,7 +5,7 @@ ghost use Rattle.srv_choice.specs.Outcomes.{order_from};
 ghost use Rattle.srv_choice.specs.declared.outcome.SrvOutcome.TheVariants.{Listed};
 
 use dns_message::{Message, Rdata, Record, SrvRecord, read_message};
-use srv_choice::{Places, RECORD_LIMIT, SrvOutcome, WORD_COUNT, Words, order};
+use srv_choice::{Indexes, RECORD_LIMIT, SrvOutcome, WORD_COUNT, Words, order};
 use std::alloc::{AllocError, Global};
 
 /// The SRV records that answer in a message.
@@ -22,7 +22,7 @@ fn servers_of(alloc: Global, message: Message) -> Result<Vec<SrvRecord>, AllocEr
 
 /// Puts the records in order so many times, each time from another word on, and gives the last
 /// order.
-fn last_order(alloc: Global, servers: &[SrvRecord], words: &Words, rounds: usize) -> Option<Places>
+fn last_order(alloc: Global, servers: &[SrvRecord], words: &Words, rounds: usize) -> Option<Indexes>
     requires { length servers.now ≤ RECORD_LIMIT }
     ensures { IfSome result (λ places. (from : ℕ) × (next : ℕ)
         × (order_from servers.now words.now.0 from ≡ Listed places next)) }

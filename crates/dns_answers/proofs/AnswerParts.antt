@@ -12,7 +12,7 @@ use Rattle.dns_answers.specs.Answers.{kept_along, answer}
 use Rattle.dns_answers.specs.Chains.{Chain, chain}
 use Rattle.dns_answers.specs.Kept.{has_data, kept_with, data_of, kept, records_of}
 use Rattle.dns_message.specs.declared.soa.SoaRecord.{SoaRecord}
-use Rattle.dns_answers.specs.Lives.{lasting, least_from, ttls, links_of, life_of, absent_life, IsFirstSoa, IsNoSoa, IsLeast}
+use Rattle.dns_answers.specs.Lives.{effective_ttl, least_from, ttls, links_of, life_of, absent_life, IsFirstSoa, IsNoSoa, IsLeast}
 use Rattle.dns_name.specs.Labels.{same_name}
 use Rattle.dns_answers.specs.Records.{count_of, kind_of, CanBeKept}
 use Rattle.dns_answers.proofs.NegativeLives.{absent-le, absent_is_least, absent_without, absent-ttl, absent-minimum, absent-links}
@@ -140,20 +140,20 @@ module _ (question : Question) (message : Message) (none : count_of (answer ques
   life_is = absent_along question message this_chain none
 
   pub answer-ttl : (entry : Record) (authority : SoaRecord) → IsFirstSoa message.authority entry authority
-      → (answer question message).life ≤ lasting entry.ttl
+      → (answer question message).life ≤ effective_ttl entry.ttl
   answer-ttl entry authority is = rw life_is (absent-ttl message this_chain entry authority is)
 
   pub answer-minimum : (entry : Record) (authority : SoaRecord) → IsFirstSoa message.authority entry authority
       → (answer question message).life ≤ authority.minimum
   answer-minimum entry authority is = rw life_is (absent-minimum message this_chain entry authority is)
 
-  pub answer-aliases : (found : Chain) → this_chain ≡ Some found
-      → All (λ (ttl : ℕ). (answer question message).life ≤ lasting ttl) (ttls found.links)
-  answer-aliases found is = rw (life_is, is) (absent-links message found)
+  pub answer-cnames : (found : Chain) → this_chain ≡ Some found
+      → All (λ (ttl : ℕ). (answer question message).life ≤ effective_ttl ttl) (ttls found.links)
+  answer-cnames found is = rw (life_is, is) (absent-links message found)
 
   pub answer-least : (found : Chain) (entry : Record) (authority : SoaRecord) → this_chain ≡ Some found
       → IsFirstSoa message.authority entry authority
-      → IsLeast (answer question message).life (authority.minimum ∷ map lasting (entry.ttl ∷ ttls found.links))
+      → IsLeast (answer question message).life (authority.minimum ∷ map effective_ttl (entry.ttl ∷ ttls found.links))
   answer-least found entry authority is first = rw (life_is, is) (absent_is_least message found entry authority first)
 
   pub answer-without : All IsNoSoa message.authority → (answer question message).life ≡ 0

@@ -2,10 +2,10 @@
 use Rattle.std.proofs.Common.{◌≡◌, ℕ, zero, suc, ◌≤◌, List, [], ◌∷◌, length, Option, Some, None, refl, ap, arith}
 use Rattle.std.specs.Option.{option_map, option_map_or}
 use Rattle.dns_message.specs.declared.resource.Record.{Record}
-use Rattle.dns_answers.specs.Chains.{Alias, Chain, first_alias, ends_at, behind, chain_within, chain, Follows, stays, leads, IsChain, IsTooLong}
+use Rattle.dns_answers.specs.Chains.{CnameRecord, Chain, first_cname, ends_at, behind, chain_within, chain, Follows, stays, leads, IsChain, IsTooLong}
 use Rattle.dns_answers.proofs.Chains.{Leads, chain_ends, chain_endless}
 use Rattle.dns_answers.proofs.Names.{SameNames}
-use Rattle.dns_answers.proofs.FirstAliases.{is_first, first_is, no_first, first_none}
+use Rattle.dns_answers.proofs.FirstCnames.{is_first, first_is, no_first, first_none}
 
 module _ (same : SameNames) (section : List Record) where
   follows_where_leads : (name : List (List ℕ)) (links : List Record) (last : List (List ℕ)) → Leads section name links last
@@ -25,41 +25,41 @@ module _ (same : SameNames) (section : List Record) where
 
   record Found (limit : ℕ) (name : List (List ℕ)) (found : Chain) : Type 0 where
     lead : Leads section name found.links found.last
-    none : first_alias found.last section ≡ None
+    none : first_cname found.last section ≡ None
     few : length found.links ≤ limit
 
-  found_here : (limit : ℕ) (name : List (List ℕ)) (found : Chain) → first_alias name section ≡ None → Some (ends_at name) ≡ Some found
+  found_here : (limit : ℕ) (name : List (List ℕ)) (found : Chain) → first_cname name section ≡ None → Some (ends_at name) ≡ Some found
       → Found limit name found
   found_here limit name found none some =
       let is : ends_at name ≡ found = cc in
       rw (← is) (record { lead = refl; none = none; few = omega arith })
 
-  found_zero : (name : List (List ℕ)) (found : Chain) (alias : Option Alias) → first_alias name section ≡ alias
-      → option_map_or (λ (a : Alias). None) alias (Some (ends_at name)) ≡ Some found → Found 0 name found
+  found_zero : (name : List (List ℕ)) (found : Chain) (cname : Option CnameRecord) → first_cname name section ≡ cname
+      → option_map_or (λ (a : CnameRecord). None) cname (Some (ends_at name)) ≡ Some found → Found 0 name found
   found_zero name found None none is = found_here 0 name found none is
-  found_zero name found (Some alias) some is = absurd cc
+  found_zero name found (Some cname) some is = absurd cc
 
-  found_behind : (limit : ℕ) (name : List (List ℕ)) (found : Chain) (alias : Alias) (rest : Option Chain)
-      → first_alias name section ≡ Some alias → ((c : Chain) → rest ≡ Some c → Found limit alias.target c)
-      → option_map (behind alias.entry) rest ≡ Some found → Found (suc limit) name found
-  found_behind limit name found alias None some each is = absurd cc
-  found_behind limit name found alias (Some c) some each is =
+  found_behind : (limit : ℕ) (name : List (List ℕ)) (found : Chain) (cname : CnameRecord) (rest : Option Chain)
+      → first_cname name section ≡ Some cname → ((c : Chain) → rest ≡ Some c → Found limit cname.target c)
+      → option_map (behind cname.entry) rest ≡ Some found → Found (suc limit) name found
+  found_behind limit name found cname None some each is = absurd cc
+  found_behind limit name found cname (Some c) some each is =
       let there = each c refl in
-      let this : behind alias.entry c ≡ found = cc in
-      rw (← this) (record { lead = (alias.target, some, there.lead); none = there.none; few = omega (arith, there.few) })
+      let this : behind cname.entry c ≡ found = cc in
+      rw (← this) (record { lead = (cname.target, some, there.lead); none = there.none; few = omega (arith, there.few) })
 
-  found_more : (limit : ℕ) (name : List (List ℕ)) (found : Chain) (alias : Option Alias) → first_alias name section ≡ alias
-      → ((a : Alias) (c : Chain) → chain_within limit section a.target ≡ Some c → Found limit a.target c)
-      → option_map_or (λ (a : Alias). option_map (behind a.entry) (chain_within limit section a.target)) alias (Some (ends_at name))
+  found_more : (limit : ℕ) (name : List (List ℕ)) (found : Chain) (cname : Option CnameRecord) → first_cname name section ≡ cname
+      → ((a : CnameRecord) (c : Chain) → chain_within limit section a.target ≡ Some c → Found limit a.target c)
+      → option_map_or (λ (a : CnameRecord). option_map (behind a.entry) (chain_within limit section a.target)) cname (Some (ends_at name))
       ≡ Some found → Found (suc limit) name found
   found_more limit name found None none each is = found_here (suc limit) name found none is
-  found_more limit name found (Some alias) some each is =
-      found_behind limit name found alias (chain_within limit section alias.target) some (each alias) is
+  found_more limit name found (Some cname) some each is =
+      found_behind limit name found cname (chain_within limit section cname.target) some (each cname) is
 
   found_is : (limit : ℕ) (name : List (List ℕ)) (found : Chain) → chain_within limit section name ≡ Some found → Found limit name found
   unfolding chain_within
-  found_is zero name found is = found_zero name found (first_alias name section) refl is
-  found_is (suc limit) name found is = found_more limit name found (first_alias name section) refl (λ a c. found_is limit a.target c) is
+  found_is zero name found is = found_zero name found (first_cname name section) refl is
+  found_is (suc limit) name found is = found_more limit name found (first_cname name section) refl (λ a c. found_is limit a.target c) is
 
   -- ---- a chain that is none
 
@@ -69,32 +69,33 @@ module _ (same : SameNames) (section : List Record) where
     lead : Leads section name links last
     many : length links ≡ suc limit
 
-  long_zero : (name : List (List ℕ)) (alias : Option Alias) → first_alias name section ≡ alias
-      → option_map_or (λ (a : Alias). None) alias (Some (ends_at name)) ≡ None → TooLong 0 name
+  long_zero : (name : List (List ℕ)) (cname : Option CnameRecord) → first_cname name section ≡ cname
+      → option_map_or (λ (a : CnameRecord). None) cname (Some (ends_at name)) ≡ None → TooLong 0 name
   long_zero name None none is = absurd cc
-  long_zero name (Some alias) some is =
-      record { links = alias.entry ∷ []; last = alias.target; lead = (alias.target, some, refl); many = refl }
+  long_zero name (Some cname) some is =
+      record { links = cname.entry ∷ []; last = cname.target; lead = (cname.target, some, refl); many = refl }
 
-  long_behind : (limit : ℕ) (name : List (List ℕ)) (alias : Alias) (rest : Option Chain) → first_alias name section ≡ Some alias
-      → (rest ≡ None → TooLong limit alias.target)
-      → option_map (behind alias.entry) rest ≡ None → TooLong (suc limit) name
-  long_behind limit name alias None some each is =
+  long_behind : (limit : ℕ) (name : List (List ℕ)) (cname : CnameRecord) (rest : Option Chain) → first_cname name section ≡ Some cname
+      → (rest ≡ None → TooLong limit cname.target)
+      → option_map (behind cname.entry) rest ≡ None → TooLong (suc limit) name
+  long_behind limit name cname None some each is =
       let there = each refl in
-      record { links = alias.entry ∷ there.links; last = there.last; lead = (alias.target, some, there.lead); many = ap suc there.many }
-  long_behind limit name alias (Some c) some each is = absurd cc
+      record { links = cname.entry ∷ there.links; last = there.last; lead = (cname.target, some, there.lead); many = ap suc there.many }
+  long_behind limit name cname (Some c) some each is = absurd cc
 
-  long_more : (limit : ℕ) (name : List (List ℕ)) (alias : Option Alias) → first_alias name section ≡ alias
-      → ((a : Alias) → chain_within limit section a.target ≡ None → TooLong limit a.target)
-      → option_map_or (λ (a : Alias). option_map (behind a.entry) (chain_within limit section a.target)) alias (Some (ends_at name)) ≡ None
+  long_more : (limit : ℕ) (name : List (List ℕ)) (cname : Option CnameRecord) → first_cname name section ≡ cname
+      → ((a : CnameRecord) → chain_within limit section a.target ≡ None → TooLong limit a.target)
+      → option_map_or (λ (a : CnameRecord). option_map (behind a.entry) (chain_within limit section a.target)) cname (Some (ends_at name))
+      ≡ None
       → TooLong (suc limit) name
   long_more limit name None none each is = absurd cc
-  long_more limit name (Some alias) some each is =
-      long_behind limit name alias (chain_within limit section alias.target) some (each alias) is
+  long_more limit name (Some cname) some each is =
+      long_behind limit name cname (chain_within limit section cname.target) some (each cname) is
 
   long_is : (limit : ℕ) (name : List (List ℕ)) → chain_within limit section name ≡ None → TooLong limit name
   unfolding chain_within
-  long_is zero name is = long_zero name (first_alias name section) refl is
-  long_is (suc limit) name is = long_more limit name (first_alias name section) refl (λ a. long_is limit a.target) is
+  long_is zero name is = long_zero name (first_cname name section) refl is
+  long_is (suc limit) name is = long_more limit name (first_cname name section) refl (λ a. long_is limit a.target) is
 
   -- ---- the laws
 

@@ -8,7 +8,7 @@ use Rattle.dns_message.specs.declared.rdata.Rdata.{Rdata}
 use Rattle.dns_message.specs.declared.resource.Record.{Record}
 use Rattle.dns_name.specs.Labels.{same_name}
 use Rattle.dns_answers.specs.Kept.{data_for, has_data, kept_with, data_of}
-use Rattle.dns_answers.specs.Lives.{lasting, least_from, ttls}
+use Rattle.dns_answers.specs.Lives.{effective_ttl, least_from, ttls}
 use Rattle.dns_answers.proofs.LeastLives.{least_push}
 
 -- what a record has for a name is what it has
@@ -45,7 +45,7 @@ module _ {X : Type 0} (data_in : Rdata → Option X) (name : List (List ℕ)) (s
           record { few = so_far.few; all = rw same so_far.all; items_are = rw same so_far.items_are; life_is = rw same so_far.life_is }
 
       pub keeps : (x : X) → Some x ≡ data_for data_in name entry → length items ≢ 32
-          → Keeping (count + 1) (items ++ x ∷ []) (min life (lasting entry.ttl))
+          → Keeping (count + 1) (items ++ x ∷ []) (min life (effective_ttl entry.ttl))
       keeps x some not_full =
           let grown : passed (count + 1) ≡ passed count ++ entry ∷ [] = rw (← some) at more in
           let has : data_in entry.rdata ≡ Some x = data_is data_in name entry x (same_name entry.owner name) refl (sym some) in
@@ -55,7 +55,7 @@ module _ {X : Type 0} (data_in : Rdata → Option X) (name : List (List ℕ)) (s
             all = rw (grown, length_push (passed count) entry, length_push items x) (ap (λ (n : ℕ). n + 1) so_far.all);
             items_are = rw (grown, filter_map-append (λ (e : Record). data_in e.rdata) (passed count) (entry ∷ []), last)
                 (ap (λ (l : List X). l ++ x ∷ []) so_far.items_are);
-            life_is = rw (grown, least_push limit (passed count) entry) (ap (λ (n : ℕ). min n (lasting entry.ttl)) so_far.life_is);
+            life_is = rw (grown, least_push limit (passed count) entry) (ap (λ (n : ℕ). min n (effective_ttl entry.ttl)) so_far.life_is);
           }
 
     kept_is : passed count ≡ kept_with data_in name section → (items ≡ data_of data_in (kept_with data_in name section))

@@ -10,31 +10,31 @@ use Rattle.std.proofs.lemmas.Bool.Decides.{nat_tests}
 use Rattle.dns_message.specs.declared.message.Message.{Message}
 use Rattle.dns_message.specs.declared.resource.Record.{Record}
 use Rattle.dns_answers.specs.Chains.{Chain}
-use Rattle.dns_answers.specs.Lives.{lasting, least_from, ttls, links_of, life_of, IsLeast}
+use Rattle.dns_answers.specs.Lives.{effective_ttl, least_from, ttls, links_of, life_of, IsLeast}
 
 pub least_push : (limit : ℕ) (entries : List Record) (entry : Record)
-    → least_from limit (ttls (entries ++ entry ∷ [])) ≡ min (least_from limit (ttls entries)) (lasting entry.ttl)
+    → least_from limit (ttls (entries ++ entry ∷ [])) ≡ min (least_from limit (ttls entries)) (effective_ttl entry.ttl)
 least_push limit entries entry =
-    rw (map_push (λ (e : Record). e.ttl) entries entry, map_push lasting (ttls entries) entry.ttl)
-    (fold_push min limit (map lasting (ttls entries)) (lasting entry.ttl))
+    rw (map_push (λ (e : Record). e.ttl) entries entry, map_push effective_ttl (ttls entries) entry.ttl)
+    (fold_push min limit (map effective_ttl (ttls entries)) (effective_ttl entry.ttl))
 
 pub least-append : (limit : ℕ) (links entries : List Record)
     → least_from limit (ttls (links ++ entries)) ≡ least_from (least_from limit (ttls links)) (ttls entries)
 least-append limit links entries =
-    rw (map-append (λ (e : Record). e.ttl) links entries, map-append lasting (ttls links) (ttls entries))
-    (fold-append min limit (map lasting (ttls links)) (map lasting (ttls entries)))
+    rw (map-append (λ (e : Record). e.ttl) links entries, map-append effective_ttl (ttls links) (ttls entries))
+    (fold-append min limit (map effective_ttl (ttls links)) (map effective_ttl (ttls entries)))
 
 fold-le : (limit : ℕ) (numbers : List ℕ) → fold min limit numbers ≤ limit
 fold-le limit [] = omega arith
 fold-le limit (number ∷ others) = omega (arith, fold-le (min limit number) others)
 
 pub least-le : (limit : ℕ) (numbers : List ℕ) → least_from limit numbers ≤ limit
-least-le limit numbers = fold-le limit (map lasting numbers)
+least-le limit numbers = fold-le limit (map effective_ttl numbers)
 
 -- ---- it is the least
 
-pub lasting-le : (ttl : ℕ) → lasting ttl ≤ 2147483647
-lasting-le ttl = grind (arith, nat_tests)
+pub effective_ttl-le : (ttl : ℕ) → effective_ttl ttl ≤ 2147483647
+effective_ttl-le ttl = grind (arith, nat_tests)
 
 -- what is among the rest and the less of two numbers is among both and the rest
 among_both : (number limit first : ℕ) (others : List ℕ) → Contains (min limit first ∷ others) number
@@ -71,15 +71,16 @@ least_below limit number others short =
     let same : min limit number ≡ number = omega arith in
     rw same (least_of number others)
 
-least_is : (entries : List Record) → (entries ≡ [] → ⊥) → IsLeast (least_from 2147483647 (ttls entries)) (map lasting (ttls entries))
+least_is : (entries : List Record) → (entries ≡ [] → ⊥) → IsLeast (least_from 2147483647 (ttls entries)) (map effective_ttl (ttls entries))
 least_is [] some = absurd (some refl)
-least_is (entry ∷ others) some = least_below 2147483647 (lasting entry.ttl) (map lasting (ttls others)) (lasting-le entry.ttl)
+least_is (entry ∷ others) some = least_below 2147483647 (effective_ttl entry.ttl) (map effective_ttl (ttls others))
+    (effective_ttl-le entry.ttl)
 
 some_kept : (links others : List Record) (first : Record) → links ++ first ∷ others ≡ [] → ⊥
 some_kept [] others first none = absurd cc
 some_kept (link ∷ links) others first none = absurd cc
 
 pub life_is_least : (message : Message) (chain : Option Chain) (kept : List Record) → (kept ≡ [] → ⊥)
-    → IsLeast (life_of message chain kept) (map lasting (ttls (links_of chain ++ kept)))
+    → IsLeast (life_of message chain kept) (map effective_ttl (ttls (links_of chain ++ kept)))
 life_is_least message chain [] some = absurd (some refl)
 life_is_least message chain (first ∷ others) some = least_is (links_of chain ++ first ∷ others) (some_kept (links_of chain) others first)

@@ -2,7 +2,7 @@ mod NegativeLives
 mod AnswerParts
 mod ChainLaws
 mod Chains
-mod FirstAliases
+mod FirstCnames
 mod KeptRecords
 mod LeastLives
 mod Repeated

@@ -9,8 +9,8 @@ use Rattle.dns_message.specs.declared.rdata.Rdata.TheVariants.{Addr4, Addr6, Srv
 use Rattle.dns_message.specs.declared.resource.Record.{Record}
 use Rattle.dns_message.specs.declared.soa.SoaRecord.{SoaRecord}
 use Rattle.dns_answers.specs.Chains.{Chain}
-use Rattle.dns_answers.specs.Lives.{lasting, least_from, ttls, negative_ttl, negative_ttl_of, absent_life, IsNoSoa, IsFirstSoa, IsLeast}
-use Rattle.dns_answers.proofs.LeastLives.{lasting-le, least-le, least_of, least_more}
+use Rattle.dns_answers.specs.Lives.{effective_ttl, least_from, ttls, negative_ttl, negative_ttl_of, absent_life, IsNoSoa, IsFirstSoa, IsLeast}
+use Rattle.dns_answers.proofs.LeastLives.{effective_ttl-le, least-le, least_of, least_more}
 
 -- ---- the first SOA record of a section
 
@@ -30,14 +30,14 @@ without_soa (entry ∷ others) none =
     (without_soa others (All-tail IsNoSoa entry others none))
 
 first_behind : (front back : List Record) (entry : Record) (authority : SoaRecord) → entry.rdata ≡ Soa authority → All IsNoSoa front
-    → negative_ttl_of (front ++ entry ∷ back) ≡ min authority.minimum (lasting entry.ttl)
+    → negative_ttl_of (front ++ entry ∷ back) ≡ min authority.minimum (effective_ttl entry.ttl)
 first_behind [] back entry authority is none = rw is refl
 first_behind (other ∷ front) back entry authority is none =
     rw (no_soa other (All-head IsNoSoa other front none) other.rdata refl)
     (first_behind front back entry authority is (All-tail IsNoSoa other front none))
 
 pub with_soa : (section : List Record) (entry : Record) (authority : SoaRecord) → IsFirstSoa section entry authority
-    → negative_ttl_of section ≡ min authority.minimum (lasting entry.ttl)
+    → negative_ttl_of section ≡ min authority.minimum (effective_ttl entry.ttl)
 with_soa section entry authority is = rw is.stands (first_behind is.front is.back entry authority is.is is.first)
 
 -- ---- it is short
@@ -49,7 +49,7 @@ short_by entry others (Addr6 octets) is short = rw is short
 short_by entry others (Srv server) is short = rw is short
 short_by entry others (Naptr rule) is short = rw is short
 short_by entry others (Cname target) is short = rw is short
-short_by entry others (Soa authority) is short = rw is (omega (arith, lasting-le entry.ttl))
+short_by entry others (Soa authority) is short = rw is (omega (arith, effective_ttl-le entry.ttl))
 short_by entry others (Other other) is short = rw is short
 
 pub negative-le : (section : List Record) → negative_ttl_of section ≤ 2147483647
@@ -75,17 +75,17 @@ pub absent_along : (message : Message) (links : List Record) (last : List (List 
 absent_along message links last =
     let limit = negative_ttl_of message.authority in
     let same : min 2147483647 limit ≡ limit = omega (arith, negative-le message.authority) in
-    sym (fold-min 2147483647 limit (map lasting (ttls links)))
-    ∙ ap (λ (n : ℕ). fold min n (map lasting (ttls links))) same
+    sym (fold-min 2147483647 limit (map effective_ttl (ttls links)))
+    ∙ ap (λ (n : ℕ). fold min n (map effective_ttl (ttls links))) same
 
 pub absent_is_least : (message : Message) (found : Chain) (entry : Record) (authority : SoaRecord)
     → IsFirstSoa message.authority entry authority
-    → IsLeast (absent_life message (Some found)) (authority.minimum ∷ lasting entry.ttl ∷ map lasting (ttls found.links))
+    → IsLeast (absent_life message (Some found)) (authority.minimum ∷ effective_ttl entry.ttl ∷ map effective_ttl (ttls found.links))
 absent_is_least message found entry authority is =
-    let numbers = map lasting (ttls found.links) in
-    let limit = min authority.minimum (lasting entry.ttl) in
+    let numbers = map effective_ttl (ttls found.links) in
+    let limit = min authority.minimum (effective_ttl entry.ttl) in
     rw (with_soa message.authority entry authority is)
-    (least_more (fold min limit numbers) authority.minimum (lasting entry.ttl) numbers (least_of limit numbers))
+    (least_more (fold min limit numbers) authority.minimum (effective_ttl entry.ttl) numbers (least_of limit numbers))
 
 pub absent_without : (message : Message) (found : Option Chain) → All IsNoSoa message.authority → absent_life message found ≡ 0
 absent_without message None none = refl
@@ -95,7 +95,7 @@ absent_without message (Some found) none =
     omega (arith, limit, short)
 
 pub absent-ttl : (message : Message) (found : Option Chain) (entry : Record) (authority : SoaRecord)
-    → IsFirstSoa message.authority entry authority → absent_life message found ≤ lasting entry.ttl
+    → IsFirstSoa message.authority entry authority → absent_life message found ≤ effective_ttl entry.ttl
 absent-ttl message None entry authority is = omega arith
 absent-ttl message (Some found) entry authority is =
     let limit = with_soa message.authority entry authority is in
@@ -108,12 +108,12 @@ absent-minimum message (Some found) entry authority is =
     let limit = with_soa message.authority entry authority is in
     omega (arith, limit, least-le (negative_ttl_of message.authority) (ttls found.links))
 
-least-each : (limit : ℕ) (numbers : List ℕ) → All (λ (ttl : ℕ). least_from limit numbers ≤ lasting ttl) numbers
-least-each limit [] = All-nil (λ (ttl : ℕ). least_from limit [] ≤ lasting ttl)
+least-each : (limit : ℕ) (numbers : List ℕ) → All (λ (ttl : ℕ). least_from limit numbers ≤ effective_ttl ttl) numbers
+least-each limit [] = All-nil (λ (ttl : ℕ). least_from limit [] ≤ effective_ttl ttl)
 least-each limit (first ∷ others) =
-    All-cons (λ (ttl : ℕ). least_from limit (first ∷ others) ≤ lasting ttl) first others
-    (omega (arith, least-le (min limit (lasting first)) others)) (least-each (min limit (lasting first)) others)
+    All-cons (λ (ttl : ℕ). least_from limit (first ∷ others) ≤ effective_ttl ttl) first others
+    (omega (arith, least-le (min limit (effective_ttl first)) others)) (least-each (min limit (effective_ttl first)) others)
 
 pub absent-links : (message : Message) (found : Chain)
-    → All (λ (ttl : ℕ). absent_life message (Some found) ≤ lasting ttl) (ttls found.links)
+    → All (λ (ttl : ℕ). absent_life message (Some found) ≤ effective_ttl ttl) (ttls found.links)
 absent-links message found = least-each (negative_ttl_of message.authority) (ttls found.links)

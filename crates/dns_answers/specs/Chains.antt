@@ -8,7 +8,7 @@ use Rattle.dns_message.specs.declared.resource.Record.{Record}
 use Rattle.dns_name.specs.Labels.{same_name}
 
 -- a CNAME record, and the canonical name that it gives its owner
-pub record Alias : Type 0 where
+pub record CnameRecord : Type 0 where
   pub entry : Record
   pub target : List (List ℕ)
 
@@ -25,8 +25,8 @@ canonical_in (Cname target) = Some target
 canonical_in _ = None
 
 -- a record as an alias, where it is a CNAME record of this name
-abbrev pub alias_of : List (List ℕ) → Record → Option Alias
-alias_of name entry =
+abbrev pub cname_of : List (List ℕ) → Record → Option CnameRecord
+cname_of name entry =
     if same_name entry.owner name
     then option_map
     (λ (target : List (List ℕ)). record { entry = entry; target = target })
@@ -34,8 +34,8 @@ alias_of name entry =
     else None
 
 -- the first CNAME record of a name in a section, with its target (RFC 1034 3.6.2, RFC 2181 10.1)
-abbrev pub first_alias : List (List ℕ) → List Record → Option Alias
-first_alias name section = slice_get (filter_map (alias_of name) section) 0
+abbrev pub first_cname : List (List ℕ) → List Record → Option CnameRecord
+first_cname name section = slice_get (filter_map (cname_of name) section) 0
 
 -- ---- where the records lead
 
@@ -50,12 +50,12 @@ behind link chain = record { links = link ∷ chain.links; last = chain.last }
 -- the chain from a name, where it has at most this number of links
 unfoldable pub chain_within : ℕ → List Record → List (List ℕ) → Option Chain
 chain_within zero section name =
-    option_map_or (λ (alias : Alias). None) (first_alias name section) (Some (ends_at name))
+    option_map_or (λ (cname : CnameRecord). None) (first_cname name section) (Some (ends_at name))
 chain_within (suc more) section name =
     option_map_or
-    (λ (alias : Alias). option_map (behind alias.entry)
-    (chain_within more section alias.target))
-    (first_alias name section) (Some (ends_at name))
+    (λ (cname : CnameRecord). option_map (behind cname.entry)
+    (chain_within more section cname.target))
+    (first_cname name section) (Some (ends_at name))
 
 -- the CNAME records that are followed from a name, at most eight, and the name where they end; none
 -- where there are more (RFC 1034 3.6.2, 5.2.2)
@@ -65,19 +65,19 @@ chain section name = chain_within 8 section name
 -- ---- the same as relations
 
 -- a record is no CNAME record of this name
-abbrev pub IsNoAlias : List (List ℕ) → Record → Type 0
-IsNoAlias name entry = (target : List (List ℕ)) → entry.owner ≡ name → entry.rdata ≡ Cname target
+abbrev pub IsNoCname : List (List ℕ) → Record → Type 0
+IsNoCname name entry = (target : List (List ℕ)) → entry.owner ≡ name → entry.rdata ≡ Cname target
     → ⊥
 
 -- a record is the first CNAME record of this name in the section, with this target
-pub record IsFirstAlias (section : List Record) (name : List (List ℕ)) (entry : Record)
+pub record IsFirstCname (section : List Record) (name : List (List ℕ)) (entry : Record)
     (target : List (List ℕ)) : Type 0 where
   pub front : List Record
   pub back : List Record
   pub stands : section ≡ front ++ entry ∷ back
   pub owner : entry.owner ≡ name
-  pub alias : entry.rdata ≡ Cname target
-  pub first : All (IsNoAlias name) front
+  pub cname : entry.rdata ≡ Cname target
+  pub first : All (IsNoCname name) front
 
 -- these CNAME records lead from the first name to the other one, each the first of its owner
 pub data Follows (section : List Record) : List (List ℕ) → List Record → List (List ℕ)
@@ -85,13 +85,13 @@ pub data Follows (section : List Record) : List (List ℕ) → List Record → L
   stays : {name last : List (List ℕ)} → last ≡ name → Follows section name [] last
   leads : {name last : List (List ℕ)} {entry : Record} {others : List Record}
       (target : List (List ℕ))
-      → IsFirstAlias section name entry target → Follows section target others last
+      → IsFirstCname section name entry target → Follows section target others last
       → Follows section name (entry ∷ others) last
 
 -- these CNAME records, at most eight, lead from the name to one that has no CNAME record
 pub record IsChain (section : List Record) (name : List (List ℕ)) (chain : Chain) : Type 0 where
   pub follows : Follows section name chain.links chain.last
-  pub ends : All (IsNoAlias chain.last) section
+  pub ends : All (IsNoCname chain.last) section
   pub short : length chain.links ≤ 8
 
 -- nine CNAME records can be followed from the name

@@ -10,13 +10,13 @@ use Rattle.dns_message.specs.declared.soa.SoaRecord.{SoaRecord}
 use Rattle.dns_answers.specs.Chains.{Chain}
 
 -- how long a record lasts, by its TTL: a TTL of 2^31 or more counts as 0 (RFC 2181 8)
-abbrev pub lasting : ℕ → ℕ
-lasting ttl = if nat_le ttl 2147483647 then ttl else 0
+abbrev pub effective_ttl : ℕ → ℕ
+effective_ttl ttl = if nat_le ttl 2147483647 then ttl else 0
 
 -- how long records last together, by their TTLs: as long as the one that lasts least (of one set:
 -- RFC 2181 5.2), and no longer than a limit
 abbrev pub least_from : ℕ → List ℕ → ℕ
-least_from limit ttls = fold min limit (map lasting ttls)
+least_from limit ttls = fold min limit (map effective_ttl ttls)
 
 -- the TTLs of records, in their order
 abbrev pub ttls : List Record → List ℕ
@@ -33,7 +33,7 @@ authority_in _ = None
 -- lasts itself
 abbrev pub negative_ttl : Record → Option ℕ
 negative_ttl entry =
-    option_map (λ (authority : SoaRecord). min authority.minimum (lasting entry.ttl))
+    option_map (λ (authority : SoaRecord). min authority.minimum (effective_ttl entry.ttl))
     (authority_in entry.rdata)
 
 -- the TTL that the first SOA record of a section gives to negative answers, whatever its owner; 0

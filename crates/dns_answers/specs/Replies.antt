@@ -1,6 +1,6 @@
 -- Which messages are replies to a question (RFC 1035 4.1).
 use Rattle.std.specs.Prelude.{◌==◌, Bool, false, ◌&&◌, ◌||◌, not, List, [], ◌∷◌, Option, Some, None, if◌then◌else◌}
-use Rattle.dns_message.specs.Kinds.{kind_code}
+use Rattle.dns_message.specs.Kinds.{type_of_kind}
 use Rattle.dns_message.specs.declared.message.Message.{Message}
 use Rattle.dns_message.specs.declared.question.Asked.{Asked}
 use Rattle.dns_message.specs.declared.question.Question.{Question}
@@ -11,8 +11,8 @@ use Rattle.dns_answers.specs.declared.refusal.ReplyRefusal.TheVariants.{NotReply
 -- a question of a message is this one, in class IN
 abbrev pub is_asked : Question → Asked → Bool
 is_asked question asked =
-    same_name asked.name question.name && asked.code == kind_code question.kind
-    && asked.class_code == 1
+    same_name asked.name question.name && asked.type_number == type_of_kind question.kind
+    && asked.class_number == 1
 
 -- the questions of a message are this one alone, in class IN (RFC 1035 4.1.2)
 abbrev pub asks_this_alone : Question → List Asked → Bool

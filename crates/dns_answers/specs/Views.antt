@@ -1,6 +1,6 @@
 -- What is found, without where it lies in memory.
-use Rattle.dns_answers.specs.declared.chain.Alias.{Alias as Found}
-use Rattle.dns_answers.specs.Chains.{Alias}
+use Rattle.dns_answers.specs.declared.chain.CnameRecord.{CnameRecord as Found}
+use Rattle.dns_answers.specs.Chains.{CnameRecord}
 
-abbrev pub alias_value : Found → Alias
-alias_value alias = record { entry = alias.entry.now; target = alias.target.now }
+abbrev pub cname_value : Found → CnameRecord
+cname_value cname = record { entry = cname.entry.now; target = cname.target.now }

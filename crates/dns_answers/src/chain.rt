@@ -5,7 +5,7 @@ ghost use Rattle.dns_message.specs.declared.resource.Record as resource;
 ghost use Rattle.dns_answers.specs.Chains as spec;
 ghost use Rattle.dns_answers.specs.Lives as lives;
 ghost use Rattle.dns_answers.specs.Lives.{least_from, ttls};
-ghost use Rattle.dns_answers.specs.Views.{alias_value};
+ghost use Rattle.dns_answers.specs.Views.{cname_value};
 
 use crate::answer::LIFE_LIMIT;
 use dns_message::{Rdata, Record};
@@ -16,7 +16,7 @@ const LINK_LIMIT: u8 = 8;
 
 /// A CNAME record, and the canonical name that it gives its owner.
 #[derive(Clone, Copy)]
-struct Alias<'a> {
+struct CnameRecord<'a> {
     entry: &'a Record,
     target: &'a Name,
 }
@@ -30,36 +30,36 @@ pub(crate) struct ChainEnd<'a> {
 
 /// For how long a record of this TTL may be kept: not at all where its highest bit is set (RFC 2181
 /// 8).
-fn lasting(ttl: u32) -> u32
-    ensures { result ≡ lives.lasting ttl }
+fn effective_ttl(ttl: u32) -> u32
+    ensures { result ≡ lives.effective_ttl ttl }
 {
     if ttl <= LIFE_LIMIT { ttl } else { 0 }
 }
 
 /// The life of records of this life together with one of this TTL (of one set: RFC 2181 5.2).
 pub(crate) fn life_with(life: u32, ttl: u32) -> u32
-    ensures { result ≡ min life (lives.lasting ttl) }
+    ensures { result ≡ min life (lives.effective_ttl ttl) }
 {
-    life.min(lasting(ttl))
+    life.min(effective_ttl(ttl))
 }
 
 /// The alias of this name that a record is, if it is one.
-fn alias_of<'a>(name: &Name, entry: &'a Record) -> Option<Alias<'a>>
-    ensures { option_map alias_value result ≡ spec.alias_of name.now entry.now }
+fn cname_of<'a>(name: &Name, entry: &'a Record) -> Option<CnameRecord<'a>>
+    ensures { option_map cname_value result ≡ spec.cname_of name.now entry.now }
 {
     match &entry.rdata {
-        Rdata::Cname(target) if entry.owner == *name => Some(Alias { entry, target }),
+        Rdata::Cname(target) if entry.owner == *name => Some(CnameRecord { entry, target }),
         _ => None,
     }
 }
 
 /// The first alias of this name in a section.
-fn first_alias<'a>(name: &Name, section: &'a [Record]) -> Option<Alias<'a>>
-    ensures { option_map alias_value result ≡ spec.first_alias name.now section.now }
+fn first_cname<'a>(name: &Name, section: &'a [Record]) -> Option<CnameRecord<'a>>
+    ensures { option_map cname_value result ≡ spec.first_cname name.now section.now }
 {
     for entry in section {
-        if let Some(alias) = alias_of(name, entry) {
-            return Some(alias);
+        if let Some(cname) = cname_of(name, entry) {
+            return Some(cname);
         }
     }
     None
@@ -75,11 +75,11 @@ pub(crate) fn chain_end<'a>(section: &'a [Record], start: &'a Name) -> Option<Ch
     let mut name = start;
     let mut life = LIFE_LIMIT;
     for _ in 0..=LINK_LIMIT {
-        match first_alias(name, section) {
+        match first_cname(name, section) {
             None => return Some(ChainEnd { name, life }),
-            Some(alias) => {
-                name = alias.target;
-                life = life_with(life, alias.entry.ttl);
+            Some(cname) => {
+                name = cname.target;
+                life = life_with(life, cname.entry.ttl);
             }
         }
     }

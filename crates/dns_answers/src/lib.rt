@@ -33,8 +33,8 @@ mod reply;
 pub use answer::Answer;
 pub use dns_message::Section;
 pub use laws::{
-    absence_is_limited, answers_are_bounded, chain_follows_aliases, life_is_the_least,
-    question_is_repeated,
+    law_absence_is_limited, law_answers_are_bounded, law_chain_follows_cnames,
+    law_life_is_the_least, law_question_is_repeated,
 };
 pub use moment::Moment;
 pub use records::Records;

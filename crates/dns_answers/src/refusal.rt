@@ -42,8 +42,8 @@ fn is_asked(question: &Question, asked: &Asked) -> bool
     ensures { result ≡ spec.is_asked question.now asked.now }
 {
     asked.name == question.name
-        && asked.code == question.kind.code()
-        && asked.class_code == CLASS_IN
+        && asked.type_number == question.kind.type_number()
+        && asked.class_number == CLASS_IN
 }
 
 /// Whether the questions of a message are this one alone.

@@ -80,9 +80,9 @@ fn authority_of(alloc: Global, minimum: u32) -> Option<SoaRecord> {
 }
 
 /// Four octets of a type and class.
-fn other_of(alloc: Global, code: u16, class_code: u16) -> Option<OtherData> {
+fn other_of(alloc: Global, type_number: u16, class_number: u16) -> Option<OtherData> {
     let octets = Vec::from_slice(alloc, &[192, 0, 2, 99]).ok()?;
-    OtherData::new(code, class_code, octets)
+    OtherData::new(type_number, class_number, octets)
 }
 
 /// The data of a record.
@@ -96,7 +96,11 @@ pub(crate) fn rdata_of(alloc: Global, says: Says) -> Option<Rdata> {
         }
         Says::Cname(target) => Some(Rdata::Cname(name_of(alloc, target)?)),
         Says::Soa(minimum) => Some(Rdata::Soa(authority_of(alloc, minimum)?)),
-        Says::Other(code, class_code) => Some(Rdata::Other(other_of(alloc, code, class_code)?)),
+        Says::Other(type_number, class_number) => Some(Rdata::Other(other_of(
+            alloc,
+            type_number,
+            class_number,
+        )?)),
     }
 }
 
@@ -118,11 +122,11 @@ pub(crate) fn section_of(alloc: Global, entries: &[Entry]) -> Option<Section<Rec
 /// A section of questions, by their names, types and classes.
 fn asked_of(alloc: Global, questions: &[(&'static str, u16, u16)]) -> Option<Section<Asked>> {
     let mut all = Vec::new(alloc);
-    for (name, code, class_code) in questions {
+    for (name, type_number, class_number) in questions {
         all.push(Asked {
             name: name_of(alloc, name)?,
-            code: *code,
-            class_code: *class_code,
+            type_number: *type_number,
+            class_number: *class_number,
         })
         .ok()?;
     }
@@ -155,8 +159,8 @@ pub(crate) fn reply_of(
 ) -> Option<Message> {
     let asked = Asked {
         name: question.name.try_clone().ok()?,
-        code: question.kind.code(),
-        class_code: 1,
+        type_number: question.kind.type_number(),
+        class_number: 1,
     };
     Some(Message {
         header: HEADER,

@@ -11,7 +11,7 @@ use Rattle.dns_asker.specs.Tickets.{Sent, Ticket}
 use Rattle.dns_asker.specs.declared.incoming.Due.{Due}
 use Rattle.dns_asker.specs.declared.incoming.Due.TheVariants.{Resend, GaveUp}
 use Rattle.dns_asker.specs.declared.tickets.Overdue.{Overdue}
-use Rattle.dns_asker.specs.declared.tickets.Overdue.TheVariants.{Again, Over}
+use Rattle.dns_asker.specs.declared.tickets.Overdue.TheVariants.{Again, GivenUp}
 
 pub none-is : (old : Pending Sent) (new : TicketList) (now : ℕ) → IsOverdue old new now None
     → Dues (asking_of old) (asking_of new.list) now None
@@ -33,8 +33,8 @@ due-is old new now (Again at) (Resend id octets) it told =
       left = ap asking_of it.2 ∙ (rw (mapped-placed (resent (now + 1) it.0.entry) it.0.others) refl);
     }
 due-is old new now (Again at) (GaveUp id question) it told = absurd told
-due-is old new now Over (Resend id octets) it told = absurd told
-due-is old new now Over (GaveUp id question) it told =
+due-is old new now GivenUp (Resend id octets) it told = absurd told
+due-is old new now GivenUp (GaveUp id question) it told =
     let same : told.0 ≡ it.0.entry.item = let both : Some told.0 ≡ Some it.0.entry.item = sym told.1 ∙ it.2 in cc in
     record {
       ticket = ticket_in it.0.entry;

@@ -8,7 +8,7 @@ use Rattle.dns_answers.specs.Replies.{reply_refusal}
 use Rattle.dns_answers.specs.Values.{AnswerValue}
 use Rattle.dns_answers.specs.declared.refusal.ReplyRefusal.{ReplyRefusal}
 use Rattle.dns_answers.specs.declared.refusal.ReplyRefusal.TheVariants as reply
-use Rattle.dns_message.specs.Places.{NamedAt}
+use Rattle.dns_message.specs.Offsets.{NamedAt}
 use Rattle.dns_message.specs.Written.{plain, query_of}
 use Rattle.dns_message.specs.declared.message.Message.{Message}
 use Rattle.dns_message.specs.declared.question.Question.{Question}

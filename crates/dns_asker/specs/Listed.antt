@@ -13,7 +13,7 @@ use Rattle.dns_asker.specs.declared.incoming.Due.TheVariants.{Resend, GaveUp}
 use Rattle.dns_asker.specs.declared.refusal.AskRefusal.{AskRefusal}
 use Rattle.dns_asker.specs.declared.refusal.AskRefusal.TheVariants.{IdTaken, Full, Spent, Memory}
 use Rattle.dns_asker.specs.declared.tickets.Overdue.{Overdue}
-use Rattle.dns_asker.specs.declared.tickets.Overdue.TheVariants.{Again, Over}
+use Rattle.dns_asker.specs.declared.tickets.Overdue.TheVariants.{Again, GivenUp}
 
 abbrev pub ticket_in : Entry Sent → Ticket
 ticket_in entry = record { sent = entry.item; deadline = entry.deadline }
@@ -86,7 +86,7 @@ IsOverdue old new now (Some (Again at)) =
     (first : IsFirst old.entries now) × (first.entry.item.sends < 3)
     × (new.list ≡ record old { entries = placed (resent (now + 1) first.entry) first.others })
     × (entry_of at new.list.entries ≡ Some (resent (now + 1) first.entry))
-IsOverdue old new now (Some Over) =
+IsOverdue old new now (Some GivenUp) =
     (first : IsFirst old.entries now) × (3 ≤ first.entry.item.sends)
     × (new.given_up ≡ Some first.entry.item)
     × (new.list ≡ record old { entries = first.others })
@@ -94,14 +94,14 @@ IsOverdue old new now (Some Over) =
 -- what is overdue is in the list, or was given up
 abbrev pub IsThere : TicketList → Overdue → Type 0
 IsThere it (Again at) = IsSome (entry_of at it.list.entries)
-IsThere it Over = IsSome it.given_up
+IsThere it GivenUp = IsSome it.given_up
 
 -- what is told of it
 abbrev pub ToldBy : TicketList → Overdue → Due → Type 0
 ToldBy it (Again at) (Resend id octets) =
     (entry : Entry Sent) × (entry_of at it.list.entries ≡ Some entry) × (id ≡ entry.item.id)
     × (octets.now ≡ sent_octets entry.item.id entry.item.question)
-ToldBy it Over (GaveUp id question) =
+ToldBy it GivenUp (GaveUp id question) =
     (sent : Sent) × (it.given_up ≡ Some sent) × (id ≡ sent.id) × (question.now ≡ sent.question)
 ToldBy it (Again at) (GaveUp id question) = ⊥
-ToldBy it Over (Resend id octets) = ⊥
+ToldBy it GivenUp (Resend id octets) = ⊥

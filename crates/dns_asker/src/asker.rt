@@ -52,10 +52,10 @@ impl Asker {
     /// A law: the tickets are ordered by deadline, each has an id of its own and was sent once to
     /// three times, and they are no more than the limit. A call does nothing; its contract states
     /// this.
-    pub fn stands_in_order(&self)
+    pub fn law_stands_in_order(&self)
         ensures { IsAsking self.now }
     {
-        self.tickets.stands_in_order();
+        self.tickets.law_stands_in_order();
     }
 
     /// Whether a question waits for its reply under this id.

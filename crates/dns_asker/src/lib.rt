@@ -46,9 +46,11 @@ mod wire;
 mod zone_wire;
 
 pub use asker::Asker;
-pub use asker_laws::asking_stays_in_order;
+pub use asker_laws::law_asking_stays_in_order;
 pub use clock::{Clock, StandingClock};
-pub use dns_zone::{Zone, ZoneEntry, ZoneRefusal, zone_follows_aliases, zone_names_its_authority};
+pub use dns_zone::{
+    Zone, ZoneEntry, ZoneRefusal, law_zone_follows_cnames, law_zone_names_its_authority,
+};
 pub use incoming::{Due, Ending, Incoming, Why};
 pub use refusal::AskRefusal;
 pub use server::serve;

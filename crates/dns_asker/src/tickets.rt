@@ -14,7 +14,7 @@ use crate::incoming::Due;
 use crate::refusal::AskRefusal;
 use crate::ticket::Ticket;
 use dns_answers::Moment;
-use dns_message::{Question, same_questions_are_equal};
+use dns_message::{Question, law_same_questions_are_equal};
 use pending_list::{InsertRefusal, PendingId, PendingList};
 use std::alloc::{AllocError, Global};
 use std::marker::Model;
@@ -28,7 +28,7 @@ pub(crate) enum Overdue {
     /// The question of the ticket at this place is sent once more.
     Again(PendingId),
     /// The question of the ticket that was closed last waits no longer.
-    Over,
+    GivenUp,
 }
 
 /// The tickets by their deadlines, at most one of each id, the table of their places, and the last
@@ -69,10 +69,10 @@ impl Tickets {
     }
 
     /// What holds of them.
-    pub(crate) fn stands_in_order(&self)
+    pub(crate) fn law_stands_in_order(&self)
         ensures { IsAsking (asking_of self.now.list) }
     {
-        self.list.stands_in_order();
+        self.list.law_stands_in_order();
     }
 
     /// The place of the ticket of an id.
@@ -80,7 +80,7 @@ impl Tickets {
         ensures { MatchOption result (find (is_of id) self.now.list.entries ≡ None)
             (Finds self.now.list.entries id) }
     {
-        self.list.stands_in_order();
+        self.list.law_stands_in_order();
         self.table.get(id)
     }
 
@@ -88,7 +88,7 @@ impl Tickets {
     pub(crate) fn is_full(&self) -> bool
         ensures { IsTrue result ↔ (length self.now.list.entries ≡ self.now.list.limit) }
     {
-        self.list.stands_in_order();
+        self.list.law_stands_in_order();
         matches!(self.list.can_insert(), Err(InsertRefusal::Full))
     }
 
@@ -97,7 +97,7 @@ impl Tickets {
         ensures { MatchOption result (LacksQuestion question.now (asking_of self.now.list).tickets)
             (λ id. HasQuestion question.now id (asking_of self.now.list).tickets) }
     {
-        same_questions_are_equal();
+        law_same_questions_are_equal();
         for (_, _, ticket) in self.list.walk() {
             if ticket.question() == question {
                 return Some(ticket.id());
@@ -199,7 +199,7 @@ impl Tickets {
         if deadline > now.get() {
             return None;
         }
-        self.list.stands_in_order();
+        self.list.law_stands_in_order();
         if may_be_sent_again(&self.list, at) {
             send_again(&mut self.list, at, now.get() + WAIT);
             return Some(Overdue::Again(at));
@@ -207,7 +207,7 @@ impl Tickets {
         let (_, _, ticket) = self.list.pop_due(now.get())?;
         self.table.remove(ticket.id());
         self.given_up = Some(ticket);
-        Some(Overdue::Over)
+        Some(Overdue::GivenUp)
     }
 
     /// What is told of it.
@@ -220,7 +220,7 @@ impl Tickets {
                 Some(ticket) => Due::Resend(ticket.id(), ticket.octets()),
                 None => unreachable!(),
             },
-            Overdue::Over => match &self.given_up {
+            Overdue::GivenUp => match &self.given_up {
                 Some(ticket) => Due::GaveUp(ticket.id(), ticket.question()),
                 None => unreachable!(),
             },

@@ -1,6 +1,6 @@
 -- One message stands in front of octets, and one question alone in a message.
 use Rattle.std.proofs.Common.{◌≡◌, ℕ, List, [], ◌∷◌, take, refl, ap, ◌∙◌, arith}
-use Rattle.dns_message.specs.Kinds.{kind_code}
+use Rattle.dns_message.specs.Kinds.{type_of_kind}
 use Rattle.dns_message.specs.Messages.{Begins, Spells}
 use Rattle.dns_message.specs.Written.{asked_of}
 use Rattle.dns_message.specs.declared.kind.Kind.{Kind}
@@ -19,7 +19,7 @@ pub one_message : OneMessage → (octets : List ℕ) (message other : Message) �
     → message ≡ other
 one_message one octets message other begins begins' = one octets begins.end begins'.end message other begins.spelled begins'.spelled
 
-same_kind : (kind other : Kind) → kind_code kind ≡ kind_code other → kind ≡ other
+same_kind : (kind other : Kind) → type_of_kind kind ≡ type_of_kind other → kind ≡ other
 same_kind A A is = refl
 same_kind A Aaaa is = absurd (omega arith)
 same_kind A Srv is = absurd (omega arith)
@@ -44,7 +44,7 @@ same_question : (question other : Question) → asked_of question ∷ [] ≡ ask
 same_question question other is =
     let asked : asked_of question ≡ asked_of other = cc in
     let name : question.name ≡ other.name = ap (λ (it : Asked). it.name) asked in
-    let c : kind_code question.kind ≡ kind_code other.kind = ap (λ (it : Asked). it.code) asked in
+    let c : type_of_kind question.kind ≡ type_of_kind other.kind = ap (λ (it : Asked). it.type_number) asked in
     ap (λ (it : List (List ℕ)). question_with it question.kind) name ∙ ap (question_with other.name) (same_kind question.kind other.kind c)
 
 pub one_query : OneMessage → (octets : List ℕ) (id id' : ℕ) (question other : Question) → Asks octets id question

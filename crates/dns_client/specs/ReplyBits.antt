@@ -2,7 +2,7 @@
 use Rattle.std.specs.Prelude.{◌≡◌, ◌⊎◌, ℕ, ◌/◌, ◌%◌, ◌^◌, ◌==◌, nat_le, Bool, true, ◌&&◌, ◌||◌, List, length, slice_index}
 use Rattle.std.specs.List.{list_any}
 use Rattle.dns_message.specs.Messages.{Begins}
-use Rattle.dns_message.specs.Written.{rdata_code}
+use Rattle.dns_message.specs.Written.{type_of_rdata}
 use Rattle.dns_message.specs.declared.message.Message.{Message}
 use Rattle.dns_message.specs.declared.resource.Record.{Record}
 
@@ -24,7 +24,7 @@ tells_failure message = has_rcode 2 message || has_rcode 5 message
 
 -- the upper eight bits of RCODE are the first octet of the TTL of an OPT record
 abbrev pub has_upper_bits : Record → Bool
-has_upper_bits entry = rdata_code entry.rdata == 41 && nat_le (2 ^ 24) entry.ttl
+has_upper_bits entry = type_of_rdata entry.rdata == 41 && nat_le (2 ^ 24) entry.ttl
 
 -- the RCODE of a reply is greater than 15, as that of BADVERS is (RFC 6891 6.1.3)
 pub record HasLongRcode (octets : List ℕ) : Type 0 where

@@ -32,8 +32,8 @@ pub(crate) struct Further {
 
 /// The canonical name that a record gives this one, if it is its CNAME record.
 fn canonical_name<'a>(name: &Name, entry: &'a Record) -> Option<&'a Name>
-    ensures { MatchOption result (chains.alias_of name.now entry.now ≡ None)
-        (λ target. chains.alias_of name.now entry.now
+    ensures { MatchOption result (chains.cname_of name.now entry.now ≡ None)
+        (λ target. chains.cname_of name.now entry.now
         ≡ Some (record { entry = entry.now; target = target.now })) }
 {
     match &entry.rdata {
@@ -44,8 +44,8 @@ fn canonical_name<'a>(name: &Name, entry: &'a Record) -> Option<&'a Name>
 
 /// The canonical name that the first CNAME record of this name gives it.
 fn next_name<'a>(name: &Name, section: &'a [Record]) -> Option<&'a Name>
-    ensures { MatchOption result (chains.first_alias name.now section.now ≡ None)
-        (λ target. (entry : resource.Record) × (chains.first_alias name.now section.now
+    ensures { MatchOption result (chains.first_cname name.now section.now ≡ None)
+        (λ target. (entry : resource.Record) × (chains.first_cname name.now section.now
         ≡ Some (record { entry = entry; target = target.now }))) }
 {
     for entry in section {
@@ -136,8 +136,8 @@ fn is_asked(question: &Question, asked: &Asked) -> bool
     ensures { result ≡ replies.is_asked question.now asked.now }
 {
     asked.name == question.name
-        && asked.code == question.kind.code()
-        && asked.class_code == CLASS_IN
+        && asked.type_number == question.kind.type_number()
+        && asked.class_number == CLASS_IN
 }
 
 /// Whether the questions of a message are this one alone.

@@ -74,7 +74,7 @@ pub use server_wire::{ServerWire, WireOptions};
 pub use warning::{LineFault, LineWarning};
 pub use wire_counts::WireCounts;
 pub use wire_origin::WireOrigin;
-pub use wire_try::{Tracer, Way, WireReply, WireTry};
+pub use wire_try::{Route, Tracer, WireReply, WireTry};
 
 #[cfg(test)]
 mod tests;

@@ -147,8 +147,8 @@ fn push_record(alloc: Global, entry: &Record, out: &mut Vec<u8>) -> Result<(), W
     ensures { OnOk result (out.new.items ≡ out.old.items ++ record_octets entry.now) }
 {
     push_name(&entry.owner, out)?;
-    push_u16(entry.rdata.code(), out)?;
-    push_u16(entry.rdata.class_code(), out)?;
+    push_u16(entry.rdata.type_number(), out)?;
+    push_u16(entry.rdata.class_number(), out)?;
     push_u32(entry.ttl, out)?;
     push_data(alloc, &entry.rdata, out)
 }
@@ -169,8 +169,8 @@ fn push_question(asked: &Asked, out: &mut Vec<u8>) -> Result<(), AllocError>
     ensures { OnOk result (out.new.items ≡ out.old.items ++ question_octets asked.now) }
 {
     push_name(&asked.name, out)?;
-    push_u16(asked.code, out)?;
-    push_u16(asked.class_code, out)
+    push_u16(asked.type_number, out)?;
+    push_u16(asked.class_number, out)
 }
 
 /// Appends questions.

@@ -1,6 +1,6 @@
 //! A question on its way along a chain that servers cut short.
 ghost use Rattle.std.specs.Prelude.{◌≡◌, ◌∷◌, [], ℕ, IfOk, MatchOption};
-ghost use Rattle.dns_message.specs.Kinds.{kind_code};
+ghost use Rattle.dns_message.specs.Kinds.{type_of_kind};
 ghost use Rattle.dns_message.specs.Written.{asked_of};
 ghost use Rattle.dns_message.specs.declared.kind.Kind as kinds;
 ghost use Rattle.dns_message.specs.declared.question.Question as questions;
@@ -9,7 +9,7 @@ ghost use Rattle.dns_client.specs.CnameChains.{Asks};
 use crate::cname_chain::{further_question, is_reply_to, joined};
 use crate::message_octets::{WriteRefusal, message_octets};
 use dns_message::{
-    Asked, CLASS_IN, Kind, Message, Question, message_in, one_message_in_front, write_query,
+    Asked, CLASS_IN, Kind, Message, Question, law_one_message_in_front, message_in, write_query,
 };
 use std::alloc::{AllocError, Global};
 use std::marker::Model;
@@ -64,11 +64,11 @@ pub(crate) enum Step {
 }
 
 /// The kind of a number of a type.
-fn kind_of(code: u16) -> Option<Kind>
-    ensures { MatchOption result ((kind : kinds.Kind) → kind_code kind ≡ code → ⊥)
-        (λ kind. kind_code kind ≡ code) }
+fn kind_of(type_number: u16) -> Option<Kind>
+    ensures { MatchOption result ((kind : kinds.Kind) → type_of_kind kind ≡ type_number → ⊥)
+        (λ kind. type_of_kind kind ≡ type_number) }
 {
-    match code {
+    match type_number {
         1 => Some(Kind::A),
         28 => Some(Kind::Aaaa),
         33 => Some(Kind::Srv),
@@ -83,10 +83,10 @@ fn question_of(asked: &Asked) -> Result<Option<Question>, AllocError>
         ((question : questions.Question) → asked.now ≡ asked_of question → ⊥)
         (λ question. asked.now ≡ asked_of question)) }
 {
-    if asked.class_code != CLASS_IN {
+    if asked.class_number != CLASS_IN {
         return Ok(None);
     }
-    let Some(kind) = kind_of(asked.code) else {
+    let Some(kind) = kind_of(asked.type_number) else {
         return Ok(None);
     };
     let name = asked.name.try_clone()?;
@@ -112,7 +112,7 @@ fn query_in(alloc: Global, octets: &[u8]) -> Result<Option<Query>, AllocError>
         ((id : ℕ) (question : questions.Question) → Asks octets.now id question → ⊥)
         (λ query. Asks octets.now query.id query.question)) }
 {
-    one_message_in_front();
+    law_one_message_in_front();
     let Some(message) = message_in(alloc, octets)? else {
         return Ok(None);
     };
@@ -138,7 +138,7 @@ impl OpenChain {
         ensures { IfOk result (λ it. MatchOption it (IsNotCut octets.now reply.now)
             (Begun octets.now reply.now)) }
     {
-        one_message_in_front();
+        law_one_message_in_front();
         let Some(query) = query_in(alloc, octets)? else {
             return Ok(None);
         };
@@ -183,7 +183,7 @@ impl OpenChain {
     pub(crate) fn step(self, alloc: Global, octets: &[u8]) -> Result<Step, WriteRefusal>
         ensures { IfOk result (Steps self octets.now) }
     {
-        one_message_in_front();
+        law_one_message_in_front();
         let Some(reply) = message_in(alloc, octets)? else {
             return Ok(Step::Stray(self));
         };

@@ -3,7 +3,7 @@ ghost use Rattle.std.specs.Prelude.{◌≡◌, ◌↔◌, ◌%◌, IfOk, IfSome,
 ghost use Rattle.std.specs.List.{list_any};
 ghost use Rattle.dns_client.specs.ReplyBits as spec;
 
-use dns_message::{Record, message_in, one_message_in_front};
+use dns_message::{Record, law_one_message_in_front, message_in};
 use std::alloc::{AllocError, Global};
 
 /// The octets of a header.
@@ -56,7 +56,7 @@ pub(crate) fn tells_failure(message: &[u8]) -> bool
 fn has_upper_bits(entry: &Record) -> bool
     ensures { result ≡ spec.has_upper_bits entry.now }
 {
-    entry.rdata.code() == TYPE_OPT && entry.ttl >= 1 << 24
+    entry.rdata.type_number() == TYPE_OPT && entry.ttl >= 1 << 24
 }
 
 /// Whether one of these records does.
@@ -70,7 +70,7 @@ fn have_upper_bits(entries: &[Record]) -> bool
 fn has_long_rcode(alloc: Global, message: &[u8]) -> Result<bool, AllocError>
     ensures { IfOk result (λ is. IsTrue is ↔ spec.HasLongRcode message.now) }
 {
-    one_message_in_front();
+    law_one_message_in_front();
     match message_in(alloc, message)? {
         Some(message) => Ok(have_upper_bits(message.additional.as_slice())),
         None => Ok(false),
@@ -90,7 +90,7 @@ pub(crate) fn refuses_edns(alloc: Global, message: &[u8]) -> Result<bool, AllocE
 /// The upper bits of RCODE that the first OPT record of these has; none where there is none.
 fn upper_bits(entries: &[Record]) -> u8 {
     'entries: for entry in entries {
-        if entry.rdata.code() == TYPE_OPT {
+        if entry.rdata.type_number() == TYPE_OPT {
             return entry.ttl.to_be_bytes()[0];
         }
     }

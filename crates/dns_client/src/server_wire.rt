@@ -15,7 +15,7 @@ use crate::tcp::ask_over_tcp;
 use crate::try_log::TryLog;
 use crate::udp::try_bind;
 use crate::wire_counts::WireCounts;
-use crate::wire_try::{Tracer, Way, WireTry};
+use crate::wire_try::{Route, Tracer, WireTry};
 use std::alloc::Global;
 use std::collections::VecDeque;
 use std::io::{self, ErrorKind};
@@ -137,27 +137,27 @@ impl<'a, R: Net + Clock> ServerWire<'a, R> {
     }
 
     /// Notes that a query goes out this way, and the server that may refuse its EDNS, if one may.
-    fn note(&mut self, way: Way, query: &[u8], edns_server: Option<usize>)
+    fn note(&mut self, route: Route, query: &[u8], edns_server: Option<usize>)
         ensures { self.new.options ≡ self.old.options }
     {
         let is_first = self.sent.note_out(query, edns_server);
-        self.log.sent(self.rt, way, query, is_first);
+        self.log.sent(self.rt, route, query, is_first);
     }
 
     /// What comes back from a server over TCP for a query in this form.
     fn ask(&mut self, server: usize, query: &[u8], form: QueryForm) -> Option<Vec<u8>>
         ensures { self.new.options ≡ self.old.options }
     {
-        let way = Way {
+        let route = Route {
             server: self.servers.get(server)?.address,
             over_tcp: true,
             has_edns: form.edns.is_some(),
         };
         let octets = form.octets(self.alloc, query).ok()?;
-        self.note(way, query, None);
+        self.note(route, query, None);
         let octets = octets.as_slice();
-        let reply = ask_over_tcp(self.rt, self.alloc, &way.server, octets, &self.deadline).ok()?;
-        self.log.came(self.rt, way.server, true, reply.as_slice());
+        let reply = ask_over_tcp(self.rt, self.alloc, &route.server, octets, &self.deadline).ok()?;
+        self.log.came(self.rt, route.server, true, reply.as_slice());
         Some(reply)
     }
 
@@ -247,14 +247,14 @@ impl<'a, R: Net + Clock> ServerWire<'a, R> {
         let Some(to) = self.servers.get_mut(server) else {
             return false;
         };
-        let way = Way {
+        let route = Route {
             server: to.address,
             over_tcp: false,
             has_edns: form.edns.is_some(),
         };
         let is_sent = to.send(octets.as_slice());
-        let edns_server = if way.has_edns { Some(server) } else { None };
-        self.note(way, query, edns_server);
+        let edns_server = if route.has_edns { Some(server) } else { None };
+        self.note(route, query, edns_server);
         is_sent
     }
 

@@ -7,8 +7,8 @@ ghost use Rattle.dns_client.specs.WireTries as spec;
 
 use crate::reply_bits::rcode_of;
 use crate::wire_counts::WireCounts;
-use crate::wire_try::{Way, WireReply, WireTry, id_of};
-use dns_message::{Asked, message_in, one_message_in_front};
+use crate::wire_try::{Route, WireReply, WireTry, id_of};
+use dns_message::{Asked, law_one_message_in_front, message_in};
 use std::alloc::{AllocError, Global};
 use std::marker::Model;
 use std::net::SocketAddr;
@@ -29,7 +29,7 @@ fn first_of(questions: &[Asked]) -> Result<Option<Asked>, AllocError>
 fn asked_in(alloc: Global, query: &[u8]) -> Result<Option<Asked>, AllocError>
     ensures { IfOk result (Asks query.now) }
 {
-    one_message_in_front();
+    law_one_message_in_front();
     match message_in(alloc, query)? {
         Some(message) => first_of(message.questions.as_slice()),
         None => Ok(None),
@@ -82,14 +82,14 @@ impl TryLog {
     }
 
     /// Keeps a try.
-    fn keep(&mut self, sent_at: Duration, way: Way, query: &[u8]) -> Result<(), AllocError>
+    fn keep(&mut self, sent_at: Duration, route: Route, query: &[u8]) -> Result<(), AllocError>
         ensures { self.new.counts ≡ self.old.counts }
     {
         let asked = asked_in(self.alloc, query)?;
         self.tries.push(WireTry {
             asked,
             id: id_of(query),
-            way,
+            route,
             sent_at,
             reply: None,
         })?;
@@ -97,13 +97,13 @@ impl TryLog {
     }
 
     /// Notes that a query goes out. One for which memory is refused is counted and not kept.
-    pub(crate) fn sent<R: Clock>(&mut self, rt: &R, way: Way, query: &[u8], is_first: bool)
-        ensures { self.new.counts ≡ with_query is_first way.over_tcp self.old.counts }
+    pub(crate) fn sent<R: Clock>(&mut self, rt: &R, route: Route, query: &[u8], is_first: bool)
+        ensures { self.new.counts ≡ with_query is_first route.over_tcp self.old.counts }
     {
-        self.counts = self.counts.with_query(is_first, way.over_tcp);
+        self.counts = self.counts.with_query(is_first, route.over_tcp);
         if self.is_kept {
             let sent_at = self.now(rt);
-            let _ = self.keep(sent_at, way, query);
+            let _ = self.keep(sent_at, route, query);
         }
     }
 

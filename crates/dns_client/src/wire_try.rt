@@ -9,7 +9,7 @@ use std::time::Duration;
 
 /// How a query goes to a server.
 #[derive(Clone, Copy, Debug, PartialEq, Eq)]
-pub struct Way {
+pub struct Route {
     /// The server.
     pub server: SocketAddr,
     /// Whether it goes over TCP, and not over UDP.
@@ -39,7 +39,7 @@ pub struct WireTry {
     /// The id of the query.
     pub id: u16,
     /// How the query went.
-    pub way: Way,
+    pub route: Route,
     /// When the query went, since the wire was opened.
     pub sent_at: Duration,
     /// What came back, if anything did.
@@ -63,8 +63,8 @@ impl WireTry {
     {
         self.reply.is_none()
             && self.id == id
-            && self.way.server == server
-            && self.way.over_tcp == over_tcp
+            && self.route.server == server
+            && self.route.over_tcp == over_tcp
     }
 }
 

@@ -1,7 +1,7 @@
--- The data of records at places.
+-- The data of records at offsets.
 use Rattle.std.proofs.Common.{◌≡◌, ℕ, ◌+◌, ◌<◌, ◌≤◌, List, ◌∷◌, length, take, refl, sym, ap, ◌∙◌, arith}
 use Rattle.std.specs.Int.{w16, w32}
-use Rattle.dns_name.specs.Places.{NameAt}
+use Rattle.dns_name.specs.Offsets.{NameAt}
 use Rattle.dns_message.specs.Layouts.{AddressAt, CharStringAt, SrvAt, NaptrAt, SoaAt, FormatAt}
 use Rattle.dns_message.specs.declared.naptr.NaptrRecord.{NaptrRecord}
 use Rattle.dns_message.specs.declared.rdata.DataFormat.{DataFormat}
@@ -11,9 +11,9 @@ use Rattle.dns_message.specs.declared.rdata.Rdata.TheVariants.{Addr4, Addr6, Srv
 use Rattle.dns_message.specs.declared.soa.SoaRecord.{SoaRecord}
 use Rattle.dns_message.specs.declared.srv.SrvRecord.{SrvRecord}
 use Rattle.dns_message.proofs.Names.{OneName, WithinEnd, IsLocal}
-use Rattle.dns_message.proofs.Places.{one_number, one_text, first_octet, take_less, NumberAt-other, OctetsAt-other}
+use Rattle.dns_message.proofs.Offsets.{one_number, one_text, first_octet, take_less, NumberAt-other, OctetsAt-other}
 
--- ---- one of each stands at a place
+-- ---- one of each stands at an offset
 
 pub one_char_string : (message : List ℕ) (p end end' : ℕ) (s s' : List ℕ) → CharStringAt message p s end → CharStringAt message p s' end'
     → (s ≡ s') × (end ≡ end')
@@ -93,21 +93,24 @@ one_soa one message p end end' a b x y =
     (same_soa a b mname.0 rname.0 serial refresh retry expire minimum, omega (arith, x.ends, y.ends, rname.1))
 
 abbrev other_of : ℕ → ℕ → List ℕ → Rdata
-other_of code class_code octets = Other (record { code = code; class_code = class_code; octets = octets })
+other_of type_number class_number octets = Other (record { type_number = type_number; class_number = class_number; octets = octets })
 
-pub one_format : OneName → (f : DataFormat) (message : List ℕ) (p code class_code end : ℕ) (a b : Rdata)
-    → FormatAt f message p code class_code a end → FormatAt f message p code class_code b end → a ≡ b
-one_format one format.A message p code class_code end a b x y =
+pub one_format : OneName → (f : DataFormat) (message : List ℕ) (p type_number class_number end : ℕ) (a b : Rdata)
+    → FormatAt f message p type_number class_number a end → FormatAt f message p type_number class_number b end → a ≡ b
+one_format one format.A message p type_number class_number end a b x y =
     x.1 ∙ ap Addr4 (one_text message p x.0 y.0 end x.2.stands y.2.stands) ∙ sym y.1
-one_format one format.Aaaa message p code class_code end a b x y =
+one_format one format.Aaaa message p type_number class_number end a b x y =
     x.1 ∙ ap Addr6 (one_text message p x.0 y.0 end x.2.stands y.2.stands) ∙ sym y.1
-one_format one format.Srv message p code class_code end a b x y = x.1 ∙ ap Srv (one_srv one message p end end x.0 y.0 x.2 y.2).0 ∙ sym y.1
-one_format one format.Naptr message p code class_code end a b x y =
+one_format one format.Srv message p type_number class_number end a b x y = x.1 ∙ ap Srv (one_srv one message p end end x.0 y.0 x.2 y.2).0 ∙
+    sym y.1
+one_format one format.Naptr message p type_number class_number end a b x y =
     x.1 ∙ ap Naptr (one_naptr one message p end end x.0 y.0 x.2 y.2).0 ∙ sym y.1
-one_format one format.Cname message p code class_code end a b x y = x.1 ∙ ap Cname (one message p p end end x.0 y.0 x.2 y.2).0 ∙ sym y.1
-one_format one format.Soa message p code class_code end a b x y = x.1 ∙ ap Soa (one_soa one message p end end x.0 y.0 x.2 y.2).0 ∙ sym y.1
-one_format one format.Other message p code class_code end a b x y =
-    x.1 ∙ ap (other_of code class_code) (one_text message p x.0 y.0 end x.2.stands y.2.stands) ∙ sym y.1
+one_format one format.Cname message p type_number class_number end a b x y = x.1 ∙ ap Cname (one message p p end end x.0 y.0 x.2 y.2).0 ∙
+    sym y.1
+one_format one format.Soa message p type_number class_number end a b x y = x.1 ∙ ap Soa (one_soa one message p end end x.0 y.0 x.2 y.2).0 ∙
+    sym y.1
+one_format one format.Other message p type_number class_number end a b x y =
+    x.1 ∙ ap (other_of type_number class_number) (one_text message p x.0 y.0 end x.2.stands y.2.stands) ∙ sym y.1
 
 -- ---- the end of each is within the message, and behind its beginning
 
@@ -120,16 +123,16 @@ soa_ends within message p end a x =
     let rname = within message x.rname_start x.numbers_start a.rname x.rname in
     (omega (arith, mname.0, rname.0, x.ends), omega (arith, x.minimum.within, x.ends))
 
-pub format_within : WithinEnd → (f : DataFormat) (message : List ℕ) (p code class_code end : ℕ) (a : Rdata)
-    → FormatAt f message p code class_code a end → end ≤ length message
-format_within within format.A message p code class_code end a x = x.2.stands.within
-format_within within format.Aaaa message p code class_code end a x = x.2.stands.within
-format_within within format.Srv message p code class_code end a x = (within message (p + 6) end x.0.target x.2.target).1
-format_within within format.Naptr message p code class_code end a x =
+pub format_within : WithinEnd → (f : DataFormat) (message : List ℕ) (p type_number class_number end : ℕ) (a : Rdata)
+    → FormatAt f message p type_number class_number a end → end ≤ length message
+format_within within format.A message p type_number class_number end a x = x.2.stands.within
+format_within within format.Aaaa message p type_number class_number end a x = x.2.stands.within
+format_within within format.Srv message p type_number class_number end a x = (within message (p + 6) end x.0.target x.2.target).1
+format_within within format.Naptr message p type_number class_number end a x =
     (within message x.2.replacement_start end x.0.replacement x.2.replacement).1
-format_within within format.Cname message p code class_code end a x = (within message p end x.0 x.2).1
-format_within within format.Soa message p code class_code end a x = (soa_ends within message p end x.0 x.2).1
-format_within within format.Other message p code class_code end a x = x.2.stands.within
+format_within within format.Cname message p type_number class_number end a x = (within message p end x.0 x.2).1
+format_within within format.Soa message p type_number class_number end a x = (soa_ends within message p end x.0 x.2).1
+format_within within format.Other message p type_number class_number end a x = x.2.stands.within
 
 pub naptr_ends : WithinEnd → (message : List ℕ) (p end : ℕ) (a : NaptrRecord) → NaptrAt message p a end → p < end
 naptr_ends within message p end a x =
@@ -139,15 +142,16 @@ naptr_ends within message p end a x =
     let replacement = (within message x.replacement_start end a.replacement x.replacement).0 in
     omega arith
 
-pub format_goes_on : WithinEnd → (f : DataFormat) (message : List ℕ) (p code class_code end : ℕ) (a : Rdata)
-    → FormatAt f message p code class_code a end → p ≤ end
-format_goes_on within format.A message p code class_code end a x = omega (arith, x.2.stands.size)
-format_goes_on within format.Aaaa message p code class_code end a x = omega (arith, x.2.stands.size)
-format_goes_on within format.Srv message p code class_code end a x = omega (arith, (within message (p + 6) end x.0.target x.2.target).0)
-format_goes_on within format.Naptr message p code class_code end a x = omega (arith, naptr_ends within message p end x.0 x.2)
-format_goes_on within format.Cname message p code class_code end a x = omega (arith, (within message p end x.0 x.2).0)
-format_goes_on within format.Soa message p code class_code end a x = omega (arith, (soa_ends within message p end x.0 x.2).0)
-format_goes_on within format.Other message p code class_code end a x = omega (arith, x.2.stands.size)
+pub format_goes_on : WithinEnd → (f : DataFormat) (message : List ℕ) (p type_number class_number end : ℕ) (a : Rdata)
+    → FormatAt f message p type_number class_number a end → p ≤ end
+format_goes_on within format.A message p type_number class_number end a x = omega (arith, x.2.stands.size)
+format_goes_on within format.Aaaa message p type_number class_number end a x = omega (arith, x.2.stands.size)
+format_goes_on within format.Srv message p type_number class_number end a x = omega
+    (arith, (within message (p + 6) end x.0.target x.2.target).0)
+format_goes_on within format.Naptr message p type_number class_number end a x = omega (arith, naptr_ends within message p end x.0 x.2)
+format_goes_on within format.Cname message p type_number class_number end a x = omega (arith, (within message p end x.0 x.2).0)
+format_goes_on within format.Soa message p type_number class_number end a x = omega (arith, (soa_ends within message p end x.0 x.2).0)
+format_goes_on within format.Other message p type_number class_number end a x = omega (arith, x.2.stands.size)
 
 -- ---- each rests on the octets before its end
 
@@ -214,13 +218,19 @@ module _ (within : WithinEnd) (local : IsLocal) (message other : List ℕ) (limi
         ends = x.ends;
       }
 
-  pub FormatAt-other : (f : DataFormat) (p code class_code end : ℕ) (a : Rdata) → FormatAt f message p code class_code a end → end ≤ limit
-      → FormatAt f other p code class_code a end
-  FormatAt-other format.A p code class_code end a x le = (x.0, x.1, AddressAt-other 4 message other limit same p end x.0 x.2 le)
-  FormatAt-other format.Aaaa p code class_code end a x le = (x.0, x.1, AddressAt-other 16 message other limit same p end x.0 x.2 le)
-  FormatAt-other format.Srv p code class_code end a x le = (x.0, x.1, SrvAt-other p end x.0 x.2 le)
-  FormatAt-other format.Naptr p code class_code end a x le = (x.0, x.1, NaptrAt-other p end x.0 x.2 le)
-  FormatAt-other format.Cname p code class_code end a x le = (x.0, x.1, NameAt-other p end x.0 x.2 le)
-  FormatAt-other format.Soa p code class_code end a x le = (x.0, x.1, SoaAt-other p end x.0 x.2 le)
-  FormatAt-other format.Other p code class_code end a x le =
+  pub FormatAt-other : (f : DataFormat) (p type_number class_number end : ℕ) (a : Rdata)
+      → FormatAt f message p type_number class_number a end → end ≤ limit
+      → FormatAt f other p type_number class_number a end
+  FormatAt-other format.A p type_number class_number end a x le = (x.0, x.1, AddressAt-other 4 message other limit same p end x.0 x.2 le)
+  FormatAt-other format.Aaaa p type_number class_number end a x le = (
+    x.0,
+    x.1,
+    AddressAt-other 16 message other limit same p end x.0 x.2
+        le,
+  )
+  FormatAt-other format.Srv p type_number class_number end a x le = (x.0, x.1, SrvAt-other p end x.0 x.2 le)
+  FormatAt-other format.Naptr p type_number class_number end a x le = (x.0, x.1, NaptrAt-other p end x.0 x.2 le)
+  FormatAt-other format.Cname p type_number class_number end a x le = (x.0, x.1, NameAt-other p end x.0 x.2 le)
+  FormatAt-other format.Soa p type_number class_number end a x le = (x.0, x.1, SoaAt-other p end x.0 x.2 le)
+  FormatAt-other format.Other p type_number class_number end a x le =
       (x.0, x.1, record { short = x.2.short; stands = OctetsAt-other message other limit p x.0 end same le x.2.stands })

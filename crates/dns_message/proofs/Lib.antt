@@ -3,10 +3,10 @@ pub mod Layouts
 pub mod Messages
 pub mod Names
 pub mod Owners
-pub mod Places
+pub mod Offsets
 pub mod Questions
 pub mod Records
 pub mod WrittenOctets
 pub mod WrittenMessages
-pub mod WrittenPlaces
+pub mod WrittenOffsets
 pub mod WrittenLayouts

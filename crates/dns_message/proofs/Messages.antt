@@ -11,14 +11,14 @@ use Rattle.dns_message.specs.Headers.{HeaderAt, CountsAt}
 use Rattle.dns_message.specs.Questions.{QuestionAt}
 use Rattle.dns_message.specs.Records.{RecordAt}
 use Rattle.dns_message.specs.Messages.{MessageAt, Spells, RecordsStand, FailsIn, RefusedWhere}
-use Rattle.dns_message.specs.Places.{NumberAt, NamedAt, AllAt}
+use Rattle.dns_message.specs.Offsets.{NumberAt, NamedAt, AllAt}
 use Rattle.dns_message.specs.Refusals.{IsOfPart}
 use Rattle.dns_message.specs.declared.refusal.Part.{Part}
 use Rattle.dns_message.specs.declared.refusal.MessageRefusal.{MessageRefusal}
 use Rattle.dns_message.specs.declared.refusal.MessageRefusal.TheVariants.{Malformed, Memory}
 use Rattle.dns_message.proofs.Names.{OneName, WithinEnd, IsLocal}
 use Rattle.dns_message.proofs.Flags.{one_header}
-use Rattle.dns_message.proofs.Places.{one_number, within_too, NumberAt-other, AllAt-goes_on, AllAt-within, AllAt-one, AllAt-other}
+use Rattle.dns_message.proofs.Offsets.{one_number, within_too, NumberAt-other, AllAt-goes_on, AllAt-within, AllAt-one, AllAt-other}
 use Rattle.dns_message.proofs.Questions.{one_question, question_goes_on, question_within, QuestionAt-other}
 use Rattle.dns_message.proofs.Records.{one_record, record_goes_on, record_within, RecordAt-other}
 
@@ -150,10 +150,10 @@ refused_where octets part refusal (inl is) memory malformed = rw is (memory is)
 refused_where octets part refusal (inr is) memory malformed = rw is (malformed is)
 
 -- records that are called malformed do not stand there, if their reader wants memory alone where they do
-pub no_records : (octets : List ℕ) (count_place count start end : ℕ) (part : Part) (refusal : MessageRefusal)
-    → NumberAt w16 octets count_place count
+pub no_records : (octets : List ℕ) (count_offset count start end : ℕ) (part : Part) (refusal : MessageRefusal)
+    → NumberAt w16 octets count_offset count
     → ((records : List Record) (end : ℕ) → AllAt (RecordAt octets) start records end → length records ≡ count → refusal ≡ Memory)
-    → refusal ≡ Malformed part → RecordsStand octets count_place start end → ⊥
-no_records octets count_place count start end part refusal at read is there =
-    let memory = read there.records end there.stand (one_number w16 octets count_place (length there.records) count there.count at) in
+    → refusal ≡ Malformed part → RecordsStand octets count_offset start end → ⊥
+no_records octets count_offset count start end part refusal at read is there =
+    let memory = read there.records end there.stand (one_number w16 octets count_offset (length there.records) count there.count at) in
     absurd cc

@@ -1,7 +1,7 @@
 -- The laws of names that the reader rests on, as `dns_name` promises them.
 use Rattle.std.proofs.Common.{◌≡◌, ℕ, ◌+◌, ◌<◌, ◌≤◌, List, ◌++◌, length, take}
 use Rattle.dns_name.specs.Labels.{IsName, wire_of}
-use Rattle.dns_name.specs.Places.{NameAt}
+use Rattle.dns_name.specs.Offsets.{NameAt}
 
 abbrev pub OneName : Type 0
 OneName = (message : List ℕ) (p s end end' : ℕ) (name name' : List (List ℕ)) → NameAt message p s name end → NameAt message p s name' end'

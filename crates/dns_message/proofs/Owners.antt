@@ -1,20 +1,20 @@
 -- A pointer to the name of the question.
 use Rattle.std.proofs.Common.{◌≡◌, ℕ, ◌+◌, ◌<◌, ◌≤◌, List, [], ◌∷◌, length, get_or, refl, ap, ◌∙◌, arith}
-use Rattle.dns_name.specs.Places.{NameAt, OctetAt, pointer}
+use Rattle.dns_name.specs.Offsets.{NameAt, OctetAt, pointer}
 use Rattle.dns_message.specs.Owners.{IsAskedName}
 use Rattle.dns_message.specs.declared.owner.AskedName.{AskedName}
-use Rattle.dns_message.specs.Places.{AllAt, next}
+use Rattle.dns_message.specs.Offsets.{AllAt, next}
 use Rattle.dns_message.specs.Questions.{QuestionAt}
 use Rattle.dns_message.specs.declared.question.Asked.{Asked}
 use Rattle.dns_message.proofs.Names.{WithinEnd}
-use Rattle.dns_message.proofs.Places.{AllAt-goes_on}
+use Rattle.dns_message.proofs.Offsets.{AllAt-goes_on}
 use Rattle.dns_message.proofs.Questions.{question_goes_on}
 
 module _ (within : WithinEnd) where
   -- it is that name
-  pub name_pointed_to : (message : List ℕ) (place : ℕ) (asked : AskedName) → IsAskedName message asked → asked.end ≤ place
-      → OctetAt message place 192 × OctetAt message (place + 1) 12 → NameAt message place place asked.name.now (place + 2)
-  name_pointed_to message place asked is before octets =
+  pub name_pointed_to : (message : List ℕ) (offset : ℕ) (asked : AskedName) → IsAskedName message asked → asked.end ≤ offset
+      → OctetAt message offset 192 × OctetAt message (offset + 1) 12 → NameAt message offset offset asked.name.now (offset + 2)
+  name_pointed_to message offset asked is before octets =
       let front = within message 12 is.there asked.name.now is.name in
       record {
         labels = pointer 0 12 is.there octets.0 octets.1 (omega (arith, front.0, is.before)) is.name.labels (omega (arith, is.before)) refl;

@@ -16,7 +16,7 @@ use Rattle.dns_message.specs.declared.message.Message.{Message}
 use Rattle.dns_message.specs.declared.question.Question.{Question}
 use Rattle.dns_message.proofs.Names.{IsReadAgain}
 use Rattle.dns_message.proofs.WrittenOctets.{length-header_octets, length-count_octets, length-plain, questions_short, questions-le, answers-le, authority-le, additional-le}
-use Rattle.dns_message.proofs.WrittenPlaces.{Stands, Stands-at, all_at}
+use Rattle.dns_message.proofs.WrittenOffsets.{Stands, Stands-at, all_at}
 use Rattle.dns_message.proofs.WrittenLayouts.{parts, header_at, counts_at, question_at, record_at}
 
 message_at : IsReadAgain → (octets : List ℕ) (message : Message) → MessageFits message → length (plain message) ≤ 65535

@@ -4,7 +4,7 @@ use Rattle.std.specs.Prelude.{◌≡◌, ◌^◌, ◌<◌, ◌≤◌, length}
 use Rattle.std.specs.List.{AllByRecursion}
 use Rattle.dns_name.specs.Labels.{IsName}
 use Rattle.dns_message.specs.Data.{CanBeOther}
-use Rattle.dns_message.specs.Written.{rdata_code, rdata_class}
+use Rattle.dns_message.specs.Written.{type_of_rdata, rdata_class}
 use Rattle.dns_message.specs.declared.header.Header.{Header}
 use Rattle.dns_message.specs.declared.message.Message.{Message}
 use Rattle.dns_message.specs.declared.naptr.NaptrRecord.{NaptrRecord}
@@ -51,22 +51,22 @@ RdataFits (Srv server) = SrvFits server
 RdataFits (Naptr rule) = NaptrFits rule
 RdataFits (Cname name) = IsName name
 RdataFits (Soa authority) = SoaFits authority
-RdataFits (Other other) = CanBeOther other.code other.class_code other.octets
+RdataFits (Other other) = CanBeOther other.type_number other.class_number other.octets
 
 -- a record fits: its owner is a name, TYPE and CLASS are below 2^16, TTL is below 2^32, and its
 -- data fits (RFC 1035 4.1.3)
 pub record RecordFits (entry : Record) : Type 0 where
   pub owner : IsName entry.owner
-  pub code : rdata_code entry.rdata < 2 ^ 16
-  pub class_code : rdata_class entry.rdata < 2 ^ 16
+  pub type_number : type_of_rdata entry.rdata < 2 ^ 16
+  pub class_number : rdata_class entry.rdata < 2 ^ 16
   pub ttl : entry.ttl < 2 ^ 32
   pub rdata : RdataFits entry.rdata
 
 -- a question fits: QNAME is a name, and QTYPE and QCLASS are below 2^16 (RFC 1035 4.1.2)
 pub record QuestionFits (asked : Asked) : Type 0 where
   pub name : IsName asked.name
-  pub code : asked.code < 2 ^ 16
-  pub class_code : asked.class_code < 2 ^ 16
+  pub type_number : asked.type_number < 2 ^ 16
+  pub class_number : asked.class_number < 2 ^ 16
 
 -- a header fits: ID is below 2^16, and OPCODE and RCODE are below 16 (RFC 1035 4.1.1)
 pub record HeaderFits (header : Header) : Type 0 where

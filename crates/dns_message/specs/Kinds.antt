@@ -5,8 +5,8 @@ use Rattle.dns_message.specs.declared.kind.Kind.TheVariants.{A, Aaaa, Srv, Naptr
 
 -- the number of the type that a kind of question asks for (RFC 1035 3.2.2, 3596 2.1, 2782, 3403
 -- 4.1)
-abbrev pub kind_code : Kind → ℕ
-kind_code A = 1
-kind_code Aaaa = 28
-kind_code Srv = 33
-kind_code Naptr = 35
+abbrev pub type_of_kind : Kind → ℕ
+type_of_kind A = 1
+type_of_kind Aaaa = 28
+type_of_kind Srv = 33
+type_of_kind Naptr = 35

@@ -1,4 +1,4 @@
-pub mod Places
+pub mod Offsets
 pub mod Kinds
 pub mod Data
 pub mod Layouts

@@ -1,7 +1,7 @@
 -- A message (RFC 1035 4.1).
 use Rattle.std.specs.Prelude.{ℕ, ◌<◌, ◌≤◌, List, length, take}
 use Rattle.std.specs.Int.{w16}
-use Rattle.dns_message.specs.Places.{NumberAt, NamedAt, AllAt}
+use Rattle.dns_message.specs.Offsets.{NumberAt, NamedAt, AllAt}
 use Rattle.dns_message.specs.Headers.{HeaderAt}
 use Rattle.dns_message.specs.Questions.{QuestionAt}
 use Rattle.dns_message.specs.Records.{RecordAt}
@@ -47,11 +47,11 @@ pub record QuestionsStand (octets : List ℕ) (end : ℕ) : Type 0 where
   pub count : NumberAt w16 octets 4 (length questions)
   pub stand : AllAt (QuestionAt octets) 12 questions end
 
--- as many records as this number of the header counts lie from one place to another (RFC 1035
+-- as many records as this number of the header counts lie from one offset to another (RFC 1035
 -- 4.1.1)
-pub record RecordsStand (octets : List ℕ) (count_place start end : ℕ) : Type 0 where
+pub record RecordsStand (octets : List ℕ) (count_offset start end : ℕ) : Type 0 where
   pub records : List Record
-  pub count : NumberAt w16 octets count_place (length records)
+  pub count : NumberAt w16 octets count_offset (length records)
   pub stand : AllAt (RecordAt octets) start records end
 
 -- octets do not have this part of a message, and have all parts before it

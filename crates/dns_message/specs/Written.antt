@@ -4,7 +4,7 @@ use Rattle.std.specs.Int.{w16, w32, to_be_bytes}
 use Rattle.std.specs.List.{flat_map}
 use Rattle.dns_name.specs.Labels.{wire_of}
 use Rattle.dns_message.specs.Headers.{bit}
-use Rattle.dns_message.specs.Kinds.{kind_code}
+use Rattle.dns_message.specs.Kinds.{type_of_kind}
 use Rattle.dns_message.specs.declared.header.Header.{Header}
 use Rattle.dns_message.specs.declared.message.Message.{Message}
 use Rattle.dns_message.specs.declared.naptr.NaptrRecord.{NaptrRecord}
@@ -66,14 +66,14 @@ rdata_octets (Soa authority) = soa_octets authority
 rdata_octets (Other other) = other.octets
 
 -- the number of the type of data (RFC 1035 3.2.2, 3596 2.1, 2782, 3403 4.1)
-abbrev pub rdata_code : Rdata → ℕ
-rdata_code (Addr4 octets) = 1
-rdata_code (Addr6 octets) = 28
-rdata_code (Srv server) = 33
-rdata_code (Naptr rule) = 35
-rdata_code (Cname name) = 5
-rdata_code (Soa authority) = 6
-rdata_code (Other other) = other.code
+abbrev pub type_of_rdata : Rdata → ℕ
+type_of_rdata (Addr4 octets) = 1
+type_of_rdata (Addr6 octets) = 28
+type_of_rdata (Srv server) = 33
+type_of_rdata (Naptr rule) = 35
+type_of_rdata (Cname name) = 5
+type_of_rdata (Soa authority) = 6
+type_of_rdata (Other other) = other.type_number
 
 -- the number of the class of data: that of IN is 1, and other data has its own (RFC 1035 3.2.4)
 abbrev pub rdata_class : Rdata → ℕ
@@ -83,18 +83,19 @@ rdata_class (Srv server) = 1
 rdata_class (Naptr rule) = 1
 rdata_class (Cname name) = 1
 rdata_class (Soa authority) = 1
-rdata_class (Other other) = other.class_code
+rdata_class (Other other) = other.class_number
 
 -- ---- questions and records
 
 -- the octets of a question: QNAME, QTYPE and QCLASS (RFC 1035 4.1.2)
 unfoldable pub question_octets : Asked → List ℕ
-question_octets asked = wire_of asked.name ++ two_octets asked.code ++ two_octets asked.class_code
+question_octets asked = wire_of asked.name ++ two_octets asked.type_number ++ two_octets
+    asked.class_number
 
 -- the octets of a record: NAME, TYPE, CLASS, TTL, RDLENGTH and RDATA (RFC 1035 4.1.3)
 unfoldable pub record_octets : Record → List ℕ
 record_octets entry =
-    wire_of entry.owner ++ two_octets (rdata_code entry.rdata)
+    wire_of entry.owner ++ two_octets (type_of_rdata entry.rdata)
     ++ two_octets (rdata_class entry.rdata)
     ++ four_octets entry.ttl
     ++ two_octets (length (rdata_octets entry.rdata)) ++ rdata_octets entry.rdata
@@ -151,7 +152,11 @@ fitted message = if nat_le (length (plain message)) 512 then message else cut me
 
 -- a question in class IN (1), as a message has it
 abbrev pub asked_of : Question → Asked
-asked_of question = record { name = question.name; code = kind_code question.kind; class_code = 1 }
+asked_of question = record {
+  name = question.name;
+  type_number = type_of_kind question.kind;
+  class_number = 1;
+}
 
 -- a query: one question, with RD set (RFC 1035 4.1.1, 4.1.2)
 abbrev pub query_of : ℕ → Question → Message

@@ -79,22 +79,22 @@ impl Eq for CharString {
     ghost laws = { Prim.search (comparing, rules) };
 }
 
-/// Reads the character string at a place, and gives the place after it.
+/// Reads the character string at an offset, and gives the offset after it.
 pub(crate) fn char_string_at(
     alloc: Global,
     bytes: &[u8],
-    place: usize,
+    offset: usize,
 ) -> Result<(CharString, usize), EntryRefusal>
-    requires { place ≤ length bytes.now }
-    ensures found { IfOk result (λ found. CharStringAt bytes.now place found.0 found.1) }
-    ensures read { (string : List ℕ) (end : ℕ) → CharStringAt bytes.now place string end
+    requires { offset ≤ length bytes.now }
+    ensures found { IfOk result (λ found. CharStringAt bytes.now offset found.0 found.1) }
+    ensures read { (string : List ℕ) (end : ℕ) → CharStringAt bytes.now offset string end
         → MatchResult result (λ found. (found.0 ≡ string) × (found.1 ≡ end))
         (λ refusal. refusal ≡ EntryRefusal.Memory) }
     ensures memory { IfErr result (λ refusal. refusal ≡ EntryRefusal.Memory
-        → (string : List ℕ) × (end : ℕ) × CharStringAt bytes.now place string end) }
+        → (string : List ℕ) × (end : ℕ) × CharStringAt bytes.now offset string end) }
 {
-    let size = usize::from(*bytes.get(place).ok_or(EntryRefusal::Malformed)?);
-    let start = place + 1;
+    let size = usize::from(*bytes.get(offset).ok_or(EntryRefusal::Malformed)?);
+    let start = offset + 1;
     let end = start + size;
     let octets = bytes.get(start..end).ok_or(EntryRefusal::Malformed)?;
     let octets = Vec::from_slice(alloc, octets)?;

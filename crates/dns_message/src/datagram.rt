@@ -22,15 +22,15 @@ pub(crate) fn push_octets(octets: &[u8], out: &mut Datagram) -> Result<(), TooLo
     out.try_extend_from_slice(octets).map_err(|_| TooLong)
 }
 
-/// Writes a number over the two octets at a place.
-pub(crate) fn set_u16(number: u16, place: usize, out: &mut Datagram)
-    requires { place + 2 ≤ length out.old.items }
-    ensures { (front back : List ℕ) → length front ≡ place
+/// Writes a number over the two octets at an offset.
+pub(crate) fn set_u16(number: u16, offset: usize, out: &mut Datagram)
+    requires { offset + 2 ≤ length out.old.items }
+    ensures { (front back : List ℕ) → length front ≡ offset
         → out.old.items ≡ front ++ two_octets 0 ++ back
         → out.new.items ≡ front ++ two_octets number ++ back }
 {
     let [high, low] = number.to_be_bytes();
     let octets = out.as_mut_slice();
-    octets[place] = high;
-    octets[place + 1] = low;
+    octets[offset] = high;
+    octets[offset + 1] = low;
 }

@@ -1,7 +1,7 @@
 //! What a section of a message has, one after the other: questions or records (RFC 1035 4.1).
 ghost use Rattle.std.specs.Prelude.{◌≡◌, ℕ, List, [], length, IfOk, IfErr, IfSome, MatchResult};
 ghost use Rattle.dns_message.specs.Owners.{IsAskedName};
-ghost use Rattle.dns_message.specs.Places.{NamedAt, AllAt};
+ghost use Rattle.dns_message.specs.Offsets.{NamedAt, AllAt};
 ghost use Rattle.dns_message.specs.Refusals.{IsOfPart};
 
 use crate::owner::AskedName;
@@ -10,65 +10,65 @@ use std::alloc::Global;
 
 /// A question or a record.
 pub(crate) trait Entry: Sized + Drop {
-    // It stands in a message from a place to another.
+    // It stands in a message from an offset to another.
     ghost stands: { List ℕ → ℕ → Self → ℕ → Type 0 };
 
-    /// Reads the one at a place, and gives the place after it. The name of the question may be
+    /// Reads the one at an offset, and gives the offset after it. The name of the question may be
     /// known by then.
     fn read_at(
         alloc: Global,
         bytes: &[u8],
-        place: usize,
+        offset: usize,
         asked: Option<AskedName<'_>>,
     ) -> Result<(Self, usize), EntryRefusal>
         requires { IfSome asked (IsAskedName bytes.now) }
-        ensures found { IfOk result (λ found. stands bytes.now place found.0 found.1) }
-        ensures read { (entry : Self) (end : ℕ) → stands bytes.now place entry end
+        ensures found { IfOk result (λ found. stands bytes.now offset found.0 found.1) }
+        ensures read { (entry : Self) (end : ℕ) → stands bytes.now offset entry end
             → MatchResult result (λ found. (found.0 ≡ entry) × (found.1 ≡ end))
             (λ refusal. refusal ≡ EntryRefusal.Memory) }
         ensures memory { IfErr result (λ refusal. refusal ≡ EntryRefusal.Memory
-            → NamedAt bytes.now place) };
+            → NamedAt bytes.now offset) };
 
     // It begins with a name.
-    ghost named: { (message : List ℕ) (place end : ℕ) (entry : Self)
-        → stands message place entry end → NamedAt message place };
+    ghost named: { (message : List ℕ) (offset end : ℕ) (entry : Self)
+        → stands message offset entry end → NamedAt message offset };
 }
 
-/// Reads so many from a place on into an empty list, and gives the place after them.
+/// Reads so many from an offset on into an empty list, and gives the offset after them.
 fn read_entries<E: Entry>(
     alloc: Global,
     bytes: &[u8],
-    place: usize,
+    offset: usize,
     count: u16,
     asked: Option<AskedName<'_>>,
     entries: &mut Vec<E>,
 ) -> Result<usize, EntryRefusal>
     requires empty { entries.old.items ≡ [] }
     requires asked { IfSome asked (IsAskedName bytes.now) }
-    ensures found { IfOk result (λ end. AllAt (E.stands bytes.now) place entries.new.items end
+    ensures found { IfOk result (λ end. AllAt (E.stands bytes.now) offset entries.new.items end
         × (length entries.new.items ≡ count)) }
-    ensures read { (all : List E) (end : ℕ) → AllAt (E.stands bytes.now) place all end
+    ensures read { (all : List E) (end : ℕ) → AllAt (E.stands bytes.now) offset all end
         → length all ≡ count
         → MatchResult result (λ found. (entries.new.items ≡ all) × (found ≡ end))
         (λ refusal. refusal ≡ EntryRefusal.Memory) }
     ensures memory { IfErr result (λ refusal. refusal ≡ EntryRefusal.Memory
-        → NamedAt bytes.now place) }
+        → NamedAt bytes.now offset) }
 {
-    let mut place = place;
+    let mut offset = offset;
     for _ in 0..count {
-        let (entry, after) = E::read_at(alloc, bytes, place, asked)?;
+        let (entry, after) = E::read_at(alloc, bytes, offset, asked)?;
         entries.push(entry)?;
-        place = after;
+        offset = after;
     }
-    Ok(place)
+    Ok(offset)
 }
 
 /// Reads the section of so many, as this part of the message, into an empty list, and gives the
-/// place after it.
+/// offset after it.
 pub(crate) fn read_section<E: Entry>(
     alloc: Global,
     bytes: &[u8],
-    place: usize,
+    offset: usize,
     count: u16,
     part: Part,
     asked: Option<AskedName<'_>>,
@@ -76,17 +76,17 @@ pub(crate) fn read_section<E: Entry>(
 ) -> Result<usize, MessageRefusal>
     requires empty { entries.old.items ≡ [] }
     requires asked { IfSome asked (IsAskedName bytes.now) }
-    ensures found { IfOk result (λ end. AllAt (E.stands bytes.now) place entries.new.items end
+    ensures found { IfOk result (λ end. AllAt (E.stands bytes.now) offset entries.new.items end
         × (length entries.new.items ≡ count)) }
-    ensures read { (all : List E) (end : ℕ) → AllAt (E.stands bytes.now) place all end
+    ensures read { (all : List E) (end : ℕ) → AllAt (E.stands bytes.now) offset all end
         → length all ≡ count
         → MatchResult result (λ found. (entries.new.items ≡ all) × (found ≡ end))
         (λ refusal. refusal ≡ MessageRefusal.Memory) }
     ensures refused { IfErr result (λ refusal. IsOfPart refusal part) }
     ensures memory { IfErr result
-        (λ refusal. refusal ≡ MessageRefusal.Memory → NamedAt bytes.now place) }
+        (λ refusal. refusal ≡ MessageRefusal.Memory → NamedAt bytes.now offset) }
 {
-    match read_entries(alloc, bytes, place, count, asked, entries) {
+    match read_entries(alloc, bytes, offset, count, asked, entries) {
         Ok(after) => Ok(after),
         Err(refusal) => Err(refusal.of_part(part)),
     }

@@ -1,6 +1,6 @@
 //! The kinds of question that are asked.
 ghost use Rattle.std.specs.Prelude.{◌≡◌};
-ghost use Rattle.dns_message.specs.Kinds.{kind_code};
+ghost use Rattle.dns_message.specs.Kinds.{type_of_kind};
 
 use crate::codes::{TYPE_A, TYPE_AAAA, TYPE_NAPTR, TYPE_SRV};
 
@@ -20,8 +20,8 @@ pub enum Kind {
 impl Kind {
     /// The number of the type of records that is asked for (RFC 1035 3.2.2, 3596 2.1, 2782, 3403
     /// 4.1).
-    pub fn code(self) -> u16
-        ensures { result ≡ kind_code self }
+    pub fn type_number(self) -> u16
+        ensures { result ≡ type_of_kind self }
     {
         match self {
             Kind::A => TYPE_A,

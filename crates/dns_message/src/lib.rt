@@ -53,7 +53,9 @@ pub use char_string::CharString;
 pub use codes::CLASS_IN;
 pub use header::Header;
 pub use kind::Kind;
-pub use laws::{one_message_in_front, same_questions_are_equal, written_message_is_read};
+pub use laws::{
+    law_one_message_in_front, law_same_questions_are_equal, law_written_message_is_read,
+};
 pub use message::{Message, message_in, read_message};
 pub use naptr::NaptrRecord;
 pub use other_data::OtherData;

@@ -1,7 +1,7 @@
 //! Messages (RFC 1035 4.1).
 ghost use Rattle.std.specs.Prelude.{◌≡◌, ◌↔◌, ◌≤◌, ◌<◌, ℕ, length, take, IfOk, IfErr, MatchOption, MatchResult, OnErr};
 ghost use Rattle.dns_message.specs.Messages.{Begins, Spells, RefusedWhere};
-ghost use Rattle.dns_message.specs.Places.{NamedAt};
+ghost use Rattle.dns_message.specs.Offsets.{NamedAt};
 ghost use Rattle.dns_message.specs.declared.refusal.Part as part;
 ghost use Rattle.dns_message.specs.declared.message.Message as message;
 
@@ -12,13 +12,13 @@ use crate::question::Asked;
 use crate::refusal::{MessageRefusal, Part};
 use crate::resource::Record;
 use crate::section::Section;
-use dns_name::{name_rests_before_its_end, one_name_at_a_place};
+use dns_name::{law_name_rests_before_its_end, law_one_name_at_an_offset};
 use std::alloc::{AllocError, Global};
 
 /// The most octets of a message (RFC 1035 4.2.2).
 const MESSAGE_LIMIT: usize = 65_535;
 
-/// The place after the header.
+/// The offset after the header.
 const HEADER_END: usize = 12;
 
 /// A message.
@@ -58,14 +58,14 @@ pub fn read_message(alloc: Global, bytes: &[u8]) -> Result<Message, MessageRefus
     ensures header { (result ≡ Err (MessageRefusal.Malformed Part.Header))
         ↔ (length bytes.now < 12) }
 {
-    one_name_at_a_place();
-    name_rests_before_its_end();
+    law_one_name_at_an_offset();
+    law_name_rests_before_its_end();
     if bytes.len() > MESSAGE_LIMIT {
         return Err(MessageRefusal::TooLong);
     }
     let (header, counts) = header_at(bytes).ok_or(MessageRefusal::Malformed(Part::Header))?;
     let mut questions = Vec::new(alloc);
-    let place = read_section(
+    let offset = read_section(
         alloc,
         bytes,
         HEADER_END,
@@ -74,22 +74,22 @@ pub fn read_message(alloc: Global, bytes: &[u8]) -> Result<Message, MessageRefus
         None,
         &mut questions,
     )?;
-    let asked = AskedName::of(&questions, place);
+    let asked = AskedName::of(&questions, offset);
     let mut answers = Vec::new(alloc);
-    let place = read_section(
+    let offset = read_section(
         alloc,
         bytes,
-        place,
+        offset,
         counts.answers,
         Part::Answers,
         asked,
         &mut answers,
     )?;
     let mut authority = Vec::new(alloc);
-    let place = read_section(
+    let offset = read_section(
         alloc,
         bytes,
-        place,
+        offset,
         counts.authority,
         Part::Authority,
         asked,
@@ -99,7 +99,7 @@ pub fn read_message(alloc: Global, bytes: &[u8]) -> Result<Message, MessageRefus
     let _ = read_section(
         alloc,
         bytes,
-        place,
+        offset,
         counts.additional,
         Part::Additional,
         asked,

@@ -10,7 +10,7 @@ use crate::datagram::{Datagram, TooLong};
 use crate::name::push_name;
 use crate::number::{push_u16, u16_at};
 use crate::refusal::EntryRefusal;
-use dns_name::{Name, one_name_at_a_place, read_name};
+use dns_name::{Name, law_one_name_at_an_offset, read_name};
 use std::alloc::{AllocError, Global};
 
 /// A rule that leads from a name to a service (RFC 3403 4.1).
@@ -46,27 +46,27 @@ impl NaptrRecord {
     }
 }
 
-/// Reads the record at a place, and gives the place after it.
+/// Reads the record at an offset, and gives the offset after it.
 pub(crate) fn naptr_at(
     alloc: Global,
     bytes: &[u8],
-    place: usize,
+    offset: usize,
 ) -> Result<(NaptrRecord, usize), EntryRefusal>
-    requires { place ≤ length bytes.now }
-    ensures found { IfOk result (λ found. NaptrAt bytes.now place found.0 found.1) }
-    ensures read { (rule : naptr.NaptrRecord) (end : ℕ) → NaptrAt bytes.now place rule end
+    requires { offset ≤ length bytes.now }
+    ensures found { IfOk result (λ found. NaptrAt bytes.now offset found.0 found.1) }
+    ensures read { (rule : naptr.NaptrRecord) (end : ℕ) → NaptrAt bytes.now offset rule end
         → MatchResult result (λ found. (found.0 ≡ rule) × (found.1 ≡ end))
         (λ refusal. refusal ≡ EntryRefusal.Memory) }
     ensures memory { IfErr result (λ refusal. refusal ≡ EntryRefusal.Memory
-        → (flags : List ℕ) × (end : ℕ) × CharStringAt bytes.now (place + 4) flags end) }
+        → (flags : List ℕ) × (end : ℕ) × CharStringAt bytes.now (offset + 4) flags end) }
 {
-    one_name_at_a_place();
-    let order = u16_at(bytes, place).ok_or(EntryRefusal::Malformed)?;
-    let preference = u16_at(bytes, place + 2).ok_or(EntryRefusal::Malformed)?;
-    let (flags, place) = char_string_at(alloc, bytes, place + 4)?;
-    let (services, place) = char_string_at(alloc, bytes, place)?;
-    let (regexp, place) = char_string_at(alloc, bytes, place)?;
-    let (replacement, end) = read_name(alloc, bytes, place)?;
+    law_one_name_at_an_offset();
+    let order = u16_at(bytes, offset).ok_or(EntryRefusal::Malformed)?;
+    let preference = u16_at(bytes, offset + 2).ok_or(EntryRefusal::Malformed)?;
+    let (flags, offset) = char_string_at(alloc, bytes, offset + 4)?;
+    let (services, offset) = char_string_at(alloc, bytes, offset)?;
+    let (regexp, offset) = char_string_at(alloc, bytes, offset)?;
+    let (replacement, end) = read_name(alloc, bytes, offset)?;
     Ok((
         NaptrRecord {
             order,

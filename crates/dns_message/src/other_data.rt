@@ -12,8 +12,8 @@ const DATA_LIMIT: usize = 65_535;
 /// Data of a type and class that has no variant of its own: at most 65,535 octets.
 #[derive(Debug, Drop)]
 pub struct OtherData {
-    code: u16,
-    class_code: u16,
+    type_number: u16,
+    class_number: u16,
     octets: Vec<u8>,
 }
 
@@ -23,23 +23,34 @@ impl Model for OtherData {
     ghost Value = { OtherOctets };
 
     ghost view = { λ other.
-        record { code = other.code; class_code = other.class_code; octets = other.octets.items } };
+        record {
+          type_number = other.type_number;
+          class_number = other.class_number;
+          octets =
+              other.octets.items;
+        } };
 
-    ghost invariant = { λ other. CanBeOther other.code other.class_code other.octets.items };
+    ghost invariant = { λ other. CanBeOther other.type_number other.class_number
+        other.octets.items };
 }
 
 impl OtherData {
     /// Data of a type and class, unless that has a variant of its own or there are more than 65,535
     /// octets.
-    pub fn new(code: u16, class_code: u16, octets: Vec<u8>) -> Option<OtherData>
-        ensures made { IsSome result ↔ CanBeOther code class_code octets.items }
+    pub fn new(type_number: u16, class_number: u16, octets: Vec<u8>) -> Option<OtherData>
+        ensures made { IsSome result ↔ CanBeOther type_number class_number octets.items }
         ensures is { IfSome result (λ other. other
-            ≡ record { code = code; class_code = class_code; octets = octets.items }) }
+            ≡ record {
+              type_number = type_number;
+              class_number = class_number;
+              octets =
+                  octets.items;
+            }) }
     {
-        match data_format(code, class_code) {
+        match data_format(type_number, class_number) {
             DataFormat::Other if octets.len() <= DATA_LIMIT => Some(OtherData {
-                code,
-                class_code,
+                type_number,
+                class_number,
                 octets,
             }),
             _ => None,
@@ -52,30 +63,30 @@ impl OtherData {
     {
         let octets = Vec::from_slice(*self.octets.allocator(), self.octets.as_slice())?;
         Ok(OtherData {
-            code: self.code,
-            class_code: self.class_code,
+            type_number: self.type_number,
+            class_number: self.class_number,
             octets,
         })
     }
 
     /// The number of the type of the data.
-    pub fn code(&self) -> u16
-        ensures { result ≡ self.now.code }
+    pub fn type_number(&self) -> u16
+        ensures { result ≡ self.now.type_number }
     {
-        self.code
+        self.type_number
     }
 
     /// The number of the class of the data.
-    pub fn class_code(&self) -> u16
-        ensures { result ≡ self.now.class_code }
+    pub fn class_number(&self) -> u16
+        ensures { result ≡ self.now.class_number }
     {
-        self.class_code
+        self.class_number
     }
 
     /// The octets of the data.
     pub fn octets(&self) -> &[u8]
         ensures octets { result.now ≡ self.now.octets }
-        ensures other { CanBeOther self.now.code self.now.class_code self.now.octets }
+        ensures other { CanBeOther self.now.type_number self.now.class_number self.now.octets }
     {
         self.octets.as_slice()
     }

@@ -12,7 +12,7 @@ use crate::name::push_name;
 use crate::number::{push_u16, u16_at};
 use crate::owner::AskedName;
 use crate::refusal::EntryRefusal;
-use dns_name::{Name, name_rests_before_its_end, one_name_at_a_place, read_name};
+use dns_name::{Name, law_name_rests_before_its_end, law_one_name_at_an_offset, read_name};
 use std::alloc::{AllocError, Global};
 use std::hash::{Hash, Hasher};
 
@@ -40,14 +40,14 @@ impl Question {
 impl PartialEq for Question {
     ghost use Rattle.std.specs.Cmp.{and_equiv, on_equiv, nat_eq_equiv, partial_equiv_from_equiv};
     ghost use Rattle.std.specs.Cmp.Lexicographic.{lists_equiv};
-    ghost use Rattle.dns_message.specs.Kinds.{kind_code};
+    ghost use Rattle.dns_message.specs.Kinds.{type_of_kind};
     ghost use Rattle.dns_message.specs.declared.question.Question.{Question};
 
     ghost eq = { same_question };
 
     ghost laws = { partial_equiv_from_equiv (and_equiv
         (on_equiv (λ (question : Question). question.name) (lists_equiv (lists_equiv nat_eq_equiv)))
-        (on_equiv (λ (question : Question). kind_code question.kind) nat_eq_equiv)) };
+        (on_equiv (λ (question : Question). type_of_kind question.kind) nat_eq_equiv)) };
 
     /// Whether two questions ask for the same type of records of the same name.
     fn eq(&self, other: &Question) -> bool
@@ -61,12 +61,12 @@ impl PartialEq for Question {
 impl Eq for Question {
     ghost use Rattle.std.specs.Cmp.{and_equiv, on_equiv, nat_eq_equiv};
     ghost use Rattle.std.specs.Cmp.Lexicographic.{lists_equiv};
-    ghost use Rattle.dns_message.specs.Kinds.{kind_code};
+    ghost use Rattle.dns_message.specs.Kinds.{type_of_kind};
     ghost use Rattle.dns_message.specs.declared.question.Question.{Question};
 
     ghost laws = { and_equiv
         (on_equiv (λ (question : Question). question.name) (lists_equiv (lists_equiv nat_eq_equiv)))
-        (on_equiv (λ (question : Question). kind_code question.kind) nat_eq_equiv) };
+        (on_equiv (λ (question : Question). type_of_kind question.kind) nat_eq_equiv) };
 }
 
 /// By its name, so that equal questions have one hash.
@@ -76,7 +76,7 @@ impl Hash for Question {
     ghost use Rattle.std.specs.Prelude.{nat_eq};
     ghost use Rattle.std.proofs.lemmas.Bool.{and_parts};
     ghost use Rattle.dns_name.specs.Labels.{wire_of, same_name};
-    ghost use Rattle.dns_message.specs.Kinds.{kind_code};
+    ghost use Rattle.dns_message.specs.Kinds.{type_of_kind};
 
     ghost hash_input = { λ question. fed.slice fed.u8 (wire_of question.name) };
 
@@ -85,7 +85,7 @@ impl Hash for Question {
         (λ name. fed.slice fed.u8 (wire_of name))
         (pointwise_decides bytes_decides)).fed it.name other.name
         (and_parts (same_name it.name other.name)
-        (nat_eq (kind_code it.kind) (kind_code other.kind)) same).0 };
+        (nat_eq (type_of_kind it.kind) (type_of_kind other.kind)) same).0 };
 
     fn hash<H: Hasher>(&self, state: &mut H) {
         self.name.hash(state)
@@ -98,9 +98,9 @@ pub struct Asked {
     /// QNAME: the name that is asked about.
     pub name: Name,
     /// QTYPE: the type of record that is asked for.
-    pub code: u16,
+    pub type_number: u16,
     /// QCLASS: the class that is asked for, 1 for IN.
-    pub class_code: u16,
+    pub class_number: u16,
 }
 
 impl Asked {
@@ -110,8 +110,8 @@ impl Asked {
     {
         Ok(Asked {
             name: self.name.try_clone()?,
-            code: self.code,
-            class_code: self.class_code,
+            type_number: self.type_number,
+            class_number: self.class_number,
         })
     }
 }
@@ -119,26 +119,26 @@ impl Asked {
 impl Entry for Asked {
     ghost stands = { QuestionAt };
 
-    ghost named = { λ message place end asked there. (asked.name, there.after, there.name) };
+    ghost named = { λ message offset end asked there. (asked.name, there.after, there.name) };
 
     fn read_at(
         alloc: Global,
         bytes: &[u8],
-        place: usize,
+        offset: usize,
         _asked: Option<AskedName<'_>>,
     ) -> Result<(Asked, usize), EntryRefusal> {
-        name_rests_before_its_end();
-        one_name_at_a_place();
-        let (name, place) = read_name(alloc, bytes, place)?;
-        let code = u16_at(bytes, place).ok_or(EntryRefusal::Malformed)?;
-        let class_code = u16_at(bytes, place + 2).ok_or(EntryRefusal::Malformed)?;
+        law_name_rests_before_its_end();
+        law_one_name_at_an_offset();
+        let (name, offset) = read_name(alloc, bytes, offset)?;
+        let type_number = u16_at(bytes, offset).ok_or(EntryRefusal::Malformed)?;
+        let class_number = u16_at(bytes, offset + 2).ok_or(EntryRefusal::Malformed)?;
         Ok((
             Asked {
                 name,
-                code,
-                class_code,
+                type_number,
+                class_number,
             },
-            place + 4,
+            offset + 4,
         ))
     }
 }
@@ -147,20 +147,30 @@ impl Entry for Asked {
 #[tactic(auto, unfolding(crate::specs::Written::question_octets))]
 pub(crate) fn push_question(
     name: &Name,
-    code: u16,
-    class_code: u16,
+    type_number: u16,
+    class_number: u16,
     out: &mut Datagram,
 ) -> Result<(), TooLong>
     ensures ok { OnOk result (out.new.items ≡ out.old.items
-        ++ question_octets (record { name = name.now; code = code; class_code = class_code })) }
+        ++ question_octets (record {
+          name = name.now;
+          type_number = type_number;
+          class_number =
+              class_number;
+        })) }
     ensures fits { QuestionFits
-        (record { name = name.now; code = code; class_code = class_code }) }
+        (record { name = name.now; type_number = type_number; class_number = class_number }) }
     ensures too_long { OnErr result (512 < length out.old.items + length
-        (question_octets (record { name = name.now; code = code; class_code = class_code }))) }
+        (question_octets (record {
+          name = name.now;
+          type_number = type_number;
+          class_number =
+              class_number;
+        }))) }
 {
     push_name(name, out)?;
-    push_u16(code, out)?;
-    push_u16(class_code, out)
+    push_u16(type_number, out)?;
+    push_u16(class_number, out)
 }
 
 /// Appends questions.
@@ -174,7 +184,7 @@ pub(crate) fn push_questions(questions: &[Asked], out: &mut Datagram) -> Result<
     ensures few { OnErr result (512 < length out.old.items + 259 * length questions.now) }
 {
     for asked in questions {
-        push_question(&asked.name, asked.code, asked.class_code, out)?;
+        push_question(&asked.name, asked.type_number, asked.class_number, out)?;
     }
     Ok(())
 }

@@ -1,7 +1,7 @@
 //! The data of records (RFC 1035 3.2.1, 3.3, 3.4).
 ghost use Rattle.std.specs.Prelude.{◌≡◌, ◌≢◌, ◌+◌, ◌<◌, length, IfOk, MatchResult, ◌++◌, OnOk, OnErr};
 ghost use Rattle.dns_message.specs.Layouts.{RdataAt};
-ghost use Rattle.dns_message.specs.Written.{rdata_code, rdata_class, rdata_octets};
+ghost use Rattle.dns_message.specs.Written.{type_of_rdata, rdata_class, rdata_octets};
 ghost use Rattle.dns_message.specs.Fits.{RdataFits};
 ghost use Rattle.dns_message.specs.Data as spec;
 ghost use Rattle.dns_message.specs.declared.rdata.Rdata as rdata;
@@ -14,7 +14,7 @@ use crate::other_data::OtherData;
 use crate::refusal::EntryRefusal;
 use crate::soa::{SoaRecord, push_soa, soa_at};
 use crate::srv::{SrvRecord, push_srv, srv_at};
-use dns_name::{Name, name_rests_before_its_end, one_name_at_a_place, read_name};
+use dns_name::{Name, law_name_rests_before_its_end, law_one_name_at_an_offset, read_name};
 use std::alloc::{AllocError, Global};
 
 /// The data of a record.
@@ -38,8 +38,8 @@ pub enum Rdata {
 
 impl Rdata {
     /// The number of the type of the data (RFC 1035 3.2.2, 3596 2.1, 2782, 3403 4.1).
-    pub fn code(&self) -> u16
-        ensures { result ≡ rdata_code self.now }
+    pub fn type_number(&self) -> u16
+        ensures { result ≡ type_of_rdata self.now }
     {
         match self {
             Rdata::Addr4(_) => TYPE_A,
@@ -48,16 +48,16 @@ impl Rdata {
             Rdata::Naptr(_) => TYPE_NAPTR,
             Rdata::Cname(_) => TYPE_CNAME,
             Rdata::Soa(_) => TYPE_SOA,
-            Rdata::Other(other) => other.code(),
+            Rdata::Other(other) => other.type_number(),
         }
     }
 
     /// The number of the class of the data (RFC 1035 3.2.4).
-    pub fn class_code(&self) -> u16
+    pub fn class_number(&self) -> u16
         ensures { result ≡ rdata_class self.now }
     {
         match self {
-            Rdata::Other(other) => other.class_code(),
+            Rdata::Other(other) => other.class_number(),
             _ => CLASS_IN,
         }
     }
@@ -91,10 +91,10 @@ pub(crate) enum DataFormat {
 }
 
 /// How the data of a type is laid out in class IN.
-fn internet_format(code: u16) -> DataFormat
-    ensures { result ≡ spec.internet_format code }
+fn internet_format(type_number: u16) -> DataFormat
+    ensures { result ≡ spec.internet_format type_number }
 {
-    match code {
+    match type_number {
         TYPE_A => DataFormat::A,
         TYPE_CNAME => DataFormat::Cname,
         TYPE_SOA => DataFormat::Soa,
@@ -106,11 +106,11 @@ fn internet_format(code: u16) -> DataFormat
 }
 
 /// How the data of a type and class is laid out.
-pub(crate) fn data_format(code: u16, class_code: u16) -> DataFormat
-    ensures { result ≡ spec.data_format code class_code }
+pub(crate) fn data_format(type_number: u16, class_number: u16) -> DataFormat
+    ensures { result ≡ spec.data_format type_number class_number }
 {
-    if class_code == CLASS_IN {
-        internet_format(code)
+    if class_number == CLASS_IN {
+        internet_format(type_number)
     } else {
         DataFormat::Other
     }
@@ -139,32 +139,34 @@ fn ending_at<T: Drop>(found: (T, usize), end: usize) -> Result<T, EntryRefusal>
     }
 }
 
-/// Reads the data of a type and class between two places.
+/// Reads the data of a type and class between two offsets.
 pub(crate) fn rdata_at(
     alloc: Global,
     bytes: &[u8],
-    place: usize,
+    offset: usize,
     end: usize,
-    code: u16,
-    class_code: u16,
+    type_number: u16,
+    class_number: u16,
 ) -> Result<Rdata, EntryRefusal>
-    ensures found { IfOk result (λ found. RdataAt bytes.now place code class_code found end) }
-    ensures read { (data' : rdata.Rdata) → RdataAt bytes.now place code class_code data' end
+    ensures found { IfOk result (λ found. RdataAt bytes.now offset type_number class_number found
+        end) }
+    ensures read { (data' : rdata.Rdata) → RdataAt bytes.now offset type_number class_number data'
+        end
         → MatchResult result (λ found. found ≡ data') (λ refusal. refusal ≡ EntryRefusal.Memory) }
 {
-    one_name_at_a_place();
-    name_rests_before_its_end();
-    let octets = bytes.get(place..end).ok_or(EntryRefusal::Malformed)?;
-    match data_format(code, class_code) {
+    law_one_name_at_an_offset();
+    law_name_rests_before_its_end();
+    let octets = bytes.get(offset..end).ok_or(EntryRefusal::Malformed)?;
+    match data_format(type_number, class_number) {
         DataFormat::A => Ok(Rdata::Addr4(address_of(octets)?)),
         DataFormat::Aaaa => Ok(Rdata::Addr6(address_of(octets)?)),
-        DataFormat::Srv => Ok(Rdata::Srv(ending_at(srv_at(alloc, bytes, place)?, end)?)),
-        DataFormat::Naptr => Ok(Rdata::Naptr(ending_at(naptr_at(alloc, bytes, place)?, end)?)),
-        DataFormat::Cname => Ok(Rdata::Cname(ending_at(read_name(alloc, bytes, place)?, end)?)),
-        DataFormat::Soa => Ok(Rdata::Soa(ending_at(soa_at(alloc, bytes, place)?, end)?)),
+        DataFormat::Srv => Ok(Rdata::Srv(ending_at(srv_at(alloc, bytes, offset)?, end)?)),
+        DataFormat::Naptr => Ok(Rdata::Naptr(ending_at(naptr_at(alloc, bytes, offset)?, end)?)),
+        DataFormat::Cname => Ok(Rdata::Cname(ending_at(read_name(alloc, bytes, offset)?, end)?)),
+        DataFormat::Soa => Ok(Rdata::Soa(ending_at(soa_at(alloc, bytes, offset)?, end)?)),
         DataFormat::Other => {
             let octets = Vec::from_slice(alloc, octets)?;
-            OtherData::new(code, class_code, octets)
+            OtherData::new(type_number, class_number, octets)
                 .map(Rdata::Other)
                 .ok_or(EntryRefusal::Malformed)
         }

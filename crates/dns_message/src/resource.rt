@@ -12,7 +12,7 @@ use crate::number::{push_u16, push_u32, u16_at, u32_at};
 use crate::owner::{AskedName, owner_at};
 use crate::rdata::{Rdata, push_rdata, rdata_at};
 use crate::refusal::EntryRefusal;
-use dns_name::{Name, name_rests_before_its_end, one_name_at_a_place};
+use dns_name::{Name, law_name_rests_before_its_end, law_one_name_at_an_offset};
 use std::alloc::{AllocError, Global};
 
 /// A resource record.
@@ -42,22 +42,23 @@ impl Record {
 /// The numbers between the owner and the data of a record.
 #[derive(Clone, Copy)]
 struct Fixed {
-    code: u16,
-    class_code: u16,
+    type_number: u16,
+    class_number: u16,
     ttl: u32,
     size: u16,
 }
 
-/// These numbers, in ten octets at a place.
-fn fixed_at(bytes: &[u8], place: usize) -> Option<Fixed>
-    requires { place ≤ length bytes.now }
-    ensures { MatchOption result (length bytes.now < place + 10)
-        (λ fixed. FixedAt bytes.now place fixed.code fixed.class_code fixed.ttl fixed.size) }
+/// These numbers, in ten octets at an offset.
+fn fixed_at(bytes: &[u8], offset: usize) -> Option<Fixed>
+    requires { offset ≤ length bytes.now }
+    ensures { MatchOption result (length bytes.now < offset + 10)
+        (λ fixed. FixedAt bytes.now offset fixed.type_number fixed.class_number fixed.ttl
+        fixed.size) }
 {
-    let octets = bytes.get(place..place + 10)?;
+    let octets = bytes.get(offset..offset + 10)?;
     Some(Fixed {
-        code: u16_at(octets, 0)?,
-        class_code: u16_at(octets, 2)?,
+        type_number: u16_at(octets, 0)?,
+        class_number: u16_at(octets, 2)?,
         ttl: u32_at(octets, 4)?,
         size: u16_at(octets, 8)?,
     })
@@ -66,21 +67,28 @@ fn fixed_at(bytes: &[u8], place: usize) -> Option<Fixed>
 impl Entry for Record {
     ghost stands = { RecordAt };
 
-    ghost named = { λ message place end entry there. (entry.owner, there.after, there.owner) };
+    ghost named = { λ message offset end entry there. (entry.owner, there.after, there.owner) };
 
     fn read_at(
         alloc: Global,
         bytes: &[u8],
-        place: usize,
+        offset: usize,
         asked: Option<AskedName<'_>>,
     ) -> Result<(Record, usize), EntryRefusal> {
-        name_rests_before_its_end();
-        one_name_at_a_place();
-        let (owner, place) = owner_at(alloc, bytes, place, asked)?;
-        let fixed = fixed_at(bytes, place).ok_or(EntryRefusal::Malformed)?;
-        let start = place + 10;
+        law_name_rests_before_its_end();
+        law_one_name_at_an_offset();
+        let (owner, offset) = owner_at(alloc, bytes, offset, asked)?;
+        let fixed = fixed_at(bytes, offset).ok_or(EntryRefusal::Malformed)?;
+        let start = offset + 10;
         let end = start + usize::from(fixed.size);
-        let rdata = rdata_at(alloc, bytes, start, end, fixed.code, fixed.class_code)?;
+        let rdata = rdata_at(
+            alloc,
+            bytes,
+            start,
+            end,
+            fixed.type_number,
+            fixed.class_number,
+        )?;
         Ok((
             Record {
                 owner,
@@ -101,11 +109,11 @@ fn push_data(rdata: &Rdata, out: &mut Datagram) -> Result<(), TooLong>
     ensures too_long { OnErr result (512 < length out.old.items
         + length (two_octets (length (rdata_octets rdata.now))) + length (rdata_octets rdata.now)) }
 {
-    let place = out.len();
+    let offset = out.len();
     push_u16(0, out)?;
     push_rdata(rdata, out)?;
-    let size = out.len() - place - 2;
-    set_u16(size as u16, place, out);
+    let size = out.len() - offset - 2;
+    set_u16(size as u16, offset, out);
     Ok(())
 }
 
@@ -118,8 +126,8 @@ fn push_record(entry: &Record, out: &mut Datagram) -> Result<(), TooLong>
         (512 < length out.old.items + length (record_octets entry.now)) }
 {
     push_name(&entry.owner, out)?;
-    push_u16(entry.rdata.code(), out)?;
-    push_u16(entry.rdata.class_code(), out)?;
+    push_u16(entry.rdata.type_number(), out)?;
+    push_u16(entry.rdata.class_number(), out)?;
     push_u32(entry.ttl, out)?;
     push_data(&entry.rdata, out)
 }

@@ -2,7 +2,7 @@
 ghost use Rattle.std.specs.Prelude.{◌≡◌, ◌+◌, ◌<◌, ◌≤◌, ℕ, length, IfOk, IfErr, MatchOption, MatchResult, ◌++◌, OnOk, OnErr};
 ghost use Rattle.std.specs.Int.{w32};
 ghost use Rattle.dns_message.specs.Layouts.{SoaAt};
-ghost use Rattle.dns_message.specs.Places.{NumberAt, NamedAt};
+ghost use Rattle.dns_message.specs.Offsets.{NumberAt, NamedAt};
 ghost use Rattle.dns_message.specs.Written.{soa_octets};
 ghost use Rattle.dns_message.specs.Fits.{SoaFits};
 ghost use Rattle.dns_message.specs.declared.soa.SoaRecord as soa;
@@ -11,7 +11,7 @@ use crate::datagram::{Datagram, TooLong};
 use crate::name::push_name;
 use crate::number::{push_u32, u32_at};
 use crate::refusal::EntryRefusal;
-use dns_name::{Name, name_rests_before_its_end, one_name_at_a_place, read_name};
+use dns_name::{Name, law_name_rests_before_its_end, law_one_name_at_an_offset, read_name};
 use std::alloc::{AllocError, Global};
 
 /// The start of a zone of authority (RFC 1035 3.3.13).
@@ -60,43 +60,43 @@ struct Numbers {
     minimum: u32,
 }
 
-/// These numbers, in twenty octets at a place.
-fn numbers_at(bytes: &[u8], place: usize) -> Option<Numbers>
-    requires { place ≤ length bytes.now }
-    ensures { MatchOption result (length bytes.now < place + 20)
-        (λ numbers. NumberAt w32 bytes.now place numbers.serial
-        × NumberAt w32 bytes.now (place + 4) numbers.refresh
-        × NumberAt w32 bytes.now (place + 8) numbers.retry
-        × NumberAt w32 bytes.now (place + 12) numbers.expire
-        × NumberAt w32 bytes.now (place + 16) numbers.minimum) }
+/// These numbers, in twenty octets at an offset.
+fn numbers_at(bytes: &[u8], offset: usize) -> Option<Numbers>
+    requires { offset ≤ length bytes.now }
+    ensures { MatchOption result (length bytes.now < offset + 20)
+        (λ numbers. NumberAt w32 bytes.now offset numbers.serial
+        × NumberAt w32 bytes.now (offset + 4) numbers.refresh
+        × NumberAt w32 bytes.now (offset + 8) numbers.retry
+        × NumberAt w32 bytes.now (offset + 12) numbers.expire
+        × NumberAt w32 bytes.now (offset + 16) numbers.minimum) }
 {
     Some(Numbers {
-        serial: u32_at(bytes, place)?,
-        refresh: u32_at(bytes, place + 4)?,
-        retry: u32_at(bytes, place + 8)?,
-        expire: u32_at(bytes, place + 12)?,
-        minimum: u32_at(bytes, place + 16)?,
+        serial: u32_at(bytes, offset)?,
+        refresh: u32_at(bytes, offset + 4)?,
+        retry: u32_at(bytes, offset + 8)?,
+        expire: u32_at(bytes, offset + 12)?,
+        minimum: u32_at(bytes, offset + 16)?,
     })
 }
 
-/// Reads the record at a place, and gives the place after it.
+/// Reads the record at an offset, and gives the offset after it.
 pub(crate) fn soa_at(
     alloc: Global,
     bytes: &[u8],
-    place: usize,
+    offset: usize,
 ) -> Result<(SoaRecord, usize), EntryRefusal>
-    ensures found { IfOk result (λ found. SoaAt bytes.now place found.0 found.1) }
-    ensures read { (authority : soa.SoaRecord) (end : ℕ) → SoaAt bytes.now place authority end
+    ensures found { IfOk result (λ found. SoaAt bytes.now offset found.0 found.1) }
+    ensures read { (authority : soa.SoaRecord) (end : ℕ) → SoaAt bytes.now offset authority end
         → MatchResult result (λ found. (found.0 ≡ authority) × (found.1 ≡ end))
         (λ refusal. refusal ≡ EntryRefusal.Memory) }
     ensures memory { IfErr result (λ refusal. refusal ≡ EntryRefusal.Memory
-        → NamedAt bytes.now place) }
+        → NamedAt bytes.now offset) }
 {
-    one_name_at_a_place();
-    name_rests_before_its_end();
-    let (mname, place) = read_name(alloc, bytes, place)?;
-    let (rname, place) = read_name(alloc, bytes, place)?;
-    let numbers = numbers_at(bytes, place).ok_or(EntryRefusal::Malformed)?;
+    law_one_name_at_an_offset();
+    law_name_rests_before_its_end();
+    let (mname, offset) = read_name(alloc, bytes, offset)?;
+    let (rname, offset) = read_name(alloc, bytes, offset)?;
+    let numbers = numbers_at(bytes, offset).ok_or(EntryRefusal::Malformed)?;
     Ok((
         SoaRecord {
             mname,
@@ -107,7 +107,7 @@ pub(crate) fn soa_at(
             expire: numbers.expire,
             minimum: numbers.minimum,
         },
-        place + 20,
+        offset + 20,
     ))
 }
 

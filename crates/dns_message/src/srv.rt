@@ -1,7 +1,7 @@
 //! SRV records (RFC 2782).
 ghost use Rattle.std.specs.Prelude.{◌≡◌, ◌<◌, ◌≤◌, ℕ, length, ◌+◌, IfOk, IfErr, MatchResult, ◌++◌, OnOk, OnErr};
 ghost use Rattle.dns_message.specs.Layouts.{SrvAt};
-ghost use Rattle.dns_message.specs.Places.{NamedAt};
+ghost use Rattle.dns_message.specs.Offsets.{NamedAt};
 ghost use Rattle.dns_message.specs.Written.{srv_octets};
 ghost use Rattle.dns_message.specs.Fits.{SrvFits};
 ghost use Rattle.dns_message.specs.declared.srv.SrvRecord as srv;
@@ -10,7 +10,7 @@ use crate::datagram::{Datagram, TooLong};
 use crate::name::push_name;
 use crate::number::{push_u16, u16_at};
 use crate::refusal::EntryRefusal;
-use dns_name::{Name, one_name_at_a_place, read_name};
+use dns_name::{Name, law_one_name_at_an_offset, read_name};
 use std::alloc::{AllocError, Global};
 
 /// A server of a service (RFC 2782).
@@ -40,25 +40,25 @@ impl SrvRecord {
     }
 }
 
-/// Reads the record at a place, and gives the place after it.
+/// Reads the record at an offset, and gives the offset after it.
 pub(crate) fn srv_at(
     alloc: Global,
     bytes: &[u8],
-    place: usize,
+    offset: usize,
 ) -> Result<(SrvRecord, usize), EntryRefusal>
-    requires { place ≤ length bytes.now }
-    ensures found { IfOk result (λ found. SrvAt bytes.now place found.0 found.1) }
-    ensures read { (server : srv.SrvRecord) (end : ℕ) → SrvAt bytes.now place server end
+    requires { offset ≤ length bytes.now }
+    ensures found { IfOk result (λ found. SrvAt bytes.now offset found.0 found.1) }
+    ensures read { (server : srv.SrvRecord) (end : ℕ) → SrvAt bytes.now offset server end
         → MatchResult result (λ found. (found.0 ≡ server) × (found.1 ≡ end))
         (λ refusal. refusal ≡ EntryRefusal.Memory) }
     ensures memory { IfErr result (λ refusal. refusal ≡ EntryRefusal.Memory
-        → NamedAt bytes.now (place + 6)) }
+        → NamedAt bytes.now (offset + 6)) }
 {
-    one_name_at_a_place();
-    let priority = u16_at(bytes, place).ok_or(EntryRefusal::Malformed)?;
-    let weight = u16_at(bytes, place + 2).ok_or(EntryRefusal::Malformed)?;
-    let port = u16_at(bytes, place + 4).ok_or(EntryRefusal::Malformed)?;
-    let (target, end) = read_name(alloc, bytes, place + 6)?;
+    law_one_name_at_an_offset();
+    let priority = u16_at(bytes, offset).ok_or(EntryRefusal::Malformed)?;
+    let weight = u16_at(bytes, offset + 2).ok_or(EntryRefusal::Malformed)?;
+    let port = u16_at(bytes, offset + 4).ok_or(EntryRefusal::Malformed)?;
+    let (target, end) = read_name(alloc, bytes, offset + 6)?;
     Ok((
         SrvRecord {
             priority,

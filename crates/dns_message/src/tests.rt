@@ -81,7 +81,7 @@ fn cut_anywhere(rt: HostRuntime) {
     }
 }
 
-/// A reply, a place of it, octets that are put there, and the part in which reading stops then.
+/// A reply, an offset of it, octets that are put there, and the part in which reading stops then.
 const BROKEN: &[(&[u8], usize, &[u8], Part)] = &[
     // two questions
     (REPLY, 4, b"\x00\x02", Part::Answers),
@@ -103,7 +103,7 @@ const BROKEN: &[(&[u8], usize, &[u8], Part)] = &[
     (SRV_REPLY, 47, b"\x00\x0b", Part::Answers),
 ];
 
-/// The refusal of a reply with these octets at this place.
+/// The refusal of a reply with these octets at this offset.
 fn refusal_with(alloc: Global, reply: &[u8], at: usize, to: &[u8]) -> Option<MessageRefusal> {
     refusal(alloc, changed(alloc, reply, at, to)?.as_slice())
 }

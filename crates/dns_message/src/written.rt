@@ -11,7 +11,7 @@ use crate::message::Message;
 use crate::question::{Question, push_question, push_questions};
 use crate::resource::push_records;
 use crate::section::Section;
-use dns_name::written_name_is_read;
+use dns_name::law_written_name_is_read;
 use std::alloc::{AllocError, Global};
 
 /// How many questions or records a section has, as a header says it.
@@ -95,7 +95,7 @@ pub fn write_reply(alloc: Global, message: &Message) -> Result<Vec<u8>, AllocErr
     ensures short { IfOk result (λ octets. length octets.items ≤ 512) }
     ensures spells { IfOk result (λ octets. Spells octets.items (fitted message.now)) }
 {
-    written_name_is_read();
+    law_written_name_is_read();
     let mut out = Datagram::new();
     match push_message(message, &mut out) {
         Ok(()) => Vec::from_slice(alloc, out.as_slice()),
@@ -110,7 +110,7 @@ pub fn write_query(alloc: Global, id: u16, question: &Question) -> Result<Vec<u8
     ensures written { IfOk result (λ octets. octets.items ≡ plain (query_of id question.now)) }
     ensures spells { IfOk result (λ octets. Spells octets.items (query_of id question.now)) }
 {
-    written_name_is_read();
+    law_written_name_is_read();
     let header = Header {
         id,
         reply: false,
@@ -131,7 +131,12 @@ pub fn write_query(alloc: Global, id: u16, question: &Question) -> Result<Vec<u8
     let Ok(()) = push_header(header, counts, &mut out) else {
         unreachable!()
     };
-    let Ok(()) = push_question(&question.name, question.kind.code(), CLASS_IN, &mut out) else {
+    let Ok(()) = push_question(
+        &question.name,
+        question.kind.type_number(),
+        CLASS_IN,
+        &mut out,
+    ) else {
         unreachable!()
     };
     Vec::from_slice(alloc, out.as_slice())

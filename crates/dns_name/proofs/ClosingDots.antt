@@ -41,10 +41,10 @@ joined_ends (label ∷ second ∷ labels) some each =
     let after : List ℕ = joined (second ∷ labels) in
     let ends = joined_ends (second ∷ labels) (omega arith) each.1 in
     let len = length-append label (46 ∷ after) in
-    let place : length (label ++ 46 ∷ after) - 1 ≡ length label + suc (length after - 1) = omega (arith, ends.some, len) in
+    let offset : length (label ++ 46 ∷ after) - 1 ≡ length label + suc (length after - 1) = omega (arith, ends.some, len) in
     record {
       some = omega (arith, len);
-      last = rw (place, get_or-append-add label (46 ∷ after) (suc (length after - 1)) 0) ends.last;
+      last = rw (offset, get_or-append-add label (46 ∷ after) (suc (length after - 1)) 0) ends.last;
     }
 
 without_dot-label : (text : List ℕ) → EndsWithLabel text → without_closing_dot text ≡ text

@@ -1,13 +1,13 @@
--- The reader of a name: what the labels so far and those at the present place have to do with the name.
+-- The reader of a name: what the labels so far and those at the present offset have to do with the name.
 use Rattle.std.proofs.Common.{◌≡◌, ℕ, suc, ◌+◌, ◌*◌, ◌<◌, ◌≤◌, List, [], ◌∷◌, ◌++◌, length, slice_range, Option, Some, None, refl, sym, ap, ◌∙◌, arith, append_assoc}
 use Rattle.std.specs.Prelude.{unwrap_or}
 use Rattle.std.proofs.lemmas.List.{length-append}
 use Rattle.dns_name.specs.Labels.{small_letters, wire_of}
-use Rattle.dns_name.specs.Places.{OctetAt, LabelsAt, root, label, pointer, NameAt}
+use Rattle.dns_name.specs.Offsets.{OctetAt, LabelsAt, root, label, pointer, NameAt}
 use Rattle.dns_name.proofs.Wire.{wire_of-some, same_labels}
 use Rattle.dns_name.proofs.Runs.{ends_later, ends_within, length-label, from_label, from_pointer}
 
--- The octets are those of the labels before place p, in a run that began at s and has to end at limit or before.
+-- The octets are those of the labels before offset p, in a run that began at s and has to end at limit or before.
 -- What follows the first pointer, if there was one, is after.
 pub record Finding (message : List ℕ) (at p s limit : ℕ) (octets : List ℕ) (after : Option ℕ) : Type 0 where
   -- the labels here complete a name

@@ -3,7 +3,7 @@ mod Runs
 mod SmallRuns
 mod Finding
 mod Pieces
-mod Places
+mod Offsets
 mod TextLabels
 pub mod ClosingDots
 mod TextNames

@@ -1,8 +1,8 @@
--- What is found at a place of a run of labels.
+-- What is found at an offset of a run of labels.
 use Rattle.std.proofs.Common.{◌≡◌, ℕ, ◌+◌, ◌-◌, ◌<◌, ◌≤◌, List, ◌∷◌, length, take, drop, get_or, slice_range, refl, sym, ap, ◌∙◌, arith, add-zero}
 use Rattle.std.proofs.lemmas.List.{length-take, length-take-le, length-drop, get_or-take, get_or-drop, drop-drop, take-take}
 use Rattle.std.proofs.lemmas.Slice.{between_to_end, between_is}
-use Rattle.dns_name.specs.Places.{OctetAt, LabelsAt, root, label, pointer}
+use Rattle.dns_name.specs.Offsets.{OctetAt, LabelsAt, root, label, pointer}
 use Rattle.dns_name.specs.Pieces.{LabelPiece, NothingAt}
 use Rattle.dns_name.proofs.Runs.{ends_later, from_label}
 

@@ -1,11 +1,11 @@
--- Runs of labels: where they end, what their labels are, and how they go on from what stands at a place.
+-- Runs of labels: where they end, what their labels are, and how they go on from what stands at an offset.
 use Rattle.std.proofs.Common.{◌≡◌, ℕ, ◌+◌, ◌*◌, ◌<◌, ◌≤◌, List, [], ◌∷◌, length, slice_range, refl, sym, ap, ◌∙◌, arith}
 use Rattle.std.specs.List.{AllByRecursion}
 use Rattle.std.proofs.lemmas.List.{length-take, length-drop, length-map}
 use Rattle.dns_name.specs.Labels.{IsLabel, IsName, small_letters}
 use Rattle.std.specs.Char.{to_ascii_lowercase}
 use Rattle.std.proofs.lemmas.Bool.Decides.{nat_tests}
-use Rattle.dns_name.specs.Places.{OctetAt, LabelsAt, root, label, pointer, NameAt}
+use Rattle.dns_name.specs.Offsets.{OctetAt, LabelsAt, root, label, pointer, NameAt}
 
 pub ends_later : (message : List ℕ) {p s end : ℕ} {labels : List (List ℕ)} → LabelsAt message p s labels end → p < end
 ends_later message (root o e) = omega arith
@@ -22,7 +22,7 @@ pub length-label : (message : List ℕ) (p n : ℕ) → p + 1 + n ≤ length mes
     → length (small_letters (slice_range message (p + 1) (p + 1 + n))) ≡ n
 length-label message p n le = simp (length-map, length-take, length-drop) (omega arith)
 
--- ---- what stands at a place decides how labels go on there
+-- ---- what stands at an offset decides how labels go on there
 
 pub from_root : (message : List ℕ) {p s end : ℕ} {labels : List (List ℕ)} → OctetAt message p 0 → LabelsAt message p s labels end
     → (labels ≡ []) × (end ≡ p + 1)
@@ -51,7 +51,7 @@ from_pointer message p s high low here here' (pointer high' low' there o o' back
     let same' : low' ≡ low = sym o'.is ∙ here'.is in
     (there, rw (same, same') at back, rw (same, same') at rest, before, e)
 
--- ---- one name at a place
+-- ---- one name at an offset
 
 pub one_reading : (message : List ℕ) {p s end end' : ℕ} {labels labels' : List (List ℕ)} → LabelsAt message p s labels end
     → LabelsAt message p s labels' end' → (labels ≡ labels') × (end ≡ end')
@@ -67,7 +67,7 @@ one_reading message {p = p} {s = s} (pointer high low there o o' back rest befor
     let same = one_reading message rest k.2 in
     (same.0, e ∙ sym k.4)
 
--- ---- labels at a place are labels
+-- ---- labels at an offset are labels
 
 pub small_twice : (octets : List ℕ) → small_letters (small_letters octets) ≡ small_letters octets
 small_twice [] = refl

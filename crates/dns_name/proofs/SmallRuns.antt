@@ -7,7 +7,7 @@ use Rattle.std.proofs.lemmas.Slice.{between_is}
 use Rattle.std.proofs.lemmas.Str.Ascii.{lowercase_is}
 use Rattle.dns_name.specs.Labels.{small_letters}
 use Rattle.dns_name.specs.Pieces.{LabelPiece}
-use Rattle.dns_name.specs.Places.{OctetAt}
+use Rattle.dns_name.specs.Offsets.{OctetAt}
 
 pub run_none : (message : List ℕ) (p : ℕ) → slice_range message p p ≡ []
 run_none message p =
@@ -53,7 +53,7 @@ small_length message passed s p size =
       length-append passed (slice_range message s p),
     )
 
--- as many octets as places
+-- as many octets as offsets
 pub run_size : (message : List ℕ) (s p : ℕ) → s ≤ p → p ≤ length message → length (slice_range message s p) + s ≡ p
 run_size message s p le within =
     omega (arith, length-take (p - s) (drop s message), length-drop s message)

@@ -1,5 +1,5 @@
 pub mod Labels
 pub mod Octets
 pub mod Pieces
-pub mod Places
+pub mod Offsets
 pub mod Texts

@@ -9,13 +9,13 @@
 //! let domain = Name::from_text(alloc, "B.example")?;
 //! let service = domain.prefixed("_sip", "_udp")?;
 //! assert_eq!(rt; service.text()?.as_str(), "_sip._udp.b.example.");
-//! // the name at octet 0 of a message, and the place after it
+//! // the name at octet 0 of a message, and the offset after it
 //! let (name, after) = read_name(alloc, b"\x01b\x07example\x00", 0)?;
 //! assert!(rt; name == domain && after == 11);
 //! ```
 #![tactic(auto)]
 
-mod draft;
+mod builder;
 mod laws;
 mod message;
 mod name;
@@ -24,8 +24,8 @@ mod refusal;
 mod text;
 
 pub use laws::{
-    name_rests_before_its_end, octets_determine_name, one_name_at_a_place, same_names_are_equal,
-    written_name_is_read, written_text_is_read,
+    law_name_rests_before_its_end, law_octets_determine_name, law_one_name_at_an_offset,
+    law_same_names_are_equal, law_written_name_is_read, law_written_text_is_read,
 };
 pub use message::{read_name, write_name};
 pub use name::Name;

@@ -2,15 +2,15 @@
 ghost use Rattle.std.specs.Prelude.{◌≡◌, ◌++◌, List, ℕ, IfOk, OnOk, OnErr, IsOk, ◌+◌, ◌≤◌, length, take, vec_len, vec_capacity, Err, MatchResult, MatchOption};
 ghost use Rattle.dns_name.specs.Labels.{small_letters, wire_of, IsName};
 ghost use Rattle.dns_name.specs.Pieces.{PieceAt, NothingAt};
-ghost use Rattle.dns_name.specs.Places.{NameAt};
+ghost use Rattle.dns_name.specs.Offsets.{NameAt};
 
-use crate::draft::NAME_LIMIT;
+use crate::builder::NAME_LIMIT;
 use crate::name::Name;
 use crate::octets::{INLINE_LIMIT, Octets};
 use crate::refusal::NameReadRefusal;
 use std::alloc::{AllocError, Global};
 
-/// What stands at a place of a run of labels.
+/// What stands at an offset of a run of labels.
 #[derive(Clone, Copy)]
 enum Piece<'a> {
     /// The 0 that closes a name.
@@ -21,11 +21,11 @@ enum Piece<'a> {
     Pointer(usize),
 }
 
-/// What stands at a place of these octets, if it is whole.
-fn piece_at(octets: &[u8], place: usize) -> Option<Piece<'_>>
-    ensures { MatchOption result (NothingAt octets.now place) (PieceAt octets.now place) }
+/// What stands at an offset of these octets, if it is whole.
+fn piece_at(octets: &[u8], offset: usize) -> Option<Piece<'_>>
+    ensures { MatchOption result (NothingAt octets.now offset) (PieceAt octets.now offset) }
 {
-    let behind = octets.get(place..)?;
+    let behind = octets.get(offset..)?;
     let (first, behind) = behind.split_first()?;
     match *first {
         0 => Some(Piece::Root),
@@ -95,9 +95,9 @@ fn small_name(alloc: Global, passed: &[u8], last: &[u8]) -> Result<Name, AllocEr
     Ok(Name::from_wire(small_octets(alloc, passed, last)?))
 }
 
-/// Reads the name at place `at` of a message, and gives the place after it: after its closing 0, or
-/// after its first pointer. A pointer leads to a run of labels that lies, its closing 0 or pointer
-/// included, before the run that the pointer closes.
+/// Reads the name at offset `at` of a message, and gives the offset after it: after its closing 0,
+/// or after its first pointer. A pointer leads to a run of labels that lies, its closing 0 or
+/// pointer included, before the run that the pointer closes.
 pub fn read_name(alloc: Global, bytes: &[u8], at: usize) -> Result<(Name, usize), NameReadRefusal>
     // What is read is the name that stands there.
     ensures found { IfOk result (λ found. NameAt bytes.now at at found.0 found.1) }
@@ -115,32 +115,32 @@ pub fn read_name(alloc: Global, bytes: &[u8], at: usize) -> Result<(Name, usize)
     let mut count = 0;
     let mut start = at;
     let mut limit = bytes.len();
-    let mut place = at;
+    let mut offset = at;
     let mut after = None;
     loop {
-        match piece_at(&bytes[..limit], place) {
+        match piece_at(&bytes[..limit], offset) {
             None => return Err(NameReadRefusal::Malformed),
             Some(Piece::Root) => {
-                let name = small_name(alloc, &front[..passed], &bytes[start..place + 1])?;
-                return Ok((name, after.unwrap_or(place + 1)));
+                let name = small_name(alloc, &front[..passed], &bytes[start..offset + 1])?;
+                return Ok((name, after.unwrap_or(offset + 1)));
             }
             Some(Piece::Label(label)) => {
                 count += 1 + label.len();
                 if count >= NAME_LIMIT {
                     return Err(NameReadRefusal::Malformed);
                 }
-                place += 1 + label.len();
+                offset += 1 + label.len();
             }
-            Some(Piece::Pointer(offset)) => {
-                if offset >= start {
+            Some(Piece::Pointer(target)) => {
+                if target >= start {
                     return Err(NameReadRefusal::Malformed);
                 }
-                put_run(&mut front, passed, &bytes[start..place]);
+                put_run(&mut front, passed, &bytes[start..offset]);
                 passed = count;
-                after = Some(after.unwrap_or(place + 2));
+                after = Some(after.unwrap_or(offset + 2));
                 limit = start;
-                start = offset;
-                place = offset;
+                start = target;
+                offset = target;
             }
         }
     }

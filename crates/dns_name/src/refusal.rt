@@ -26,7 +26,7 @@ pub enum NameRefusal {
     Memory,
 }
 
-/// Why no name was read at a place of a message.
+/// Why no name was read at an offset of a message.
 #[derive(Clone, Copy, Debug, PartialEq, Eq, Error)]
 pub enum NameReadRefusal {
     /// No name is there (RFC 1035 3.1, 4.1.4).

@@ -170,10 +170,11 @@ fn prefixes(rt: HostRuntime) {
     }
 }
 
-/// Octets of a message, a place, and the name there with the place after it (RFC 1035 3.1, 4.1.4).
-type PlaceRow = (&'static [u8], usize, Option<(&'static str, usize)>);
+/// Octets of a message, an offset, and the name there with the offset after it (RFC 1035 3.1,
+/// 4.1.4).
+type OffsetRow = (&'static [u8], usize, Option<(&'static str, usize)>);
 
-const PLACES: &[PlaceRow] = &[
+const OFFSETS: &[OffsetRow] = &[
     (b"\x01b\x00\x01a\xc0\x00", 3, Some(("a.b.", 7))),
     (b"\x03a.b\x00", 0, Some(("a\\046b.", 5))),
     (b"\x03A\x7f\xff\x00", 0, Some(("a\\127\\255.", 5))),
@@ -195,7 +196,7 @@ const PLACES: &[PlaceRow] = &[
     (b"\xc0\x02\x00", 0, None),
     (b"\x01a\xc0\x00", 0, None),
     (b"\x01a\xc0\x00", 2, None),
-    // A run that ends after the place from which a pointer leads to it.
+    // A run that ends after the offset from which a pointer leads to it.
     (b"\x03a\xc0\x00\x00", 2, None),
     (b"\x01a\x01b\xc0\x02\x00", 4, None),
     (b"\x02ab\xc0\x00\x00\x01x\xc0\x00", 6, None),
@@ -247,8 +248,8 @@ const PLACES: &[PlaceRow] = &[
     ),
 ];
 
-/// Whether what is read at the place of a row is what the row has.
-fn is_read(alloc: Global, row: &PlaceRow) -> bool {
+/// Whether what is read at the offset of a row is what the row has.
+fn is_read(alloc: Global, row: &OffsetRow) -> bool {
     match (read_name(alloc, row.0, row.1), &row.2) {
         (Ok((name, after)), Some((text, end))) => after == *end && has_text(&name, text),
         (Err(refusal), None) => refusal == NameReadRefusal::Malformed,
@@ -257,8 +258,8 @@ fn is_read(alloc: Global, row: &PlaceRow) -> bool {
 }
 
 #[test]
-fn places(rt: HostRuntime) {
-    for row in PLACES {
+fn offsets(rt: HostRuntime) {
+    for row in OFFSETS {
         assert!(rt; is_read(rt.alloc(), row), "{:?}", row.0);
     }
 }
@@ -266,9 +267,9 @@ fn places(rt: HostRuntime) {
 /// 8,193 pointers after a root, each to the one before it.
 fn pointers(alloc: Global) -> Option<Vec<u8>> {
     let mut message = vec![in alloc; 0, 0xc0, 0].ok()?;
-    for place in 1..8193u16 {
-        let offset = 0xc000 + 2 * (place - 1) + 1;
-        message.extend_from_slice(&offset.to_be_bytes()).ok()?;
+    for offset in 1..8193u16 {
+        let target = 0xc000 + 2 * (offset - 1) + 1;
+        message.extend_from_slice(&target.to_be_bytes()).ok()?;
     }
     Some(message)
 }

@@ -6,7 +6,7 @@ ghost use Rattle.std.specs.String.{string_bytes};
 ghost use Rattle.dns_name.specs.Labels.{small_letters, wire_of, IsLabel};
 ghost use Rattle.dns_name.specs.Texts as spec;
 
-use crate::draft::{Draft, NAME_LIMIT};
+use crate::builder::{NAME_LIMIT, NameBuilder};
 use crate::name::{Name, first_label};
 use crate::refusal::NameRefusal;
 use std::alloc::{AllocError, Global};
@@ -82,16 +82,16 @@ fn check_labels(text: &[u8]) -> Result<(), NameRefusal>
 }
 
 /// The labels with dots between them.
-fn draft_of(text: &[u8]) -> Draft
+fn builder_of(text: &[u8]) -> NameBuilder
     requires { spec.dotted_fault (spec.parted text.now) ≡ None }
     ensures { result.octets.items ++ 0 ∷ []
         ≡ wire_of (map small_letters (spec.parted text.now)) }
 {
-    let mut draft = Draft::new();
+    let mut builder = NameBuilder::new();
     for label in text.split(|octet| *octet == b'.') {
-        draft.push(label);
+        builder.push(label);
     }
-    draft
+    builder
 }
 
 /// A text without its closing dot, if it has one.
@@ -149,11 +149,11 @@ impl Name {
     {
         let text = text.as_bytes();
         if text == b".".as_slice() {
-            return Ok(Draft::new().finish(alloc, &[0])?);
+            return Ok(NameBuilder::new().finish(alloc, &[0])?);
         }
         let dotted = without_closing_dot(text);
         check_labels(dotted)?;
-        Ok(draft_of(dotted).finish(alloc, &[0])?)
+        Ok(builder_of(dotted).finish(alloc, &[0])?)
     }
 
     /// The name with two labels in front, as `_sip` and `_udp` in front of a domain (RFC 2782).
@@ -177,10 +177,10 @@ impl Name {
         if 2 + service.len() + proto.len() + others.len() > NAME_LIMIT {
             return Err(NameRefusal::LongName);
         }
-        let mut draft = Draft::new();
-        draft.push(service);
-        draft.push(proto);
-        Ok(draft.finish(self.allocator(), others)?)
+        let mut builder = NameBuilder::new();
+        builder.push(service);
+        builder.push(proto);
+        Ok(builder.finish(self.allocator(), others)?)
     }
 
     /// The text of the name: each label with a dot after it; the root is a dot alone. An octet that

@@ -13,9 +13,9 @@ use Rattle.dns_zone.specs.declared.zone.ZoneEntry.{ZoneEntry}
 
 -- such a header, and at most one question
 pub record IsHeaded (query : Header) (reply : Message) : Type 0 where
-  pub code : ℕ
-  pub low : code < 16
-  pub header : reply.header ≡ reply_header query code
+  pub type_number : ℕ
+  pub low : type_number < 16
+  pub header : reply.header ≡ reply_header query type_number
   pub few : length reply.questions ≤ 1
 
 low_rcode : (entries : List ZoneEntry) → name_rcode entries < 16
@@ -26,18 +26,18 @@ one_headed : (zone : List Owned) (query : Header) (asked : Asked) (taken : Bool)
     → IsHeaded query (reply_about zone query (asked ∷ []))
 one_headed zone query asked true e =
     record {
-      code = rcode zone asked;
+      type_number = rcode zone asked;
       low = low_rcode (entries_at zone (path zone asked.name).last);
       header = rw e refl;
       few =
           rw e (omega arith);
     }
-one_headed zone query asked false e = record { code = 5; low = omega arith; header = rw e refl; few = rw e (omega arith) }
+one_headed zone query asked false e = record { type_number = 5; low = omega arith; header = rw e refl; few = rw e (omega arith) }
 
 about_headed : (zone : List Owned) (query : Header) (questions : List Asked) → IsHeaded query (reply_about zone query questions)
-about_headed zone query [] = record { code = 5; low = omega arith; header = refl; few = omega arith }
+about_headed zone query [] = record { type_number = 5; low = omega arith; header = refl; few = omega arith }
 about_headed zone query (asked ∷ []) = one_headed zone query asked (is_taken query asked) refl
-about_headed zone query (asked ∷ other ∷ more) = record { code = 5; low = omega arith; header = refl; few = omega arith }
+about_headed zone query (asked ∷ other ∷ more) = record { type_number = 5; low = omega arith; header = refl; few = omega arith }
 
 pub reply_headed : (zone : List Owned) (query : Message) → IsHeaded query.header (reply_to zone query)
 reply_headed zone query = about_headed zone query.header query.questions

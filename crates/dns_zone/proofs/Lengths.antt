@@ -4,7 +4,7 @@ use Rattle.std.specs.List.{flat_map}
 use Rattle.std.proofs.lemmas.Bool.Decides.{nat_tests}
 use Rattle.std.proofs.lemmas.List.{length-take-le, take_all}
 use Rattle.dns_name.specs.Labels.{wire_of}
-use Rattle.dns_message.specs.Written.{count_octets, cut, fitted, four_octets, header_octets, plain, rdata_class, rdata_code, rdata_octets, record_octets, two_octets}
+use Rattle.dns_message.specs.Written.{count_octets, cut, fitted, four_octets, header_octets, plain, rdata_class, type_of_rdata, rdata_octets, record_octets, two_octets}
 use Rattle.dns_message.specs.declared.message.Message.{Message}
 use Rattle.dns_message.specs.declared.resource.Record.{Record}
 use Rattle.dns_zone.specs.Views.{bounded}
@@ -26,7 +26,7 @@ length-record_octets : (entry : Record) → 11 ≤ length (record_octets entry)
 unfolding record_octets
 length-record_octets entry =
     let owner = length-wire_of entry.owner in
-    let code = length-two_octets (rdata_code entry.rdata) in
+    let type_number = length-two_octets (type_of_rdata entry.rdata) in
     let class = length-two_octets (rdata_class entry.rdata) in
     let ttl = length-four_octets entry.ttl in
     let size = length-two_octets (length (rdata_octets entry.rdata)) in

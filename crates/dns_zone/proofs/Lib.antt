@@ -7,6 +7,6 @@ pub mod Fields
 pub mod Texts
 pub mod DataKinds
 pub mod Said
-pub mod Aliases
+pub mod Cnames
 pub mod Lengths
 pub mod Additions

@@ -54,7 +54,7 @@ says_some (first ∷ front) line records entry (inr says) some =
 
 module _ (all : List (List ℕ)) where
   -- So many lines were read. All that the lines together may say begins with what these say. Up to the limit the zone has it.
-  pub record Drafting (count kept : ℕ) (zone : List Owned) : Type 0 where
+  pub record Building (count kept : ℕ) (zone : List Owned) : Type 0 where
     pub records : List Record
     pub says : LinesSay (take count all) records
     pub back : (others : List Record) → LinesSay all others
@@ -62,7 +62,7 @@ module _ (all : List (List ℕ)) where
     pub counted : kept ≡ min (length records) 4097
     pub holds : kept ≤ 4096 → Holds zone records
 
-  pub begun : (zone : List Owned) → zone ≡ [] → Drafting 0 0 zone
+  pub begun : (zone : List Owned) → zone ≡ [] → Building 0 0 zone
   begun zone none =
       record { records = []; says = refl; back = λ others is. (others, refl, is); counted = refl; holds = λ few name. rw none refl }
 
@@ -73,7 +73,7 @@ module _ (all : List (List ℕ)) where
     behind : take (count + 1) all ≡ take count all ++ line ∷ []
     behind = take_more all count line within ∙ ap (λ (l : List ℕ). take count all ++ l ∷ []) (sym is)
 
-    module _ (kept : ℕ) (zone : List Owned) (so_far : Drafting count kept zone) where
+    module _ (kept : ℕ) (zone : List Owned) (so_far : Building count kept zone) where
       back_none : ((said : Option Record) → LineSays line said → None ≡ said) → (others rest : List Record)
           → others ≡ so_far.records ++ rest
           → LinesSay (line ∷ drop (count + 1) all) rest → (rest' : List Record) × (others ≡ so_far.records ++ rest')
@@ -81,7 +81,7 @@ module _ (all : List (List ℕ)) where
       back_none only others rest e (inl says) = (rest, e, says.1)
       back_none only others rest e (inr says) = let no = only (Some says.0) says.3 in absurd cc
 
-      pub passes : LineSays line None → ((said : Option Record) → LineSays line said → None ≡ said) → Drafting (count + 1) kept zone
+      pub passes : LineSays line None → ((said : Option Record) → LineSays line said → None ≡ said) → Building (count + 1) kept zone
       passes none only = record {
         records = so_far.records;
         says = rw behind (says_none (take count all) line so_far.records so_far.says none);
@@ -107,7 +107,7 @@ module _ (all : List (List ℕ)) where
       pub takes : (entry : Record) (kept' : ℕ) (zone' : List Owned) → LineSays line (Some entry)
           → ((said : Option Record) → LineSays line said → Some entry ≡ said)
           → kept' ≡ min (kept + 1) 4097 → (kept < 4096 → (records : List Record) → Holds zone records → Holds zone' (records ++ entry ∷ []))
-          → Drafting (count + 1) kept' zone'
+          → Building (count + 1) kept' zone'
       takes entry kept' zone' some only counts held = record {
         records = so_far.records ++ entry ∷ [];
         says = rw behind (says_some (take count all) line so_far.records entry so_far.says some);
@@ -139,7 +139,7 @@ module _ (all : List (List ℕ)) where
           let k = so_far.back others says in
           never_by never k.0 (rw ahead at k.2)
 
-  module _ (count kept : ℕ) (zone : List Owned) (so_far : Drafting count kept zone) (whole : count ≡ length all) where
+  module _ (count kept : ℕ) (zone : List Owned) (so_far : Building count kept zone) (whole : count ≡ length all) where
     pub all_said : LinesSay all so_far.records
     all_said = rw (take_all count all (omega (arith, whole))) at so_far.says
 

@@ -11,12 +11,12 @@ use Rattle.dns_zone.specs.Views.{entry_value, says}
 use Rattle.dns_zone.specs.Zones.{Owned, entries_at, record_of}
 use Rattle.dns_zone.specs.declared.zone.ZoneEntry.{ZoneEntry}
 
-module _ (code : ℕ) (name : List (List ℕ)) where
+module _ (type_number : ℕ) (name : List (List ℕ)) where
   abbrev of_type : List ZoneEntry → List Record
-  of_type entries = filter (is_of code) (map (record_of name) entries)
+  of_type entries = filter (is_of type_number) (map (record_of name) entries)
 
-  none_by : (entry : ZoneEntry) (entries : List ZoneEntry) (test : Bool) → says code entry ≡ test
-      → find (says code) (entry ∷ entries) ≡ None → (find (says code) entries ≡ None → of_type entries ≡ [])
+  none_by : (entry : ZoneEntry) (entries : List ZoneEntry) (test : Bool) → says type_number entry ≡ test
+      → find (says type_number) (entry ∷ entries) ≡ None → (find (says type_number) entries ≡ None → of_type entries ≡ [])
       → of_type (entry ∷ entries) ≡ []
   none_by entry entries true e none rest =
       let no : ◌≡◌ {A = Option ZoneEntry} (Some entry) None = rw e at none in
@@ -24,13 +24,13 @@ module _ (code : ℕ) (name : List (List ℕ)) where
   none_by entry entries false e none rest = rw e (rest (rw e at none))
 
   -- where the first of a type is not found, there is none
-  pub none_of : (entries : List ZoneEntry) → find (says code) entries ≡ None → of_type entries ≡ []
+  pub none_of : (entries : List ZoneEntry) → find (says type_number) entries ≡ None → of_type entries ≡ []
   none_of [] none = refl
-  none_of (entry ∷ entries) none = none_by entry entries (says code entry) refl none (none_of entries)
+  none_of (entry ∷ entries) none = none_by entry entries (says type_number entry) refl none (none_of entries)
 
-  some_by : (entry : ZoneEntry) (entries : List ZoneEntry) (found : ZoneEntry) (test : Bool) → says code entry ≡ test
-      → find (says code) (entry ∷ entries) ≡ Some found
-      → (find (says code) entries ≡ Some found → (others : List Record) × (of_type entries ≡ record_of name found ∷ others))
+  some_by : (entry : ZoneEntry) (entries : List ZoneEntry) (found : ZoneEntry) (test : Bool) → says type_number entry ≡ test
+      → find (says type_number) (entry ∷ entries) ≡ Some found
+      → (find (says type_number) entries ≡ Some found → (others : List Record) × (of_type entries ≡ record_of name found ∷ others))
       → (others : List Record) × (of_type (entry ∷ entries) ≡ record_of name found ∷ others)
   some_by entry entries found true e some rest =
       let here : ◌≡◌ {A = Option ZoneEntry} (Some entry) (Some found) = rw e at some in
@@ -41,10 +41,10 @@ module _ (code : ℕ) (name : List (List ℕ)) where
       (there.0, rw e there.1)
 
   -- and where it is found, it is the first one
-  pub some_of : (entries : List ZoneEntry) (found : ZoneEntry) → find (says code) entries ≡ Some found
+  pub some_of : (entries : List ZoneEntry) (found : ZoneEntry) → find (says type_number) entries ≡ Some found
       → (others : List Record) × (of_type entries ≡ record_of name found ∷ others)
   some_of [] found some = absurd cc
-  some_of (entry ∷ entries) found some = some_by entry entries found (says code entry) refl some (some_of entries found)
+  some_of (entry ∷ entries) found some = some_by entry entries found (says type_number entry) refl some (some_of entries found)
 
 module _ (zone : List Owned) where
   begins : (name : List (List ℕ)) → (above : List (List (List ℕ))) × (upwards name ≡ name ∷ above)
@@ -71,15 +71,16 @@ module _ (zone : List Owned) where
   starts_nowhere (label ∷ labels) is none = absurd cc
 
   -- where the type was found, or was not
-  pub has_type : (name : List (List ℕ)) (code : ℕ) (found : Option (Bor ZoneEntry))
-      → option_map entry_value found ≡ find (says code) (entries_at zone name) → true ≡ is_some found → authority_at zone name code ≡ []
-  has_type name code (Some entry) is some =
-      let this = some_of code name (entries_at zone name) entry.now (sym is) in
+  pub has_type : (name : List (List ℕ)) (type_number : ℕ) (found : Option (Bor ZoneEntry))
+      → option_map entry_value found ≡ find (says type_number) (entries_at zone name) → true ≡ is_some found
+      → authority_at zone name type_number ≡ []
+  has_type name type_number (Some entry) is some =
+      let this = some_of type_number name (entries_at zone name) entry.now (sym is) in
       rw this.1 refl
-  has_type name code None is some = absurd cc
+  has_type name type_number None is some = absurd cc
 
-  pub lacks_type : (name : List (List ℕ)) (code : ℕ) (found : Option (Bor ZoneEntry))
-      → option_map entry_value found ≡ find (says code) (entries_at zone name) → false ≡ is_some found
-      → authority_at zone name code ≡ nearest_start zone name
-  lacks_type name code (Some entry) is none = absurd cc
-  lacks_type name code None is none = rw (none_of code name (entries_at zone name) (sym is)) refl
+  pub lacks_type : (name : List (List ℕ)) (type_number : ℕ) (found : Option (Bor ZoneEntry))
+      → option_map entry_value found ≡ find (says type_number) (entries_at zone name) → false ≡ is_some found
+      → authority_at zone name type_number ≡ nearest_start zone name
+  lacks_type name type_number (Some entry) is none = absurd cc
+  lacks_type name type_number None is none = rw (none_of type_number name (entries_at zone name) (sym is)) refl

@@ -1,17 +1,17 @@
 -- The SOA record that a zone has about a name (RFC 1035 3.3.13, RFC 2308 3).
 use Rattle.std.specs.Prelude.{◌≡◌, ℕ, ◌<◌, ◌==◌, Bool, List, [], ◌∷◌, ◌++◌, length, take}
 use Rattle.std.specs.List.{filter, flat_map}
-use Rattle.dns_message.specs.Written.{rdata_code}
+use Rattle.dns_message.specs.Written.{type_of_rdata}
 use Rattle.dns_message.specs.declared.resource.Record.{Record}
 use Rattle.dns_zone.specs.Zones.{Owned, records_at}
 
 -- a record is of this type
 abbrev pub is_of : ℕ → Record → Bool
-is_of code entry = rdata_code entry.rdata == code
+is_of type_number entry = type_of_rdata entry.rdata == type_number
 
 -- the records of a type that a name has, in the order of the zone
 abbrev pub records_of : List Owned → List (List ℕ) → ℕ → List Record
-records_of zone name code = filter (is_of code) (records_at zone name)
+records_of zone name type_number = filter (is_of type_number) (records_at zone name)
 
 -- the SOA records of a name
 abbrev pub starts_at : List Owned → List (List ℕ) → List Record

@@ -14,14 +14,15 @@ use Rattle.dns_zone.specs.declared.zone.ZoneEntry.{ZoneEntry}
 
 -- a question of this type is answered: A, SOA, AAAA, SRV or NAPTR
 abbrev pub is_answered : ℕ → Bool
-is_answered code = code == 1 || code == 6 || code == 28 || code == 33 || code == 35
+is_answered type_number = type_number == 1 || type_number == 6 || type_number == 28 || type_number
+    == 33 || type_number == 35
 
 -- the CNAME records that lead from the name, and the records of the type where they lead
 abbrev pub answers : List Owned → Asked → List Record
 answers zone asked =
-    if is_answered asked.code
+    if is_answered asked.type_number
     then (path zone asked.name).links
-    ++ records_of zone (path zone asked.name).last asked.code
+    ++ records_of zone (path zone asked.name).last asked.type_number
     else []
 
 -- records, where there are none of others
@@ -32,11 +33,12 @@ without (entry ∷ entries) records = []
 -- the authority records about a name without records of the type: the SOA record of the zone that
 -- it is in (RFC 2308 3)
 abbrev pub authority_at : List Owned → List (List ℕ) → ℕ → List Record
-authority_at zone name code = without (records_of zone name code) (nearest_start zone name)
+authority_at zone name type_number = without (records_of zone name type_number)
+    (nearest_start zone name)
 
 -- the authority records about the name where the CNAME records lead
 abbrev pub authority : List Owned → Asked → List Record
-authority zone asked = authority_at zone (path zone asked.name).last asked.code
+authority zone asked = authority_at zone (path zone asked.name).last asked.type_number
 
 -- RCODE of what a name has: 3 where it has nothing, and so does not exist
 abbrev pub name_rcode : List ZoneEntry → ℕ
@@ -52,7 +54,7 @@ rcode zone asked = name_rcode (entries_at zone (path zone asked.name).last)
 -- the header of a reply: QR and AA are set, TC and RA are clear; ID, OPCODE and RD are those of the
 -- query
 abbrev pub reply_header : Header → ℕ → Header
-reply_header query code = record {
+reply_header query type_number = record {
   id = query.id;
   reply = true;
   opcode = query.opcode;
@@ -60,13 +62,13 @@ reply_header query code = record {
   truncated = false;
   recursion_desired = query.recursion_desired;
   recursion_available = false;
-  rcode = code;
+  rcode = type_number;
 }
 
 -- the reply to a query with this RCODE, and with these questions, answers and authority records
 abbrev pub reply_of : Header → ℕ → List Asked → List Record → List Record → Message
-reply_of query code questions records authorities = record {
-  header = reply_header query code;
+reply_of query type_number questions records authorities = record {
+  header = reply_header query type_number;
   questions = questions;
   answers = records;
   authority = authorities;
@@ -79,7 +81,7 @@ refusal query questions = reply_of query 5 questions [] []
 
 -- a query is a standard query, in class IN
 abbrev pub is_taken : Header → Asked → Bool
-is_taken query asked = query.opcode == 0 && asked.class_code == 1
+is_taken query asked = query.opcode == 0 && asked.class_number == 1
 
 -- the reply to a query by its questions, of which there has to be one alone
 abbrev pub reply_about : List Owned → Header → List Asked → Message

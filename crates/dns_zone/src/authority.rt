@@ -15,11 +15,11 @@ use std::alloc::{AllocError, Global};
 const TYPE_SOA: u16 = 6;
 
 /// The first of these of a type.
-fn first_of(entries: &[ZoneEntry], code: u16) -> Option<&ZoneEntry>
-    ensures { option_map entry_value result ≡ find (says code) entries.now }
+fn first_of(entries: &[ZoneEntry], type_number: u16) -> Option<&ZoneEntry>
+    ensures { option_map entry_value result ≡ find (says type_number) entries.now }
 {
     for entry in entries {
-        if entry.rdata.code() == code {
+        if entry.rdata.type_number() == type_number {
             return Some(entry);
         }
     }
@@ -52,11 +52,12 @@ pub(crate) fn authority_at(
     zone: &Zone,
     alloc: Global,
     name: &Name,
-    code: u16,
+    type_number: u16,
 ) -> Result<Vec<Record>, AllocError>
-    ensures { IfOk result (λ records. records.items ≡ spec.authority_at zone.now name.now code) }
+    ensures { IfOk result (λ records. records.items
+        ≡ spec.authority_at zone.now name.now type_number) }
 {
-    if first_of(zone.entries_at(name), code).is_some() {
+    if first_of(zone.entries_at(name), type_number).is_some() {
         return Ok(Vec::new(alloc));
     }
     let mut records = Vec::new(alloc);

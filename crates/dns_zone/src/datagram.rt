@@ -1,12 +1,12 @@
 //! Datagrams that a zone replies to (RFC 1035 4.1, 4.2.1).
 ghost use Rattle.std.specs.Prelude.{◌≡◌, ◌⊎◌, IfErr, IfOk, IfSome, IsSomeAnd, MatchOption};
-ghost use Rattle.dns_message.specs.Places.{NamedAt};
+ghost use Rattle.dns_message.specs.Offsets.{NamedAt};
 ghost use Rattle.dns_message.specs.declared.message.Message as message;
 ghost use Rattle.dns_zone.specs.Replies.{IsQuery, IsReply, IsSilent, Replies};
 
 use crate::reply::reply_to;
 use crate::zone::Zone;
-use dns_message::{Message, message_in, one_message_in_front, write_reply};
+use dns_message::{Message, law_one_message_in_front, message_in, write_reply};
 use std::alloc::{AllocError, Global};
 
 /// The query in front of octets, if there is one.
@@ -14,7 +14,7 @@ fn query_in(alloc: Global, octets: &[u8]) -> Result<Option<Message>, AllocError>
     ensures found { IfOk result (λ it. MatchOption it (IsSilent octets.now) (IsQuery octets.now)) }
     ensures memory { IfErr result (λ _. NamedAt octets.now 12) }
 {
-    one_message_in_front();
+    law_one_message_in_front();
     match message_in(alloc, octets)? {
         Some(message) if message.header.reply => Ok(None),
         Some(query) => Ok(Some(query)),
@@ -57,7 +57,7 @@ impl Zone {
         ensures memory { IfErr result (λ _. NamedAt octets.now 12
             ⊎ ((query : message.Message) × IsQuery octets.now query)) }
     {
-        one_message_in_front();
+        law_one_message_in_front();
         let Some(query) = query_in(alloc, octets)? else {
             return Ok(None);
         };

@@ -34,7 +34,7 @@ mod reply;
 mod text;
 mod zone;
 
-pub use laws::{zone_follows_aliases, zone_names_its_authority};
+pub use laws::{law_zone_follows_cnames, law_zone_names_its_authority};
 pub use refusal::ZoneRefusal;
 pub use zone::{Zone, ZoneEntry};
 

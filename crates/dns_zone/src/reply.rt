@@ -37,24 +37,24 @@ fn path<'a>(
     let mut links = Vec::new(alloc);
     let mut name = start;
     for _ in 0..LINK_LIMIT {
-        let Some(alias) = zone.alias_at(name) else {
+        let Some(cname) = zone.cname_at(name) else {
             return Ok((links, name));
         };
         links.push(Record {
             owner: name.try_clone()?,
-            ttl: alias.ttl,
-            rdata: Rdata::Cname(alias.target.try_clone()?),
+            ttl: cname.ttl,
+            rdata: Rdata::Cname(cname.target.try_clone()?),
         })?;
-        name = alias.target;
+        name = cname.target;
     }
     Ok((links, name))
 }
 
 /// Whether questions of a type are answered: A, SOA, AAAA, SRV and NAPTR.
-fn is_answered(code: u16) -> bool
-    ensures { result ≡ spec.is_answered code }
+fn is_answered(type_number: u16) -> bool
+    ensures { result ≡ spec.is_answered type_number }
 {
-    matches!(code, 1 | 6 | 28 | 33 | 35)
+    matches!(type_number, 1 | 6 | 28 | 33 | 35)
 }
 
 /// Adds the records of a type that an owner has, until there are 46.
@@ -62,18 +62,18 @@ fn push_records(
     records: &mut Vec<Record>,
     owner: &Name,
     entries: &[ZoneEntry],
-    code: u16,
+    type_number: u16,
 ) -> Result<(), AllocError>
     requires { length records.old.items ≤ 46 }
     ensures { OnOk result (records.new.items
         ≡ take 46 (records.old.items
-        ++ filter (is_of code) (map (zones.record_of owner.now) entries.now))) }
+        ++ filter (is_of type_number) (map (zones.record_of owner.now) entries.now))) }
 {
     for entry in entries {
         if records.len() == ANSWER_LIMIT {
             return Ok(());
         }
-        if entry.rdata.code() == code {
+        if entry.rdata.type_number() == type_number {
             records.push(Record {
                 owner: owner.try_clone()?,
                 ttl: entry.ttl,
@@ -111,9 +111,9 @@ fn found(zone: &Zone, alloc: Global, asked: &Asked) -> Result<ReplyBody, AllocEr
     let (mut answers, last) = path(zone, alloc, &asked.name)?;
     let entries = zone.entries_at(last);
     let rcode = name_rcode(entries);
-    let authority = authority_at(zone, alloc, last, asked.code)?;
-    if is_answered(asked.code) {
-        push_records(&mut answers, last, entries, asked.code)?;
+    let authority = authority_at(zone, alloc, last, asked.type_number)?;
+    if is_answered(asked.type_number) {
+        push_records(&mut answers, last, entries, asked.type_number)?;
     } else {
         answers.clear();
     }
@@ -167,7 +167,7 @@ pub(crate) fn reply_to(zone: &Zone, alloc: Global, query: Message) -> Result<Mes
         let none = Section::from_vec(Vec::new(alloc));
         return Ok(refusal(alloc, header, none));
     };
-    if header.opcode != 0 || asked.class_code != CLASS_IN {
+    if header.opcode != 0 || asked.class_number != CLASS_IN {
         return Ok(refusal(alloc, header, questions));
     }
     let body = found(zone, alloc, asked)?;

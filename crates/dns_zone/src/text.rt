@@ -9,7 +9,7 @@ use crate::line::line_record;
 use crate::refusal::{LineRefusal, ZoneRefusal};
 use crate::zone::{Zone, ZoneEntry};
 use dns_message::Record;
-use dns_name::same_names_are_equal;
+use dns_name::law_same_names_are_equal;
 use std::alloc::{AllocError, Global};
 
 /// The most records of a zone.
@@ -18,20 +18,20 @@ const RECORD_LIMIT: usize = 4_096;
 /// A zone whose text is read, and how many records there were, counted up to one more than the
 /// limit. Those past the limit are not kept.
 #[derive(Drop)]
-struct Draft {
+struct ZoneBuilder {
     zone: Zone,
     count: usize,
     ghost few: { count ≤ 4097 },
 }
 
-impl Draft {
+impl ZoneBuilder {
     /// Adds a record.
     fn add(&mut self, alloc: Global, entry: Record) -> Result<(), AllocError>
         ensures count { OnOk result (self.new.count ≡ min (self.old.count + 1) 4097) }
         ensures holds { OnOk result (self.old.count < 4096 → (records : List resource.Record)
             → Holds self.old.zone records → Holds self.new.zone (records ++ entry ∷ [])) }
     {
-        same_names_are_equal();
+        law_same_names_are_equal();
         let Record { owner, ttl, rdata } = entry;
         if self.count < RECORD_LIMIT {
             self.zone.add(alloc, owner, ZoneEntry { ttl, rdata })?;
@@ -80,21 +80,21 @@ impl Zone {
         // Each refusal tells what is so of the lines.
         ensures refused { IfErr result (λ refusal. RefusedFor refusal (lines text.now)) }
     {
-        let mut draft = Draft {
+        let mut builder = ZoneBuilder {
             zone: Zone::new(alloc),
             count: 0,
         };
         for (at, line) in text.lines().enumerate() {
             match line_record(alloc, line) {
                 Ok(None) => {}
-                Ok(Some(entry)) => draft.add(alloc, entry)?,
+                Ok(Some(entry)) => builder.add(alloc, entry)?,
                 Err(LineRefusal::Bad) => return Err(ZoneRefusal::BadLine(at + 1)),
                 Err(LineRefusal::Memory) => return Err(ZoneRefusal::Memory),
             }
         }
-        if draft.count > RECORD_LIMIT {
+        if builder.count > RECORD_LIMIT {
             return Err(ZoneRefusal::TooMany);
         }
-        Ok(draft.zone)
+        Ok(builder.zone)
     }
 }

@@ -4,10 +4,10 @@ ghost use Rattle.std.specs.Option.{option_map};
 ghost use Rattle.dns_name.specs.Labels.{same_name};
 ghost use Rattle.dns_zone.specs.Zones as spec;
 ghost use Rattle.dns_zone.specs.Zones.{entries_at};
-ghost use Rattle.dns_zone.specs.Views.{alias_value};
+ghost use Rattle.dns_zone.specs.Views.{cname_value};
 
 use dns_message::Rdata;
-use dns_name::{Name, same_names_are_equal};
+use dns_name::{Name, law_same_names_are_equal};
 use indexmap::IndexMap;
 use std::alloc::{AllocError, Global};
 use std::marker::Model;
@@ -40,17 +40,17 @@ impl Model for Zone {
 
 /// A CNAME of a zone: its TTL, and the canonical name.
 #[derive(Clone, Copy)]
-pub(crate) struct Alias<'a> {
+pub(crate) struct CnameRecord<'a> {
     pub(crate) ttl: u32,
     pub(crate) target: &'a Name,
 }
 
 /// The CNAME that this is, if it is one.
-fn alias_in(entry: &ZoneEntry) -> Option<Alias<'_>>
-    ensures { option_map alias_value result ≡ spec.alias_in entry.now }
+fn cname_in(entry: &ZoneEntry) -> Option<CnameRecord<'_>>
+    ensures { option_map cname_value result ≡ spec.cname_in entry.now }
 {
     match &entry.rdata {
-        Rdata::Cname(target) => Some(Alias {
+        Rdata::Cname(target) => Some(CnameRecord {
             ttl: entry.ttl,
             target,
         }),
@@ -59,12 +59,12 @@ fn alias_in(entry: &ZoneEntry) -> Option<Alias<'_>>
 }
 
 /// The first CNAME of these.
-fn first_alias(entries: &[ZoneEntry]) -> Option<Alias<'_>>
-    ensures { option_map alias_value result ≡ spec.first_alias entries.now }
+fn first_cname(entries: &[ZoneEntry]) -> Option<CnameRecord<'_>>
+    ensures { option_map cname_value result ≡ spec.first_cname entries.now }
 {
     for entry in entries {
-        if let Some(alias) = alias_in(entry) {
-            return Some(alias);
+        if let Some(cname) = cname_in(entry) {
+            return Some(cname);
         }
     }
     None
@@ -90,7 +90,7 @@ impl Zone {
         ensures { OnOk result ((name : List (List ℕ)) → entries_at self.new name
             ≡ entries_at self.old name ++ (if same_name owner name then entry ∷ [] else [])) }
     {
-        same_names_are_equal();
+        law_same_names_are_equal();
         if let Some(entries) = self.owners.get_mut(&owner) {
             entries.push(entry)?;
             return Ok(());
@@ -112,9 +112,9 @@ impl Zone {
     }
 
     /// The first CNAME of a name.
-    pub(crate) fn alias_at(&self, name: &Name) -> Option<Alias<'_>>
-        ensures { option_map alias_value result ≡ spec.first_alias (entries_at self.now name.now) }
+    pub(crate) fn cname_at(&self, name: &Name) -> Option<CnameRecord<'_>>
+        ensures { option_map cname_value result ≡ spec.first_cname (entries_at self.now name.now) }
     {
-        first_alias(self.entries_at(name))
+        first_cname(self.entries_at(name))
     }
 }

@@ -4,7 +4,7 @@ ghost use Rattle.ip_text.specs.Shown.{address_text};
 ghost use Rattle.ip_text.specs.declared.address.Address.{Address};
 
 /// The text that is written for an address is a text of it. Each address of the type fits.
-pub fn written_address_is_read()
+pub fn law_written_address_is_read()
     ensures { (address : Address) → AddressFits address
         → AddressText (address_text address) address }
 {}

@@ -31,7 +31,7 @@ mod numbers;
 mod parts;
 
 pub use address::{Address, address_from_text, address_text, ipv4_octets, ipv6_octets};
-pub use laws::written_address_is_read;
+pub use laws::law_written_address_is_read;
 pub use numbers::decimal;
 pub use parts::{behind_front, next_part};
 

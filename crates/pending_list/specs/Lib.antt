@@ -11,4 +11,4 @@ pub mod Table
 pub mod Kept
 pub mod LinkedListLends
 pub mod Lends
-pub mod Walks
+pub mod Iters

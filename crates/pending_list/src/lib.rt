@@ -27,6 +27,7 @@
 
 mod entry;
 mod id;
+mod iter;
 mod linked_list;
 mod list;
 mod lookup;
@@ -35,12 +36,11 @@ mod nodes;
 mod raw_box;
 mod refusal;
 mod table;
-mod walk;
 
 pub use id::PendingId;
+pub use iter::Iter;
 pub use list::PendingList;
 pub use refusal::InsertRefusal;
-pub use walk::Walk;
 
 #[cfg(test)]
 mod tests;

@@ -83,19 +83,19 @@ module _ (P : Offer → Type 0) where
 
   -- so it holds of what a generation began with
   all-begun : (past : List Era) → Descends past → All P (handed_before past) → All S (carried_stores (begun_with past))
-  all-begun [] descends all = All-nil S
-  all-begun (era ∷ older) (hands, more) all =
+  all-begun [] law_descends all = All-nil S
+  all-begun (era ∷ older) (handles, more) all =
       let old = all-begun older more (all-front P (handed_before older) (handed_to older era.told.seen) all) in
       let new = all-back P (handed_before older) (handed_to older era.told.seen) all in
-      all-carried 64 hands.before era.told.seen hands.moment era.carried hands.carried
-      (all-joined (begun_with older) era.told.seen hands.begins old new)
+      all-carried 64 handles.before era.told.seen handles.moment era.carried handles.carried
+      (all-joined (begun_with older) era.told.seen handles.begins old new)
 
   -- and of all that a seat there has seen
   all-stores : (past : List Era) (seen : List Store) → Descends past → IsPrefix (carried_stores (begun_with past)) seen
       → All P (handed_in past seen) → All S seen
-  all-stores past seen descends p all =
+  all-stores past seen law_descends p all =
       all-joined (begun_with past) seen p
-      (all-begun past descends (all-front P (handed_before past) (handed_to past seen) all))
+      (all-begun past law_descends (all-front P (handed_before past) (handed_to past seen) all))
       (all-back P (handed_before past) (handed_to past seen) all)
 
   module _ (question : Question) (now : ℕ) (answer : AnswerValue) where
@@ -139,7 +139,7 @@ module _ (P : Offer → Type 0) where
 pub handed-in : (past : List Era) (seen : List Store) → Descends past → IsPrefix (carried_stores (begun_with past)) seen
     → (question : Question) (now : ℕ) (answer : AnswerValue) → cached seen question now ≡ Some answer
     → Any (Gives question now answer) (handed_in past seen)
-handed-in past seen descends p question now answer is =
+handed-in past seen law_descends p question now answer is =
     let C : Offer → Type 0 = λ offer. Contains (handed_in past seen) offer in
-    let it = found-in C question now answer seen None (tt {0}) (all-stores C past seen descends p (all-own (handed_in past seen))) is in
+    let it = found-in C question now answer seen None (tt {0}) (all-stores C past seen law_descends p (all-own (handed_in past seen))) is in
     (it.holds.0, it.offer, it.holds.1, it.holds.2, it.gives)

@@ -8,7 +8,7 @@ use Rattle.answer_log.specs.declared.store.Store.{Store}
 use Rattle.answer_cache.proofs.Placing.{prefix-trans}
 use Rattle.answer_cache.specs.Carried.{IsCarried, carried_stores, seat_after}
 use Rattle.answer_cache.specs.Seats.{Offer, SeatView}
-use Rattle.answer_cache.specs.Shared.{Belongs, CacheView, SharedView, Told, new_seat}
+use Rattle.answer_cache.specs.Shared.{Belongs, CacheView, SharedView, NoticeView, new_seat}
 use Rattle.rolling_cache.specs.Eras.{Descends, Era, HandsOn, begun_with, era_of}
 use Rattle.rolling_cache.specs.Rolling.{GenerationView, HandsOver, IsFresh, IsFreshAt, RollingView, generation_of, rolling_of}
 
@@ -42,7 +42,7 @@ fresh-first cache seats past items none belong are =
         (λ k d low. (refl, refl)))
 
 -- those of a successor are fresh in the next one
-pub fresh-next : (cache : CacheView) (seats : ℕ) (told : Told) (carried : List Offer) (older past : List Era)
+pub fresh-next : (cache : CacheView) (seats : ℕ) (told : NoticeView) (carried : List Offer) (older past : List Era)
     (items : List SharedView) → past ≡ era_of told carried ∷ older → All (Belongs cache) items
     → map (λ seat. seat.seat) items ≡ map (seat_after carried) (range_with_len 0 seats)
     → All (λ seat. IsFresh (rolling_of (generation_of cache past) seat)) items
@@ -60,10 +60,10 @@ fresh-next cache seats told carried older past items is belong are =
         (range_with_len 0 seats) (λ k d low. (refl, refl))))
 
 -- the next one descends from what the one before it handed on
-pub descends-next : (old new : List Store) (now : ℕ) (told : Told) (carried : List Offer) (older past : List Era)
+pub law_descends-next : (old new : List Store) (now : ℕ) (told : NoticeView) (carried : List Offer) (older past : List Era)
     → past ≡ era_of told carried ∷ older → Descends older → IsPrefix (carried_stores (begun_with older)) old
     → IsPrefix old new → told.seen ≡ new → IsCarried old new now carried → Descends past
-descends-next old new now told carried older past is before begins later seen it =
+law_descends-next old new now told carried older past is before begins later seen it =
     let D : List Era → Type 0 = λ l. Descends l in
     let B : List Store → Type 0 = λ stores. IsPrefix (carried_stores (begun_with older)) stores in
     let C : List Store → Type 0 = λ stores. IsCarried old stores now carried in
@@ -77,7 +77,7 @@ descends-next old new now told carried older past is before begins later seen it
       before,
     )
 
-pub over : (now : ℕ) (old : RollingView) (seat : SharedView) (told : Told) (carried : List Offer) (made : GenerationView)
+pub over : (now : ℕ) (old : RollingView) (seat : SharedView) (told : NoticeView) (carried : List Offer) (made : GenerationView)
     → made.past ≡ era_of told carried ∷ old.generation.past → told.cache ≡ old.generation.cache → told.seen ≡ seat.seat.seen
     → IsCarried old.seat.seat.seen seat.seat.seen now carried → HandsOver now old (rolling_of made seat)
 over now old seat told carried made past cache seen it =

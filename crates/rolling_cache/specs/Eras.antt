@@ -8,16 +8,16 @@ use Rattle.dns_message.specs.declared.question.Question.{Question}
 use Rattle.answer_log.specs.declared.store.Store.{Store}
 use Rattle.answer_cache.specs.Carried.{IsCarried, carried_stores, unseated}
 use Rattle.answer_cache.specs.Seats.{Offer}
-use Rattle.answer_cache.specs.Shared.{Told}
+use Rattle.answer_cache.specs.Shared.{NoticeView}
 
 -- What a generation handed on: its cache and the history that the seat saw which carried, and what
 -- it carried.
 pub record Era : Type 0 where
-  pub told : Told
+  pub told : NoticeView
   pub carried : List Offer
 
 -- the era of a generation, by what was told of its cache and by what it carried
-abbrev pub era_of : Told → List Offer → Era
+abbrev pub era_of : NoticeView → List Offer → Era
 era_of told carried = record { told = told; carried = carried }
 
 -- what a generation after these begins with, the newest era first

@@ -4,7 +4,7 @@ use mathlib.Core.List.{IsPrefix}
 use Rattle.answer_log.specs.declared.store.Store.{Store}
 use Rattle.answer_cache.specs.Carried.{IsCarried, carried_stores}
 use Rattle.answer_cache.specs.Seats.{GoesOn, StoresNothing}
-use Rattle.answer_cache.specs.Shared.{Belongs, CacheView, SharedView, Told}
+use Rattle.answer_cache.specs.Shared.{Belongs, CacheView, SharedView, NoticeView}
 use Rattle.rolling_cache.specs.Eras.{Era, begun_with, era_of}
 use Rattle.rolling_cache.specs.declared.change.Change.{Change}
 use Rattle.rolling_cache.specs.declared.change.Change.TheVariants.{Moved, Renewed, Stays}
@@ -57,7 +57,7 @@ pub record Waits (old new : RollingView) : Type 0 where
 pub record HandsOver (now : ℕ) (old new : RollingView) : Type 0 where
   pub seen : List Store
   pub carried : IsCarried old.seat.seat.seen seen now (begun_with new.generation.past)
-  pub told : Told
+  pub told : NoticeView
   pub past : new.generation.past
       ≡ era_of told (begun_with new.generation.past) ∷ old.generation.past
   pub cache : told.cache ≡ old.generation.cache

@@ -70,7 +70,7 @@ impl Generation {
     }
 
     /// A law: each generation before it began with what the one before that handed on.
-    pub fn descends(&self)
+    pub fn law_descends(&self)
         ensures { Descends self.now.past }
     {
         let _ = &self.lineage;
@@ -175,7 +175,7 @@ impl Present {
         began: Moment,
         lineage: Lineage,
     ) -> Result<Present, AllocError>
-        requires descends { Descends lineage }
+        requires law_descends { Descends lineage }
         requires fresh { All (λ seat. IsFresh (rolling_of (generation_of cache lineage) seat))
             seats.items }
         ensures { IfOk result (λ made. made ≡ generation_of cache lineage) }

@@ -13,24 +13,24 @@ ghost use Rattle.rolling_cache.specs.Rolling.{IsAt};
 ghost use Rattle.rolling_cache.specs.contracts.rolling.RollingCache.{the_row};
 
 use crate::seat::RollingSeat;
-use dns_message::same_questions_are_equal;
+use dns_message::law_same_questions_are_equal;
 
 /// A law: an answer that a look-up finds was handed in to be stored for that question, in the
 /// generation of its seat or in one before it, and its life is not over.
-pub fn answers_were_handed_in(seat: &RollingSeat)
+pub fn law_answers_were_handed_in(seat: &RollingSeat)
     requires { IsAt seat.now }
     ensures { (question : Asked) (now : ℕ) (answer : AnswerValue)
         → cached seat.now.seat.seat.seen question now ≡ Some answer
         → Any (Gives question now answer)
         (handed_in seat.now.generation.past seat.now.seat.seat.seen) }
 {
-    seat.generation().descends();
+    seat.generation().law_descends();
 }
 
 /// A law: at the moment of a carrying and at each later one, what a generation began with answers a
 /// question as the history did from which its group was carried: no store of the question was
 /// later.
-pub fn renewed_answers_as_before(seat: &RollingSeat)
+pub fn law_renewed_answers_as_before(seat: &RollingSeat)
     ensures { (before after : List Store) (now later : ℕ) → now ≤ later
         → (it : IsCarried before after now (begun_with seat.now.generation.past))
         → (question : Asked)
@@ -38,13 +38,13 @@ pub fn renewed_answers_as_before(seat: &RollingSeat)
         ≡ cached (it.history (group_of question)) question later }
 {
     let _ = seat;
-    same_questions_are_equal();
+    law_same_questions_are_equal();
 }
 
 /// A law: threads may share a cache (`Sync`).
 ///
 /// The prover does not find this by itself where threads borrow a cache: who hands one to threads
 /// answers that goal with the lemma `rolling_sync`, as `load_met` of the tests does.
-pub fn threads_may_share()
+pub fn law_threads_may_share()
     ensures { IsSync the_row }
 {}

@@ -61,7 +61,7 @@ mod seat;
 
 pub use change::Change;
 pub use generation::Generation;
-pub use laws::{answers_were_handed_in, renewed_answers_as_before, threads_may_share};
+pub use laws::{law_answers_were_handed_in, law_renewed_answers_as_before, law_threads_may_share};
 pub use rolling::RollingCache;
 pub use seat::RollingSeat;
 

@@ -6,7 +6,7 @@ use Rattle.dns_answers.specs.Values.{AnswerValue}
 use Rattle.dns_answers.specs.declared.refusal.ReplyRefusal.{ReplyRefusal}
 use Rattle.dns_answers.specs.declared.refusal.ReplyRefusal.TheVariants as reply
 use Rattle.dns_message.specs.Messages.{Begins, FailsIn}
-use Rattle.dns_message.specs.Places.{NamedAt}
+use Rattle.dns_message.specs.Offsets.{NamedAt}
 use Rattle.dns_message.specs.declared.message.Message.{Message}
 use Rattle.dns_message.specs.declared.question.Question.{Question}
 use Rattle.dns_message.specs.declared.refusal.MessageRefusal.{MessageRefusal}

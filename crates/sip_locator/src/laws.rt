@@ -12,11 +12,11 @@ ghost use Rattle.sip_locator.specs.Replies.{Answers, Refuses};
 ghost use Rattle.sip_locator.specs.declared.refusal.LocatorRefusal.{LocatorRefusal};
 ghost use Rattle.sip_locator.specs.declared.refusal.LocatorRefusal.TheVariants as refusals;
 
-use dns_message::one_message_in_front;
+use dns_message::law_one_message_in_front;
 
 /// The message in front of the octets decides: what is taken is its answer, and a refusal is its
 /// first fault, unless it is for want of memory.
-pub fn messages_decide()
+pub fn law_messages_decide()
     ensures taken { (question : Question) (octets : List ℕ) (it : Message) (found : AnswerValue)
         → Begins octets it
         → Answers question octets found
@@ -27,5 +27,5 @@ pub fn messages_decide()
         → (refusal ≡ refusals.Memory) ⊎ ((fault : ReplyRefusal) × (refusal ≡ refusals.Reply fault)
         × (reply_refusal question it ≡ Some fault)) }
 {
-    one_message_in_front();
+    law_one_message_in_front();
 }

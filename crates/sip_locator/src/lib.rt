@@ -37,9 +37,9 @@
 //! was refused. The locator and the seat are then as before, so a bad reply does no harm. The
 //! message has to repeat the question that is asked, and no other. Who sent it, and its number, are
 //! for the caller to compare. The message in front of the octets decides all this
-//! (`messages_decide`).
+//! (`law_messages_decide`).
 //!
-//! A locator uses at most 521 answers (`Locator::answers_are_few`), so a caller that brings an
+//! A locator uses at most 521 answers (`Locator::law_answers_are_few`), so a caller that brings an
 //! answer to each question comes to an end.
 //!
 //! Read `specs/Gains.antt` first: it says which answers a step uses, and what it gives. Then read
@@ -53,7 +53,7 @@ mod read;
 mod refusal;
 
 pub use kept::Kept;
-pub use laws::messages_decide;
+pub use laws::law_messages_decide;
 pub use locator::Locator;
 pub use refusal::LocatorRefusal;
 

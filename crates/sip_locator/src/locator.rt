@@ -15,7 +15,7 @@ use crate::read::read_answer;
 use crate::refusal::LocatorRefusal;
 use answer_cache::AnswerBook;
 use dns_answers::{Answer, Moment};
-use dns_message::{Question, same_questions_are_equal};
+use dns_message::{Question, law_same_questions_are_equal};
 use sip_selection::{Caps, GiveRefusal, Next, Request, Selection};
 use srv_choice::Words;
 use std::alloc::{AllocError, Global};
@@ -65,10 +65,10 @@ impl<B: AnswerBook> Locator<B> {
     }
 
     /// A law: at most 521 answers are used. A call does nothing; its contract states this.
-    pub fn answers_are_few(&self)
+    pub fn law_answers_are_few(&self)
         ensures { length self.now.given ≤ 521 }
     {
-        self.selection.answers_are_few();
+        self.selection.law_answers_are_few();
     }
 
     /// What is next, by the answers used so far: nothing is looked up. Takes no memory.
@@ -97,7 +97,7 @@ impl<B: AnswerBook> Locator<B> {
             return Ok(false);
         };
         let question = question.try_clone()?;
-        same_questions_are_equal();
+        law_same_questions_are_equal();
         self.use_answer(&question, answer)?;
         Ok(true)
     }
@@ -150,7 +150,7 @@ impl<B: AnswerBook> Locator<B> {
                 return Ok(());
             }
         }
-        self.selection.answers_are_few();
+        self.selection.law_answers_are_few();
         Ok(())
     }
 

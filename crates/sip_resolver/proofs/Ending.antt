@@ -16,7 +16,7 @@ use Rattle.sip_resolver.specs.declared.outcome.Outcome.{Outcome}
 use Rattle.sip_resolver.specs.declared.outcome.Outcome.TheVariants.{Targets, Refused, NoAnswer, BadReply, Memory}
 use Rattle.sip_resolver.specs.declared.task.Progress.{Progress}
 use Rattle.sip_resolver.specs.declared.task.Progress.TheVariants as progress
-use Rattle.sip_resolver.specs.declared.waits.Fate.TheVariants as fates
+use Rattle.sip_resolver.specs.declared.waits.WaitOutcome.TheVariants as wait_outcomes
 use Rattle.sip_selection.specs.Choice.{Resolution}
 
 module _ (kind : Outcome → Type 0) where
@@ -70,14 +70,14 @@ module _ (kind : Outcome → Type 0) (no : (outcome : Outcome) → kind outcome 
 -- ---- the kinds
 
 pub failed-ends : (task : TaskView) (question : Question) (refusal : ReplyRefusal) (outcome : Outcome)
-    → IsFailed task question refusal (fates.Ended outcome) → IsByFault question refusal outcome
+    → IsFailed task question refusal (wait_outcomes.Ended outcome) → IsByFault question refusal outcome
 failed-ends task question refusal (Targets list) it = absurd it
 failed-ends task question refusal (Refused reason) it = absurd it
 failed-ends task question refusal (NoAnswer other) it = absurd it
 failed-ends task question refusal (BadReply other fault) it = (it.1, it.2)
 failed-ends task question refusal Memory it = tt
 
-pub given-up-ends : (task : TaskView) (question : Question) (outcome : Outcome) → IsGivenUp task question (fates.Ended outcome)
+pub given-up-ends : (task : TaskView) (question : Question) (outcome : Outcome) → IsGivenUp task question (wait_outcomes.Ended outcome)
     → IsBySilence question outcome
 given-up-ends task question (Targets list) it = absurd it
 given-up-ends task question (Refused reason) it = absurd it

@@ -18,8 +18,8 @@ use Rattle.sip_resolver.specs.Settles.{GetsAnswer, GoesOverStream, NeedsOther}
 use Rattle.sip_resolver.specs.Tasks.{IsCounted, TaskView, WaitingView, sought_of}
 use Rattle.sip_resolver.specs.declared.outcome.Outcome.{Outcome}
 use Rattle.sip_resolver.specs.declared.outcome.Outcome.TheVariants.{Targets, Refused, NoAnswer, BadReply, Memory}
-use Rattle.sip_resolver.specs.declared.waits.Fate.{Fate}
-use Rattle.sip_resolver.specs.declared.waits.Fate.TheVariants.{Ready, Ended}
+use Rattle.sip_resolver.specs.declared.waits.WaitOutcome.{WaitOutcome}
+use Rattle.sip_resolver.specs.declared.waits.WaitOutcome.TheVariants.{Ready, Ended}
 use Rattle.sip_resolver.specs.declared.waits.WaitEnd.{WaitEnd}
 use Rattle.sip_resolver.specs.declared.waits.WaitEnd.TheVariants.{Answered, Faulty, Cut, GivenUp, NoMemory}
 
@@ -33,13 +33,13 @@ IsKnown gives shows seat (GivenUp question) = ⊤
 IsKnown gives shows seat NoMemory = ⊤
 
 -- each answer of a request that can go on counts, and the outcome of one that ended is so
-abbrev pub Fits : (List ℕ → Type 0) → (ℕ → Type 0) → SeatView → TaskView → Fate → Type 0
+abbrev pub Fits : (List ℕ → Type 0) → (ℕ → Type 0) → SeatView → TaskView → WaitOutcome → Type 0
 Fits gives shows seat task Ready = IsCounted gives shows seat task
 Fits gives shows seat task (Ended outcome) = IsOutcome gives shows seat (sought_of task) outcome
 
 -- It ended by this fault of the reply to the question that it needed, or for want of memory. Or it
 -- needed no such question, and goes on.
-abbrev pub IsFailed : TaskView → Question → ReplyRefusal → Fate → Type 0
+abbrev pub IsFailed : TaskView → Question → ReplyRefusal → WaitOutcome → Type 0
 IsFailed task question refusal Ready = now_of task.selection ≢ need question
 IsFailed task question refusal (Ended (Targets list)) = ⊥
 IsFailed task question refusal (Ended (Refused reason)) = ⊥
@@ -50,7 +50,7 @@ IsFailed task question refusal (Ended Memory) = ⊤
 
 -- It ended for want of the answer to this question, which it needed, or for want of memory. Or it
 -- needed no such question, and goes on.
-abbrev pub IsGivenUp : TaskView → Question → Fate → Type 0
+abbrev pub IsGivenUp : TaskView → Question → WaitOutcome → Type 0
 IsGivenUp task question Ready = now_of task.selection ≢ need question
 IsGivenUp task question (Ended (Targets list)) = ⊥
 IsGivenUp task question (Ended (Refused reason)) = ⊥
@@ -77,11 +77,11 @@ MayGoOn Cut old new = GoesOverStream old new
 MayGoOn (GivenUp question) old new = NeedsOther question.now old new
 MayGoOn NoMemory old new = ⊥
 
-abbrev pub GoesAs : WaitEnd → TaskView → TaskView → Fate → Type 0
+abbrev pub GoesAs : WaitEnd → TaskView → TaskView → WaitOutcome → Type 0
 GoesAs end old new Ready = MayGoOn end old new
 GoesAs end old new (Ended outcome) = ⊤
 
-abbrev pub EndsAs : WaitEnd → Fate → Type 0
+abbrev pub EndsAs : WaitEnd → WaitOutcome → Type 0
 EndsAs end Ready = ⊤
 EndsAs end (Ended outcome) = MayEnd end outcome
 

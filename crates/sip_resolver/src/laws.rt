@@ -12,14 +12,14 @@ use crate::origin::Origin;
 /// Along any calls no request is lost, and none ends twice: the requests that are inside at last,
 /// with those whose outcomes were taken, are those that were inside at first and those that were
 /// submitted, each as often.
-pub fn requests_are_kept()
+pub fn law_requests_are_kept()
     ensures { (first last : ResolverView) (events : List Event) → Runs first events last
         → AreKept first events last }
 {}
 
 /// Along any calls, if each request that waits for a reply at first waits for one to a question
 /// that is out, so does each that waits at last. In a new resolver no request waits.
-pub fn requests_are_awaited()
+pub fn law_requests_are_awaited()
     ensures { (first last : ResolverView) (events : List Event) → Runs first events last
         → AreAwaited first.requests first.questions → AreAwaited last.requests last.questions }
 {}
@@ -29,7 +29,7 @@ pub fn requests_are_awaited()
 /// sent again, or given up where it was sent three times. So before the second that `next_timeout`
 /// named, nothing is sent again or given up. From that second on, a question whose deadline it was
 /// is sent again or given up.
-pub fn questions_are_dealt_with<F: Origin, I: Ids>()
+pub fn law_questions_are_dealt_with<F: Origin, I: Ids>()
     ensures dealt { (now asked : ℕ) (first last : ResolverView)
         → PollsAll F.gives F.shows I.draws now asked first last
         → AreDealtWith now asked first last }

@@ -56,7 +56,7 @@ mod transmit;
 mod waits;
 
 pub use ids::{CountingIds, Ids, RandomIds};
-pub use laws::{questions_are_dealt_with, requests_are_awaited, requests_are_kept};
+pub use laws::{law_questions_are_dealt_with, law_requests_are_awaited, law_requests_are_kept};
 pub use origin::{Anything, Origin};
 pub use outcome::{Outcome, Resolved, TargetList};
 pub use refusal::SubmitRefusal;

@@ -141,8 +141,8 @@ impl Questions {
             (λ id. ticket_of id self.now.streams.tickets ≡ None) }
         ensures taken { IfNone result (AreTaken I.draws self.now) }
     {
-        self.datagrams.stands_in_order();
-        self.streams.stands_in_order();
+        self.datagrams.law_stands_in_order();
+        self.streams.law_stands_in_order();
         'draws: for _draw in 0..DRAW_LIMIT {
             let id = ids.draw();
             if !self.is_out(id) {
@@ -184,8 +184,8 @@ impl Questions {
         ensures streams { IfNone result (All (IsInWait now) self.new.streams.tickets) }
         ensures awaited { AreAwaited requests.old self.old → AreAwaited requests.new self.new }
     {
-        self.datagrams.stands_in_order();
-        self.streams.stands_in_order();
+        self.datagrams.law_stands_in_order();
+        self.streams.law_stands_in_order();
         let sent = later_of(now, asked);
         if let Some(id) = next_resend::<B, F>(&mut self.datagrams, requests, now, sent) {
             return Some(id);

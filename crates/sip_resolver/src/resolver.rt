@@ -27,7 +27,7 @@ use crate::task::{Progress, Task};
 use crate::transmit::{Over, Transmit};
 use crate::waits::{WaitEnd, settle_all};
 use answer_cache::AnswerBook;
-use dns_answers::{Answer, Moment, ReplyRefusal, answers_are_bounded};
+use dns_answers::{Answer, Moment, ReplyRefusal, law_answers_are_bounded};
 use dns_asker::{Ending, Incoming, Why};
 use dns_message::Question;
 use sip_selection::{Caps, Request};
@@ -436,7 +436,7 @@ impl<B: AnswerBook, F: Origin, I: Ids + Drop> Resolver<B, F, I> {
     {
         match ending {
             Ending::Answered(answer) => {
-                answers_are_bounded();
+                law_answers_are_bounded();
                 self.take(rt, book, seat, now, octets, id, question, answer);
             }
             Ending::Faulty(refusal) => {

@@ -22,7 +22,7 @@ use crate::task::Task;
 use answer_cache::AnswerBook;
 use dns_answers::{Answer, Moment, ReplyRefusal};
 use dns_asker::{Asker, Due};
-use dns_message::{Question, same_questions_are_equal};
+use dns_message::{Question, law_same_questions_are_equal};
 use sip_selection::GiveRefusal;
 use std::alloc::AllocError;
 use std::sync::Arc;
@@ -47,7 +47,7 @@ pub(crate) enum WaitEnd<'a> {
 
 /// What becomes of a request that waited.
 #[derive(Drop)]
-pub(crate) enum Fate {
+pub(crate) enum WaitOutcome {
     /// It can go on.
     Ready,
     /// It ended.
@@ -144,14 +144,14 @@ fn settle<B: AnswerBook, F: Origin>(
         requests.wait(own, task);
         return;
     }
-    match fate_of::<B, F>(&mut task, end) {
-        Fate::Ready => requests.add(task),
-        Fate::Ended(outcome) => requests.end(task, outcome),
+    match wait_outcome_of::<B, F>(&mut task, end) {
+        WaitOutcome::Ready => requests.add(task),
+        WaitOutcome::Ended(outcome) => requests.end(task, outcome),
     }
 }
 
 /// What becomes of a request whose wait ended so.
-fn fate_of<B: AnswerBook, F: Origin>(task: &mut Task<B>, end: &WaitEnd<'_>) -> Fate
+fn wait_outcome_of<B: AnswerBook, F: Origin>(task: &mut Task<B>, end: &WaitEnd<'_>) -> WaitOutcome
     ensures request { sought_of task.new ≡ sought_of task.old }
     ensures fits { (seat : SeatView) → IsKnown F.gives F.shows seat end.now
         → IsCounted F.gives F.shows seat task.old → Lacks F.shows seat task.old
@@ -161,44 +161,44 @@ fn fate_of<B: AnswerBook, F: Origin>(task: &mut Task<B>, end: &WaitEnd<'_>) -> F
 {
     match end {
         WaitEnd::Answered(question, answer) => match task.give(question, answer) {
-            Ok(()) => Fate::Ready,
-            Err(GiveRefusal::NotAsked | GiveRefusal::WrongKind) => Fate::Ready,
-            Err(GiveRefusal::Memory) => Fate::Ended(Outcome::Memory),
+            Ok(()) => WaitOutcome::Ready,
+            Err(GiveRefusal::NotAsked | GiveRefusal::WrongKind) => WaitOutcome::Ready,
+            Err(GiveRefusal::Memory) => WaitOutcome::Ended(Outcome::Memory),
         },
         WaitEnd::Faulty(question, refusal) => faulty(task, question, *refusal),
         WaitEnd::Cut => {
             task.mark_cut();
-            Fate::Ready
+            WaitOutcome::Ready
         }
         WaitEnd::GivenUp(question) => given_up(task, question),
-        WaitEnd::NoMemory => Fate::Ended(Outcome::Memory),
+        WaitEnd::NoMemory => WaitOutcome::Ended(Outcome::Memory),
     }
 }
 
 /// What becomes of a request, as the reply to this question has this fault.
-fn faulty<B: AnswerBook>(task: &Task<B>, question: &Question, refusal: ReplyRefusal) -> Fate
+fn faulty<B: AnswerBook>(task: &Task<B>, question: &Question, refusal: ReplyRefusal) -> WaitOutcome
     ensures { IsFailed task.now question.now refusal result }
 {
-    same_questions_are_equal();
+    law_same_questions_are_equal();
     if task.question() != Some(question) {
-        return Fate::Ready;
+        return WaitOutcome::Ready;
     }
     match question.try_clone() {
-        Ok(question) => Fate::Ended(Outcome::BadReply(question, refusal)),
-        Err(AllocError) => Fate::Ended(Outcome::Memory),
+        Ok(question) => WaitOutcome::Ended(Outcome::BadReply(question, refusal)),
+        Err(AllocError) => WaitOutcome::Ended(Outcome::Memory),
     }
 }
 
 /// What becomes of a request, as this question was sent three times.
-fn given_up<B: AnswerBook>(task: &Task<B>, question: &Question) -> Fate
+fn given_up<B: AnswerBook>(task: &Task<B>, question: &Question) -> WaitOutcome
     ensures { IsGivenUp task.now question.now result }
 {
-    same_questions_are_equal();
+    law_same_questions_are_equal();
     if task.question() != Some(question) {
-        return Fate::Ready;
+        return WaitOutcome::Ready;
     }
     match question.try_clone() {
-        Ok(question) => Fate::Ended(Outcome::NoAnswer(question)),
-        Err(AllocError) => Fate::Ended(Outcome::Memory),
+        Ok(question) => WaitOutcome::Ended(Outcome::NoAnswer(question)),
+        Err(AllocError) => WaitOutcome::Ended(Outcome::Memory),
     }
 }

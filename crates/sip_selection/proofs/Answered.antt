@@ -6,7 +6,7 @@ use Rattle.std.specs.Cmp.{IsEquivalence, and_equiv, on_equiv, nat_eq_equiv}
 use Rattle.std.specs.Cmp.Lexicographic.{lists_equiv}
 use Rattle.std.specs.Map.{lookup}
 use Rattle.dns_answers.specs.Values.{AnswerValue}
-use Rattle.dns_message.specs.Kinds.{kind_code}
+use Rattle.dns_message.specs.Kinds.{type_of_kind}
 use Rattle.dns_message.specs.Questions.{same_question}
 use Rattle.dns_message.specs.declared.question.Question.{Question}
 use Rattle.sip_selection.specs.Known.{find_answer, answer_to}
@@ -15,7 +15,7 @@ use Rattle.sip_selection.specs.Views.{given_of}
 question_equiv : IsEquivalence same_question
 question_equiv =
     and_equiv (on_equiv (λ (question : Question). question.name) (lists_equiv (lists_equiv nat_eq_equiv)))
-    (on_equiv (λ (question : Question). kind_code question.kind) nat_eq_equiv)
+    (on_equiv (λ (question : Question). type_of_kind question.kind) nat_eq_equiv)
 
 abbrev pub Entries : Type 0 → Type 0
 Entries Z = List (Question × Arc AnswerValue Z)

@@ -12,7 +12,7 @@ use Rattle.std.proofs.lemmas.Map.Made.{length-le_from_is_member}
 use Rattle.dns_answers.specs.Records.{count_of}
 use Rattle.dns_answers.specs.Values.{AnswerValue}
 use Rattle.dns_answers.specs.declared.records.Records.TheVariants as records
-use Rattle.dns_message.specs.Kinds.{kind_code}
+use Rattle.dns_message.specs.Kinds.{type_of_kind}
 use Rattle.dns_message.specs.Questions.{same_question}
 use Rattle.dns_message.specs.declared.kind.Kind.{Kind}
 use Rattle.dns_message.specs.declared.kind.Kind.TheVariants as kind
@@ -323,7 +323,7 @@ any-settled (Err reason) = tt
 same_questions : IsEquivalence same_question
 same_questions =
     and_equiv (on_equiv (λ (question : Question). question.name) (lists_equiv (lists_equiv nat_eq_equiv)))
-    (on_equiv (λ (question : Question). kind_code question.kind) nat_eq_equiv)
+    (on_equiv (λ (question : Question). type_of_kind question.kind) nat_eq_equiv)
 
 none-same : (given : List Given) (question : Question) → find_answer given question ≡ None
     → All (λ (it : Given). same_question it.question question ≡ false) given

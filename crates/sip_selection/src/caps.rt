@@ -126,7 +126,7 @@ impl Caps {
 
     /// The caller has one to four transports, none of them twice. A call does nothing; its contract
     /// states this.
-    pub fn transports_are_few(&self)
+    pub fn law_transports_are_few(&self)
         ensures { AreOffered self.now.transports }
     {
         let _slots = &self.slots;

@@ -17,11 +17,11 @@ ghost use Rattle.sip_selection.specs.declared.caps.Caps.{Caps};
 ghost use Rattle.sip_selection.specs.declared.request.Request.{Request};
 ghost use Rattle.sip_selection.specs.declared.target.Target.{Target};
 
-use srv_choice::order_is_by_priority;
+use srv_choice::law_order_is_by_priority;
 
 /// Where TARGET is an address, nothing is asked: the request goes to that address alone, or nowhere
 /// (RFC 3263 4.2).
-pub fn numeric_targets_ask_nothing()
+pub fn law_numeric_targets_ask_nothing()
     ensures nothing { (request : Request) (caps : Caps) (words : List ℕ) (given : List Given)
         → ((name : List (List ℕ)) → target_of request ≢ host.Domain name)
         → (question : Question) → locate request caps words given ≢ need question }
@@ -36,7 +36,7 @@ pub fn numeric_targets_ask_nothing()
 {}
 
 /// A request to a SIPS URI goes over TLS alone (RFC 3261 26.2.2).
-pub fn secure_requests_go_over_tls()
+pub fn law_secure_requests_go_over_tls()
     ensures { (request : Request) (caps : Caps) (words : List ℕ) (given : List Given)
         → IsTrue (is_secure request)
         → (found : List Target) → locate request caps words given ≡ targets found
@@ -44,7 +44,7 @@ pub fn secure_requests_go_over_tls()
 {}
 
 /// Each target's transport is one of the caller's.
-pub fn targets_are_offered()
+pub fn law_targets_are_offered()
     ensures { (request : Request) (caps : Caps) (words : List ℕ) (given : List Given)
         → (found : List Target) → locate request caps words given ≡ targets found
         → All (λ it. IsTrue (offers caps it.transport)) found }
@@ -52,7 +52,7 @@ pub fn targets_are_offered()
 
 /// Where TARGET is a name, each target's address is in the answer that was given to a question for
 /// addresses of one of the caller's families.
-pub fn targets_are_answered()
+pub fn law_targets_are_answered()
     ensures { (request : Request) (caps : Caps) (words : List ℕ) (given : List Given)
         → (name : List (List ℕ)) → target_of request ≡ host.Domain name
         → (found : List Target) → locate request caps words given ≡ targets found
@@ -64,7 +64,7 @@ pub fn targets_are_answered()
 
 /// A question that is needed has no answer yet. It asks for NAPTR or SRV records, or for addresses
 /// of one of the caller's families.
-pub fn questions_are_missing()
+pub fn law_questions_are_missing()
     ensures missing { (request : Request) (caps : Caps) (words : List ℕ) (given : List Given)
         → (question : Question) → locate request caps words given ≡ need question
         → find_answer given question ≡ None }
@@ -75,20 +75,20 @@ pub fn questions_are_missing()
 
 /// There are at most 16,384 targets: of 8 services at most, each of 32 servers with 64 addresses.
 /// (`Caps::new` takes at most four transports, and an answer has at most 32 records.)
-pub fn targets_are_few()
+pub fn law_targets_are_few()
     ensures { (request : Request) (caps : Caps) (words : List ℕ) (given : List Given)
         → length caps.transports ≤ 4
         → All (λ it. count_of it.answer.records ≤ 32) given
         → (found : List Target) → locate request caps words given ≡ targets found
         → length found ≤ 16384 }
 {
-    order_is_by_priority();
+    law_order_is_by_priority();
 }
 
 /// Where each answer is to the question that was needed when it came, there are at most 521: one
 /// has NAPTR records, and for each of 8 services one has SRV records, and two have addresses for
 /// each of 32 servers. Where the addresses of TARGET itself are needed, no service has servers.
-pub fn questions_are_few()
+pub fn law_questions_are_few()
     ensures { (request : Request) (caps : Caps) (words : List ℕ) (given : List Given)
         → length caps.transports ≤ 4
         → All (λ it. count_of it.answer.records ≤ 32) given

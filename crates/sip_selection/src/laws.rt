@@ -14,7 +14,7 @@ ghost use Rattle.sip_selection.specs.declared.target.Target.{Target};
 
 /// After any events as many targets are tried as failed before the first response, and one more, as
 /// far as there are any; and none is left exactly where all failed.
-pub fn trials_follow_events()
+pub fn law_trials_follow_events()
     ensures tried { (targets : List Target) (events : List Event)
         → tried_in (fold next_trial (begun targets) events) ≡ tried_by targets events }
     ensures progress { (targets : List Target) (events : List Event)
@@ -23,7 +23,7 @@ pub fn trials_follow_events()
 
 /// Where a request goes does not change when further answers are given: what is not a question is
 /// final.
-pub fn resolutions_are_final()
+pub fn law_resolutions_are_final()
     ensures { (request : Request) (caps : Caps) (words : List ℕ) (given more : List Given)
         → ((question : Question) → locate request caps words given ≢ need question)
         → locate request caps words (given ++ more) ≡ locate request caps words given }
@@ -31,7 +31,7 @@ pub fn resolutions_are_final()
 
 /// The rules are ordered by PREFERENCE: each of them once, none before one of a lower PREFERENCE,
 /// and those of the same one in the order that they had (RFC 3403 4.1).
-pub fn rules_stand_by_preference()
+pub fn law_rules_stand_by_preference()
     ensures complete { (rules : List Led) → IsPermutation rules (by_preference rules) }
     ensures lowest_first { (rules : List Led)
         → IsNonDecreasingBy (λ it. it.rule.preference) (by_preference rules) }

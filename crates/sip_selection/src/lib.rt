@@ -39,12 +39,12 @@
 //! answer is given at most once for a question, though several servers can have the same name.
 //!
 //! `specs/Choice.antt` says where a request goes, as one function `locate` of all this. Laws tell
-//! what follows from it: a numeric target asks nothing (`numeric_targets_ask_nothing`), a SIPS
-//! request goes over TLS alone (`secure_requests_go_over_tls`), each target has an address that was
-//! answered or written (`targets_are_answered`), and where a request goes stays so when further
-//! answers are given (`resolutions_are_final`). There are at most 521 questions
-//! (`questions_are_few`) and 16,384 targets (`targets_are_few`); of a selection as it is,
-//! `Selection::answers_are_few` says both.
+//! what follows from it: a numeric target asks nothing (`law_numeric_targets_ask_nothing`), a SIPS
+//! request goes over TLS alone (`law_secure_requests_go_over_tls`), each target has an address that
+//! was answered or written (`law_targets_are_answered`), and where a request goes stays so when
+//! further answers are given (`law_resolutions_are_final`). There are at most 521 questions
+//! (`law_questions_are_few`) and 16,384 targets (`law_targets_are_few`); of a selection as it is,
+//! `Selection::law_answers_are_few` says both.
 //!
 //! Each `give` goes on from where the choice stopped. It takes memory for the answer, for the
 //! targets that it leads to and for the next question, and keeps what was found before.
@@ -69,11 +69,14 @@ mod way;
 
 pub use caps::{Caps, Families};
 pub use choice_laws::{
-    numeric_targets_ask_nothing, questions_are_few, questions_are_missing,
-    secure_requests_go_over_tls, targets_are_answered, targets_are_few, targets_are_offered,
+    law_numeric_targets_ask_nothing, law_questions_are_few, law_questions_are_missing,
+    law_secure_requests_go_over_tls, law_targets_are_answered, law_targets_are_few,
+    law_targets_are_offered,
 };
 pub use failover::{Event, Failover, Failure, Progress};
-pub use laws::{resolutions_are_final, rules_stand_by_preference, trials_follow_events};
+pub use laws::{
+    law_resolutions_are_final, law_rules_stand_by_preference, law_trials_follow_events,
+};
 pub use reason::Reason;
 pub use request::Request;
 pub use selection::{GiveRefusal, Next, Selection};

@@ -10,14 +10,16 @@ ghost use Rattle.sip_selection.specs.declared.target.Target.{Target};
 
 use crate::caps::Caps;
 use crate::choice::{begin, resume};
-use crate::choice_laws::{numeric_targets_ask_nothing, questions_are_few, targets_are_few};
+use crate::choice_laws::{
+    law_numeric_targets_ask_nothing, law_questions_are_few, law_targets_are_few,
+};
 use crate::known::Known;
 use crate::reason::Reason;
 use crate::request::Request;
 use crate::stage::{Basis, Stage, Turn};
 use crate::target::Target;
 use dns_answers::Answer;
-use dns_message::{Question, same_questions_are_equal};
+use dns_message::{Question, law_same_questions_are_equal};
 use sip_uri::Host;
 use srv_choice::Words;
 use std::alloc::{AllocError, Global};
@@ -170,14 +172,14 @@ impl Selection {
 
     /// At most 521 answers were given, and there are at most 16,384 targets. A call does nothing;
     /// its contract states this.
-    pub fn answers_are_few(&self)
+    pub fn law_answers_are_few(&self)
         ensures few { length self.now.given ≤ 521 }
         ensures few_targets { (found : List Target) → now_of self.now ≡ targets found
             → length found ≤ 16384 }
     {
-        questions_are_few();
-        targets_are_few();
-        self.caps.transports_are_few();
+        law_questions_are_few();
+        law_targets_are_few();
+        self.caps.law_transports_are_few();
     }
 
     /// Takes the answer to the question that is asked. After a refusal the choice is unchanged.
@@ -209,7 +211,7 @@ impl Selection {
     fn asks(&self, question: &Question) -> bool
         ensures { IsTrue result ↔ (now_of self.now ≡ need question.now) }
     {
-        same_questions_are_equal();
+        law_same_questions_are_equal();
         match self.next() {
             Next::Ask(asked) => asked == question,
             Next::Targets(_) | Next::Refused(_) => false,
@@ -225,7 +227,7 @@ impl Selection {
             → self.new ≡ given_too self.old question (arc_value answer)) }
         ensures unchanged { OnErr result (self.new ≡ self.old) }
     {
-        numeric_targets_ask_nothing();
+        law_numeric_targets_ask_nothing();
         let Host::Domain(name) = self.request.target() else {
             unreachable!()
         };

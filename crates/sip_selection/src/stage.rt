@@ -11,7 +11,7 @@ use dns_answers::Answer;
 use dns_message::Question;
 use dns_name::Name;
 use sip_uri::Transport;
-use srv_choice::{Places, SrvOutcome, Words};
+use srv_choice::{Indexes, SrvOutcome, Words};
 use std::alloc::Global;
 use std::mem;
 use std::sync::Arc;
@@ -95,7 +95,7 @@ pub(crate) struct Listing {
     /// Its SRV records.
     pub(crate) answer: Arc<Answer>,
     /// Their order.
-    pub(crate) places: Places,
+    pub(crate) places: Indexes,
 }
 
 /// How far the addresses of servers were looked for.

@@ -8,19 +8,19 @@ ghost use Rattle.sip_uri.specs.declared.uri.SipUri.{SipUri};
 ghost use Rattle.sip_uri.specs.declared.via.Via.{Via};
 
 /// A text spells at most one URI.
-pub fn one_uri_of_a_text()
+pub fn law_one_uri_of_a_text()
     ensures { (text : List ℕ) (uri uri' : SipUri) → UriText text uri → UriText text uri'
         → uri ≡ uri' }
 {}
 
 /// A text spells at most one Via.
-pub fn one_via_of_a_text()
+pub fn law_one_via_of_a_text()
     ensures { (text : List ℕ) (via via' : Via) → ViaText text via → ViaText text via' → via ≡ via' }
 {}
 
 /// Hosts, URIs and Vias are the same, as `==` compares them, exactly where they are equal as
 /// values.
-pub fn same_exactly_where_equal()
+pub fn law_same_exactly_where_equal()
     ensures host { (host other : Host) → IsTrue (same_host host other) ↔ (host ≡ other) }
     ensures uri { (uri other : SipUri) → IsTrue (same_uri uri other) ↔ (uri ≡ other) }
     ensures via { (via other : Via) → IsTrue (same_via via other) ↔ (via ≡ other) }

@@ -65,8 +65,8 @@ mod via_parts;
 mod via_text;
 
 pub use host::Host;
-pub use ip_text::{Address, address_from_text, address_text, decimal, written_address_is_read};
-pub use laws::{one_uri_of_a_text, one_via_of_a_text, same_exactly_where_equal};
+pub use ip_text::{Address, address_from_text, address_text, decimal, law_written_address_is_read};
+pub use laws::{law_one_uri_of_a_text, law_one_via_of_a_text, law_same_exactly_where_equal};
 pub use refusal::UriRefusal;
 pub use transport::{Spoken, Transport};
 pub use uri::SipUri;

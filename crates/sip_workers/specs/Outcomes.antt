@@ -3,7 +3,7 @@ use Rattle.std.specs.Prelude.{◌≡◌, ◌⊎◌, ℕ, List}
 use Rattle.std.specs.List.{All}
 use Rattle.answer_log.specs.declared.store.Store.{Store}
 use Rattle.answer_cache.specs.Seats.{SeatView}
-use Rattle.answer_cache.specs.Shared.{Told}
+use Rattle.answer_cache.specs.Shared.{NoticeView}
 use Rattle.sip_selection.specs.Choice.{Resolution, locate, targets, refused, need}
 use Rattle.sip_selection.specs.Known.{Given}
 use Rattle.sip_resolver.specs.Outcomes.{IsCached, IsFaulty, IsLacking, IsReplied}
@@ -16,7 +16,7 @@ use Rattle.sip_workers.specs.declared.job.Job.{Job}
 pub record ResultView : Type 0 where
   pub job : Job
   pub outcome : Outcome
-  pub notice : Told
+  pub notice : NoticeView
 
 -- with these answers, each of which counts, this is the choice of RFC 3263 4 and 5
 pub record IsChosen (counts : Given → Type 0) (job : Job) (resolution : Resolution) : Type 0 where

@@ -1,7 +1,7 @@
 -- What a run of many workers is, and what it gives.
 use Rattle.std.specs.Prelude.{◌≡◌, ◌≢◌, ℕ, ◌+◌, ◌<◌, ◌≤◌, List, length, slice_index_or}
 use Rattle.std.specs.List.{AllZip}
-use Rattle.answer_cache.specs.Shared.{CacheView, Told}
+use Rattle.answer_cache.specs.Shared.{CacheView, NoticeView}
 use Rattle.sip_workers.specs.Outcomes.{IsOutcome}
 use Rattle.sip_workers.specs.declared.job.Job.{Job}
 use Rattle.sip_resolver.specs.declared.outcome.Outcome.{Outcome}
@@ -47,9 +47,9 @@ of_gather gather.Memory = Memory
 -- what became of a job, with a notice of this cache
 module _ (gives : List ℕ → Type 0) (shows : ℕ → Type 0) (cache : CacheView) where
   -- what became of a job, with a notice of this cache
-  abbrev pub IsMade : Job → Outcome × Told → Type 0
+  abbrev pub IsMade : Job → Outcome × NoticeView → Type 0
   IsMade job made = IsOutcome gives shows made.1.seen job made.0 × (made.1.cache ≡ cache)
 
   -- what became of each job, in their order
-  abbrev pub AreMade : List Job → List (Outcome × Told) → Type 0
+  abbrev pub AreMade : List Job → List (Outcome × NoticeView) → Type 0
   AreMade jobs made = AllZip IsMade jobs made

@@ -33,8 +33,8 @@ fn is_same_request(request: &Request, other: &Request) -> bool
 fn are_same_caps(caps: &Caps, other: &Caps) -> bool
     ensures { result ≡ same_caps caps.now other.now }
 {
-    caps.transports_are_few();
-    other.transports_are_few();
+    caps.law_transports_are_few();
+    other.law_transports_are_few();
     caps == other
 }
 

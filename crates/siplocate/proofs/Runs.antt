@@ -4,15 +4,15 @@ use Rattle.std.specs.List.{AllZip, enumerate_from}
 use Rattle.std.proofs.lemmas.List.FromFn.{length-enumerate_from, get_or-enumerate_from}
 use Rattle.std.proofs.lemmas.List.{append_assoc, append-nil, drop_more, length-append}
 use Rattle.std.proofs.Math.Seq.{drop-length}
-use Rattle.answer_cache.specs.Shared.{CacheView, Told}
+use Rattle.answer_cache.specs.Shared.{CacheView, NoticeView}
 use Rattle.sip_workers.specs.declared.job.Job.{Job}
 use Rattle.sip_resolver.specs.declared.outcome.Outcome.{Outcome}
 use Rattle.sip_workers.specs.declared.refusal.RunRefusal.{RunRefusal}
 use Rattle.sip_workers.specs.declared.refusal.RunRefusal.TheVariants.{BadCount, NoThread, Memory, Gathering}
 use Rattle.std.specs.Str.Lines.{lines}
 use Rattle.sip_workers.specs.Runs.{IsMade, MayRun, RefusesRun, Rises}
-use Rattle.siplocate.specs.Runs.{AreEntries, AreFates, FitsSeats, HasRequests, HasTooMany, IsEntry, IsRequest, RefusesText, fates_of}
-use Rattle.siplocate.specs.Jobs.{TellsRun, faulted}
+use Rattle.siplocate.specs.Runs.{AreEntries, AreLineOutcomes, FitsSeats, HasRequests, HasTooMany, IsEntry, IsRequest, RefusesText, line_outcomes_of}
+use Rattle.siplocate.specs.Jobs.{IsRunOutput, faulted}
 use Rattle.siplocate.specs.Served.{Faults, IsCountOfWorkers, IsOverfull, of_run}
 use Rattle.siplocate.specs.declared.server.RunFault.{RunFault}
 use Rattle.siplocate.specs.declared.server.RunFault.TheVariants as fault
@@ -200,7 +200,7 @@ faults_of workers text seats wires (Gathering refusal) fits refused = tt
 -- what is told of a fault
 pub tells_fault : (workers : ℕ) (text : List ℕ) (it : RunFault)
     → (it ≡ fault.Workers → IsCountOfWorkers workers → ⊥) → (it ≡ fault.Requests → IsOverfull text)
-    → TellsRun workers text (faulted it)
+    → IsRunOutput workers text (faulted it)
 tells_fault workers text fault.Workers unfit many = unfit refl
 tells_fault workers text fault.Requests unfit many = many refl
 tells_fault workers text fault.Memory unfit many = tt
@@ -211,19 +211,19 @@ tells_fault workers text fault.Net unfit many = tt
 -- ---- what becomes of them
 
 module _ (gives : List ℕ → Type 0) (shows : ℕ → Type 0) (cache : CacheView) where
-  pub fates_are : (number : ℕ) (lines : List (List ℕ)) (entries : List Entry) (jobs : List Job) (made : List (Outcome × Told))
+  pub line_outcomes_are : (number : ℕ) (lines : List (List ℕ)) (entries : List Entry) (jobs : List Job) (made : List (Outcome × NoticeView))
       → AreEntries number lines entries jobs → AllZip (IsMade gives shows cache) jobs made
-      → AreFates gives shows cache number lines (fates_of entries made)
-  fates_are number [] [] [] made are all = tt
-  fates_are number [] [] (job ∷ jobs) made are all = elim are [ ]
-  fates_are number [] (one ∷ entries) jobs made are all = elim are [ ]
-  fates_are number (line ∷ lines) [] jobs made are all = elim are [ ]
-  fates_are number (line ∷ lines) (entry.Request ∷ entries) [] made are all = elim are [ ]
-  fates_are number (line ∷ lines) (entry.Request ∷ entries) (job ∷ jobs) [] are all = elim all [ ]
-  fates_are number (line ∷ lines) (entry.Request ∷ entries) (job ∷ jobs) (first ∷ made) are all =
-      (record { job = job; is = are.0; told = first.1; made = all.0 }, fates_are (number + 1) lines entries jobs made are.1 all.1)
-  fates_are number (line ∷ lines) (entry.Bad refusal ∷ entries) jobs made are all =
-      (are.0, fates_are (number + 1) lines entries jobs made are.1 all)
+      → AreLineOutcomes gives shows cache number lines (line_outcomes_of entries made)
+  line_outcomes_are number [] [] [] made are all = tt
+  line_outcomes_are number [] [] (job ∷ jobs) made are all = elim are [ ]
+  line_outcomes_are number [] (one ∷ entries) jobs made are all = elim are [ ]
+  line_outcomes_are number (line ∷ lines) [] jobs made are all = elim are [ ]
+  line_outcomes_are number (line ∷ lines) (entry.Request ∷ entries) [] made are all = elim are [ ]
+  line_outcomes_are number (line ∷ lines) (entry.Request ∷ entries) (job ∷ jobs) [] are all = elim all [ ]
+  line_outcomes_are number (line ∷ lines) (entry.Request ∷ entries) (job ∷ jobs) (first ∷ made) are all =
+      (record { job = job; is = are.0; told = first.1; made = all.0 }, line_outcomes_are (number + 1) lines entries jobs made are.1 all.1)
+  line_outcomes_are number (line ∷ lines) (entry.Bad refusal ∷ entries) jobs made are all =
+      (are.0, line_outcomes_are (number + 1) lines entries jobs made are.1 all)
 
 -- ---- lines and their numbers
 

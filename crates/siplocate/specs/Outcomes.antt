@@ -8,8 +8,8 @@ use Rattle.sip_selection.specs.declared.target.Target.{Target}
 use Rattle.sip_resolver.specs.declared.outcome.Outcome.{Outcome}
 use Rattle.sip_resolver.specs.declared.outcome.Outcome.TheVariants as outcome
 use Rattle.siplocate.specs.Words.{target_line, reason_word, kind_word, refusal_word, request_word}
-use Rattle.siplocate.specs.declared.fate.Fate.{Fate}
-use Rattle.siplocate.specs.declared.fate.Fate.TheVariants as fate
+use Rattle.siplocate.specs.declared.line_outcome.LineOutcome.{LineOutcome}
+use Rattle.siplocate.specs.declared.line_outcome.LineOutcome.TheVariants as line_outcome
 
 -- a line that begins with a number
 abbrev pub numbered : ℕ → List ℕ → List ℕ
@@ -33,38 +33,41 @@ outcome_lines number (outcome.BadReply question refusal) =
 outcome_lines number outcome.Memory = numbered number (codes "fault memory\n")
 
 -- the lines of what became of a line
-abbrev pub fate_lines : ℕ → Fate → List ℕ
-fate_lines number (fate.Became outcome) = outcome_lines number outcome
-fate_lines number (fate.Bad refusal) = numbered number (codes "bad " ++ request_word refusal
+abbrev pub line_outcome_lines : ℕ → LineOutcome → List ℕ
+line_outcome_lines number (line_outcome.Became outcome) = outcome_lines number outcome
+line_outcome_lines number (line_outcome.Bad refusal) = numbered number
+    (codes "bad " ++ request_word refusal
     ++ 10 ∷ [])
 
 -- the lines of what became of lines that are numbered from this number on
-abbrev pub shown_from : ℕ → List Fate → List ℕ
+abbrev pub shown_from : ℕ → List LineOutcome → List ℕ
 shown_from number [] = []
-shown_from number (fate ∷ fates) = fate_lines number fate ++ shown_from (number + 1) fates
+shown_from number (line_outcome ∷ line_outcomes) = line_outcome_lines number line_outcome ++
+    shown_from (number + 1) line_outcomes
 
 -- ---- the status
 
 -- a line became targets
-abbrev pub has_targets : Fate → Bool
-has_targets (fate.Became (outcome.Targets list)) = true
-has_targets (fate.Became (outcome.Refused reason)) = false
-has_targets (fate.Became (outcome.NoAnswer question)) = false
-has_targets (fate.Became (outcome.BadReply question refusal)) = false
-has_targets (fate.Became outcome.Memory) = false
-has_targets (fate.Bad refusal) = false
+abbrev pub has_targets : LineOutcome → Bool
+has_targets (line_outcome.Became (outcome.Targets list)) = true
+has_targets (line_outcome.Became (outcome.Refused reason)) = false
+has_targets (line_outcome.Became (outcome.NoAnswer question)) = false
+has_targets (line_outcome.Became (outcome.BadReply question refusal)) = false
+has_targets (line_outcome.Became outcome.Memory) = false
+has_targets (line_outcome.Bad refusal) = false
 
 -- a line became nothing, since memory was refused
-abbrev pub lacks_memory : Fate → Bool
-lacks_memory (fate.Became (outcome.Targets list)) = false
-lacks_memory (fate.Became (outcome.Refused reason)) = false
-lacks_memory (fate.Became (outcome.NoAnswer question)) = false
-lacks_memory (fate.Became (outcome.BadReply question refusal)) = false
-lacks_memory (fate.Became outcome.Memory) = true
-lacks_memory (fate.Bad refusal) = false
+abbrev pub lacks_memory : LineOutcome → Bool
+lacks_memory (line_outcome.Became (outcome.Targets list)) = false
+lacks_memory (line_outcome.Became (outcome.Refused reason)) = false
+lacks_memory (line_outcome.Became (outcome.NoAnswer question)) = false
+lacks_memory (line_outcome.Became (outcome.BadReply question refusal)) = false
+lacks_memory (line_outcome.Became outcome.Memory) = true
+lacks_memory (line_outcome.Bad refusal) = false
 
 -- the exit status of a run: 5 where memory was refused for a request, 0 where each has targets,
 -- else 2
-abbrev pub status_of_all : List Fate → ℕ
-status_of_all fates =
-    if list_any lacks_memory fates then 5 else (if list_all has_targets fates then 0 else 2)
+abbrev pub status_of_all : List LineOutcome → ℕ
+status_of_all line_outcomes =
+    if list_any lacks_memory line_outcomes then 5 else
+    (if list_all has_targets line_outcomes then 0 else 2)

@@ -1,7 +1,7 @@
 -- Many requests at once: what stands in their lines, and what becomes of each.
 use Rattle.std.specs.Prelude.{◌≡◌, ◌≢◌, ◌+◌, ◌<◌, ◌⊎◌, ◌++◌, ⊤, ℕ, zero, suc, List, [], ◌∷◌, replicate}
 use Rattle.std.specs.Str.Lines.{lines}
-use Rattle.answer_cache.specs.Shared.{CacheView, Told}
+use Rattle.answer_cache.specs.Shared.{CacheView, NoticeView}
 use Rattle.sip_selection.specs.declared.caps.Families.TheVariants.{V4ThenV6}
 use Rattle.sip_selection.specs.declared.request.Request.{Request}
 use Rattle.sip_uri.specs.declared.refusal.UriRefusal.{UriRefusal}
@@ -15,8 +15,8 @@ use Rattle.siplocate.specs.Draws.{drawn}
 use Rattle.siplocate.specs.Outcomes.{shown_from, status_of_all}
 use Rattle.siplocate.specs.Requests.{RequestText}
 use Rattle.siplocate.specs.Talks.{own_caps}
-use Rattle.siplocate.specs.declared.fate.Fate.{Fate}
-use Rattle.siplocate.specs.declared.fate.Fate.TheVariants as fate
+use Rattle.siplocate.specs.declared.line_outcome.LineOutcome.{LineOutcome}
+use Rattle.siplocate.specs.declared.line_outcome.LineOutcome.TheVariants as line_outcome
 use Rattle.siplocate.specs.declared.requests.Entry.{Entry}
 use Rattle.siplocate.specs.declared.requests.Entry.TheVariants as entry
 
@@ -80,11 +80,13 @@ RefusesText text seats wires (Gathering refusal) = ⊤
 -- ---- what becomes of it
 
 -- what becomes of lines, by what they are and by what became of the requests among them, in order
-abbrev pub fates_of : List Entry → List (Outcome × Told) → List Fate
-fates_of [] made = []
-fates_of (entry.Bad refusal ∷ entries) made = fate.Bad refusal ∷ fates_of entries made
-fates_of (entry.Request ∷ entries) [] = []
-fates_of (entry.Request ∷ entries) (first ∷ made) = fate.Became first.0 ∷ fates_of entries made
+abbrev pub line_outcomes_of : List Entry → List (Outcome × NoticeView) → List LineOutcome
+line_outcomes_of [] made = []
+line_outcomes_of (entry.Bad refusal ∷ entries) made = line_outcome.Bad refusal ∷ line_outcomes_of
+    entries made
+line_outcomes_of (entry.Request ∷ entries) [] = []
+line_outcomes_of (entry.Request ∷ entries) (first ∷ made) = line_outcome.Became first.0 ∷
+    line_outcomes_of entries made
 
 -- over a wire, a clock and a cache
 module _ (gives : List ℕ → Type 0) (shows : ℕ → Type 0) (cache : CacheView) where
@@ -92,26 +94,27 @@ module _ (gives : List ℕ → Type 0) (shows : ℕ → Type 0) (cache : CacheVi
   pub record IsLocated (number : ℕ) (line : List ℕ) (outcome : Outcome) : Type 0 where
     pub job : Job
     pub is : IsJob number line job
-    pub told : Told
+    pub told : NoticeView
     pub made : IsMade gives shows cache job (outcome, told)
 
   -- what becomes of the line of this number
-  abbrev pub IsFate : ℕ → List ℕ → Fate → Type 0
-  IsFate number line (fate.Became outcome) = IsLocated number line outcome
-  IsFate number line (fate.Bad refusal) = IsNoRequest line refusal
+  abbrev pub IsLineOutcome : ℕ → List ℕ → LineOutcome → Type 0
+  IsLineOutcome number line (line_outcome.Became outcome) = IsLocated number line outcome
+  IsLineOutcome number line (line_outcome.Bad refusal) = IsNoRequest line refusal
 
   -- what becomes of lines that are numbered from this number on
-  abbrev pub AreFates : ℕ → List (List ℕ) → List Fate → Type 0
-  AreFates number [] [] = ⊤
-  AreFates number (line ∷ lines) (fate ∷ fates) = IsFate number line fate
-      × AreFates (number + 1) lines fates
-  AreFates number lines fates = ⊥
+  abbrev pub AreLineOutcomes : ℕ → List (List ℕ) → List LineOutcome → Type 0
+  AreLineOutcomes number [] [] = ⊤
+  AreLineOutcomes number (line ∷ lines) (line_outcome ∷ line_outcomes) = IsLineOutcome number line
+      line_outcome
+      × AreLineOutcomes (number + 1) lines line_outcomes
+  AreLineOutcomes number lines line_outcomes = ⊥
 
   -- What is printed of the requests of a text, whose lines are numbered from 1, and the status.
-  -- Each line has a fate (`AreFates`): an outcome as `run_workers` gives it (`IsLocated`), or that
-  -- it is no request (`IsNoRequest`).
+  -- Each line has a fate (`AreLineOutcomes`): an outcome as `run_workers` gives it (`IsLocated`),
+  -- or that it is no request (`IsNoRequest`).
   pub record IsRun (text printed : List ℕ) (status : ℕ) : Type 0 where
-    pub fates : List Fate
-    pub are : AreFates 1 (lines text) fates
-    pub shown : printed ≡ shown_from 1 fates
-    pub status_is : status ≡ status_of_all fates
+    pub line_outcomes : List LineOutcome
+    pub are : AreLineOutcomes 1 (lines text) line_outcomes
+    pub shown : printed ≡ shown_from 1 line_outcomes
+    pub status_is : status ≡ status_of_all line_outcomes

@@ -6,7 +6,7 @@ ghost use Rattle.siplocate.specs.Jobs.{IsReported};
 
 use crate::input::InputRefusal;
 use crate::one::one_text;
-use crate::server::tell_run;
+use crate::server::run_output;
 use sip_selection::Families;
 use std::alloc::{AllocError, Global};
 use std::io::{self, Write};
@@ -31,7 +31,7 @@ pub enum Job {
 
 /// What the program prints, and its exit status.
 #[derive(Debug, Drop)]
-pub enum Told {
+pub enum JobOutput {
     /// This text, with this status: what becomes of a request, or what is wrong with it.
     Text(String, u8),
     /// How it is used.
@@ -49,63 +49,70 @@ pub enum Told {
 }
 
 /// What the program prints for the request in a text.
-fn tell_one<R: Wait>(rt: &R, alloc: Global, families: Families, text: &str) -> Told
-    ensures told { spec.TellsText families text.now result }
+fn one_output<R: Wait>(rt: &R, alloc: Global, families: Families, text: &str) -> JobOutput
+    ensures told { spec.IsTextOutput families text.now result }
     ensures range { spec.status result ≤ 5 }
 {
     match one_text(rt, alloc, families, text) {
-        Ok((printed, status)) => Told::Text(printed, status),
-        Err(AllocError) => Told::NoMemory,
+        Ok((printed, status)) => JobOutput::Text(printed, status),
+        Err(AllocError) => JobOutput::NoMemory,
     }
 }
 
 /// What the program prints for an input that was not taken.
-fn tell_refused(refusal: InputRefusal) -> Told
+fn refused_output(refusal: InputRefusal) -> JobOutput
     ensures { result ≡ spec.refused refusal }
 {
     match refusal {
-        InputRefusal::Input => Told::NoInput,
-        InputRefusal::Memory => Told::NoMemory,
+        InputRefusal::Input => JobOutput::NoInput,
+        InputRefusal::Memory => JobOutput::NoMemory,
     }
 }
 
 /// What the program prints for a job, and its status.
-pub fn tell<R: Net + Threads + Wait + Clock + Sync>(rt: &R, alloc: Global, job: &Job) -> Told
-    ensures told { spec.Tells job.now result }
+pub fn output_of<R: Net + Threads + Wait + Clock + Sync>(
+    rt: &R,
+    alloc: Global,
+    job: &Job,
+) -> JobOutput
+    ensures told { spec.IsOutput job.now result }
     ensures range { spec.status result ≤ 5 }
 {
     match job {
-        Job::One(families, Ok(text)) => tell_one(rt, alloc, *families, text),
-        Job::Run(workers, Ok(text)) => tell_run(rt, alloc, *workers, text),
-        Job::One(_, Err(refusal)) | Job::Run(_, Err(refusal)) => tell_refused(*refusal),
-        Job::Usage => Told::Usage,
+        Job::One(families, Ok(text)) => one_output(rt, alloc, *families, text),
+        Job::Run(workers, Ok(text)) => run_output(rt, alloc, *workers, text),
+        Job::One(_, Err(refusal)) | Job::Run(_, Err(refusal)) => refused_output(*refusal),
+        Job::Usage => JobOutput::Usage,
     }
 }
 
 /// The text that is printed.
-fn printed(told: &Told) -> &str
+fn printed(told: &JobOutput) -> &str
     ensures { result.now ≡ spec.printed told.now }
 {
     match told {
-        Told::Text(text, _) => text,
-        Told::Usage => "usage: siplocate one [4|6|46|64] | run WORKERS\n",
-        Told::NoInput => "fault input\n",
-        Told::NoMemory => "fault memory\n",
-        Told::NoThread => "fault thread\n",
-        Told::NotGathered => "fault gather\n",
-        Told::NoNet => "fault net\n",
+        JobOutput::Text(text, _) => text,
+        JobOutput::Usage => "usage: siplocate one [4|6|46|64] | run WORKERS\n",
+        JobOutput::NoInput => "fault input\n",
+        JobOutput::NoMemory => "fault memory\n",
+        JobOutput::NoThread => "fault thread\n",
+        JobOutput::NotGathered => "fault gather\n",
+        JobOutput::NoNet => "fault net\n",
     }
 }
 
 /// The status, where the text could be printed.
-fn status(told: &Told) -> u8
+fn status(told: &JobOutput) -> u8
     ensures { result ≡ spec.status told.now }
 {
     match told {
-        Told::Text(_, status) => *status,
-        Told::Usage => 4,
-        Told::NoInput | Told::NoMemory | Told::NoThread | Told::NotGathered | Told::NoNet =>
-            FAULT_STATUS,
+        JobOutput::Text(_, status) => *status,
+        JobOutput::Usage => 4,
+        JobOutput::NoInput
+        | JobOutput::NoMemory
+        | JobOutput::NoThread
+        | JobOutput::NotGathered
+        | JobOutput::NoNet => FAULT_STATUS,
     }
 }
 
@@ -129,7 +136,7 @@ fn status_after(written: &io::Result<()>, status: u8) -> u8
 }
 
 /// Prints the text of a job, and gives the exit status.
-pub fn report<W: Write>(output: &mut W, told: &Told) -> u8
+pub fn report<W: Write>(output: &mut W, told: &JobOutput) -> u8
     ensures reported { IsReported (W.contents output.old) (W.contents output.new) told.now result }
     ensures range { spec.status told.now ≤ 5 → result ≤ 5 }
 {

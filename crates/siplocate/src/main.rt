@@ -8,9 +8,9 @@ mod arguments;
 mod caller;
 mod clock;
 mod draw;
-mod fate;
 mod input;
 mod job;
+mod line_outcome;
 mod one;
 mod output;
 mod reply;
@@ -25,7 +25,7 @@ mod udp;
 
 use arguments::{Command, arguments};
 use input::input_text;
-use job::{Job, Told, report, tell};
+use job::{Job, JobOutput, output_of, report};
 use std::alloc::AllocError;
 use std::io::ErrorKind;
 use std::net::Net;
@@ -79,8 +79,8 @@ fn perform<R: Env + Input + Print + Net + Threads + Wait + Clock + AllocGlobal +
     ensures { result ≤ 5 }
 {
     let told = match read_job(rt) {
-        Ok(job) => tell(rt, rt.alloc(), &job),
-        Err(AllocError) => Told::NoMemory,
+        Ok(job) => output_of(rt, rt.alloc(), &job),
+        Err(AllocError) => JobOutput::NoMemory,
     };
     report(&mut io::writer(rt), &told)
 }

@@ -5,7 +5,7 @@ ghost use Rattle.std.specs.String.{string_bytes};
 ghost use Rattle.answer_cache.specs.Shared.{Belongs};
 ghost use Rattle.siplocate.specs.Runs.{FitsSeats, HasTooMany, IsRun, RefusesText};
 
-use crate::fate::{fates_of, printed, status};
+use crate::line_outcome::{line_outcomes_of, printed, status};
 use crate::requests::{Requests, read_requests};
 use answer_cache::{Seat, SharedCache};
 use dns_asker::{Clock, Wire};
@@ -44,7 +44,7 @@ pub fn run_text<R: Threads + Wait + Sync, W: Wire + Drop + Send, C: Clock + Sync
 {
     let Requests { entries, jobs } = read_requests(alloc, text)?;
     let made = run_workers(rt, alloc, cache, seats, wires, jobs, BATCH, clock, gate)?;
-    let fates = fates_of(alloc, entries, made)?;
-    let lines = printed(alloc, fates.as_slice())?;
-    Ok((lines, status(fates.as_slice())))
+    let line_outcomes = line_outcomes_of(alloc, entries, made)?;
+    let lines = printed(alloc, line_outcomes.as_slice())?;
+    Ok((lines, status(line_outcomes.as_slice())))
 }

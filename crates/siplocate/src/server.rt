@@ -9,7 +9,7 @@ ghost use Rattle.siplocate.specs.declared.server.RunFault.TheVariants as faults;
 ghost use Rattle.dns_zone.specs.Refusals.{RefusedFor};
 
 use crate::clock::SystemClock;
-use crate::job::Told;
+use crate::job::JobOutput;
 use crate::requests::parts;
 use crate::run::run_text;
 use crate::udp::{UdpServerWire, UdpWire};
@@ -192,7 +192,11 @@ fn run_over_zone<R: Net + Threads + Wait + Clock + Sync>(
 }
 
 /// What the program prints for a text that is no zone.
-fn tell_bad_zone(alloc: Global, zone: &str, refusal: ZoneRefusal) -> Result<(String, u8), RunFault>
+fn bad_zone_output(
+    alloc: Global,
+    zone: &str,
+    refusal: ZoneRefusal,
+) -> Result<(String, u8), RunFault>
     requires refused { RefusedFor refusal (lines zone.now) }
     ensures bad { IfOk result (λ told. (told.1 ≡ 3) × IsBadZone zone.now (string_bytes told.0)) }
     ensures refused { IfErr result (λ fault. fault ≡ RunFault.Memory) }
@@ -222,36 +226,36 @@ fn run_both<R: Net + Threads + Wait + Clock + Sync>(
     let (zone, requests) = parts(text);
     match Zone::read(alloc, zone) {
         Ok(records) => run_over_zone(rt, alloc, workers, &records, requests),
-        Err(refusal) => tell_bad_zone(alloc, zone, refusal),
+        Err(refusal) => bad_zone_output(alloc, zone, refusal),
     }
 }
 
 /// What the program prints where there is no run.
-fn tell_fault(fault: RunFault) -> Told
+fn fault_output(fault: RunFault) -> JobOutput
     ensures { result ≡ spec.faulted fault }
 {
     match fault {
-        RunFault::Workers => Told::Usage,
-        RunFault::Requests => Told::NoInput,
-        RunFault::Memory => Told::NoMemory,
-        RunFault::Thread => Told::NoThread,
-        RunFault::Gathering => Told::NotGathered,
-        RunFault::Net => Told::NoNet,
+        RunFault::Workers => JobOutput::Usage,
+        RunFault::Requests => JobOutput::NoInput,
+        RunFault::Memory => JobOutput::NoMemory,
+        RunFault::Thread => JobOutput::NoThread,
+        RunFault::Gathering => JobOutput::NotGathered,
+        RunFault::Net => JobOutput::NoNet,
     }
 }
 
 /// What the program prints for a zone and requests, with this number of workers, and its status.
-pub fn tell_run<R: Net + Threads + Wait + Clock + Sync>(
+pub fn run_output<R: Net + Threads + Wait + Clock + Sync>(
     rt: &R,
     alloc: Global,
     workers: usize,
     text: &str,
-) -> Told
-    ensures told { spec.TellsRun workers text.now result }
+) -> JobOutput
+    ensures told { spec.IsRunOutput workers text.now result }
     ensures range { spec.status result ≤ 5 }
 {
     match run_both(rt, alloc, workers, text) {
-        Ok((printed, status)) => Told::Text(printed, status),
-        Err(fault) => tell_fault(fault),
+        Ok((printed, status)) => JobOutput::Text(printed, status),
+        Err(fault) => fault_output(fault),
     }
 }

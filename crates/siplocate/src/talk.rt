@@ -14,8 +14,8 @@ use crate::output::{shown, status_of};
 use crate::reply::{BadReply, octets_of};
 use answer_cache::{ListCache, ListSeat};
 use dns_answers::Moment;
-use sip_locator::{Locator, messages_decide};
-use sip_selection::{Families, Request, questions_are_missing};
+use sip_locator::{Locator, law_messages_decide};
+use sip_selection::{Families, Request, law_questions_are_missing};
 use std::alloc::{AllocError, Global};
 use std::marker::Model;
 use std::sync::Wait;
@@ -65,7 +65,7 @@ impl Talk {
             × (told.1 ≡ words.status_of (now_of self))) }
         ensures range { IfOk result (λ told. told.1 ≤ 5) }
     {
-        questions_are_missing();
+        law_questions_are_missing();
         let Talk {
             mut locator,
             book,
@@ -95,7 +95,7 @@ impl Talk {
         // What is wrong with a line is its first fault.
         ensures bad { IfErr result (λ reply. IsFault reply (now_of self.old) line.now) }
     {
-        messages_decide();
+        law_messages_decide();
         let octets = octets_of(alloc, line)?;
         self.answer(rt, &octets)
     }

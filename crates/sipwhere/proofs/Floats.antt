@@ -5,26 +5,26 @@ use Rattle.serde_json.specs.View.{items_of}
 use Rattle.serde_json.specs.Written.{has_float, items_have_float}
 use Rattle.sip_resolver.specs.declared.outcome.Outcome.TheVariants as outcome
 use Rattle.sip_selection.specs.declared.target.Target.{Target}
-use Rattle.sipwhere.specs.Jsons.{fate_data, target_data}
+use Rattle.sipwhere.specs.Jsons.{line_outcome_data, target_data}
 use Rattle.sipwhere.specs.declared.address.AddressForm.{AddressForm}
-use Rattle.sipwhere.specs.declared.fate.Fate.{Fate}
-use Rattle.sipwhere.specs.declared.fate.Fate.TheVariants as fate
+use Rattle.sipwhere.specs.declared.line_outcome.LineOutcome.{LineOutcome}
+use Rattle.sipwhere.specs.declared.line_outcome.LineOutcome.TheVariants as line_outcome
 
 none_in_targets : (form : AddressForm) (targets : List Target)
     → items_have_float (items_of (map (target_data form) targets)) ≡ false
 none_in_targets form [] = refl
 none_in_targets form (target ∷ targets) = none_in_targets form targets
 
-pub none : (form : AddressForm) (text : List ℕ) (it : Fate) → has_float (fate_data form text it) ≡ false
-none form text (fate.Became (outcome.Targets list)) = rw (none_in_targets form list) refl
-none form text (fate.Became (outcome.Refused reason)) = refl
-none form text (fate.Became (outcome.NoAnswer question)) = refl
-none form text (fate.Became (outcome.BadReply question refusal.NotReply)) = refl
-none form text (fate.Became (outcome.BadReply question refusal.OtherQuestion)) = refl
-none form text (fate.Became (outcome.BadReply question refusal.Truncated)) = refl
-none form text (fate.Became (outcome.BadReply question (refusal.ServerFault rcode))) = refl
-none form text (fate.Became (outcome.BadReply question refusal.Memory)) = refl
-none form text (fate.Became outcome.Memory) = refl
-none form text fate.TimeOver = refl
-none form text (fate.Bad why) = refl
-none form text fate.Memory = refl
+pub none : (form : AddressForm) (text : List ℕ) (it : LineOutcome) → has_float (line_outcome_data form text it) ≡ false
+none form text (line_outcome.Became (outcome.Targets list)) = rw (none_in_targets form list) refl
+none form text (line_outcome.Became (outcome.Refused reason)) = refl
+none form text (line_outcome.Became (outcome.NoAnswer question)) = refl
+none form text (line_outcome.Became (outcome.BadReply question refusal.NotReply)) = refl
+none form text (line_outcome.Became (outcome.BadReply question refusal.OtherQuestion)) = refl
+none form text (line_outcome.Became (outcome.BadReply question refusal.Truncated)) = refl
+none form text (line_outcome.Became (outcome.BadReply question (refusal.ServerFault rcode))) = refl
+none form text (line_outcome.Became (outcome.BadReply question refusal.Memory)) = refl
+none form text (line_outcome.Became outcome.Memory) = refl
+none form text line_outcome.TimeOver = refl
+none form text (line_outcome.Bad why) = refl
+none form text line_outcome.Memory = refl

@@ -11,10 +11,10 @@ use Rattle.sip_resolver.specs.Outcomes.{Counts, IsCached, IsChosen, IsLacking, I
 use Rattle.sip_resolver.specs.Works.{Works}
 use Rattle.sip_resolver.specs.declared.outcome.Outcome.{Outcome}
 use Rattle.sip_resolver.specs.declared.outcome.Outcome.TheVariants as outcomes
-use Rattle.sipwhere.specs.Fates.{IsFate}
-use Rattle.sipwhere.specs.OpenLines.{IsFateOf}
-use Rattle.sipwhere.specs.declared.fate.Fate.{Fate}
-use Rattle.sipwhere.specs.declared.fate.Fate.TheVariants.{Became, TimeOver, Bad, Memory}
+use Rattle.sipwhere.specs.LineOutcomes.{IsLineOutcome}
+use Rattle.sipwhere.specs.OpenLines.{IsLineOutcomeOf}
+use Rattle.sipwhere.specs.declared.line_outcome.LineOutcome.{LineOutcome}
+use Rattle.sipwhere.specs.declared.line_outcome.LineOutcome.TheVariants.{Became, TimeOver, Bad, Memory}
 use Rattle.sipwhere.specs.declared.line.Line.{Line}
 use Rattle.sipwhere.specs.declared.sender.Sender.{Sender}
 
@@ -47,10 +47,10 @@ zip-at R (x ∷ xs) (z ∷ zs) (suc k) d y inside all at = zip-at R xs zs k d y 
 
 module _ (gives : List ℕ → Type 0) (shows : ℕ → Type 0) where
   -- nothing is known of any line
-  pub fates-not : (seat : SeatView) (sender : Sender) (lines : List Line)
-      → AllZip (IsFateOf gives shows seat sender) lines (replicate (length lines) None)
-  fates-not seat sender [] = tt
-  fates-not seat sender (line ∷ lines) = (tt, fates-not seat sender lines)
+  pub line_outcomes-not : (seat : SeatView) (sender : Sender) (lines : List Line)
+      → AllZip (IsLineOutcomeOf gives shows seat sender) lines (replicate (length lines) None)
+  line_outcomes-not seat sender [] = tt
+  line_outcomes-not seat sender (line ∷ lines) = (tt, line_outcomes-not seat sender lines)
 
   module _ (old new : SeatView) (works : Works gives shows old new) where
     cached-later : (given : Given) → IsCached shows old.seen given → IsCached shows new.seen given
@@ -100,23 +100,26 @@ module _ (gives : List ℕ → Type 0) (shows : ℕ → Type 0) where
     outcome-later sought outcomes.Memory it = it
 
     module _ (sender : Sender) where
-      fate-later : (line : Line) (fate : Fate) → IsFate gives shows old sender line fate → IsFate gives shows new sender line fate
-      fate-later line (Became outcome) it = record {
+      line_outcome-later : (line : Line) (line_outcome : LineOutcome) → IsLineOutcome gives shows old sender line line_outcome
+          → IsLineOutcome gives shows new sender line line_outcome
+      line_outcome-later line (Became outcome) it = record {
         request = it.request;
         is = it.is;
         place = it.place;
         became = (it.became.0, it.became.1, outcome-later it.became.0 outcome it.became.2);
       }
-      fate-later line TimeOver it = record { request = it.request; is = it.is; place = it.place; became = tt }
-      fate-later line (Bad refusal) it = it
-      fate-later line Memory it = record { request = it.request; is = it.is; place = it.place; became = tt }
+      line_outcome-later line TimeOver it = record { request = it.request; is = it.is; place = it.place; became = tt }
+      line_outcome-later line (Bad refusal) it = it
+      line_outcome-later line Memory it = record { request = it.request; is = it.is; place = it.place; became = tt }
 
-      fate-of-later : (line : Line) (fate : Option Fate) → IsFateOf gives shows old sender line fate
-          → IsFateOf gives shows new sender line fate
-      fate-of-later line None it = tt
-      fate-of-later line (Some fate) it = fate-later line fate it
+      line_outcome-of-later : (line : Line) (line_outcome : Option LineOutcome) → IsLineOutcomeOf gives shows old sender line line_outcome
+          → IsLineOutcomeOf gives shows new sender line line_outcome
+      line_outcome-of-later line None it = tt
+      line_outcome-of-later line (Some line_outcome) it = line_outcome-later line line_outcome it
 
-      pub fates-later : (lines : List Line) (fates : List (Option Fate)) → AllZip (IsFateOf gives shows old sender) lines fates
-          → AllZip (IsFateOf gives shows new sender) lines fates
-      fates-later lines fates all =
-          zip-weaker (IsFateOf gives shows old sender) (IsFateOf gives shows new sender) fate-of-later lines fates all
+      pub line_outcomes-later : (lines : List Line) (line_outcomes : List (Option LineOutcome))
+          → AllZip (IsLineOutcomeOf gives shows old sender) lines line_outcomes
+          → AllZip (IsLineOutcomeOf gives shows new sender) lines line_outcomes
+      line_outcomes-later lines line_outcomes all =
+          zip-weaker (IsLineOutcomeOf gives shows old sender) (IsLineOutcomeOf gives shows new sender) line_outcome-of-later lines
+          line_outcomes all

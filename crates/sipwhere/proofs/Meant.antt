@@ -14,11 +14,11 @@ use Rattle.sip_resolver.specs.declared.outcome.Outcome.{Outcome}
 use Rattle.sip_selection.specs.Selections.{begun}
 use Rattle.sip_selection.specs.declared.caps.Caps.{Caps}
 use Rattle.sip_selection.specs.declared.request.Request.{Request}
-use Rattle.sipwhere.specs.Fates.{AreAlike, EndsAs, IsFate, IsOfLine, IsOnly, NeedsNoReply}
+use Rattle.sipwhere.specs.LineOutcomes.{AreAlike, EndsAs, IsLineOutcome, IsOfLine, IsOnly, NeedsNoReply}
 use Rattle.sipwhere.proofs.Later.{zip-set}
-use Rattle.sipwhere.specs.OpenLines.{AreMeant, IsFateOf, IsMeant, IsOwn, OpenView, TellsFirst}
-use Rattle.sipwhere.specs.declared.fate.Fate.{Fate}
-use Rattle.sipwhere.specs.declared.fate.Fate.TheVariants.{Became, TimeOver, Bad, Memory}
+use Rattle.sipwhere.specs.OpenLines.{AreMeant, IsLineOutcomeOf, IsMeant, IsOwn, OpenView, TellsFirst}
+use Rattle.sipwhere.specs.declared.line_outcome.LineOutcome.{LineOutcome}
+use Rattle.sipwhere.specs.declared.line_outcome.LineOutcome.TheVariants.{Became, TimeOver, Bad, Memory}
 use Rattle.sipwhere.specs.declared.line.Line.{Line}
 use Rattle.sipwhere.specs.declared.report.Style.{Style}
 use Rattle.sipwhere.specs.declared.sender.Sender.{Sender}
@@ -127,16 +127,17 @@ module _ (sender : Sender) (lines : List Line) where
 -- ---- what became of a line
 
 module _ (gives : List ℕ → Type 0) (shows : ℕ → Type 0) (seat : SeatView) (sender : Sender) where
-  pub fate-needless : (line : Line) (fate : Fate) → NeedsNoReply line.text.now fate → IsFate gives shows seat sender line fate
-  fate-needless line (Became outcome) it = absurd it
-  fate-needless line TimeOver it = record { request = it.request; is = it.is; place = 0; became = tt }
-  fate-needless line (Bad refusal) it = it
-  fate-needless line Memory it = record { request = it.request; is = it.is; place = 0; became = tt }
+  pub line_outcome-needless : (line : Line) (line_outcome : LineOutcome) → NeedsNoReply line.text.now line_outcome
+      → IsLineOutcome gives shows seat sender line line_outcome
+  line_outcome-needless line (Became outcome) it = absurd it
+  line_outcome-needless line TimeOver it = record { request = it.request; is = it.is; place = 0; became = tt }
+  line_outcome-needless line (Bad refusal) it = it
+  line_outcome-needless line Memory it = record { request = it.request; is = it.is; place = 0; became = tt }
 
-  pub fate-ended : (lines : List Line) (line : Line) (ended : Sought) (outcome : Outcome) (fate : Fate)
-      → line ≡ get_or lines ended.number line → IsMeant sender lines ended → EndsAs line.text.now outcome fate
-      → IsOutcome gives shows seat ended outcome → IsFate gives shows seat sender line fate
-  fate-ended lines line ended outcome (Became it) at meant ends is = record {
+  pub line_outcome-ended : (lines : List Line) (line : Line) (ended : Sought) (outcome : Outcome) (line_outcome : LineOutcome)
+      → line ≡ get_or lines ended.number line → IsMeant sender lines ended → EndsAs line.text.now outcome line_outcome
+      → IsOutcome gives shows seat ended outcome → IsLineOutcome gives shows seat sender line line_outcome
+  line_outcome-ended lines line ended outcome (Became it) at meant ends is = record {
     request = ends.1;
     is = ends.2.is;
     place = ended.number;
@@ -146,41 +147,48 @@ module _ (gives : List ℕ → Type 0) (shows : ℕ → Type 0) (seat : SeatView
       rw ends.0 is,
     );
   }
-  fate-ended lines line ended outcome TimeOver at meant ends is = absurd ends
-  fate-ended lines line ended outcome (Bad refusal) at meant ends is = ends
-  fate-ended lines line ended outcome Memory at meant ends is = absurd ends
+  line_outcome-ended lines line ended outcome TimeOver at meant ends is = absurd ends
+  line_outcome-ended lines line ended outcome (Bad refusal) at meant ends is = ends
+  line_outcome-ended lines line ended outcome Memory at meant ends is = absurd ends
 
   -- what became of the line at a place is kept
-  pub fates-set : (lines : List Line) (fates : List (Option Fate)) (place : ℕ) (line : Line) (fate : Option Fate) → place < length lines
-      → line ≡ get_or lines place line → AllZip (IsFateOf gives shows seat sender) lines fates → IsFateOf gives shows seat sender line fate
-      → AllZip (IsFateOf gives shows seat sender) lines (set fates place fate)
-  fates-set lines fates place line fate inside at all it =
-      zip-set (IsFateOf gives shows seat sender) lines fates place fate inside all
-      (at_read lines (λ l. IsFateOf gives shows seat sender l fate) place line inside at it)
+  pub line_outcomes-set : (lines : List Line) (line_outcomes : List (Option LineOutcome)) (place : ℕ) (line : Line)
+      (line_outcome : Option LineOutcome) → place < length lines
+      → line ≡ get_or lines place line → AllZip (IsLineOutcomeOf gives shows seat sender) lines line_outcomes
+      → IsLineOutcomeOf gives shows seat sender line line_outcome
+      → AllZip (IsLineOutcomeOf gives shows seat sender) lines (set line_outcomes place line_outcome)
+  line_outcomes-set lines line_outcomes place line line_outcome inside at all it =
+      zip-set (IsLineOutcomeOf gives shows seat sender) lines line_outcomes place line_outcome inside all
+      (at_read lines (λ l. IsLineOutcomeOf gives shows seat sender l line_outcome) place line inside at it)
 
-  pub fate-submitted : (line : Line) (fate : Option Fate) → IfSome fate (NeedsNoReply line.text.now)
-      → IsFateOf gives shows seat sender line fate
-  fate-submitted line None it = tt
-  fate-submitted line (Some fate) it = fate-needless line fate it
+  pub line_outcome-submitted : (line : Line) (line_outcome : Option LineOutcome) → IfSome line_outcome (NeedsNoReply line.text.now)
+      → IsLineOutcomeOf gives shows seat sender line line_outcome
+  line_outcome-submitted line None it = tt
+  line_outcome-submitted line (Some line_outcome) it = line_outcome-needless line line_outcome it
 
-  pub fates-submitted : (lines : List Line) (fates : List (Option Fate)) (place : ℕ) (d : Line) (fate : Option Fate) → place < length lines
-      → AllZip (IsFateOf gives shows seat sender) lines fates → IfSome fate (NeedsNoReply (get_or lines place d).text.now)
-      → AllZip (IsFateOf gives shows seat sender) lines (set fates place fate)
-  fates-submitted lines fates place d fate inside all it =
+  pub line_outcomes-submitted : (lines : List Line) (line_outcomes : List (Option LineOutcome)) (place : ℕ) (d : Line)
+      (line_outcome : Option LineOutcome) → place < length lines
+      → AllZip (IsLineOutcomeOf gives shows seat sender) lines line_outcomes
+      → IfSome line_outcome (NeedsNoReply (get_or lines place d).text.now)
+      → AllZip (IsLineOutcomeOf gives shows seat sender) lines (set line_outcomes place line_outcome)
+  line_outcomes-submitted lines line_outcomes place d line_outcome inside all it =
       let line = get_or lines place d in
-      fates-set lines fates place line fate inside (at-itself lines place d) all (fate-submitted line fate it)
+      line_outcomes-set lines line_outcomes place line line_outcome inside (at-itself lines place d) all
+      (line_outcome-submitted line line_outcome it)
 
-  pub fates-ended : (lines : List Line) (fates : List (Option Fate)) (place : ℕ) (d : Line) (ended : Sought) (outcome got : Outcome)
-      (fate : Fate) → place < length lines → place ≡ ended.number → got ≡ outcome → IsMeant sender lines ended
-      → EndsAs (get_or lines place d).text.now got fate → IsOutcome gives shows seat ended outcome
-      → AllZip (IsFateOf gives shows seat sender) lines fates
-      → AllZip (IsFateOf gives shows seat sender) lines (set fates place (Some fate))
-  fates-ended lines fates place d ended outcome got fate inside number same meant ends is all =
+  pub line_outcomes-ended : (lines : List Line) (line_outcomes : List (Option LineOutcome)) (place : ℕ) (d : Line) (ended : Sought)
+      (outcome got : Outcome)
+      (line_outcome : LineOutcome) → place < length lines → place ≡ ended.number → got ≡ outcome → IsMeant sender lines ended
+      → EndsAs (get_or lines place d).text.now got line_outcome → IsOutcome gives shows seat ended outcome
+      → AllZip (IsLineOutcomeOf gives shows seat sender) lines line_outcomes
+      → AllZip (IsLineOutcomeOf gives shows seat sender) lines (set line_outcomes place (Some line_outcome))
+  line_outcomes-ended lines line_outcomes place d ended outcome got line_outcome inside number same meant ends is all =
       let line = get_or lines place d in
       let at : line ≡ get_or lines place line = at-itself lines place d in
       let here : line ≡ get_or lines ended.number line = subst (λ n. line ≡ get_or lines n line) number at in
-      let so : EndsAs line.text.now outcome fate = subst (λ o. EndsAs line.text.now o fate) same ends in
-      fates-set lines fates place line (Some fate) inside at all (fate-ended lines line ended outcome fate here meant so is)
+      let so : EndsAs line.text.now outcome line_outcome = subst (λ o. EndsAs line.text.now o line_outcome) same ends in
+      line_outcomes-set lines line_outcomes place line (Some line_outcome) inside at all
+      (line_outcome-ended lines line ended outcome line_outcome here meant so is)
 
 -- what is told of the first line is told of that of lines as before
 pub tells-same : (gives : List ℕ → Type 0) (shows : ℕ → Type 0) (seat : SeatView) (style : Style) (old new : OpenView)

@@ -6,20 +6,20 @@ use Rattle.sip_resolver.specs.declared.outcome.Outcome.TheVariants as outcome
 use Rattle.sip_selection.specs.declared.target.Target.{Target}
 use Rattle.sipwhere.specs.Lines.{lines_of, outcome_lines, target_line}
 use Rattle.sipwhere.specs.declared.address.AddressForm.{AddressForm}
-use Rattle.sipwhere.specs.declared.fate.Fate.{Fate}
-use Rattle.sipwhere.specs.declared.fate.Fate.TheVariants as fate
+use Rattle.sipwhere.specs.declared.line_outcome.LineOutcome.{LineOutcome}
+use Rattle.sipwhere.specs.declared.line_outcome.LineOutcome.TheVariants as line_outcome
 
 -- 0 OK: there are targets. 2 CRITICAL: the request goes nowhere, or no server answered. 3 UNKNOWN:
 -- it is no request, or memory was refused.
-abbrev pub check_status : Fate → ℕ
-check_status (fate.Became (outcome.Targets list)) = 0
-check_status (fate.Became (outcome.Refused reason)) = 2
-check_status (fate.Became (outcome.NoAnswer question)) = 2
-check_status (fate.Became (outcome.BadReply question refusal)) = 2
-check_status (fate.Became outcome.Memory) = 3
-check_status fate.TimeOver = 2
-check_status (fate.Bad refusal) = 3
-check_status fate.Memory = 3
+abbrev pub check_status : LineOutcome → ℕ
+check_status (line_outcome.Became (outcome.Targets list)) = 0
+check_status (line_outcome.Became (outcome.Refused reason)) = 2
+check_status (line_outcome.Became (outcome.NoAnswer question)) = 2
+check_status (line_outcome.Became (outcome.BadReply question refusal)) = 2
+check_status (line_outcome.Became outcome.Memory) = 3
+check_status line_outcome.TimeOver = 2
+check_status (line_outcome.Bad refusal) = 3
+check_status line_outcome.Memory = 3
 
 -- the front of the line of targets, with how many there are
 abbrev pub targets_front : ℕ → List ℕ
@@ -44,8 +44,10 @@ outcome_line form (outcome.BadReply question refusal) =
 outcome_line form outcome.Memory = outcome_lines form (codes "SIP UNKNOWN - ") outcome.Memory
 
 -- the line for a monitoring system of what became of a text
-abbrev pub check_line : AddressForm → Fate → List ℕ
-check_line form (fate.Became outcome) = outcome_line form outcome
-check_line form fate.TimeOver = lines_of form (codes "SIP CRITICAL - ") fate.TimeOver
-check_line form (fate.Bad refusal) = lines_of form (codes "SIP UNKNOWN - ") (fate.Bad refusal)
-check_line form fate.Memory = lines_of form (codes "SIP UNKNOWN - ") fate.Memory
+abbrev pub check_line : AddressForm → LineOutcome → List ℕ
+check_line form (line_outcome.Became outcome) = outcome_line form outcome
+check_line form line_outcome.TimeOver = lines_of form (codes "SIP CRITICAL - ")
+    line_outcome.TimeOver
+check_line form (line_outcome.Bad refusal) = lines_of form (codes "SIP UNKNOWN - ")
+    (line_outcome.Bad refusal)
+check_line form line_outcome.Memory = lines_of form (codes "SIP UNKNOWN - ") line_outcome.Memory

@@ -14,8 +14,8 @@ use Rattle.sip_selection.specs.declared.target.Target.{Target}
 use Rattle.sipwhere.specs.Addresses.{address_words}
 use Rattle.sipwhere.specs.Lines.{kind_word, reason_word, request_word, transport_word}
 use Rattle.sipwhere.specs.declared.address.AddressForm.{AddressForm}
-use Rattle.sipwhere.specs.declared.fate.Fate.{Fate}
-use Rattle.sipwhere.specs.declared.fate.Fate.TheVariants as fate
+use Rattle.sipwhere.specs.declared.line_outcome.LineOutcome.{LineOutcome}
+use Rattle.sipwhere.specs.declared.line_outcome.LineOutcome.TheVariants as line_outcome
 
 -- ---- the parts
 
@@ -98,12 +98,13 @@ outcome_data form text (outcome.BadReply question refusal) =
 outcome_data form text outcome.Memory = with_fault text
 
 -- the object of a text, by what became of it
-abbrev pub fate_data : AddressForm → List ℕ → Fate → Data
-fate_data form text (fate.Became outcome) = outcome_data form text outcome
-fate_data form text fate.TimeOver = time_over text
-fate_data form text (fate.Bad refusal) = with_bad text (request_word refusal)
-fate_data form text fate.Memory = with_fault text
+abbrev pub line_outcome_data : AddressForm → List ℕ → LineOutcome → Data
+line_outcome_data form text (line_outcome.Became outcome) = outcome_data form text outcome
+line_outcome_data form text line_outcome.TimeOver = time_over text
+line_outcome_data form text (line_outcome.Bad refusal) = with_bad text (request_word refusal)
+line_outcome_data form text line_outcome.Memory = with_fault text
 
 -- the line with the object of what became of a text (RFC 8259)
-abbrev pub json_line : AddressForm → List ℕ → Fate → List ℕ
-json_line form text fate = compact_text (fate_data form text fate) ++ 10 ∷ []
+abbrev pub json_line : AddressForm → List ℕ → LineOutcome → List ℕ
+json_line form text line_outcome = compact_text (line_outcome_data form text line_outcome) ++ 10 ∷
+    []

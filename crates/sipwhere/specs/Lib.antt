@@ -5,7 +5,7 @@ pub mod OpenLines
 pub mod RecordLines
 pub mod Rules
 pub mod Traces
-pub mod Fates
+pub mod LineOutcomes
 pub mod Checks
 pub mod Jsons
 pub mod Reports

@@ -19,8 +19,8 @@ use Rattle.sip_resolver.specs.declared.outcome.Outcome.{Outcome}
 use Rattle.sip_resolver.specs.declared.outcome.Outcome.TheVariants as outcome
 use Rattle.sipwhere.specs.Addresses.{address_words}
 use Rattle.sipwhere.specs.declared.address.AddressForm.{AddressForm}
-use Rattle.sipwhere.specs.declared.fate.Fate.{Fate}
-use Rattle.sipwhere.specs.declared.fate.Fate.TheVariants as fate
+use Rattle.sipwhere.specs.declared.line_outcome.LineOutcome.{LineOutcome}
+use Rattle.sipwhere.specs.declared.line_outcome.LineOutcome.TheVariants as line_outcome
 
 -- ---- words
 
@@ -98,22 +98,23 @@ outcome_lines form front (outcome.BadReply question refusal) =
 outcome_lines form front outcome.Memory = words_line front (codes "fault ") (codes "memory")
 
 -- the lines of what became of a text
-abbrev pub lines_of : AddressForm → List ℕ → Fate → List ℕ
-lines_of form front (fate.Became outcome) = outcome_lines form front outcome
-lines_of form front fate.TimeOver = words_line front (codes "gaveup ") (codes "total")
-lines_of form front (fate.Bad refusal) = words_line front (codes "bad ") (request_word refusal)
-lines_of form front fate.Memory = words_line front (codes "fault ") (codes "memory")
+abbrev pub lines_of : AddressForm → List ℕ → LineOutcome → List ℕ
+lines_of form front (line_outcome.Became outcome) = outcome_lines form front outcome
+lines_of form front line_outcome.TimeOver = words_line front (codes "gaveup ") (codes "total")
+lines_of form front (line_outcome.Bad refusal) = words_line front (codes "bad ")
+    (request_word refusal)
+lines_of form front line_outcome.Memory = words_line front (codes "fault ") (codes "memory")
 
 -- ---- the status
 
 -- the exit status of a text: 0 with targets, 1 without an answer, 2 where the request goes nowhere,
 -- 3 where it is no request, 5 where memory was refused
-abbrev pub status_of : Fate → ℕ
-status_of (fate.Became (outcome.Targets list)) = 0
-status_of (fate.Became (outcome.Refused reason)) = 2
-status_of (fate.Became (outcome.NoAnswer question)) = 1
-status_of (fate.Became (outcome.BadReply question refusal)) = 1
-status_of (fate.Became outcome.Memory) = 5
-status_of fate.TimeOver = 1
-status_of (fate.Bad refusal) = 3
-status_of fate.Memory = 5
+abbrev pub status_of : LineOutcome → ℕ
+status_of (line_outcome.Became (outcome.Targets list)) = 0
+status_of (line_outcome.Became (outcome.Refused reason)) = 2
+status_of (line_outcome.Became (outcome.NoAnswer question)) = 1
+status_of (line_outcome.Became (outcome.BadReply question refusal)) = 1
+status_of (line_outcome.Became outcome.Memory) = 5
+status_of line_outcome.TimeOver = 1
+status_of (line_outcome.Bad refusal) = 3
+status_of line_outcome.Memory = 5

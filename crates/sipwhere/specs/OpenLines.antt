@@ -4,9 +4,9 @@ use Rattle.std.specs.List.{AllZip}
 use Rattle.answer_cache.specs.Seats.{SeatView}
 use Rattle.sip_resolver.specs.Outcomes.{Sought}
 use Rattle.sip_resolver.specs.Requests.{RequestsView, Stand, weight}
-use Rattle.sipwhere.specs.Fates.{IsFate, IsOfLine}
+use Rattle.sipwhere.specs.LineOutcomes.{IsLineOutcome, IsOfLine}
 use Rattle.sipwhere.specs.Runs.{Tells}
-use Rattle.sipwhere.specs.declared.fate.Fate.{Fate}
+use Rattle.sipwhere.specs.declared.line_outcome.LineOutcome.{LineOutcome}
 use Rattle.sipwhere.specs.declared.line.Line.{Line}
 use Rattle.sipwhere.specs.declared.report.Style.{Style}
 use Rattle.sipwhere.specs.declared.sender.Sender.{Sender}
@@ -18,7 +18,7 @@ pub record OpenView : Type 0 where
   pub lines : List Line
   pub told : ℕ
   pub requests : RequestsView
-  pub fates : List (Option Fate)
+  pub line_outcomes : List (Option LineOutcome)
 
 -- ---- whose request is whose
 
@@ -44,24 +44,26 @@ AreMeant sender lines requests =
 -- This number of the lines were begun; each request inside is that of a line; and each line has a
 -- place for what becomes of it.
 pub record Fits (sender : Sender) (lines : List Line) (begun : ℕ) (requests : RequestsView)
-    (fates : List (Option Fate)) : Type 0 where
+    (line_outcomes : List (Option LineOutcome)) : Type 0 where
   pub few : begun ≤ length lines
   pub own : AreMeant sender lines requests
-  pub as_many : length fates ≡ length lines
+  pub as_many : length line_outcomes ≡ length lines
 
 -- ---- what is so at a seat
 
 -- what became of a line, where it is known
-abbrev pub IsFateOf : (List ℕ → Type 0) → (ℕ → Type 0) → SeatView → Sender → Line → Option Fate
+abbrev pub IsLineOutcomeOf : (List ℕ → Type 0) → (ℕ → Type 0) → SeatView → Sender → Line
+    → Option LineOutcome
     → Type 0
-IsFateOf gives shows seat sender line None = Unit {0}
-IsFateOf gives shows seat sender line (Some fate) = IsFate gives shows seat sender line fate
+IsLineOutcomeOf gives shows seat sender line None = Unit {0}
+IsLineOutcomeOf gives shows seat sender line (Some line_outcome) = IsLineOutcome gives shows seat
+    sender line line_outcome
 
 -- what holds of lines at a seat: the requests inside, and what became of each line (RFC 3263 4, 5)
 pub record Stands (gives : List ℕ → Type 0) (shows : ℕ → Type 0) (seat : SeatView)
     (it : OpenView) : Type 0 where
   pub requests : Stand gives shows seat it.requests
-  pub fates : AllZip (IsFateOf gives shows seat it.sender) it.lines it.fates
+  pub line_outcomes : AllZip (IsLineOutcomeOf gives shows seat it.sender) it.lines it.line_outcomes
 
 -- what became of the first line that was not reported is printed, with this status
 pub record TellsFirst (gives : List ℕ → Type 0) (shows : ℕ → Type 0) (seat : SeatView)

@@ -8,7 +8,7 @@ use Rattle.dns_answers.specs.Records.{count_of}
 use Rattle.dns_answers.specs.Replies.{reply_refusal}
 use Rattle.dns_answers.specs.declared.refusal.ReplyRefusal.{ReplyRefusal}
 use Rattle.dns_message.specs.Data.{OtherOctets}
-use Rattle.dns_message.specs.Written.{rdata_class, rdata_code}
+use Rattle.dns_message.specs.Written.{rdata_class, type_of_rdata}
 use Rattle.dns_message.specs.declared.kind.Kind.{Kind}
 use Rattle.dns_message.specs.declared.kind.Kind.TheVariants.{A, Aaaa, Srv, Naptr}
 use Rattle.dns_message.specs.declared.message.Message.{Message}
@@ -85,7 +85,7 @@ soa_words authority =
 -- the words of other data: its class and type (RFC 3597 5), and how many octets it has
 abbrev pub other_words : OtherOctets → List ℕ
 other_words other =
-    codes "CLASS" ++ number_word other.class_code ++ codes "TYPE" ++ number_word other.code
+    codes "CLASS" ++ number_word other.class_number ++ codes "TYPE" ++ number_word other.type_number
     ++ number_word (length other.octets) ++ codes "octets"
 
 -- the data of an address: its type, A or AAAA, and the address
@@ -130,15 +130,16 @@ authority_line form entry = authority_of form entry entry.rdata
 
 -- the kind of question that asks for a type, if there is one
 abbrev pub kind_of : ℕ → Option Kind
-kind_of code =
-    if code == 1 then Some A else
-    (if code == 28 then Some Aaaa else
-    (if code == 33 then Some Srv else
-    (if code == 35 then Some Naptr else None)))
+kind_of type_number =
+    if type_number == 1 then Some A else
+    (if type_number == 28 then Some Aaaa else
+    (if type_number == 33 then Some Srv else
+    (if type_number == 35 then Some Naptr else None)))
 
 -- a record has this type, in class IN
 abbrev pub is_of_type : ℕ → Record → Bool
-is_of_type code entry = rdata_code entry.rdata == code && rdata_class entry.rdata == 1
+is_of_type type_number entry = type_of_rdata entry.rdata == type_number && rdata_class entry.rdata
+    == 1
 
 -- how many records the answer of a message has; of a message that is no answer none is used
 abbrev pub used_where : Question → Message → Option ReplyRefusal → ℕ
@@ -164,11 +165,11 @@ abbrev pub used_of : Asked → Message → Option Kind → List ℕ
 used_of asked message None = []
 used_of asked message (Some kind) =
     used_line (used_in (record { name = asked.name; kind = kind }) message)
-    (count_by (is_of_type asked.code) message.answers)
+    (count_by (is_of_type asked.type_number) message.answers)
 
 -- the lines of a message: the records of the answer section, how many of them are used, and the SOA
 -- records
 abbrev pub message_lines : AddressForm → Asked → Message → List ℕ
 message_lines form asked message =
-    flat_map (record_line form) message.answers ++ used_of asked message (kind_of asked.code)
+    flat_map (record_line form) message.answers ++ used_of asked message (kind_of asked.type_number)
     ++ flat_map (authority_line form) message.authority

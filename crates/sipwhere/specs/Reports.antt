@@ -8,7 +8,7 @@ use Rattle.sipwhere.specs.Lines.{lines_of, status_of}
 use Rattle.sipwhere.specs.Rules.{is_via}
 use Rattle.sipwhere.specs.Traces.{try_lines}
 use Rattle.sipwhere.specs.declared.address.AddressForm.{AddressForm}
-use Rattle.sipwhere.specs.declared.fate.Fate.{Fate}
+use Rattle.sipwhere.specs.declared.line_outcome.LineOutcome.{LineOutcome}
 use Rattle.sipwhere.specs.declared.report.Report.{Report}
 use Rattle.sipwhere.specs.declared.report.Report.TheVariants.{Lines, Json, Check}
 use Rattle.sipwhere.specs.declared.report.Style.{Style}
@@ -19,14 +19,15 @@ front_of true text = text ++ 32 ∷ []
 front_of false text = []
 
 -- what is printed of a text, in a form of report
-abbrev pub report_as : Report → AddressForm → Bool → List ℕ → Fate → List ℕ
-report_as Lines form several text fate = lines_of form (front_of several text) fate
-report_as Json form several text fate = json_line form text fate
-report_as Check form several text fate = check_line form fate
+abbrev pub report_as : Report → AddressForm → Bool → List ℕ → LineOutcome → List ℕ
+report_as Lines form several text line_outcome = lines_of form (front_of several text) line_outcome
+report_as Json form several text line_outcome = json_line form text line_outcome
+report_as Check form several text line_outcome = check_line form line_outcome
 
 -- what is printed of a text, in the style that is asked for
-abbrev pub report_of : Style → List ℕ → Fate → List ℕ
-report_of style text fate = report_as style.report style.form style.several text fate
+abbrev pub report_of : Style → List ℕ → LineOutcome → List ℕ
+report_of style text line_outcome = report_as style.report style.form style.several text
+    line_outcome
 
 -- the lines of what went over the wire, where they are asked for
 abbrev pub trace_of : Bool → AddressForm → List ℕ → List WireTry → List ℕ
@@ -35,12 +36,12 @@ trace_of false form text tries = []
 
 -- the lines of what went over the wire, where they are asked for, and after them what is printed of
 -- a text
-abbrev pub traced_report : Style → List WireTry → List ℕ → Fate → List ℕ
-traced_report style tries text fate =
-    trace_of style.traced style.form text tries ++ report_of style text fate
+abbrev pub traced_report : Style → List WireTry → List ℕ → LineOutcome → List ℕ
+traced_report style tries text line_outcome =
+    trace_of style.traced style.form text tries ++ report_of style text line_outcome
 
 -- the exit status of a text in a form of report: a check has one of its own
-abbrev pub status_in : Report → Fate → ℕ
-status_in Lines fate = status_of fate
-status_in Json fate = status_of fate
-status_in Check fate = check_status fate
+abbrev pub status_in : Report → LineOutcome → ℕ
+status_in Lines line_outcome = status_of line_outcome
+status_in Json line_outcome = status_of line_outcome
+status_in Check line_outcome = check_status line_outcome

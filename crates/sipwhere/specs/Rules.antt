@@ -49,12 +49,12 @@ place_rule via wanted = wanted ++ codes ", RFC 3263 " ++ section_word via
 -- The services of a domain choose a transport, and its servers, or the host's addresses, say where
 -- the request goes (RFC 3263 4.1, 4.2, 5).
 abbrev pub rule_words : Bool → ℕ → List ℕ → List ℕ
-rule_words via code name =
-    if code == 35 then codes "services, RFC 3263 4.1" else
-    (if code == 33 then place_rule via (servers_word name) else
-    (if code == 1 || code == 28 then place_rule via (codes "addresses")
+rule_words via type_number name =
+    if type_number == 35 then codes "services, RFC 3263 4.1" else
+    (if type_number == 33 then place_rule via (servers_word name) else
+    (if type_number == 1 || type_number == 28 then place_rule via (codes "addresses")
     else place_rule via (codes "records")))
 
 -- the rule that asks a question, by the type and the text of the name that it asks for
 abbrev pub rule_of : Bool → Asked → List ℕ
-rule_of via asked = rule_words via asked.code (text_of asked.name)
+rule_of via asked = rule_words via asked.type_number (text_of asked.name)

@@ -7,7 +7,7 @@ use Rattle.std.specs.declared.time.Duration.{Duration}
 use Rattle.dns_name.specs.Texts.{text_of}
 use Rattle.dns_message.specs.declared.message.Message.{Message}
 use Rattle.dns_message.specs.declared.question.Asked.{Asked}
-use Rattle.dns_client.specs.declared.wire_try.Way.{Way}
+use Rattle.dns_client.specs.declared.wire_try.Route.{Route}
 use Rattle.dns_client.specs.declared.wire_try.WireReply.{WireReply}
 use Rattle.dns_client.specs.declared.wire_try.WireTry.{WireTry}
 use Rattle.sipwhere.specs.RecordLines.{message_lines}
@@ -16,16 +16,16 @@ use Rattle.sipwhere.specs.declared.address.AddressForm.{AddressForm}
 
 -- the name of a type of records (RFC 1035 3.2.2, 3596 2.1, 2782, 3403 4.1); for others RFC 3597 5
 abbrev pub type_word : ℕ → List ℕ
-type_word code =
-    if code == 1 then codes "A" else
-    (if code == 28 then codes "AAAA" else
-    (if code == 33 then codes "SRV" else
-    (if code == 35 then codes "NAPTR" else codes "TYPE" ++ decimal code)))
+type_word type_number =
+    if type_number == 1 then codes "A" else
+    (if type_number == 28 then codes "AAAA" else
+    (if type_number == 33 then codes "SRV" else
+    (if type_number == 35 then codes "NAPTR" else codes "TYPE" ++ decimal type_number)))
 
 -- the words of what a query asks: the type, the name, and the rule that asks for it
 abbrev pub asked_words : Bool → Asked → List ℕ
 asked_words via asked =
-    type_word asked.code ++ (32 ∷ text_of asked.name) ++ codes " (" ++ rule_of via asked
+    type_word asked.type_number ++ (32 ∷ text_of asked.name) ++ codes " (" ++ rule_of via asked
     ++ codes ")"
 
 -- the first of two texts where a condition holds, else the second
@@ -34,10 +34,10 @@ words_if true words others = words
 words_if false words others = others
 
 -- the words of the way of a query: the server, over what, and whether with EDNS (RFC 6891)
-abbrev pub way_words : Way → List ℕ
-way_words way =
-    socket_text way.server ++ words_if way.over_tcp (codes " tcp") (codes " udp")
-    ++ words_if way.has_edns (codes " edns") []
+abbrev pub route_words : Route → List ℕ
+route_words route =
+    socket_text route.server ++ words_if route.over_tcp (codes " tcp") (codes " udp")
+    ++ words_if route.has_edns (codes " edns") []
 
 -- milliseconds from a time to a later one
 abbrev pub milliseconds : Duration → Duration → ℕ
@@ -63,7 +63,7 @@ question_words via None = codes "nothing"
 -- the words of a query that went out: what it asks, its way and its id
 abbrev pub sent_words : Bool → WireTry → List ℕ
 sent_words via one =
-    question_words via one.asked ++ codes " to " ++ way_words one.way ++ codes " id "
+    question_words via one.asked ++ codes " to " ++ route_words one.route ++ codes " id "
     ++ decimal one.id
 
 -- the line of a query that went out: what it asks, its way, its id and its reply

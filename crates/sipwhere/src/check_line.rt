@@ -4,7 +4,7 @@ ghost use Rattle.std.specs.String.{string_bytes};
 ghost use Rattle.sipwhere.specs.Checks as spec;
 
 use crate::address::AddressForm;
-use crate::fate::Fate;
+use crate::line_outcome::LineOutcome;
 use crate::output::{lines_of, outcome_lines, target_line};
 use sip_resolver::Outcome;
 use sip_selection::Target;
@@ -14,17 +14,18 @@ use std::alloc::{AllocError, Global};
 pub const UNKNOWN_STATUS: u8 = 3;
 
 /// The status of a check: 0 OK, 2 CRITICAL or 3 UNKNOWN.
-pub fn check_status(fate: &Fate) -> u8
-    ensures status { result ≡ spec.check_status fate.now }
+pub fn check_status(line_outcome: &LineOutcome) -> u8
+    ensures status { result ≡ spec.check_status line_outcome.now }
     ensures range { result ≤ 3 }
 {
-    match fate {
-        Fate::Became(Outcome::Targets(_)) => 0,
-        Fate::Became(Outcome::Refused(_)) => 2,
-        Fate::Became(Outcome::NoAnswer(_)) | Fate::Became(Outcome::BadReply(_, _)) => 2,
-        Fate::TimeOver => 2,
-        Fate::Became(Outcome::Memory) => 3,
-        Fate::Bad(_) | Fate::Memory => 3,
+    match line_outcome {
+        LineOutcome::Became(Outcome::Targets(_)) => 0,
+        LineOutcome::Became(Outcome::Refused(_)) => 2,
+        LineOutcome::Became(Outcome::NoAnswer(_)) | LineOutcome::Became(Outcome::BadReply(_, _)) =>
+            2,
+        LineOutcome::TimeOver => 2,
+        LineOutcome::Became(Outcome::Memory) => 3,
+        LineOutcome::Bad(_) | LineOutcome::Memory => 3,
     }
 }
 
@@ -63,13 +64,17 @@ fn outcome_line(alloc: Global, form: AddressForm, outcome: &Outcome) -> Result<S
 }
 
 /// The line of what became of a text.
-pub fn check_line(alloc: Global, form: AddressForm, fate: &Fate) -> Result<String, AllocError>
-    ensures { IfOk result (λ line. string_bytes line ≡ spec.check_line form fate.now) }
+pub fn check_line(
+    alloc: Global,
+    form: AddressForm,
+    line_outcome: &LineOutcome,
+) -> Result<String, AllocError>
+    ensures { IfOk result (λ line. string_bytes line ≡ spec.check_line form line_outcome.now) }
 {
-    match fate {
-        Fate::Became(outcome) => outcome_line(alloc, form, outcome),
-        Fate::TimeOver => lines_of(alloc, form, "SIP CRITICAL - ", fate),
-        Fate::Bad(_) => lines_of(alloc, form, "SIP UNKNOWN - ", fate),
-        Fate::Memory => lines_of(alloc, form, "SIP UNKNOWN - ", fate),
+    match line_outcome {
+        LineOutcome::Became(outcome) => outcome_line(alloc, form, outcome),
+        LineOutcome::TimeOver => lines_of(alloc, form, "SIP CRITICAL - ", line_outcome),
+        LineOutcome::Bad(_) => lines_of(alloc, form, "SIP UNKNOWN - ", line_outcome),
+        LineOutcome::Memory => lines_of(alloc, form, "SIP UNKNOWN - ", line_outcome),
     }
 }

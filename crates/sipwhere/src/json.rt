@@ -6,7 +6,7 @@ ghost use Rattle.serde_json.specs.View.{view};
 ghost use Rattle.sipwhere.specs.Jsons as spec;
 
 use crate::address::{AddressForm, address_words};
-use crate::fate::Fate;
+use crate::line_outcome::LineOutcome;
 use crate::output::{kind_word, reason_word, request_word, transport_word};
 use dns_answers::ReplyRefusal;
 use dns_message::Question;
@@ -137,19 +137,20 @@ fn outcome_value(
 }
 
 /// The object of what became of a text.
-fn fate_value(
+fn line_outcome_value(
     alloc: Global,
     form: AddressForm,
     text: &str,
-    fate: &Fate,
+    line_outcome: &LineOutcome,
 ) -> Result<Value, AllocError>
-    ensures { IfOk result (λ value. view value ≡ spec.fate_data form text.now fate.now) }
+    ensures { IfOk result (λ value. view value
+        ≡ spec.line_outcome_data form text.now line_outcome.now) }
 {
-    match fate {
-        Fate::Became(outcome) => outcome_value(alloc, form, text, outcome),
-        Fate::TimeOver => time_over(alloc, text),
-        Fate::Bad(refusal) => with_bad(alloc, text, request_word(*refusal)),
-        Fate::Memory => with_fault(alloc, text),
+    match line_outcome {
+        LineOutcome::Became(outcome) => outcome_value(alloc, form, text, outcome),
+        LineOutcome::TimeOver => time_over(alloc, text),
+        LineOutcome::Bad(refusal) => with_bad(alloc, text, request_word(*refusal)),
+        LineOutcome::Memory => with_fault(alloc, text),
     }
 }
 
@@ -158,11 +159,12 @@ pub fn json_line(
     alloc: Global,
     form: AddressForm,
     text: &str,
-    fate: &Fate,
+    line_outcome: &LineOutcome,
 ) -> Result<String, AllocError>
-    ensures { IfOk result (λ line. string_bytes line ≡ spec.json_line form text.now fate.now) }
+    ensures { IfOk result (λ line. string_bytes line
+        ≡ spec.json_line form text.now line_outcome.now) }
 {
-    let value = fate_value(alloc, form, text, fate)?;
+    let value = line_outcome_value(alloc, form, text, line_outcome)?;
     let mut line = value.to_string(alloc)?;
     line.push_str("\n")?;
     Ok(line)

@@ -5,10 +5,10 @@ ghost use Rattle.std.specs.Prelude.{◌≡◌, ◌≤◌, IfOk};
 
 mod address;
 mod check_line;
-mod fate;
 mod json;
 mod line;
 mod line_input;
+mod line_outcome;
 mod open_lines;
 mod options;
 mod output;
@@ -24,11 +24,11 @@ mod seed;
 mod sender;
 mod server_text;
 mod stats;
+mod submitted_lines;
 mod tell;
 mod terminals;
 #[cfg(test)]
 mod tests;
-mod text_fates;
 mod trace;
 
 use check_line::UNKNOWN_STATUS;

@@ -4,12 +4,12 @@ ghost use Rattle.answer_cache.specs.Seats.{SeatView};
 ghost use Rattle.sip_resolver.specs.Outcomes.{IsOutcome};
 ghost use Rattle.sipwhere.specs.OpenLines.{IsMeant, Stands, TellsFirst};
 
-use crate::fate::Fate;
 use crate::line::Line;
+use crate::line_outcome::LineOutcome;
 use crate::report::Style;
 use crate::sender::Sender;
+use crate::submitted_lines::{line_outcome_in_vain, line_outcome_of, submit};
 use crate::tell::tell;
-use crate::text_fates::{fate_in_vain, fate_of, submit};
 use answer_cache::AnswerBook;
 use dns_asker::Clock;
 use dns_client::{MessageWire, Tracer, WireOrigin, poll_over, random_ids};
@@ -41,11 +41,11 @@ fn limits_for(lines: usize) -> Limits
 }
 
 /// So many fates of which none is known.
-fn unknown(alloc: Global, count: usize) -> Result<Vec<Option<Fate>>, AllocError>
+fn unknown(alloc: Global, count: usize) -> Result<Vec<Option<LineOutcome>>, AllocError>
     ensures { IfOk result (λ made. made.items ≡ replicate count None) }
 {
     let mut made = Vec::with_capacity(alloc, count)?;
-    'fates: for _fate in 0..count {
+    'line_outcomes: for _line_outcome in 0..count {
         made.push(None)?;
     }
     Ok(made)
@@ -64,7 +64,7 @@ pub struct OpenLines<'a, B, W, C> {
     told: usize,
     resolver: Resolver<B, WireOrigin<W, C>, RandomIds<ChaCha20Rng>>,
     /// What became of each line, as far as it is known.
-    fates: Vec<Option<Fate>>,
+    line_outcomes: Vec<Option<LineOutcome>>,
 }
 
 impl<'a, B, W, C> Model for OpenLines<'a, B, W, C> {
@@ -78,11 +78,12 @@ impl<'a, B, W, C> Model for OpenLines<'a, B, W, C> {
       lines = it.lines.now;
       told = it.told;
       requests = it.resolver.requests;
-      fates = it.fates.items;
+      line_outcomes = it.line_outcomes.items;
     } };
 
     ghost invariant = { λ it.
-        Fits it.sender it.lines.now (length it.ends.items) it.resolver.requests it.fates.items };
+        Fits it.sender it.lines.now (length it.ends.items) it.resolver.requests
+        it.line_outcomes.items };
 }
 
 impl<'a, B: AnswerBook + Drop, W: MessageWire, C: Clock> OpenLines<'a, B, W, C> {
@@ -104,7 +105,7 @@ impl<'a, B: AnswerBook + Drop, W: MessageWire, C: Clock> OpenLines<'a, B, W, C> 
             ends: Vec::with_capacity(alloc, lines.len())?,
             told: 0,
             resolver: Resolver::new(alloc, limits_for(lines.len()), ids)?,
-            fates: unknown(alloc, lines.len())?,
+            line_outcomes: unknown(alloc, lines.len())?,
         })
     }
 
@@ -130,7 +131,7 @@ impl<'a, B: AnswerBook + Drop, W: MessageWire, C: Clock> OpenLines<'a, B, W, C> 
         }
         let lines = self.lines;
         self.ends.push(end)?;
-        self.fates[place] = submit(
+        self.line_outcomes[place] = submit(
             self.alloc,
             &mut self.resolver,
             place as u64,
@@ -163,11 +164,11 @@ impl<'a, B: AnswerBook + Drop, W: MessageWire, C: Clock> OpenLines<'a, B, W, C> 
             → Stands W.gives C.shows seat self.new }
     {
         let place = ended.number() as usize;
-        if self.fates[place].is_some() {
+        if self.line_outcomes[place].is_some() {
             return;
         }
         let text = self.lines[place].text;
-        self.fates[place] = Some(fate_of(self.alloc, text, ended.into_outcome()));
+        self.line_outcomes[place] = Some(line_outcome_of(self.alloc, text, ended.into_outcome()));
     }
 
     /// Goes on with the requests inside, until one comes out or something came over the wire.
@@ -198,8 +199,14 @@ impl<'a, B: AnswerBook + Drop, W: MessageWire, C: Clock> OpenLines<'a, B, W, C> 
             → Stands W.gives C.shows seat self.new }
     {
         let place = self.told;
-        if place < self.ends.len() && self.ends[place] <= now && self.fates[place].is_none() {
-            self.fates[place] = Some(fate_in_vain(self.alloc, self.lines[place].text));
+        if place < self.ends.len()
+            && self.ends[place] <= now
+            && self.line_outcomes[place].is_none()
+        {
+            self.line_outcomes[place] = Some(line_outcome_in_vain(
+                self.alloc,
+                self.lines[place].text,
+            ));
         }
     }
 }
@@ -226,9 +233,16 @@ impl<'a, B: AnswerBook + Drop, W: MessageWire + Tracer, C: Clock> OpenLines<'a, 
         self.give_up(now);
         let place = self.told;
         let line = self.lines.get(place)?;
-        let fate = self.fates[place].as_ref()?;
+        let line_outcome = self.line_outcomes[place].as_ref()?;
         let tries = wire.take_tries();
-        let status = tell(self.alloc, output, style, tries.as_slice(), line.text, fate);
+        let status = tell(
+            self.alloc,
+            output,
+            style,
+            tries.as_slice(),
+            line.text,
+            line_outcome,
+        );
         self.told = place + 1;
         Some(status)
     }

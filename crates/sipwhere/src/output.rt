@@ -5,7 +5,7 @@ ghost use Rattle.std.specs.String.{string_bytes};
 ghost use Rattle.sipwhere.specs.Lines as spec;
 
 use crate::address::{AddressForm, address_words};
-use crate::fate::Fate;
+use crate::line_outcome::LineOutcome;
 use dns_answers::ReplyRefusal;
 use dns_message::{Kind, Question};
 use sip_resolver::Outcome;
@@ -163,15 +163,16 @@ pub fn lines_of(
     alloc: Global,
     form: AddressForm,
     front: &str,
-    fate: &Fate,
+    line_outcome: &LineOutcome,
 ) -> Result<String, AllocError>
-    ensures { IfOk result (λ lines. string_bytes lines ≡ spec.lines_of form front.now fate.now) }
+    ensures { IfOk result (λ lines. string_bytes lines
+        ≡ spec.lines_of form front.now line_outcome.now) }
 {
-    match fate {
-        Fate::Became(outcome) => outcome_lines(alloc, form, front, outcome),
-        Fate::TimeOver => words_line(alloc, front, "gaveup ", "total"),
-        Fate::Bad(refusal) => words_line(alloc, front, "bad ", request_word(*refusal)),
-        Fate::Memory => words_line(alloc, front, "fault ", "memory"),
+    match line_outcome {
+        LineOutcome::Became(outcome) => outcome_lines(alloc, form, front, outcome),
+        LineOutcome::TimeOver => words_line(alloc, front, "gaveup ", "total"),
+        LineOutcome::Bad(refusal) => words_line(alloc, front, "bad ", request_word(*refusal)),
+        LineOutcome::Memory => words_line(alloc, front, "fault ", "memory"),
     }
 }
 

@@ -76,10 +76,10 @@ fn push_authorities(
 }
 
 /// The kind of question of a type.
-fn kind_of(code: u16) -> Option<Kind>
-    ensures { result ≡ spec.kind_of code }
+fn kind_of(type_number: u16) -> Option<Kind>
+    ensures { result ≡ spec.kind_of type_number }
 {
-    match code {
+    match type_number {
         1 => Some(Kind::A),
         28 => Some(Kind::Aaaa),
         33 => Some(Kind::Srv),
@@ -89,19 +89,19 @@ fn kind_of(code: u16) -> Option<Kind>
 }
 
 /// Whether a record has this type, in class IN.
-fn is_of_type(code: u16, entry: &Record) -> bool
-    ensures { result ≡ spec.is_of_type code entry.now }
+fn is_of_type(type_number: u16, entry: &Record) -> bool
+    ensures { result ≡ spec.is_of_type type_number entry.now }
 {
-    entry.rdata.code() == code && entry.rdata.class_code() == CLASS_IN
+    entry.rdata.type_number() == type_number && entry.rdata.class_number() == CLASS_IN
 }
 
 /// How many of these records have this type.
-fn count_of_type(code: u16, records: &[Record]) -> usize
-    ensures { result ≡ count_by (spec.is_of_type code) records.now }
+fn count_of_type(type_number: u16, records: &[Record]) -> usize
+    ensures { result ≡ count_by (spec.is_of_type type_number) records.now }
 {
     let mut count = 0;
     for entry in records {
-        if is_of_type(code, entry) {
+        if is_of_type(type_number, entry) {
             count += 1;
         }
     }
@@ -146,9 +146,9 @@ fn push_used_of(
     lines: &mut String,
 ) -> Result<(), AllocError>
     ensures { OnOk result (string_bytes lines.new ≡ string_bytes lines.old
-        ++ spec.used_of asked.now message.now (spec.kind_of asked.now.code)) }
+        ++ spec.used_of asked.now message.now (spec.kind_of asked.now.type_number)) }
 {
-    let Some(kind) = kind_of(asked.code) else {
+    let Some(kind) = kind_of(asked.type_number) else {
         return Ok(());
     };
     let question = Question {
@@ -156,7 +156,7 @@ fn push_used_of(
         kind,
     };
     let used = used_in(alloc, &question, message)?;
-    let count = count_of_type(asked.code, message.answers.as_slice());
+    let count = count_of_type(asked.type_number, message.answers.as_slice());
     push_used(alloc, used, count, lines)
 }
 

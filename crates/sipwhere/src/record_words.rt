@@ -121,9 +121,9 @@ fn push_other(alloc: Global, other: &OtherData, words: &mut String) -> Result<()
         ≡ string_bytes words.old ++ spec.other_words other.now) }
 {
     words.push_str("CLASS")?;
-    push_number(alloc, u64::from(other.class_code()), words)?;
+    push_number(alloc, u64::from(other.class_number()), words)?;
     words.push_str("TYPE")?;
-    push_number(alloc, u64::from(other.code()), words)?;
+    push_number(alloc, u64::from(other.type_number()), words)?;
     push_number(alloc, other.octets().len() as u64, words)?;
     words.push_str("octets")
 }

@@ -5,8 +5,8 @@ ghost use Rattle.sipwhere.specs.Reports as spec;
 
 use crate::address::AddressForm;
 use crate::check_line::{check_line, check_status};
-use crate::fate::{Fate, status_of};
 use crate::json::json_line;
+use crate::line_outcome::{LineOutcome, status_of};
 use crate::output::lines_of;
 use crate::rule::is_via;
 use crate::trace::trace_lines;
@@ -50,17 +50,22 @@ fn front_of(alloc: Global, several: bool, text: &str) -> Result<String, AllocErr
 }
 
 /// What is printed of a text, by what became of it.
-pub fn report_of(alloc: Global, style: Style, text: &str, fate: &Fate) -> Result<String, AllocError>
+pub fn report_of(
+    alloc: Global,
+    style: Style,
+    text: &str,
+    line_outcome: &LineOutcome,
+) -> Result<String, AllocError>
     ensures { IfOk result (λ report.
-        string_bytes report ≡ spec.report_of style text.now fate.now) }
+        string_bytes report ≡ spec.report_of style text.now line_outcome.now) }
 {
     match style.report {
         Report::Lines => {
             let front = front_of(alloc, style.several, text)?;
-            lines_of(alloc, style.form, &front, fate)
+            lines_of(alloc, style.form, &front, line_outcome)
         }
-        Report::Json => json_line(alloc, style.form, text, fate),
-        Report::Check => check_line(alloc, style.form, fate),
+        Report::Json => json_line(alloc, style.form, text, line_outcome),
+        Report::Check => check_line(alloc, style.form, line_outcome),
     }
 }
 
@@ -70,28 +75,28 @@ pub fn traced_report(
     style: Style,
     tries: &[WireTry],
     text: &str,
-    fate: &Fate,
+    line_outcome: &LineOutcome,
 ) -> Result<String, AllocError>
     ensures { IfOk result (λ report.
-        string_bytes report ≡ spec.traced_report style tries.now text.now fate.now) }
+        string_bytes report ≡ spec.traced_report style tries.now text.now line_outcome.now) }
 {
     if !style.traced {
-        return report_of(alloc, style, text, fate);
+        return report_of(alloc, style, text, line_outcome);
     }
-    let report = report_of(alloc, style, text, fate)?;
+    let report = report_of(alloc, style, text, line_outcome)?;
     let mut lines = trace_lines(alloc, style.form, is_via(text), tries)?;
     lines.push_str(&report)?;
     Ok(lines)
 }
 
 /// The exit status of a text, by what became of it, in a form of report.
-pub fn status_in(report: Report, fate: &Fate) -> u8
-    ensures status { result ≡ spec.status_in report fate.now }
+pub fn status_in(report: Report, line_outcome: &LineOutcome) -> u8
+    ensures status { result ≡ spec.status_in report line_outcome.now }
     ensures range { result ≤ 5 }
 {
     match report {
-        Report::Lines => status_of(fate),
-        Report::Json => status_of(fate),
-        Report::Check => check_status(fate),
+        Report::Lines => status_of(line_outcome),
+        Report::Json => status_of(line_outcome),
+        Report::Check => check_status(line_outcome),
     }
 }

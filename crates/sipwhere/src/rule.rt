@@ -76,10 +76,10 @@ fn place_rule(alloc: Global, via: bool, wanted: &str) -> Result<String, AllocErr
 }
 
 /// The rule that asks for records of this type, for a URI or a Via.
-fn rule_words(alloc: Global, via: bool, code: u16, name: &str) -> Result<String, AllocError>
-    ensures { IfOk result (λ words. string_bytes words ≡ spec.rule_words via code name.now) }
+fn rule_words(alloc: Global, via: bool, type_number: u16, name: &str) -> Result<String, AllocError>
+    ensures { IfOk result (λ words. string_bytes words ≡ spec.rule_words via type_number name.now) }
 {
-    match code {
+    match type_number {
         35 => String::from_str(alloc, "services, RFC 3263 4.1"),
         33 => place_rule(alloc, via, servers_word(name)),
         1 | 28 => place_rule(alloc, via, "addresses"),
@@ -92,5 +92,5 @@ pub fn rule_of(alloc: Global, via: bool, asked: &Asked) -> Result<String, AllocE
     ensures { IfOk result (λ words. string_bytes words ≡ spec.rule_of via asked.now) }
 {
     let name = asked.name.text()?;
-    rule_words(alloc, via, asked.code, &name)
+    rule_words(alloc, via, asked.type_number, &name)
 }

@@ -3,7 +3,7 @@ ghost use Rattle.std.specs.Prelude.{◌≡◌, ◌≤◌, OnOk};
 ghost use Rattle.std.specs.Io.KnownBytes.{Appends};
 ghost use Rattle.sipwhere.specs.Runs.{IsTold};
 
-use crate::fate::Fate;
+use crate::line_outcome::LineOutcome;
 use crate::report::{Style, status_in, traced_report};
 use dns_client::WireTry;
 use std::alloc::Global;
@@ -27,17 +27,17 @@ pub fn tell<O: Write>(
     style: Style,
     tries: &[WireTry],
     text: &str,
-    fate: &Fate,
+    line_outcome: &LineOutcome,
 ) -> u8
     ensures told { IsTold (O.contents output.old) (O.contents output.new) style tries.now text.now
-        fate.now result }
+        line_outcome.now result }
     ensures range { result ≤ 5 }
 {
-    let Ok(report) = traced_report(alloc, style, tries, text, fate) else {
+    let Ok(report) = traced_report(alloc, style, tries, text, line_outcome) else {
         return FAULT_STATUS;
     };
     match write_text(output, &report) {
-        Ok(()) => status_in(style.report, fate),
+        Ok(()) => status_in(style.report, line_outcome),
         Err(_) => FAULT_STATUS,
     }
 }

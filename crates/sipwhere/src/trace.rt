@@ -7,21 +7,21 @@ ghost use Rattle.sipwhere.specs.Traces as spec;
 use crate::address::AddressForm;
 use crate::record_lines::push_message;
 use crate::rule::rule_of;
-use dns_client::{Way, WireReply, WireTry};
+use dns_client::{Route, WireReply, WireTry};
 use dns_message::{Asked, Message};
 use std::alloc::{AllocError, Global};
 use std::time::Duration;
 
 /// The word of a type of records (RFC 1035 3.2.2, 3596 2.1, 2782, 3403 4.1); for others RFC 3597 5.
-fn type_word(alloc: Global, code: u16) -> Result<String, AllocError>
-    ensures { IfOk result (λ word. string_bytes word ≡ spec.type_word code) }
+fn type_word(alloc: Global, type_number: u16) -> Result<String, AllocError>
+    ensures { IfOk result (λ word. string_bytes word ≡ spec.type_word type_number) }
 {
-    match code {
+    match type_number {
         1 => String::from_str(alloc, "A"),
         28 => String::from_str(alloc, "AAAA"),
         33 => String::from_str(alloc, "SRV"),
         35 => String::from_str(alloc, "NAPTR"),
-        _ => format!(in alloc; "TYPE{code}"),
+        _ => format!(in alloc; "TYPE{type_number}"),
     }
 }
 
@@ -31,7 +31,7 @@ fn asked_words(alloc: Global, via: bool, asked: &Asked) -> Result<String, AllocE
 {
     let name = asked.name.text()?;
     let rule = rule_of(alloc, via, asked)?;
-    let mut words = type_word(alloc, asked.code)?;
+    let mut words = type_word(alloc, asked.type_number)?;
     words.push_str(" ")?;
     words.push_str(&name)?;
     words.push_str(" (")?;
@@ -41,13 +41,13 @@ fn asked_words(alloc: Global, via: bool, asked: &Asked) -> Result<String, AllocE
 }
 
 /// How a query went.
-fn way_words(alloc: Global, way: Way) -> Result<String, AllocError>
-    ensures { IfOk result (λ words. string_bytes words ≡ spec.way_words way) }
+fn route_words(alloc: Global, route: Route) -> Result<String, AllocError>
+    ensures { IfOk result (λ words. string_bytes words ≡ spec.route_words route) }
 {
-    let server = way.server;
+    let server = route.server;
     let mut words = format!(in alloc; "{server}")?;
-    words.push_str(if way.over_tcp { " tcp" } else { " udp" })?;
-    words.push_str(if way.has_edns { " edns" } else { "" })?;
+    words.push_str(if route.over_tcp { " tcp" } else { " udp" })?;
+    words.push_str(if route.has_edns { " edns" } else { "" })?;
     Ok(words)
 }
 
@@ -100,10 +100,10 @@ fn sent_words(alloc: Global, via: bool, one: &WireTry) -> Result<String, AllocEr
     ensures { IfOk result (λ words. string_bytes words ≡ spec.sent_words via one.now) }
 {
     let id = one.id;
-    let way = way_words(alloc, one.way)?;
+    let route = route_words(alloc, one.route)?;
     let mut words = question_words(alloc, via, &one.asked)?;
     words.push_str(" to ")?;
-    words.push_str(&way)?;
+    words.push_str(&route)?;
     words.push_str(&format!(in alloc; " id {id}")?)?;
     Ok(words)
 }

@@ -59,94 +59,94 @@ Apart-IsDistinct (x ∷ xs) distinct =
 module _ (records : List SrvRecord) where
   -- the same test where the weights in front are already this much
   abbrev picked_from : ℕ → List ℕ → ℕ → ℕ → Bool
-  picked_from sum places place number =
+  picked_from sum indexes index number =
       option_map_or
-      (λ picked. picked == place)
-      (option_map (λ entry. entry.0) (find (λ entry. nat_le number entry.1) (spec.running_sums records sum places))) false
+      (λ picked. picked == index)
+      (option_map (λ entry. entry.0) (find (λ entry. nat_le number entry.1) (spec.running_sums records sum indexes))) false
 
-  reached : (sum x : ℕ) (xs : List ℕ) (place k : ℕ) → k ≤ sum + spec.weight_at records x → picked_from sum (x ∷ xs) place k ≡ (x == place)
-  reached sum x xs place k low = rw (le-leb k (sum + spec.weight_at records x) low) refl
+  reached : (sum x : ℕ) (xs : List ℕ) (index k : ℕ) → k ≤ sum + spec.weight_at records x → picked_from sum (x ∷ xs) index k ≡ (x == index)
+  reached sum x xs index k low = rw (le-leb k (sum + spec.weight_at records x) low) refl
 
-  passed : (sum x : ℕ) (xs : List ℕ) (place k : ℕ) → sum + spec.weight_at records x < k
-      → picked_from sum (x ∷ xs) place k ≡ picked_from (sum + spec.weight_at records x) xs place k
-  passed sum x xs place k high =
+  passed : (sum x : ℕ) (xs : List ℕ) (index k : ℕ) → sum + spec.weight_at records x < k
+      → picked_from sum (x ∷ xs) index k ≡ picked_from (sum + spec.weight_at records x) xs index k
+  passed sum x xs index k high =
       let not_yet : nat_le k (sum + spec.weight_at records x) ≡ false = lt-leb k (sum + spec.weight_at records x) high in
       rw not_yet refl
 
-  absent : (sum : ℕ) (xs : List ℕ) (place k : ℕ) → (Member place xs → ⊥) → picked_from sum xs place k ≡ false
-  absent sum [] place k none = refl
-  absent sum (x ∷ xs) place k none =
-      step (nat_le k (sum + spec.weight_at records x)) (absent (sum + spec.weight_at records x) xs place k (λ m. none (inr m)))
+  absent : (sum : ℕ) (xs : List ℕ) (index k : ℕ) → (Member index xs → ⊥) → picked_from sum xs index k ≡ false
+  absent sum [] index k none = refl
+  absent sum (x ∷ xs) index k none =
+      step (nat_le k (sum + spec.weight_at records x)) (absent (sum + spec.weight_at records x) xs index k (λ m. none (inr m)))
     where
-      step : (b : Bool) → picked_from (sum + spec.weight_at records x) xs place k ≡ false
-          → option_map_or (λ picked. picked == place) (option_map (λ entry. entry.0)
+      step : (b : Bool) → picked_from (sum + spec.weight_at records x) xs index k ≡ false
+          → option_map_or (λ picked. picked == index) (option_map (λ entry. entry.0)
           (cond b (Some (x, sum + spec.weight_at records x))
           (find (λ entry. nat_le k entry.1) (spec.running_sums records (sum + spec.weight_at records x) xs)))) false ≡ false
-      step true later = ne_eqb x place (λ is. none (inl is))
+      step true later = ne_eqb x index (λ is. none (inl is))
       step false later = later
 
-  share_from : (sum start : ℕ) (xs : List ℕ) (place : ℕ) → start ≡ sum + 1 → Apart xs → Member place xs
-      → count_by (picked_from sum xs place) (range_with_len start (spec.weight_sum records xs)) ≡ spec.weight_at records place
-  share_from sum start [] place at apart m = elim m [ ]
-  share_from sum start (x ∷ xs) place at apart m =
+  share_from : (sum start : ℕ) (xs : List ℕ) (index : ℕ) → start ≡ sum + 1 → Apart xs → Member index xs
+      → count_by (picked_from sum xs index) (range_with_len start (spec.weight_sum records xs)) ≡ spec.weight_at records index
+  share_from sum start [] index at apart m = elim m [ ]
+  share_from sum start (x ∷ xs) index at apart m =
       rw (sum_by-cons (spec.weight_at records) x xs)
       (rw (range_split start (start + spec.weight_at records x) (spec.weight_at records x) (spec.weight_sum records xs) refl)
       (sum_by-append _ (range_with_len start (spec.weight_at records x))
       (range_with_len (start + spec.weight_at records x) (spec.weight_sum records xs))
-      ∙ step (λ later. share_from (sum + spec.weight_at records x) (start + spec.weight_at records x) xs place
+      ∙ step (λ later. share_from (sum + spec.weight_at records x) (start + spec.weight_at records x) xs index
       (omega arith) apart.1 later) m))
     where
-      own : (b : Bool) → (x == place) ≡ b
-          → count_by (picked_from sum (x ∷ xs) place) (range_with_len start (spec.weight_at records x))
+      own : (b : Bool) → (x == index) ≡ b
+          → count_by (picked_from sum (x ∷ xs) index) (range_with_len start (spec.weight_at records x))
           ≡ cond b (spec.weight_at records x) 0
-      own b is = count_constant (picked_from sum (x ∷ xs) place) b start (spec.weight_at records x)
-          (λ k low high. reached sum x xs place k (omega arith) ∙ is)
+      own b is = count_constant (picked_from sum (x ∷ xs) index) b start (spec.weight_at records x)
+          (λ k low high. reached sum x xs index k (omega arith) ∙ is)
 
-      others : count_by (picked_from sum (x ∷ xs) place) (range_with_len (start + spec.weight_at records x) (spec.weight_sum records xs))
-          ≡ count_by (picked_from (sum + spec.weight_at records x) xs place)
+      others : count_by (picked_from sum (x ∷ xs) index) (range_with_len (start + spec.weight_at records x) (spec.weight_sum records xs))
+          ≡ count_by (picked_from (sum + spec.weight_at records x) xs index)
           (range_with_len (start + spec.weight_at records x) (spec.weight_sum records xs))
       others = count_agree _ _ (start + spec.weight_at records x) (spec.weight_sum records xs)
-          (λ k low high. passed sum x xs place k (omega arith))
+          (λ k low high. passed sum x xs index k (omega arith))
 
-      step : (Member place xs → count_by (picked_from (sum + spec.weight_at records x) xs place)
-          (range_with_len (start + spec.weight_at records x) (spec.weight_sum records xs)) ≡ spec.weight_at records place)
-          → Member place (x ∷ xs)
-          → count_by (picked_from sum (x ∷ xs) place) (range_with_len start (spec.weight_at records x))
-          + count_by (picked_from sum (x ∷ xs) place) (range_with_len (start + spec.weight_at records x) (spec.weight_sum records xs))
-          ≡ spec.weight_at records place
+      step : (Member index xs → count_by (picked_from (sum + spec.weight_at records x) xs index)
+          (range_with_len (start + spec.weight_at records x) (spec.weight_sum records xs)) ≡ spec.weight_at records index)
+          → Member index (x ∷ xs)
+          → count_by (picked_from sum (x ∷ xs) index) (range_with_len start (spec.weight_at records x))
+          + count_by (picked_from sum (x ∷ xs) index) (range_with_len (start + spec.weight_at records x) (spec.weight_sum records xs))
+          ≡ spec.weight_at records index
       step others_share (inl is) =
-          let a = own true (eq-eqb x place is) in
-          let none = count_constant (picked_from (sum + spec.weight_at records x) xs place) false (start + spec.weight_at records x)
+          let a = own true (eq-eqb x index is) in
+          let none = count_constant (picked_from (sum + spec.weight_at records x) xs index) false (start + spec.weight_at records x)
           (spec.weight_sum records xs)
-          (λ k low high. absent (sum + spec.weight_at records x) xs place k (subst (λ z. Member z xs → ⊥) is apart.0)) in
-          let same : spec.weight_at records x ≡ spec.weight_at records place = ap (spec.weight_at records) is in
+          (λ k low high. absent (sum + spec.weight_at records x) xs index k (subst (λ z. Member z xs → ⊥) is apart.0)) in
+          let same : spec.weight_at records x ≡ spec.weight_at records index = ap (spec.weight_at records) is in
           omega (arith, a, others, none, same)
       step others_share (inr later) =
-          let a = own false (ne_eqb x place (λ is. apart.0 (subst (λ z. Member z xs) (sym is) later))) in
+          let a = own false (ne_eqb x index (λ is. apart.0 (subst (λ z. Member z xs) (sym is) later))) in
           let rest = others_share later in
           omega (arith, a, others, rest)
 
-  shares : (first : ℕ) (others : List ℕ) (place : ℕ) → IsDistinct nat_eq (first ∷ others) → Member place (first ∷ others)
-      → chances records (first ∷ others) place ≡ cond (first == place) 1 0 + spec.weight_at records place
-  shares first others place distinct m =
+  shares : (first : ℕ) (others : List ℕ) (index : ℕ) → IsDistinct nat_eq (first ∷ others) → Member index (first ∷ others)
+      → chances records (first ∷ others) index ≡ cond (first == index) 1 0 + spec.weight_at records index
+  shares first others index distinct m =
       let total = spec.weight_sum records (first ∷ others) in
       let more : total + 1 ≡ suc total = omega arith in
-      let none : is_picked records (first ∷ others) place 0 ≡ (first == place) = reached 0 first others place 0 (omega arith) in
+      let none : is_picked records (first ∷ others) index 0 ≡ (first == index) = reached 0 first others index 0 (omega arith) in
       rw more
-      (sum_by-cons (λ k. cond (is_picked records (first ∷ others) place k) 1 0) 0 (range_with_len (0 + 1) total)
+      (sum_by-cons (λ k. cond (is_picked records (first ∷ others) index k) 1 0) 0 (range_with_len (0 + 1) total)
       ∙ rw none (ap
-      (λ n. cond (first == place) 1 0 + n)
-      (share_from 0 (0 + 1) (first ∷ others) place refl (Apart-IsDistinct (first ∷ others) distinct) m)))
+      (λ n. cond (first == index) 1 0 + n)
+      (share_from 0 (0 + 1) (first ∷ others) index refl (Apart-IsDistinct (first ∷ others) distinct) m)))
 
   pub first_share : (first : ℕ) (others : List ℕ) → IsDistinct nat_eq (first ∷ others)
       → chances records (first ∷ others) first ≡ spec.weight_at records first + 1
   first_share first others distinct =
       shares first others first distinct (inl refl) ∙ rw (eq-eqb first first refl) (omega arith)
 
-  pub other_share : (first : ℕ) (others : List ℕ) (place : ℕ) → IsDistinct nat_eq (first ∷ others) → Contains others place
-      → chances records (first ∷ others) place ≡ spec.weight_at records place
-  other_share first others place distinct at =
-      let m = Member-Contains place others at in
-      let other : (first == place) ≡ false =
-      ne_eqb first place (differs first place others (IsDistinct-head nat_eq first others distinct) m) in
-      shares first others place distinct (inr m) ∙ rw other (omega arith)
+  pub other_share : (first : ℕ) (others : List ℕ) (index : ℕ) → IsDistinct nat_eq (first ∷ others) → Contains others index
+      → chances records (first ∷ others) index ≡ spec.weight_at records index
+  other_share first others index distinct at =
+      let m = Member-Contains index others at in
+      let other : (first == index) ≡ false =
+      ne_eqb first index (differs first index others (IsDistinct-head nat_eq first others distinct) m) in
+      shares first others index distinct (inr m) ∙ rw other (omega arith)

@@ -8,10 +8,10 @@ use Rattle.srv_choice.specs.SrvOrder.{pick, weight_sum}
 module _ (records : List SrvRecord) where
   -- a number picks this record
   abbrev pub is_picked : List ℕ → ℕ → ℕ → Bool
-  is_picked places place number =
-      option_map_or (λ picked. picked == place) (pick records places number) false
+  is_picked indexes index number =
+      option_map_or (λ picked. picked == index) (pick records indexes number) false
 
   -- how many of the numbers from 0 to the sum of the weights pick this record
   abbrev pub chances : List ℕ → ℕ → ℕ
-  chances places place =
-      count_by (is_picked places place) (range_with_len 0 (weight_sum records places + 1))
+  chances indexes index =
+      count_by (is_picked indexes index) (range_with_len 0 (weight_sum records indexes + 1))

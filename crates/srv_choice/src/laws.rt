@@ -9,45 +9,45 @@ ghost use Rattle.srv_choice.specs.Outcomes.{order_from};
 ghost use Rattle.srv_choice.specs.SrvOrder.{arrangement, priority_at, weight_at};
 ghost use Rattle.srv_choice.specs.declared.outcome.SrvOutcome.TheVariants.{Listed};
 
-use crate::next_place::RECORD_LIMIT;
+use crate::next_index::RECORD_LIMIT;
 use crate::words::WORD_COUNT;
 
 /// At most 32 records are put in order, and there are 256 words.
-pub fn limits()
+pub fn law_limits()
     ensures records { RECORD_LIMIT ≡ 32 }
     ensures words { WORD_COUNT ≡ 256 }
 {}
 
-/// What is listed is the place of each record once, and no record before one of a lower priority.
-/// The place of the next random word is as many places on as there are records.
-pub fn order_is_by_priority()
+/// What is listed is the index of each record once, and no record before one of a lower priority.
+/// The index of the next random word is as many indexes on as there are records.
+pub fn law_order_is_by_priority()
     ensures complete { (records : List srv.SrvRecord) (words : List ℕ) (from : ℕ)
-        → (places : List ℕ) (next : ℕ) → order_from records words from ≡ Listed places next
-        → IsPermutation (range_with_len 0 (length records)) places }
+        → (indexes : List ℕ) (next : ℕ) → order_from records words from ≡ Listed indexes next
+        → IsPermutation (range_with_len 0 (length records)) indexes }
     ensures by_priority { (records : List srv.SrvRecord) (words : List ℕ) (from : ℕ)
-        → (places : List ℕ) (next : ℕ) → order_from records words from ≡ Listed places next
-        → IsNonDecreasingBy (priority_at records) places }
+        → (indexes : List ℕ) (next : ℕ) → order_from records words from ≡ Listed indexes next
+        → IsNonDecreasingBy (priority_at records) indexes }
     ensures within { (records : List srv.SrvRecord) (words : List ℕ) (from : ℕ)
-        → (places : List ℕ) (next : ℕ) → order_from records words from ≡ Listed places next
-        → All (λ place. place < length records) places }
+        → (indexes : List ℕ) (next : ℕ) → order_from records words from ≡ Listed indexes next
+        → All (λ index. index < length records) indexes }
     ensures count { (records : List srv.SrvRecord) (words : List ℕ) (from : ℕ)
-        → (places : List ℕ) (next : ℕ) → order_from records words from ≡ Listed places next
-        → length places ≡ length records }
+        → (indexes : List ℕ) (next : ℕ) → order_from records words from ≡ Listed indexes next
+        → length indexes ≡ length records }
     ensures next { (records : List srv.SrvRecord) (words : List ℕ) (from : ℕ)
-        → (places : List ℕ) (next : ℕ) → order_from records words from ≡ Listed places next
+        → (indexes : List ℕ) (next : ℕ) → order_from records words from ≡ Listed indexes next
         → next ≡ from + length records }
 {}
 
-/// Places are arranged each once. Of the numbers from 0 to the sum of the weights of an
-/// arrangement, as many pick a place as its weight says, and one more the first (RFC 2782,
+/// Indexes are arranged each once. Of the numbers from 0 to the sum of the weights of an
+/// arrangement, as many pick an index as its weight says, and one more the first (RFC 2782,
 /// "Weight").
-pub fn weights_are_shares()
-    ensures arranged { (records : List srv.SrvRecord) (places : List ℕ)
-        → IsPermutation places (arrangement records places) }
+pub fn law_weights_are_shares()
+    ensures arranged { (records : List srv.SrvRecord) (indexes : List ℕ)
+        → IsPermutation indexes (arrangement records indexes) }
     ensures first { (records : List srv.SrvRecord) (first : ℕ) (others : List ℕ)
         → IsDistinct nat_eq (first ∷ others)
         → chances records (first ∷ others) first ≡ weight_at records first + 1 }
-    ensures others { (records : List srv.SrvRecord) (first : ℕ) (others : List ℕ) (place : ℕ)
-        → IsDistinct nat_eq (first ∷ others) → Contains others place
-        → chances records (first ∷ others) place ≡ weight_at records place }
+    ensures others { (records : List srv.SrvRecord) (first : ℕ) (others : List ℕ) (index : ℕ)
+        → IsDistinct nat_eq (first ∷ others) → Contains others index
+        → chances records (first ∷ others) index ≡ weight_at records index }
 {}

@@ -7,9 +7,9 @@
 //! ```
 //! // records of priority 20 and 10
 //! match order(alloc, records.as_slice(), &words, 0)? {
-//!     // the places of the records, and how many words are used
-//!     SrvOutcome::Listed(places, used) => {
-//!         assert_eq!(rt; (places.as_slice(), used), ([1, 0].as_slice(), 2));
+//!     // the indexes of the records, and how many words are used
+//!     SrvOutcome::Listed(indexes, used) => {
+//!         assert_eq!(rt; (indexes.as_slice(), used), ([1, 0].as_slice(), 2));
 //!     }
 //!     // no records: the addresses of the name itself are tried
 //!     SrvOutcome::Absent => assert!(rt; false),
@@ -19,23 +19,23 @@
 //! ```
 //!
 //! `specs/Outcomes.antt` says what `order` gives, as one function of the records, the words and the
-//! place of the first word. What RFC 2782 asks of it are laws: `order_is_by_priority` (each record
-//! comes once, none before one of a lower priority) and `weights_are_shares` (records of one
-//! priority are picked in proportion to their weights).
+//! index of the first word. What RFC 2782 asks of it are laws: `law_order_is_by_priority` (each
+//! record comes once, none before one of a lower priority) and `law_weights_are_shares` (records of
+//! one priority are picked in proportion to their weights).
 #![tactic(auto)]
 
 mod choice;
+mod indexes;
 mod laws;
-mod next_place;
+mod next_index;
 mod outcome;
-mod places;
 mod words;
 
 pub use choice::order;
-pub use laws::{limits, order_is_by_priority, weights_are_shares};
-pub use next_place::RECORD_LIMIT;
+pub use indexes::Indexes;
+pub use laws::{law_limits, law_order_is_by_priority, law_weights_are_shares};
+pub use next_index::RECORD_LIMIT;
 pub use outcome::SrvOutcome;
-pub use places::Places;
 pub use words::{WORD_COUNT, Words};
 
 #[cfg(test)]

@@ -1,5 +1,5 @@
 //! What SRV records say of a service (RFC 2782, "Usage rules").
-use crate::places::Places;
+use crate::indexes::Indexes;
 
 /// What SRV records say of a service.
 #[derive(Debug, Drop)]
@@ -8,7 +8,7 @@ pub enum SrvOutcome {
     Absent,
     /// The service is not offered: the target of the one record is the root (RFC 2782, "Target").
     Denied,
-    /// The service is listed: the places of the records, in the order in which they are to be
-    /// tried, and the place of the first random word that is still unused.
-    Listed(Places, usize),
+    /// The service is listed: the indexes of the records, in the order in which they are to be
+    /// tried, and the index of the first random word that is still unused.
+    Listed(Indexes, usize),
 }

@@ -379,7 +379,7 @@ fn join_all(cache: &SharedCache, left: (Work, Work), right: (Work, Work)) -> Joi
     cache.learn(&mut second, &notice);
     cache.learn(&mut third, &notice);
     cache.learn(&mut fourth, &notice);
-    stores_are_of_the_seats(&seat);
+    law_stores_are_of_the_seats(&seat);
     Joined {
         seat,
         lasts: [firsts, seconds, thirds, fourths],

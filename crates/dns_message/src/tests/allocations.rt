@@ -43,7 +43,8 @@ fn are_same(data: &Rdata, other: &Rdata) -> bool {
         (Rdata::Naptr(a), Rdata::Naptr(b)) => a == b,
         (Rdata::Cname(a), Rdata::Cname(b)) => a == b,
         (Rdata::Soa(a), Rdata::Soa(b)) => a == b,
-        (Rdata::Other(a), Rdata::Other(b)) => a.octets() == b.octets() && a.code() == b.code(),
+        (Rdata::Other(a), Rdata::Other(b)) => a.octets() == b.octets()
+            && a.type_number() == b.type_number(),
         _ => false,
     }
 }

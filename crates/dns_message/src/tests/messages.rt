@@ -154,8 +154,10 @@ const ROWS: &[Row] = &[
 /// Whether these are the questions of a row.
 fn are_asked(questions: &[Asked], row: &[QuestionRow]) -> bool {
     questions.len() == row.len()
-        && questions.iter().zip(row).all(|(asked, (name, code, class_code))| {
-            asked.name.wire() == *name && asked.code == *code && asked.class_code == *class_code
+        && questions.iter().zip(row).all(|(asked, (name, type_number, class_number))| {
+            asked.name.wire() == *name
+                && asked.type_number == *type_number
+                && asked.class_number == *class_number
         })
 }
 
@@ -181,11 +183,11 @@ fn is_met(alloc: Global, row: &Row) -> bool {
     }
 }
 
-/// The place of the first row that says something else.
+/// The offset of the first row that says something else.
 pub(crate) fn first_unmet(alloc: Global, rows: &[Row]) -> Option<usize> {
-    for (place, row) in rows.iter().enumerate() {
+    for (offset, row) in rows.iter().enumerate() {
         if !is_met(alloc, row) {
-            return Some(place);
+            return Some(offset);
         }
     }
     None

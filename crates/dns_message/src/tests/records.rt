@@ -3,7 +3,7 @@ use super::texts::data_text;
 use crate::*;
 use std::alloc::Global;
 
-/// The SRV record of _sip._udp.b.example., whose target ends in a pointer to place 22, in the name
+/// The SRV record of _sip._udp.b.example., whose target ends in a pointer to offset 22, in the name
 /// of the question.
 pub(crate) const SRV_REPLY: &[u8] =
     b"\x00\x02\x81\x80\x00\x01\x00\x01\x00\x00\x00\x00\x04_sip\x04_udp\x01b\x07example\x00\x00!\x00\
@@ -20,7 +20,7 @@ const START: &[u8] =
 /// Where the data is no record's.
 const MALFORMED: &str = "malformed";
 
-/// A type, data of class IN whose first octet stands at place 23, and what it says.
+/// A type, data of class IN whose first octet stands at offset 23, and what it says.
 const ROWS: &[(u16, &[u8], &str)] = &[
     (1, b"\xc0\x00\x02\x07", "A 192.0.2.7"),
     (1, b"\xc0\x00\x02", MALFORMED),
@@ -91,12 +91,12 @@ const ROWS: &[(u16, &[u8], &str)] = &[
 ];
 
 /// A reply whose one record is the root's.
-fn reply_of(alloc: Global, code: u16, class_code: u16, data: &[u8]) -> Option<Vec<u8>> {
+fn reply_of(alloc: Global, type_number: u16, class_number: u16, data: &[u8]) -> Option<Vec<u8>> {
     let size = u16::try_from(data.len()).ok()?;
     let parts: [&[u8]; 6] = [
         b"\0\x01\x80\0\0\0\0\x01\0\0\0\0\0",
-        &code.to_be_bytes(),
-        &class_code.to_be_bytes(),
+        &type_number.to_be_bytes(),
+        &class_number.to_be_bytes(),
         b"\0\0\0\x3c",
         &size.to_be_bytes(),
         data,
@@ -114,8 +114,8 @@ fn first_text(alloc: Global, message: &Message) -> Option<String> {
 }
 
 /// What data of a type and class says, as that of the first answer of a reply.
-fn said_of(alloc: Global, code: u16, class_code: u16, data: &[u8]) -> Option<String> {
-    let reply = reply_of(alloc, code, class_code, data)?;
+fn said_of(alloc: Global, type_number: u16, class_number: u16, data: &[u8]) -> Option<String> {
+    let reply = reply_of(alloc, type_number, class_number, data)?;
     match read_message(alloc, reply.as_slice()) {
         Ok(message) => first_text(alloc, &message),
         Err(MessageRefusal::Malformed(Part::Answers)) => String::from_str(alloc, MALFORMED).ok(),
@@ -125,9 +125,9 @@ fn said_of(alloc: Global, code: u16, class_code: u16, data: &[u8]) -> Option<Str
 
 #[test]
 fn data_by_type(rt: HostRuntime) {
-    for (code, octets, says) in ROWS {
-        let said = said_of(rt.alloc(), *code, 1, octets);
-        assert_eq!(rt; said.as_deref(), Some(*says), "{code}");
+    for (type_number, octets, says) in ROWS {
+        let said = said_of(rt.alloc(), *type_number, 1, octets);
+        assert_eq!(rt; said.as_deref(), Some(*says), "{type_number}");
     }
 }
 
@@ -143,8 +143,8 @@ const OTHERS: [(u16, &str); 6] = [
 
 #[test]
 fn data_of_another_class(rt: HostRuntime) {
-    for (code, says) in &OTHERS {
-        let said = said_of(rt.alloc(), *code, 3, b"\xc0");
+    for (type_number, says) in &OTHERS {
+        let said = said_of(rt.alloc(), *type_number, 3, b"\xc0");
         assert_eq!(rt; said.as_deref(), Some(*says));
     }
 }
@@ -160,9 +160,9 @@ const WHOLE: [(u16, &[u8]); 6] = [
 ];
 
 /// Whether each proper prefix of data is malformed.
-fn has_no_shorter(alloc: Global, code: u16, data: &[u8]) -> bool {
+fn has_no_shorter(alloc: Global, type_number: u16, data: &[u8]) -> bool {
     for end in 0..data.len() {
-        if said_of(alloc, code, 1, &data[..end]).as_deref() != Some(MALFORMED) {
+        if said_of(alloc, type_number, 1, &data[..end]).as_deref() != Some(MALFORMED) {
             return false;
         }
     }
@@ -171,7 +171,10 @@ fn has_no_shorter(alloc: Global, code: u16, data: &[u8]) -> bool {
 
 #[test]
 fn prefixes_of_data(rt: HostRuntime) {
-    for (code, data) in &WHOLE {
-        assert!(rt; has_no_shorter(rt.alloc(), *code, data), "{code}");
+    for (type_number, data) in &WHOLE {
+        assert!(rt;
+            has_no_shorter(rt.alloc(), *type_number, data),
+            "{type_number}"
+        );
     }
 }

@@ -44,8 +44,8 @@ fn soa_text(alloc: Global, authority: &SoaRecord) -> Option<String> {
 
 /// What data says that is kept as it stands.
 fn other_text(alloc: Global, other: &OtherData) -> Option<String> {
-    let (code, class_code) = (other.code(), other.class_code());
-    let mut text = format!(in alloc; "type {code} class {class_code} of").ok()?;
+    let (type_number, class_number) = (other.type_number(), other.class_number());
+    let mut text = format!(in alloc; "type {type_number} class {class_number} of").ok()?;
     for octet in other.octets() {
         let octet = format!(in alloc; " {octet:02x}").ok()?;
         text.push_str(&octet).ok()?;

@@ -3,10 +3,19 @@ use crate::*;
 use std::alloc::Global;
 
 /// The type, the class and the length of data of this length.
-fn other_of(alloc: Global, code: u16, class_code: u16, size: usize) -> Option<(u16, u16, usize)> {
+fn other_of(
+    alloc: Global,
+    type_number: u16,
+    class_number: u16,
+    size: usize,
+) -> Option<(u16, u16, usize)> {
     let octets = vec![in alloc; 7u8; size].ok()?;
-    let other = OtherData::new(code, class_code, octets)?;
-    Some((other.code(), other.class_code(), other.octets().len()))
+    let other = OtherData::new(type_number, class_number, octets)?;
+    Some((
+        other.type_number(),
+        other.class_number(),
+        other.octets().len(),
+    ))
 }
 
 #[test]
@@ -29,9 +38,9 @@ fn other_data(rt: HostRuntime) {
         (16, 1, 65_535, true),
         (16, 1, 65_536, false),
     ];
-    for (code, class_code, size, made) in rows {
-        let other = other_of(rt.alloc(), code, class_code, size);
-        assert_eq!(rt; other, made.then_some((code, class_code, size)));
+    for (type_number, class_number, size, made) in rows {
+        let other = other_of(rt.alloc(), type_number, class_number, size);
+        assert_eq!(rt; other, made.then_some((type_number, class_number, size)));
     }
 }
 

@@ -70,8 +70,8 @@ pub(crate) fn written(alloc: Global, message: &Message) -> Option<Vec<u8>> {
 fn asked(alloc: Global) -> Option<Section<Asked>> {
     let asked = Asked {
         name: Name::from_text(alloc, "m.example").ok()?,
-        code: 1,
-        class_code: 1,
+        type_number: 1,
+        class_number: 1,
     };
     Some(Section::from_vec(vec![in alloc; asked].ok()?))
 }

@@ -28,14 +28,18 @@ fn zone_refused(rt: HostRuntime) {
             return;
         }
     };
-    for (code, length) in LENGTHS {
+    for (type_number, length) in LENGTHS {
         let mut query =
             *b"\x12\x34\x01\x00\x00\x01\x00\x00\x00\x00\x00\x00\x01a\x07example\x00\x00\x00\x00\
             \x01";
-        query[24] = code;
+        query[24] = type_number;
         match zone.answer_datagram(rt.alloc(), &query) {
-            Ok(reply) => assert_eq!(rt; reply.map(|reply| reply.len()), Some(length), "{code}"),
-            Err(refusal) => assert_eq!(rt; refusal, AllocError, "{code}"),
+            Ok(reply) => assert_eq!(rt;
+                reply.map(|reply| reply.len()),
+                Some(length),
+                "{type_number}"
+            ),
+            Err(refusal) => assert_eq!(rt; refusal, AllocError, "{type_number}"),
         }
     }
 }

@@ -4,14 +4,14 @@ use crate::*;
 use std::alloc::Global;
 
 /// The octets after the class in the record that a zone replies to a question for a.example.
-fn said(alloc: Global, zone: &str, code: u8) -> Option<Vec<u8>> {
+fn said(alloc: Global, zone: &str, type_number: u8) -> Option<Vec<u8>> {
     let mut query = Vec::new(alloc);
     query
         .extend_from_slice(
             b"\x12\x34\x01\x00\x00\x01\x00\x00\x00\x00\x00\x00\x01a\x07example\x00\x00",
         )
         .ok()?;
-    query.extend_from_slice(&[code, 0, 1]).ok()?;
+    query.extend_from_slice(&[type_number, 0, 1]).ok()?;
     let reply = replied(alloc, zone, &query)??;
     Vec::from_slice(alloc, reply.get(42..)?).ok()
 }
@@ -97,8 +97,8 @@ const GOOD: [(&str, u8, &[u8]); 17] = [
 
 #[test]
 fn good_lines(rt: HostRuntime) {
-    for (zone, code, octets) in &GOOD {
-        let got = said(rt.alloc(), zone, *code);
+    for (zone, type_number, octets) in &GOOD {
+        let got = said(rt.alloc(), zone, *type_number);
         assert_eq!(rt; got.as_deref().unwrap_or(b""), *octets, "{zone}");
     }
 }

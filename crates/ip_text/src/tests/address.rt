@@ -1,6 +1,6 @@
 //! Tests of addresses, with values of RFC 4291 2.2 and by hand.
 use crate::{
-    Address, address_from_text, address_text, ipv4_octets, ipv6_octets, written_address_is_read,
+    Address, address_from_text, address_text, ipv4_octets, ipv6_octets, law_written_address_is_read,
 };
 use std::alloc::Global;
 use std::test::Fail;
@@ -105,5 +105,5 @@ fn faults(rt: HostRuntime) -> Result<(), Fail> {
 
 #[test]
 fn laws() {
-    written_address_is_read();
+    law_written_address_is_read();
 }

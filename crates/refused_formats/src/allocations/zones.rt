@@ -34,9 +34,9 @@ const QUERY: [u8; 48] = *b"\x12\x34\x01\x00\x00\x01\x00\x00\x00\x00\x00\x00\
     \x07proxy-1\x04west\x05voice\x07example\x03com\x00\x00\x00\x00\x01";
 
 /// Whether a zone has all records and replies by so many octets.
-fn replies(alloc: Global, zone: &Zone, code: u8, length: usize) -> Option<bool> {
+fn replies(alloc: Global, zone: &Zone, type_number: u8, length: usize) -> Option<bool> {
     let mut query = QUERY;
-    query[45] = code;
+    query[45] = type_number;
     let reply = zone.answer_datagram(alloc, &query).ok()?;
     Some(reply.is_some_and(|reply| reply.len() == length))
 }
@@ -54,9 +54,9 @@ fn read(alloc: Global) -> Option<bool> {
 fn says(alloc: Global, call: Call) -> Option<bool> {
     match call {
         Call::Read => read(alloc),
-        Call::Reply(code, length) => {
+        Call::Reply(type_number, length) => {
             let zone = Zone::read(alloc, ZONE).ok()?;
-            replies(alloc, &zone, code, length)
+            replies(alloc, &zone, type_number, length)
         }
     }
 }

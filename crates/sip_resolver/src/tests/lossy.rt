@@ -163,7 +163,7 @@ fn is_right(number: u64, list: &TargetList) -> bool {
     target.address == Address::V4([192, 0, 2, domain])
 }
 
-/// What became of the requests. That none ends twice is proved (`requests_are_kept`).
+/// What became of the requests. That none ends twice is proved (`law_requests_are_kept`).
 fn counted<B: AnswerBook, F: Origin>(resolver: &mut Resolver<B, F, CountingIds>) -> Counts {
     let mut counts = Counts {
         right: 0,

@@ -1,7 +1,9 @@
 //! Tests of URIs, with values of RFC 3261, RFC 4475 and RFC 5118 and by hand.
 use super::host::host_text;
 use super::is_fault;
-use crate::{Host, SipUri, UriRefusal, one_uri_of_a_text, read_uri, same_exactly_where_equal};
+use crate::{
+    Host, SipUri, UriRefusal, law_one_uri_of_a_text, law_same_exactly_where_equal, read_uri,
+};
 use std::alloc::Global;
 use std::test::Fail;
 
@@ -362,6 +364,6 @@ fn host_lengths(rt: HostRuntime) -> Result<(), Fail> {
 
 #[test]
 fn laws() {
-    one_uri_of_a_text();
-    same_exactly_where_equal();
+    law_one_uri_of_a_text();
+    law_same_exactly_where_equal();
 }

@@ -1,7 +1,7 @@
 //! Tests of Vias, with values of RFC 3261, RFC 4475 and RFC 5118 and by hand.
 use super::host::host_text;
 use super::is_fault;
-use crate::{UriRefusal, Via, one_via_of_a_text, read_via};
+use crate::{UriRefusal, Via, law_one_via_of_a_text, read_via};
 use std::alloc::Global;
 use std::test::Fail;
 
@@ -275,5 +275,5 @@ fn lengths(rt: HostRuntime) -> Result<(), Fail> {
 
 #[test]
 fn laws() {
-    one_via_of_a_text();
+    law_one_via_of_a_text();
 }

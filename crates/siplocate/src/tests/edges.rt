@@ -1,7 +1,7 @@
 //! The edges of the program: an input of the greatest length, a reader and a writer that fail.
 use crate::clock::SystemClock;
 use crate::input::{InputRefusal, input_text};
-use crate::job::{Told, report};
+use crate::job::{JobOutput, report};
 use dns_asker::Clock;
 use std::io::{self, ErrorKind, Read, Write};
 use std::test::Fail;
@@ -48,9 +48,9 @@ fn input(rt: HostRuntime) -> Result<(), Fail> {
 #[test]
 fn reports(rt: HostRuntime) -> Result<(), Fail> {
     let mut output = Vec::new(rt.alloc());
-    let told = Told::Text(String::from_str(rt.alloc(), "ask\n")?, 1);
+    let told = JobOutput::Text(String::from_str(rt.alloc(), "ask\n")?, 1);
     assert_eq!(rt; report(&mut output, &told), 1);
-    assert_eq!(rt; report(&mut output, &Told::NoMemory), 5);
+    assert_eq!(rt; report(&mut output, &JobOutput::NoMemory), 5);
     assert_eq!(rt; output.as_slice(), b"ask\nfault memory\n".as_slice());
     assert_eq!(rt; report(&mut Broken, &told), 5);
     Ok(())

@@ -56,11 +56,11 @@ const ROWS: [(&[u8], u16, &str); 6] = [
 ];
 
 /// The lines of a reply.
-fn lines_of(alloc: Global, octets: &[u8], code: u16) -> Option<String> {
+fn lines_of(alloc: Global, octets: &[u8], type_number: u16) -> Option<String> {
     let asked = Asked {
         name: Name::from_text(alloc, "a.example").ok()?,
-        code,
-        class_code: 1,
+        type_number,
+        class_number: 1,
     };
     let message = read_message(alloc, octets).ok()?;
     let mut lines = String::new(alloc);
@@ -70,8 +70,8 @@ fn lines_of(alloc: Global, octets: &[u8], code: u16) -> Option<String> {
 
 #[test]
 fn records(rt: HostRuntime) {
-    for (octets, code, lines) in &ROWS {
-        let found = lines_of(rt.alloc(), octets, *code);
+    for (octets, type_number, lines) in &ROWS {
+        let found = lines_of(rt.alloc(), octets, *type_number);
         assert_eq!(rt; found.as_deref(), Some(*lines));
     }
 }

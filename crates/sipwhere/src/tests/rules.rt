@@ -67,19 +67,19 @@ const ROWS: [(&str, u16, &str, &str); 9] = [
 ];
 
 /// The rule of a row.
-fn rule_in(alloc: Global, text: &str, code: u16, name: &str) -> Option<String> {
+fn rule_in(alloc: Global, text: &str, type_number: u16, name: &str) -> Option<String> {
     let asked = Asked {
         name: Name::from_text(alloc, name).ok()?,
-        code,
-        class_code: 1,
+        type_number,
+        class_number: 1,
     };
     rule_of(alloc, is_via(text), &asked).ok()
 }
 
 #[test]
 fn rules(rt: HostRuntime) {
-    for (text, code, name, rule) in &ROWS {
-        let found = rule_in(rt.alloc(), text, *code, name);
+    for (text, type_number, name, rule) in &ROWS {
+        let found = rule_in(rt.alloc(), text, *type_number, name);
         assert_eq!(rt; found.as_deref(), Some(*rule));
     }
 }

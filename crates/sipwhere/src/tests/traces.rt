@@ -1,7 +1,7 @@
 //! Lines of queries that went out.
 use crate::address::AddressForm::Full;
 use crate::trace::trace_lines;
-use dns_client::{Way, WireReply, WireTry};
+use dns_client::{Route, WireReply, WireTry};
 use dns_message::Asked;
 use dns_name::Name;
 use std::alloc::Global;
@@ -11,7 +11,7 @@ use std::time::Duration;
 /// The type of what is asked, the server, over what and whether with EDNS, and RCODE, octets and
 /// milliseconds of the reply; and its line. The query has the id 7, and goes after a second.
 struct Row {
-    code: u16,
+    type_number: u16,
     server: &'static str,
     over_tcp: bool,
     has_edns: bool,
@@ -21,7 +21,7 @@ struct Row {
 
 const ROWS: [Row; 3] = [
     Row {
-        code: 33,
+        type_number: 33,
         server: "192.0.2.53:53",
         over_tcp: false,
         has_edns: true,
@@ -30,7 +30,7 @@ const ROWS: [Row; 3] = [
             udp edns id 7: rcode 16, 49 octets, 3 ms\n",
     },
     Row {
-        code: 28,
+        type_number: 28,
         server: "[2001:db8::53]:5353",
         over_tcp: true,
         has_edns: false,
@@ -40,7 +40,7 @@ const ROWS: [Row; 3] = [
     },
     // RFC 3597 5; its reply did not come before it
     Row {
-        code: 65,
+        type_number: 65,
         server: "192.0.2.53:53",
         over_tcp: false,
         has_edns: false,
@@ -52,15 +52,15 @@ const ROWS: [Row; 3] = [
 
 /// The line of a row.
 fn line_of(alloc: Global, row: &Row) -> Option<String> {
-    let way = Way {
+    let route = Route {
         server: row.server.parse::<SocketAddr>().ok()?,
         over_tcp: row.over_tcp,
         has_edns: row.has_edns,
     };
     let asked = Asked {
         name: Name::from_text(alloc, "_sip._udp.example").ok()?,
-        code: row.code,
-        class_code: 1,
+        type_number: row.type_number,
+        class_number: 1,
     };
     let reply = row.reply.map(|(rcode, octets, time)| WireReply {
         rcode,
@@ -72,7 +72,7 @@ fn line_of(alloc: Global, row: &Row) -> Option<String> {
     let one = WireTry {
         asked: Some(asked),
         id: 7,
-        way,
+        route,
         sent_at: Duration::from_secs(1),
         reply,
     };

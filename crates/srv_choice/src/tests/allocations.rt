@@ -10,8 +10,8 @@ fn order_refused(rt: HostRuntime) {
     if let Some(records) = servers_at(rt.alloc(), "b.example", &[(20, 0), (10, 0)]) {
         assert!(rt; records.len() <= RECORD_LIMIT);
         match order(rt.alloc(), &records, &WORDS, 0) {
-            Ok(SrvOutcome::Listed(places, next)) => {
-                assert_eq!(rt; places.as_slice(), [1, 0].as_slice());
+            Ok(SrvOutcome::Listed(indexes, next)) => {
+                assert_eq!(rt; indexes.as_slice(), [1, 0].as_slice());
                 assert_eq!(rt; next, 2);
             }
             Ok(outcome) => assert!(rt; false, "{outcome:?}"),

@@ -12,9 +12,9 @@ fn page_example(rt: HostRuntime) -> Result<(), Fail> {
     assert!(rt; records.len() <= RECORD_LIMIT);
     // records of priority 20 and 10
     match order(alloc, records.as_slice(), &words, 0)? {
-        // the places of the records, and how many words are used
-        SrvOutcome::Listed(places, used) => {
-            assert_eq!(rt; (places.as_slice(), used), ([1, 0].as_slice(), 2));
+        // the indexes of the records, and how many words are used
+        SrvOutcome::Listed(indexes, used) => {
+            assert_eq!(rt; (indexes.as_slice(), used), ([1, 0].as_slice(), 2));
         }
         // no records: the addresses of the name itself are tried
         SrvOutcome::Absent => assert!(rt; false),

@@ -6,11 +6,11 @@ use Rattle.answer_cache.proofs.shared_cache.new_seats.Goals as goal
 pub seats-preserved : goal.seats-preserved
 seats-preserved c =
     let i = c.seats.invariant in
-    let cache = cache_view c.args.hands.now.seen.book c.args.seats in
+    let cache = cache_view c.args.handles.now.seen.book c.args.seats in
     let dealt = c.deal.ensures in
-    let seat = new-view c.deal.result c.none.result cache c.seats.hands.seen.book c.seats.hands.next c.seats.hands.seats c.seats._seat
-    dealt.hand (λ j. cache_view (i.book j) (i.next.1 j)) i.next.0 c.none.ensures in record {
-      hands = dealt.hands;
+    let seat = new-view c.deal.result c.none.result cache c.seats.handles.seen.book c.seats.handles.next c.seats.handles.seats c.seats._seat
+    dealt.handle (λ j. cache_view (i.book j) (i.next.1 j)) i.next.0 c.none.ensures in record {
+      handles = dealt.handles;
       next = (dealt.next ∙ ap (λ n. n + 1) i.next.0, dealt.seats ∙ i.next.1);
       book = dealt.book ∙ i.book;
       made = ◌∙◌ {A = List SharedView} c.in_ok-push.ensures.items

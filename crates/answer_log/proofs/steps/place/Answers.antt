@@ -11,8 +11,8 @@ compare_exchange-found-requires c =
     let d = c.bid-deal.ensures in
     let p = c.requires.pen in
     let room = c.requires.room in
-    let draft = c.args.draft.now in
-    let P : ℕ → Type 0 = λ k. In (Named draft.node (store_of draft) k) c.args.book.now.log in
+    let new_store = c.args.new_store.now in
+    let P : ℕ → Type 0 = λ k. In (Named new_store.node (store_of new_store) k) c.args.book.now.log in
     let L : ℕ → Type 0 = λ k. 64 < k in (
       ap (λ w. w.tracked) h,
       sym (ap (λ w. w.book) h),
@@ -22,7 +22,7 @@ compare_exchange-found-requires c =
         ap (λ w. w.key) h,
         d.1,
         d.3,
-      ) (try_moves c.args.book.now.log room.seen c.args.pen.now.nib draft.node (store_of draft) c.args.old p.1
+      ) (try_moves c.args.book.now.log room.seen c.args.pen.now.nib new_store.node (store_of new_store) c.args.old p.1
           (subst P (sym p.2) c.requires.named.0) (subst L (sym p.2) c.requires.named.1) p.3 room.later room.top room.room c.requires.sound
           c.requires.fits.3),
     )

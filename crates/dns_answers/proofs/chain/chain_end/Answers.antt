@@ -1,6 +1,6 @@
 use Rattle.std.proofs.Common.{[], ◌∷◌, ◌++◌, sym, arith}
 use Rattle.std.proofs.lemmas.List.{length_push}
-use Rattle.dns_answers.specs.Views.{alias_value}
+use Rattle.dns_answers.specs.Views.{cname_value}
 use Rattle.dns_answers.proofs.Chains.{Leads-push, chain_ends, chain_endless}
 use Rattle.dns_answers.proofs.LeastLives.{least_push}
 use Rattle.dns_answers.proofs.chain.chain_end.Goals as goal
@@ -16,11 +16,11 @@ returns-in-None c =
 pub loop-preserved : goal.loop-preserved
 loop-preserved c =
     let so_far = c.loop.invariant in
-    let alias = alias_value c.in-Some.alias in (
-      so_far.0 ++ alias.entry ∷ [],
-      omega (arith, length_push so_far.0 alias.entry),
-      Leads-push c.args.section.now c.args.start.now so_far.0 c.loop.name.now alias so_far.2 (sym c.in-Some.ensures),
-      rw (c.life_with-life.ensures, so_far.3) (sym (least_push 2147483647 so_far.0 alias.entry)),
+    let cname = cname_value c.in-Some.cname in (
+      so_far.0 ++ cname.entry ∷ [],
+      omega (arith, length_push so_far.0 cname.entry),
+      Leads-push c.args.section.now c.args.start.now so_far.0 c.loop.name.now cname so_far.2 (sym c.in-Some.ensures),
+      rw (c.life_with-life.ensures, so_far.3) (sym (least_push 2147483647 so_far.0 cname.entry)),
     )
 
 pub returns : goal.returns

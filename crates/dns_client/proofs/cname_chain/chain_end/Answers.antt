@@ -1,6 +1,6 @@
 use Rattle.std.proofs.Common.{[], ◌∷◌, ◌++◌, sym, arith}
 use Rattle.std.proofs.lemmas.List.{length_push}
-use Rattle.dns_answers.specs.Chains.{Alias}
+use Rattle.dns_answers.specs.Chains.{CnameRecord}
 use Rattle.dns_client.proofs.CnameLinks.{Leads-push, chain_ends, chain_endless}
 use Rattle.dns_client.proofs.cname_chain.chain_end.Goals as goal
 
@@ -16,10 +16,10 @@ pub loop-links-preserved : goal.loop-links-preserved
 loop-links-preserved c =
     let so_far = c.loop-links.invariant in
     let found = c.in-Some.ensures in
-    let alias : Alias = record { entry = found.0; target = c.in-Some.target.now } in (
-      so_far.0 ++ alias.entry ∷ [],
-      omega (arith, length_push so_far.0 alias.entry),
-      Leads-push c.args.section.now c.args.start.now so_far.0 c.loop-links.name.now alias so_far.2 found.1,
+    let cname : CnameRecord = record { entry = found.0; target = c.in-Some.target.now } in (
+      so_far.0 ++ cname.entry ∷ [],
+      omega (arith, length_push so_far.0 cname.entry),
+      Leads-push c.args.section.now c.args.start.now so_far.0 c.loop-links.name.now cname so_far.2 found.1,
     )
 
 pub returns : goal.returns

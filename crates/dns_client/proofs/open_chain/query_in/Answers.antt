@@ -16,5 +16,5 @@ returns-in_default-2 c = λ id question asks.
     let found = c.in-Some.message in
     let begins : Begins c.args.octets.now found = rw c.in-Some.is at c.in_ok-message.ensures.read in
     let none : (it : Question) → c.as_slice.result.now ≡ asked_of it ∷ [] → ⊥ = rw c.in_default-2.is at c.in_ok-question.ensures in
-    let same = one_message c.one_message_in_front.ensures c.args.octets.now found asks.message begins asks.begins in
+    let same = one_message c.law_one_message_in_front.ensures c.args.octets.now found asks.message begins asks.begins in
     none question (c.as_slice.ensures ∙ ap (λ (message : Message). message.questions) same ∙ asks.alone)

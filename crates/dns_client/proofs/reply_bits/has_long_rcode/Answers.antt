@@ -15,7 +15,7 @@ returns-in-Some c =
       λ is. record { message = found; begins = begins; upper = sym told ∙ is },
       λ it.
           let same : it.message ≡ found =
-          c.one_message_in_front.ensures octets it.begins.end begins.end it.message found it.begins.spelled begins.spelled in
+          c.law_one_message_in_front.ensures octets it.begins.end begins.end it.message found it.begins.spelled begins.spelled in
           told ∙ ap (λ (message : Message). list_any has_upper_bits message.additional) (sym same) ∙ it.upper,
     )
 

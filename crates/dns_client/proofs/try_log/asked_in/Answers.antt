@@ -22,7 +22,7 @@ returns-in-Some c =
     let found = c.in-Some.message in
     let begins : Begins query found = rw c.in-Some.is at c.in_ok-message.ensures.read in
     let only = λ (it : Message) (there : Begins query it).
-    c.one_message_in_front.ensures query there.end begins.end it found there.spelled begins.spelled in
+    c.law_one_message_in_front.ensures query there.end begins.end it found there.spelled begins.spelled in
     if-ok (IsFirst found.questions) (Asks query) (asks-first query found begins only) c.first_of.result
     (rw c.as_slice.ensures at c.first_of.ensures)
 

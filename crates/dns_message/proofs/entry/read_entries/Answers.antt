@@ -1,8 +1,8 @@
 use Rattle.std.proofs.Common.{refl, sym, arith, ◌∙◌}
 use Rattle.std.proofs.lemmas.List.{length_push}
 use Rattle.std.proofs.lemmas.Result.{err_from_is_err_and}
-use Rattle.dns_message.specs.Places.{NamedAt, none}
-use Rattle.dns_message.proofs.Places.{AllAt-push, AllAt-first, Follows-push, Follows-next, Follows-all}
+use Rattle.dns_message.specs.Offsets.{NamedAt, none}
+use Rattle.dns_message.proofs.Offsets.{AllAt-push, AllAt-first, Follows-push, Follows-next, Follows-all}
 use Rattle.dns_message.proofs.entry.read_entries.Goals as goal
 
 pub loop-init : goal.loop-init
@@ -20,20 +20,20 @@ loop-preserved g c =
     let read = c.in_ok-entry in
     rw c.in_ok-push.ensures.items (record {
       so_far = AllAt-push stands read.after read.entry l.invariant.so_far read.ensures.found;
-      follows = Follows-push stands c.args.place l.place read.after read.entry l.entries.items l.invariant.follows read.ensures.read;
+      follows = Follows-push stands c.args.offset l.offset read.after read.entry l.entries.items l.invariant.follows read.ensures.read;
       count = length_push l.entries.items read.entry ∙ omega arith;
     })
 
 pub returns-clause-read : goal.returns-clause-read
 returns-clause-read g c = λ entries end there count.
     let l = c.loop in
-    Follows-all (g.E.Entry.stands c.args.bytes.now) c.args.place l.place end l.entries.items entries l.invariant.follows there
+    Follows-all (g.E.Entry.stands c.args.bytes.now) c.args.offset l.offset end l.entries.items entries l.invariant.follows there
     (omega (arith, count))
 
 pub returns-in_err-entry-clause-read : goal.returns-in_err-entry-clause-read
 returns-in_err-entry-clause-read g c = λ entries end there count.
     let l = c.loop in
-    let here = Follows-next (g.E.Entry.stands c.args.bytes.now) c.args.place l.place end l.entries.items entries l.invariant.follows there
+    let here = Follows-next (g.E.Entry.stands c.args.bytes.now) c.args.offset l.offset end l.entries.items entries l.invariant.follows there
     (omega (arith, count)) in
     let p = err_from_is_err_and c.from_residual.result c.from_residual.ensures.1 in
     rw p.1 (p.2 ∙ c.in_err-entry.ensures.read here.0 here.1 here.2)
@@ -52,4 +52,4 @@ returns-in_err-push-clause-memory g c =
     let read = c.in_ok-entry in
     let p = err_from_is_err_and c.from_residual-in_err-push.result c.from_residual-in_err-push.ensures.1 in
     rw p.1 (λ is. AllAt-first (g.E.Entry.stands bytes) (NamedAt bytes) (g.met.E.Entry.named bytes) c.loop.invariant.so_far
-    (g.met.E.Entry.named bytes c.loop.place read.after read.entry read.ensures.found))
+    (g.met.E.Entry.named bytes c.loop.offset read.after read.entry read.ensures.found))

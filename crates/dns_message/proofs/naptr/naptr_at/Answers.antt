@@ -18,11 +18,11 @@ rule_read c = record {
 }
 
 -- what was read stands there
-this : (c : In_ok-replacement) → NaptrAt c.args.bytes.now c.args.place (rule_read c) c.in_ok-replacement.end
+this : (c : In_ok-replacement) → NaptrAt c.args.bytes.now c.args.offset (rule_read c) c.in_ok-replacement.end
 this c = record {
-  services_start = c.in_ok-flags.place;
-  regexp_start = c.in_ok-services.place;
-  replacement_start = c.in_ok-regexp.place;
+  services_start = c.in_ok-flags.offset;
+  regexp_start = c.in_ok-services.offset;
+  replacement_start = c.in_ok-regexp.offset;
   order = rw c.in_ok-order.ensures.ok_part at c.u16_at.ensures;
   preference = rw c.in_ok-preference.ensures.ok_part at c.u16_at-2.ensures;
   flags = c.in_ok-flags.ensures.found;
@@ -36,7 +36,8 @@ returns-clause-found c = this c
 
 pub returns-clause-read : goal.returns-clause-read
 returns-clause-read c = λ rule end there.
-    one_naptr c.one_name_at_a_place.ensures c.args.bytes.now c.args.place c.in_ok-replacement.end end (rule_read c) rule (this c) there
+    one_naptr c.law_one_name_at_an_offset.ensures c.args.bytes.now c.args.offset c.in_ok-replacement.end end (rule_read c) rule (this c)
+    there
 
 -- ---- where reading stops, it stops for want of memory
 

@@ -1,15 +1,15 @@
 use Rattle.std.proofs.Common.{◌+◌, arith}
-use Rattle.dns_name.specs.Places.{NameAt}
+use Rattle.dns_name.specs.Offsets.{NameAt}
 use Rattle.dns_message.proofs.Owners.{name_pointed_to}
 use Rattle.dns_message.proofs.owner.owner_at.Goals as goal
 use Rattle.dns_message.proofs.owner.owner_at.Goals.{Then-is_pointer_to_asked}
 
--- the name of the question stands at the place
-this : (c : Then-is_pointer_to_asked) → NameAt c.args.bytes.now c.args.place c.args.place c.in-Some.asked.name.now (c.args.place + 2)
+-- the name of the question stands at the offset
+this : (c : Then-is_pointer_to_asked) → NameAt c.args.bytes.now c.args.offset c.args.offset c.in-Some.asked.name.now (c.args.offset + 2)
 this c =
     let asked = rw c.in-Some.is at c.requires in
-    name_pointed_to c.name_rests_before_its_end.ensures.within c.args.bytes.now c.args.place c.in-Some.asked asked
-    (omega (arith, c.if-asked-place.true)) (c.is_pointer_to_asked.ensures c.if-is_pointer_to_asked.true)
+    name_pointed_to c.law_name_rests_before_its_end.ensures.within c.args.bytes.now c.args.offset c.in-Some.asked asked
+    (omega (arith, c.if-asked-offset.true)) (c.is_pointer_to_asked.ensures c.if-is_pointer_to_asked.true)
 
 pub returns-clause-found : goal.returns-clause-found
 returns-clause-found c = rw c.in_ok-try_clone.ensures (this (goal.at.returns-clause-found c).Then-is_pointer_to_asked)
@@ -17,9 +17,9 @@ returns-clause-found c = rw c.in_ok-try_clone.ensures (this (goal.at.returns-cla
 pub returns-clause-read : goal.returns-clause-read
 returns-clause-read c = λ name end there.
     let asked = this (goal.at.returns-clause-read c).Then-is_pointer_to_asked in
-    rw c.in_ok-try_clone.ensures (c.one_name_at_a_place.ensures c.args.bytes.now c.args.place c.args.place (c.args.place + 2) end
+    rw c.in_ok-try_clone.ensures (c.law_one_name_at_an_offset.ensures c.args.bytes.now c.args.offset c.args.offset (c.args.offset + 2) end
     c.in-Some.asked.name.now name asked there)
 
 pub returns-in_err-try_clone-clause-memory : goal.returns-in_err-try_clone-clause-memory
 returns-in_err-try_clone-clause-memory c = λ _.
-    (c.in-Some.asked.name.now, c.args.place + 2, this (goal.at.returns-in_err-try_clone-clause-memory c).Then-is_pointer_to_asked)
+    (c.in-Some.asked.name.now, c.args.offset + 2, this (goal.at.returns-in_err-try_clone-clause-memory c).Then-is_pointer_to_asked)

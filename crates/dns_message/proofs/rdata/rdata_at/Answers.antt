@@ -7,8 +7,8 @@ use Rattle.dns_message.proofs.Layouts.{format_goes_on, format_within}
 use Rattle.dns_message.proofs.rdata.rdata_at.Goals as goal
 use Rattle.dns_message.proofs.rdata.rdata_at.Goals.{In_ok-octets}
 
--- the octets between the two places
-between : (c : In_ok-octets) → c.in_ok-octets.octets.now ≡ slice_range c.args.bytes.now c.args.place c.args.end
+-- the octets between the two offsets
+between : (c : In_ok-octets) → c.in_ok-octets.octets.now ≡ slice_range c.args.bytes.now c.args.offset c.args.end
 between c = let part = rw c.in_ok-octets.ensures.ok_part at c.get.ensures.lookup in part.0.2
 
 pub returns-in_err-address_of-in-A-clause-read : goal.returns-in_err-address_of-in-A-clause-read
@@ -106,10 +106,10 @@ returns-in_err-octets-in-Other-clause-read c = λ data' x.
 
 pub returns-in_err-octets-clause-read : goal.returns-in_err-octets-clause-read
 returns-in_err-octets-clause-read c = λ data' x.
-    let within = c.name_rests_before_its_end.ensures.within in
-    let f = data_format c.args.code c.args.class_code in
-    let goes_on = format_goes_on within f c.args.bytes.now c.args.place c.args.code c.args.class_code c.args.end data' x in
-    let ends = format_within within f c.args.bytes.now c.args.place c.args.code c.args.class_code c.args.end data' x in
+    let within = c.law_name_rests_before_its_end.ensures.within in
+    let f = data_format c.args.type_number c.args.class_number in
+    let goes_on = format_goes_on within f c.args.bytes.now c.args.offset c.args.type_number c.args.class_number c.args.end data' x in
+    let ends = format_within within f c.args.bytes.now c.args.offset c.args.type_number c.args.class_number c.args.end data' x in
     let none = rw c.in_err-octets.ensures.ok_part at c.get.ensures.lookup in
     let some = none.1 (goes_on, ends) in
     absurd cc

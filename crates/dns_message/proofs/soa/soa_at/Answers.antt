@@ -21,12 +21,12 @@ start_read c =
     }
 
 -- what was read stands there
-this : (c : In_ok-numbers) → SoaAt c.args.bytes.now c.args.place (start_read c) (c.in_ok-rname.place + 20)
+this : (c : In_ok-numbers) → SoaAt c.args.bytes.now c.args.offset (start_read c) (c.in_ok-rname.offset + 20)
 this c =
     let numbers = rw c.in_ok-numbers.ensures.ok_part at c.numbers_at.ensures in
     record {
-      rname_start = c.in_ok-mname.place;
-      numbers_start = c.in_ok-rname.place;
+      rname_start = c.in_ok-mname.offset;
+      numbers_start = c.in_ok-rname.offset;
       mname = c.in_ok-mname.ensures.found;
       rname = c.in_ok-rname.ensures.found;
       serial = numbers.0;
@@ -42,7 +42,7 @@ returns-clause-found c = this c
 
 pub returns-clause-read : goal.returns-clause-read
 returns-clause-read c = λ authority end there.
-    one_soa c.one_name_at_a_place.ensures c.args.bytes.now c.args.place (c.in_ok-rname.place + 20) end (start_read c) authority
+    one_soa c.law_one_name_at_an_offset.ensures c.args.bytes.now c.args.offset (c.in_ok-rname.offset + 20) end (start_read c) authority
     (this c) there
 
 pub returns-in_err-mname-clause-read : goal.returns-in_err-mname-clause-read

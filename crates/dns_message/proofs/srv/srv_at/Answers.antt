@@ -18,7 +18,7 @@ server_read c =
     }
 
 -- what was read stands there
-this : (c : In_ok-target) → SrvAt c.args.bytes.now c.args.place (server_read c) c.in_ok-target.end
+this : (c : In_ok-target) → SrvAt c.args.bytes.now c.args.offset (server_read c) c.in_ok-target.end
 this c = record {
   priority = rw c.in_ok-priority.ensures.ok_part at c.u16_at.ensures;
   weight = rw c.in_ok-weight.ensures.ok_part at c.u16_at-2.ensures;
@@ -31,7 +31,7 @@ returns-clause-found c = this c
 
 pub returns-clause-read : goal.returns-clause-read
 returns-clause-read c = λ server end there.
-    one_srv c.one_name_at_a_place.ensures c.args.bytes.now c.args.place c.in_ok-target.end end (server_read c) server (this c) there
+    one_srv c.law_one_name_at_an_offset.ensures c.args.bytes.now c.args.offset c.in_ok-target.end end (server_read c) server (this c) there
 
 pub returns-in_err-target-clause-read : goal.returns-in_err-target-clause-read
 returns-in_err-target-clause-read c = λ server end there.

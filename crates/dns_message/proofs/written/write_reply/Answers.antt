@@ -12,7 +12,7 @@ returns-in-Ok-clause-spells c =
     let short : length (plain message) ≤ 512 = omega (arith, ap length written) in
     rw (fitted-whole message short)
     (IfOk-weaker c.from_slice.result _ _
-    (λ octets is. spelled c.written_name_is_read.ensures octets.items message (is ∙ written) c.in-Ok.ensures.fits
+    (λ octets is. spelled c.law_written_name_is_read.ensures octets.items message (is ∙ written) c.in-Ok.ensures.fits
     (omega arith)) c.from_slice.ensures.items)
 
 pub returns-in-Err-clause-short : goal.returns-in-Err-clause-short
@@ -29,5 +29,5 @@ returns-in-Err-clause-spells c =
     omega (arith, ap length c.new-out.ensures, c.in-Err.ensures.too_long) in
     rw (fitted-cut message long)
     (both_ok c.write_cut.result _ _ _
-    (λ octets e fits. spelled c.written_name_is_read.ensures octets.items (cut message) e fits
+    (λ octets e fits. spelled c.law_written_name_is_read.ensures octets.items (cut message) e fits
     (omega (arith, cut_short message fits c.requires.one_question))) c.write_cut.ensures.written c.write_cut.ensures.fits)

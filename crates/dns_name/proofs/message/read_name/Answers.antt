@@ -23,13 +23,13 @@ pub small_name-requires-clause-name : goal.small_name-requires-clause-name
 small_name-requires-clause-name c =
     let bytes = c.args.bytes.now in
     let l = c.loop-front in
-    let octets : List ℕ = small_letters (take l.passed l.front ++ slice_range bytes l.start l.place) in
-    let size = small_length bytes (take l.passed l.front) l.start l.place l.invariant.size in
+    let octets : List ℕ = small_letters (take l.passed l.front ++ slice_range bytes l.start l.offset) in
+    let size = small_length bytes (take l.passed l.front) l.start l.offset l.invariant.size in
     let short : length octets ≤ 254 = omega (arith, size, l.invariant.counted, l.invariant.filled, l.invariant.short) in
     let piece = rw c.in-Some-Root.field-0-is at c.in-Some-Root.ensures in
-    let here = OctetAt-front bytes l.limit l.place l.invariant.within 0 piece in
-    let ends = small_ends bytes (take l.passed l.front) l.start l.place here.0 (omega (arith, l.invariant.size)) in
-    let k = found bytes c.args.at l.place l.start l.limit octets l.after l.invariant.finding here.0 (omega arith) short in
+    let here = OctetAt-front bytes l.limit l.offset l.invariant.within 0 piece in
+    let ends = small_ends bytes (take l.passed l.front) l.start l.offset here.0 (omega (arith, l.invariant.size)) in
+    let k = found bytes c.args.at l.offset l.start l.limit octets l.after l.invariant.finding here.0 (omega arith) short in
     (k.0, IsName-at bytes {name = k.0} k.1, ends ∙ k.2)
 
 -- what was to be kept stands there
@@ -37,39 +37,39 @@ pub returns-in_err-name-in-Some-Root-clause-memory : goal.returns-in_err-name-in
 returns-in_err-name-in-Some-Root-clause-memory c = λ _.
     let bytes = c.args.bytes.now in
     let l = c.loop-front in
-    let octets : List ℕ = small_letters (take l.passed l.front ++ slice_range bytes l.start l.place) in
-    let size = small_length bytes (take l.passed l.front) l.start l.place l.invariant.size in
+    let octets : List ℕ = small_letters (take l.passed l.front ++ slice_range bytes l.start l.offset) in
+    let size = small_length bytes (take l.passed l.front) l.start l.offset l.invariant.size in
     let short : length octets ≤ 254 = omega (arith, size, l.invariant.counted, l.invariant.filled, l.invariant.short) in
     let piece = rw c.in-Some-Root.field-0-is at c.in-Some-Root.ensures in
-    let here = OctetAt-front bytes l.limit l.place l.invariant.within 0 piece in
-    let k = found bytes c.args.at l.place l.start l.limit octets l.after l.invariant.finding here.0 (omega arith) short in
+    let here = OctetAt-front bytes l.limit l.offset l.invariant.within 0 piece in
+    let k = found bytes c.args.at l.offset l.start l.limit octets l.after l.invariant.finding here.0 (omega arith) short in
     (k.0, _, k.1)
 
 pub returns-in-Some-Root-clause-found : goal.returns-in-Some-Root-clause-found
 returns-in-Some-Root-clause-found c =
     let bytes = c.args.bytes.now in
     let l = c.loop-front in
-    let octets : List ℕ = small_letters (take l.passed l.front ++ slice_range bytes l.start l.place) in
-    let size = small_length bytes (take l.passed l.front) l.start l.place l.invariant.size in
+    let octets : List ℕ = small_letters (take l.passed l.front ++ slice_range bytes l.start l.offset) in
+    let size = small_length bytes (take l.passed l.front) l.start l.offset l.invariant.size in
     let short : length octets ≤ 254 = omega (arith, size, l.invariant.counted, l.invariant.filled, l.invariant.short) in
     let piece = rw c.in-Some-Root.field-0-is at c.in-Some-Root.ensures in
-    let here = OctetAt-front bytes l.limit l.place l.invariant.within 0 piece in
-    let ends = small_ends bytes (take l.passed l.front) l.start l.place here.0 (omega (arith, l.invariant.size)) in
+    let here = OctetAt-front bytes l.limit l.offset l.invariant.within 0 piece in
+    let ends = small_ends bytes (take l.passed l.front) l.start l.offset here.0 (omega (arith, l.invariant.size)) in
     rw c.unwrap_or.ensures
-    (read bytes c.args.at l.place l.start l.limit octets l.after l.invariant.finding here.0 (omega arith) short
+    (read bytes c.args.at l.offset l.start l.limit octets l.after l.invariant.finding here.0 (omega arith) short
     c.in_ok-name-in-Some-Root.name (c.in_ok-name-in-Some-Root.ensures ∙ ends))
 
 pub returns-in-Some-Root-clause-read : goal.returns-in-Some-Root-clause-read
 returns-in-Some-Root-clause-read c = λ name end there.
     let bytes = c.args.bytes.now in
     let l = c.loop-front in
-    let octets : List ℕ = small_letters (take l.passed l.front ++ slice_range bytes l.start l.place) in
-    let size = small_length bytes (take l.passed l.front) l.start l.place l.invariant.size in
+    let octets : List ℕ = small_letters (take l.passed l.front ++ slice_range bytes l.start l.offset) in
+    let size = small_length bytes (take l.passed l.front) l.start l.offset l.invariant.size in
     let short : length octets ≤ 254 = omega (arith, size, l.invariant.counted, l.invariant.filled, l.invariant.short) in
     let piece = rw c.in-Some-Root.field-0-is at c.in-Some-Root.ensures in
-    let here = OctetAt-front bytes l.limit l.place l.invariant.within 0 piece in
-    let ends = small_ends bytes (take l.passed l.front) l.start l.place here.0 (omega (arith, l.invariant.size)) in
-    let this = read bytes c.args.at l.place l.start l.limit octets l.after l.invariant.finding here.0 (omega arith) short
+    let here = OctetAt-front bytes l.limit l.offset l.invariant.within 0 piece in
+    let ends = small_ends bytes (take l.passed l.front) l.start l.offset here.0 (omega (arith, l.invariant.size)) in
+    let this = read bytes c.args.at l.offset l.start l.limit octets l.after l.invariant.finding here.0 (omega arith) short
     c.in_ok-name-in-Some-Root.name (c.in_ok-name-in-Some-Root.ensures ∙ ends) in
     rw c.unwrap_or.ensures (one_reading bytes this.labels there.labels)
 
@@ -77,12 +77,12 @@ pub returns-then-count-ge-NAME_LIMIT-clause-read : goal.returns-then-count-ge-NA
 returns-then-count-ge-NAME_LIMIT-clause-read c = λ name end there.
     let bytes = c.args.bytes.now in
     let l = c.loop-front in
-    let octets : List ℕ = small_letters (take l.passed l.front ++ slice_range bytes l.start l.place) in
-    let size = small_length bytes (take l.passed l.front) l.start l.place l.invariant.size in
+    let octets : List ℕ = small_letters (take l.passed l.front ++ slice_range bytes l.start l.offset) in
+    let size = small_length bytes (take l.passed l.front) l.start l.offset l.invariant.size in
     let label : List ℕ = c.in-Some-Label.label.now in
     let front = rw c.in-Some-Label.field-0-is at c.in-Some-Label.ensures in
-    let piece = LabelPiece-front bytes l.limit l.place l.invariant.within label front in
-    absurd (no_room bytes c.args.at l.place l.start l.limit octets l.after l.invariant.finding
+    let piece = LabelPiece-front bytes l.limit l.offset l.invariant.within label front in
+    absurd (no_room bytes c.args.at l.offset l.start l.limit octets l.after l.invariant.finding
     (length label) piece.behind piece.some piece.short
     (omega (arith, size, c.if-count-ge-NAME_LIMIT.true, l.invariant.counted, l.invariant.filled)) name end there)
 
@@ -90,49 +90,49 @@ pub loop-front-preserved-in-Some-Label : goal.loop-front-preserved-in-Some-Label
 loop-front-preserved-in-Some-Label c =
     let bytes = c.args.bytes.now in
     let l = c.loop-front in
-    let octets : List ℕ = small_letters (take l.passed l.front ++ slice_range bytes l.start l.place) in
+    let octets : List ℕ = small_letters (take l.passed l.front ++ slice_range bytes l.start l.offset) in
     let label : List ℕ = c.in-Some-Label.label.now in
     let n : ℕ = length label in
     let front = rw c.in-Some-Label.field-0-is at c.in-Some-Label.ensures in
-    let piece = LabelPiece-front bytes l.limit l.place l.invariant.within label front in
-    let begins : l.start ≤ l.place = omega (arith, l.invariant.size) in
-    let grown = small_grows bytes (take l.passed l.front) l.start l.place (l.place + 1 + n) n piece.behind piece.short begins
+    let piece = LabelPiece-front bytes l.limit l.offset l.invariant.within label front in
+    let begins : l.start ≤ l.offset = omega (arith, l.invariant.size) in
+    let grown = small_grows bytes (take l.passed l.front) l.start l.offset (l.offset + 1 + n) n piece.behind piece.short begins
     (omega arith) in
-    let next = past_label bytes c.args.at l.place l.start l.limit octets l.after l.invariant.finding n
-    (small_letters (take l.passed l.front ++ slice_range bytes l.start (l.place + 1 + n))) piece.behind piece.some piece.short grown in
-    let size = run_size bytes l.start (l.place + 1 + n) (omega (arith, begins)) (label_within bytes l.place label piece) in
-    let place : l.place + 1 + n ≡ l.place + (1 + n) = omega arith in
+    let next = past_label bytes c.args.at l.offset l.start l.limit octets l.after l.invariant.finding n
+    (small_letters (take l.passed l.front ++ slice_range bytes l.start (l.offset + 1 + n))) piece.behind piece.some piece.short grown in
+    let size = run_size bytes l.start (l.offset + 1 + n) (omega (arith, begins)) (label_within bytes l.offset label piece) in
+    let offset : l.offset + 1 + n ≡ l.offset + (1 + n) = omega arith in
     record {
       within = omega arith;
-      size = rw place at size;
+      size = rw offset at size;
       counted = omega (arith, l.invariant.counted);
       short = omega (arith, c.if-count-ge-NAME_LIMIT.false);
       filled = l.invariant.filled;
-      finding = rw place at next;
+      finding = rw offset at next;
     }
 
-pub returns-then-offset-start-clause-read : goal.returns-then-offset-start-clause-read
-returns-then-offset-start-clause-read c = λ name end there.
+pub returns-then-target-start-clause-read : goal.returns-then-target-start-clause-read
+returns-then-target-start-clause-read c = λ name end there.
     let bytes = c.args.bytes.now in
     let l = c.loop-front in
-    let octets : List ℕ = small_letters (take l.passed l.front ++ slice_range bytes l.start l.place) in
+    let octets : List ℕ = small_letters (take l.passed l.front ++ slice_range bytes l.start l.offset) in
     let front = rw c.in-Some-Pointer.field-0-is at c.in-Some-Pointer.ensures in
-    let first = OctetAt-front bytes l.limit l.place l.invariant.within (192 + front.high) front.first in
-    let second = OctetAt-front bytes l.limit (l.place + 1) l.invariant.within front.low front.second in
-    absurd (no_offset bytes c.args.at l.place l.start l.limit octets l.after l.invariant.finding front.high front.low first.0
+    let first = OctetAt-front bytes l.limit l.offset l.invariant.within (192 + front.high) front.first in
+    let second = OctetAt-front bytes l.limit (l.offset + 1) l.invariant.within front.low front.second in
+    absurd (no_offset bytes c.args.at l.offset l.start l.limit octets l.after l.invariant.finding front.high front.low first.0
     second.0 (omega (arith, front.leads)) name end there)
 
 pub loop-front-preserved : goal.loop-front-preserved
 loop-front-preserved c =
     let bytes = c.args.bytes.now in
     let l = c.loop-front in
-    let run : List ℕ = slice_range bytes l.start l.place in
+    let run : List ℕ = slice_range bytes l.start l.offset in
     let front = rw c.in-Some-Pointer.field-0-is at c.in-Some-Pointer.ensures in
-    let first = OctetAt-front bytes l.limit l.place l.invariant.within (192 + front.high) front.first in
-    let second = OctetAt-front bytes l.limit (l.place + 1) l.invariant.within front.low front.second in
-    let next = past_pointer bytes c.args.at l.place l.start l.limit (small_letters (take l.passed l.front ++ run)) l.after
+    let first = OctetAt-front bytes l.limit l.offset l.invariant.within (192 + front.high) front.first in
+    let second = OctetAt-front bytes l.limit (l.offset + 1) l.invariant.within front.low front.second in
+    let next = past_pointer bytes c.args.at l.offset l.start l.limit (small_letters (take l.passed l.front ++ run)) l.after
     l.invariant.finding front.high front.low first.0 second.0 (omega (arith, front.leads)) (omega arith) in
-    let none = run_none bytes c.in-Some-Pointer.offset in
+    let none = run_none bytes c.in-Some-Pointer.target in
     let count : l.passed + length run ≡ l.count = omega (arith, l.invariant.size, l.invariant.counted) in
     let put : take l.count c.put_run.new.front ≡ take l.passed l.front ++ run = rw count at c.put_run.ensures in
     record {

@@ -7,14 +7,14 @@ abbrev pub invariant-loop-front : goal.invariant-loop-front
 invariant-loop-front l = record {
   within : l.limit ≤ length l.bytes;
   -- the run so far
-  size : length (slice_range l.bytes l.start l.place) + l.start ≡ l.place;
-  counted : l.count + l.start ≡ l.passed + l.place;
+  size : length (slice_range l.bytes l.start l.offset) + l.start ≡ l.offset;
+  counted : l.count + l.start ≡ l.passed + l.offset;
   short : l.count ≤ 254;
   filled : length (take l.passed l.front) ≡ l.passed;
-  finding : Finding l.bytes l.at l.place l.start l.limit
-      (small_letters (take l.passed l.front ++ slice_range l.bytes l.start l.place)) l.after;
+  finding : Finding l.bytes l.at l.offset l.start l.limit
+      (small_letters (take l.passed l.front ++ slice_range l.bytes l.start l.offset)) l.after;
 }
 
 -- the octets of this run that are left, and those before it
 abbrev pub decreases-loop-front : goal.decreases-loop-front
-decreases-loop-front l = (l.limit - l.place) + l.start
+decreases-loop-front l = (l.limit - l.offset) + l.start

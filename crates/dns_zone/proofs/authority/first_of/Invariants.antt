@@ -5,4 +5,4 @@ use Rattle.dns_zone.proofs.authority.first_of.Given as goal
 
 -- the first one is not among those that were passed
 abbrev pub invariant-loop-entry : goal.invariant-loop-entry
-invariant-loop-entry l = find (says l.code) (drop l.entry-index l.entries) ≡ find (says l.code) l.entries
+invariant-loop-entry l = find (says l.type_number) (drop l.entry-index l.entries) ≡ find (says l.type_number) l.entries

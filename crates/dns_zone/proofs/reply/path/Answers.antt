@@ -1,6 +1,6 @@
 use Rattle.std.proofs.Common.{◌≡◌, arith}
-use Rattle.dns_zone.specs.Views.{alias_value}
-use Rattle.dns_zone.proofs.Aliases.{path_few}
+use Rattle.dns_zone.specs.Views.{cname_value}
+use Rattle.dns_zone.proofs.Cnames.{path_few}
 use Rattle.dns_zone.proofs.Paths.{begun, follows, full, stops}
 use Rattle.dns_zone.proofs.reply.path.Goals as goal
 
@@ -17,7 +17,7 @@ pub loop-preserved : goal.loop-preserved
 loop-preserved c =
     let l = c.loop in
     rw (c.in_ok-push.ensures.items, c.in_ok-try_clone.ensures, c.in_ok-try_clone-2.ensures)
-    (follows c.args.zone.now c.args.start.now l.links.items l.name.now (alias_value c.in-Some.alias) l.counter l.invariant
+    (follows c.args.zone.now c.args.start.now l.links.items l.name.now (cname_value c.in-Some.cname) l.counter l.invariant
     (omega arith) c.in-Some.ensures)
 
 pub returns : goal.returns

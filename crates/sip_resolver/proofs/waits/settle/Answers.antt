@@ -8,22 +8,24 @@ returns-then-own-id-clause-stand g c =
 
 pub returns-in-Ready-clause-stand : goal.returns-in-Ready-clause-stand
 returns-in-Ready-clause-stand g c = rw (← c.waiting.view_is) (λ seat known counted lacks stand.
-    let fits = rw c.in-Ready.is at c.fate_of.ensures.fits seat known counted lacks in rw c.add.ensures (ready-too _ _ seat _ _ stand fits))
+    let fits = rw c.in-Ready.is at c.wait_outcome_of.ensures.fits seat known counted lacks in rw c.add.ensures
+    (ready-too _ _ seat _ _ stand fits))
 
 pub returns-in-Ended-clause-stand : goal.returns-in-Ended-clause-stand
 returns-in-Ended-clause-stand g c = rw (← c.waiting.view_is) (λ seat known counted lacks stand.
-    let fits = rw c.in-Ended.is at c.fate_of.ensures.fits seat known counted lacks in rw c.end.ensures (ended-too _ _ seat _ _ stand fits))
+    let fits = rw c.in-Ended.is at c.wait_outcome_of.ensures.fits seat known counted lacks in rw c.end.ensures
+    (ended-too _ _ seat _ _ stand fits))
 
 pub returns-then-own-id-clause-settles : goal.returns-then-own-id-clause-settles
 returns-then-own-id-clause-settles g c = rw (← c.waiting.view_is) (waits_on c.if-own-id.true c.wait.ensures)
 
 pub returns-in-Ready-clause-settles : goal.returns-in-Ready-clause-settles
 returns-in-Ready-clause-settles g c =
-    let goes = rw c.in-Ready.is at c.fate_of.ensures.goes in
-    rw (← c.waiting.view_is) (goes_on c.if-own-id.false c.fate_of.new.task goes c.add.ensures)
+    let goes = rw c.in-Ready.is at c.wait_outcome_of.ensures.goes in
+    rw (← c.waiting.view_is) (goes_on c.if-own-id.false c.wait_outcome_of.new.task goes c.add.ensures)
 
 pub returns-in-Ended-clause-settles : goal.returns-in-Ended-clause-settles
 returns-in-Ended-clause-settles g c =
-    let end = rw c.in-Ended.is at c.fate_of.ensures.ends in
+    let end = rw c.in-Ended.is at c.wait_outcome_of.ensures.ends in
     rw (← c.waiting.view_is)
-    (ends c.if-own-id.false c.in-Ended.outcome end (rw (← c.fate_of.ensures.request) c.end.ensures))
+    (ends c.if-own-id.false c.in-Ended.outcome end (rw (← c.wait_outcome_of.ensures.request) c.end.ensures))

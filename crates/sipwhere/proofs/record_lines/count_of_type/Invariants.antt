@@ -5,6 +5,6 @@ use Rattle.sipwhere.proofs.record_lines.count_of_type.Given as goal
 
 abbrev pub invariant-loop-entry : goal.invariant-loop-entry
 invariant-loop-entry l = record {
-  count : l.count ≡ count_by (is_of_type l.code) (take l.entry-index l.records);
+  count : l.count ≡ count_by (is_of_type l.type_number) (take l.entry-index l.records);
   few : l.count ≤ l.entry-index;
 }

@@ -32,11 +32,11 @@ last_ahead-requires t c =
         (
           (step.book, ap (λ b. b.book) step.same.book ∙ c.requires.books.1),
           (
-            step.same.hand,
+            step.same.handle,
             (
               c.requires.index,
               (
-                front_trans c.args.index.now.seen.log c.args.walk.now.seen.log c.step.new.walk.seen.log c.requires.behind step.later,
+                front_trans c.args.index.now.seen.log c.args.cursor.now.seen.log c.step.new.cursor.seen.log c.requires.behind step.later,
                 (met.0, met.3, shorter here.0 met.0 store c.args.links c.in-Some.links met.2 here.2 (omega arith)),
               ),
             ),
@@ -60,18 +60,20 @@ returns-clause-index t c =
       | then-top-before w ↦
           (let entry : IndexEntry = record { hash = node.tag; node = node.node } in
           let tells : TellsAll now.index.seen.log now.index.entries.items met.0 =
-          ahead-told book c.step.new.walk now.index now.walk.seen.log met.0 c.log_keeps_its_rule-2.ensures older.later older.behind
+          ahead-told book c.step.new.cursor now.index now.cursor.seen.log met.0 c.law_log_keeps_its_rule-2.ensures older.later older.behind
           older.index met.3 (sym w.if-top-before.true ∙ c.top-2.ensures) in
           let grown : Index = record { seen = w.again.result; entries = w.push.new.self } in
           let same = ap (λ b. b.log) w.again.ensures in
           let L : List Event → Type 0 = λ log. IsPrefix now.index.seen.log log in
-          let K : List Event → Type 0 = λ log. IsPrefix c.args.walk.now.seen.log log in
+          let K : List Event → Type 0 = λ log. IsPrefix c.args.cursor.now.seen.log log in
           let T : List Event → Type 0 = λ log. Tells log entry store in
-          let there : Tells now.walk.seen.log entry store = tells-later c.step.new.walk.seen.log now.walk.seen.log entry store older.later
+          let there : Tells now.cursor.seen.log entry store = tells-later c.step.new.cursor.seen.log now.cursor.seen.log entry store
+          older.later
           (record { placed = met.4; hash = rw c.in-Some-2.is at step.tagged }) in
-          subst I (sym w.index-is) (index-pushed book now.index grown c.args.walk.now met.0 here.0 entry store (is_ok w.push.result)
+          subst I (sym w.index-is) (index-pushed book now.index grown c.args.cursor.now met.0 here.0 entry store (is_ok w.push.result)
           w.push.ensures.items older.index (ap (λ b. b.book) w.again.ensures ∙ older.book) (subst L (sym same) older.behind)
-          (subst K (sym same) (front_trans c.args.walk.now.seen.log c.step.new.walk.seen.log now.walk.seen.log step.later older.later))
+          (subst K (sym same) (front_trans c.args.cursor.now.seen.log c.step.new.cursor.seen.log now.cursor.seen.log step.later
+          older.later))
           tells (subst T (sym same) there) met.2 here.1 (sym (rw c.in-Some-2.is at step.number))))
       | else-top-before w ↦ subst I (sym w.index-is) older.index
     ]

@@ -1,7 +1,7 @@
 use Rattle.std.proofs.Common.{◌≡◌, ◌≢◌, ◌<◌, ◌≤◌, ◌++◌, [], Bor, List, inl, inr, length, map, ap, sym, subst, ◌∙◌}
 use Rattle.std.specs.List.{filter}
 use Rattle.answer_log.specs.Groups.{group_limit}
-use Rattle.answer_log.specs.Hands.{spent_of}
+use Rattle.answer_log.specs.Handles.{spent_of}
 use Rattle.answer_log.specs.Histories.{in_group}
 use Rattle.answer_log.specs.Logs.{history}
 use Rattle.answer_log.specs.Spending.{Spending}
@@ -18,34 +18,38 @@ said node = offer_of_node node.now
 
 pub last_nodes-requires-clause-ahead : goal.last_nodes-requires-clause-ahead
 last_nodes-requires-clause-ahead c =
-    let stores = in_group c.args.group (history c.walk-walk.new.hand.book.log) in
-    let F : List Event → Type 0 = λ log. length (in_group c.args.group (history log)) ≤ group_limit in
-    (stores, c.walk-walk.ensures.ahead, subst F c.walk-walk.ensures.walk.1 (c.log_keeps_its_rule.ensures.history.few c.args.group))
+    let stores = in_group c.args.group (history c.cursor-cursor.new.handle.book.log) in
+    let F : List Event → Type 0 = λ log. length (in_group c.args.group (history log)) ≤ group_limit in (
+      stores,
+      c.cursor-cursor.ensures.ahead,
+      subst F c.cursor-cursor.ensures.cursor.1
+          (c.law_log_keeps_its_rule.ensures.history.few c.args.group),
+    )
 
 pub returns-in_err-nodes-clause-wanted : goal.returns-in_err-nodes-clause-wanted
 returns-in_err-nodes-clause-wanted c =
     let same = ap (λ b. b.log) c.in_err-nodes.ensures.same.book in
     let S : List Event → Type 0 = λ log. history log ≢ [] in
-    let M : Spending → Type 0 = λ spent. spent.missed < (spent_of c.last_nodes.new.hand).missed in
+    let M : Spending → Type 0 = λ spent. spent.missed < (spent_of c.last_nodes.new.handle).missed in
     on-err c.from_residual.result _ (elim c.in_err-nodes.ensures.wanted [
       | inl some ↦ inl (subst S (sym same)
-          (from-group c.args.group (history c.walk-walk.new.hand.book.log) (some _ c.walk-walk.ensures.ahead)))
-      | inr missed ↦ inr (subst M c.walk-walk.ensures.spent missed)
+          (from-group c.args.group (history c.cursor-cursor.new.handle.book.log) (some _ c.cursor-cursor.ensures.ahead)))
+      | inr missed ↦ inr (subst M c.cursor-cursor.ensures.spent missed)
     ])
 
 pub returns-clause-added : goal.returns-clause-added
 returns-clause-added c =
     let group = c.args.group in
     let its = c.in_ok-nodes.ensures in
-    let log = c.walk-walk.new.hand.book.log in
+    let log = c.cursor-cursor.new.handle.book.log in
     let same = ap (λ b. b.log) its.same.book in
     let F : List Event → Type 0 = λ l. length (in_group group (history l)) ≤ group_limit in
-    let few = subst F c.walk-walk.ensures.walk.1 (c.log_keeps_its_rule.ensures.history.few group) in
+    let few = subst F c.cursor-cursor.ensures.cursor.1 (c.law_log_keeps_its_rule.ensures.history.few group) in
     let turned : List (Bor Node) = c.deref.result.now in
     let said-all : map said turned ≡ map unseated (last_stores (in_group group (history log))) =
     turned-lasts said c.in_ok-nodes.nodes.items turned (map unseated (last_stores (in_group group (history log))))
     (c.deref.ensures.value ∙ c.reverse.ensures.items)
-    (its.last (in_group group (history log)) c.walk-walk.ensures.ahead few) in
+    (its.last (in_group group (history log)) c.cursor-cursor.ensures.ahead few) in
     turn-ok c.add_living.result _ _ (λ added. added
     ∙ ap (λ offers. offers_in c.args.entries.now.items ++ filter (lives_at c.args.now) offers)
     (said-all ∙ ap (λ l. map unseated (last_stores (in_group group (history l)))) (sym same))) c.add_living.ensures.added
@@ -54,15 +58,15 @@ pub returns-clause-wanted : goal.returns-clause-wanted
 returns-clause-wanted c =
     let group = c.args.group in
     let its = c.in_ok-nodes.ensures in
-    let log = c.walk-walk.new.hand.book.log in
+    let log = c.cursor-cursor.new.handle.book.log in
     let same = ap (λ b. b.log) its.same.book in
     let F : List Event → Type 0 = λ l. length (in_group group (history l)) ≤ group_limit in
     let S : List Event → Type 0 = λ l. history l ≢ [] in
-    let few = subst F c.walk-walk.ensures.walk.1 (c.log_keeps_its_rule.ensures.history.few group) in
+    let few = subst F c.cursor-cursor.ensures.cursor.1 (c.law_log_keeps_its_rule.ensures.history.few group) in
     let turned : List (Bor Node) = c.deref.result.now in
     let said-all : map said turned ≡ map unseated (last_stores (in_group group (history log))) =
     turned-lasts said c.in_ok-nodes.nodes.items turned (map unseated (last_stores (in_group group (history log))))
     (c.deref.ensures.value ∙ c.reverse.ensures.items)
-    (its.last (in_group group (history log)) c.walk-walk.ensures.ahead few) in
+    (its.last (in_group group (history log)) c.cursor-cursor.ensures.ahead few) in
     turn-err c.add_living.result _ _ (λ some. inl (subst S (sym same) (from-nodes said turned group (history log) said-all some)))
     c.add_living.ensures.wanted

@@ -1,6 +1,6 @@
 use Rattle.std.proofs.Common.{◌≡◌, ◌+◌, ◌*◌, ℕ, List, inl, inr, arith, refl, sym, subst, ◌∙◌}
 use Rattle.answer_log.specs.Groups.{group_limit}
-use Rattle.answer_log.specs.Hands.{SeesMore, spent_of}
+use Rattle.answer_log.specs.Handles.{SeesMore, spent_of}
 use Rattle.answer_log.specs.Logs.{history}
 use Rattle.answer_cache.specs.Carried.{IsCarriedOf, offers_in}
 use Rattle.answer_cache.specs.Seats.{Offer}
@@ -12,30 +12,30 @@ use Rattle.answer_cache.proofs.shared_cache.SharedCache.carry_groups.Goals as go
 
 pub groups-init : goal.groups-init
 groups-init c =
-    let h = c.args.hand.now in
+    let h = c.args.handle.now in
     let C : List Entry → Type 0 = λ entries.
     IsCarriedOf 0 (history h.book.log) (history h.book.log) c.args.now (offers_in entries) in record {
-      holds = record { hand = c.requires.hand; number = refl; seats = refl; same = c.requires.book; names = refl };
+      holds = record { handle = c.requires.handle; number = refl; seats = refl; same = c.requires.book; names = refl };
       seen = sees-same h.number h.book.log;
-      places = refl;
+      node_count = refl;
       carried = subst C (sym c.new-entries.ensures.items) (carried-none (history h.book.log) (history h.book.log) c.args.now);
       costs = costs.free (spent_of h);
     }
 
-pub carry_group-requires-clause-hand : goal.carry_group-requires-clause-hand
-carry_group-requires-clause-hand c = c.groups.invariant.holds.hand
+pub carry_group-requires-clause-handle : goal.carry_group-requires-clause-handle
+carry_group-requires-clause-handle c = c.groups.invariant.holds.handle
 
 pub returns-in_err-carry_group-clause-holds : goal.returns-in_err-carry_group-clause-holds
 returns-in_err-carry_group-clause-holds c =
-    holds-on c.args.self.now.book c.args.hand.now c.groups.hand c.carry_group.new.hand c.groups.invariant.holds
+    holds-on c.args.self.now.book c.args.handle.now c.groups.handle c.carry_group.new.handle c.groups.invariant.holds
     c.in_err-carry_group.ensures.holds
 
 pub returns-in_err-carry_group-clause-seen : goal.returns-in_err-carry_group-clause-seen
 returns-in_err-carry_group-clause-seen c =
     let i = c.groups.invariant in
-    let h = c.args.hand.now in
-    let S : ℕ → Type 0 = λ n. SeesMore n c.groups.hand.book.log c.carry_group.new.hand.book.log in
-    sees-trans h.number h.book.log c.groups.hand.book.log c.carry_group.new.hand.book.log i.seen
+    let h = c.args.handle.now in
+    let S : ℕ → Type 0 = λ n. SeesMore n c.groups.handle.book.log c.carry_group.new.handle.book.log in
+    sees-trans h.number h.book.log c.groups.handle.book.log c.carry_group.new.handle.book.log i.seen
     (subst S i.holds.number c.in_err-carry_group.ensures.seen)
 
 pub returns-in_err-carry_group-clause-costs : goal.returns-in_err-carry_group-clause-costs
@@ -43,7 +43,8 @@ returns-in_err-carry_group-clause-costs c =
     let g = c.groups.group in
     let test = c.groups-test.true in
     costs.within _ _ (g * group_limit + group_limit) (64 * group_limit) 0 0 (omega arith) (omega arith)
-    (costs.both _ (spent_of c.groups.hand) _ (g * group_limit) group_limit 0 0 c.groups.invariant.costs c.in_err-carry_group.ensures.costs)
+    (costs.both _ (spent_of c.groups.handle) _ (g * group_limit) group_limit 0 0 c.groups.invariant.costs
+    c.in_err-carry_group.ensures.costs)
 
 pub returns-in_err-carry_group-clause-wanted : goal.returns-in_err-carry_group-clause-wanted
 returns-in_err-carry_group-clause-wanted c =
@@ -56,10 +57,10 @@ returns-in_err-carry_group-clause-wanted c =
 pub groups-preserved : goal.groups-preserved
 groups-preserved c =
     let i = c.groups.invariant in
-    let h = c.args.hand.now in
+    let h = c.args.handle.now in
     let g = c.groups.group in
-    let mid = c.groups.hand in
-    let new = c.carry_group.new.hand in
+    let mid = c.groups.handle in
+    let new = c.carry_group.new.handle in
     let its = c.in_ok-carry_group.ensures in
     let S : ℕ → Type 0 = λ n. SeesMore n mid.book.log new.book.log in
     let seen = subst S i.holds.number its.seen in
@@ -67,7 +68,7 @@ groups-preserved c =
     record {
       holds = holds-on c.args.self.now.book h mid new i.holds its.holds;
       seen = sees-trans h.number h.book.log mid.book.log new.book.log i.seen seen;
-      places = its.places ∙ i.places;
+      node_count = its.node_count ∙ i.node_count;
       carried = subst C (sym its.added)
           (carried-more g (history h.book.log) (history mid.book.log) (history new.book.log) c.args.now (offers_in c.groups.entries.items)
           i.seen.stores its.seen.stores i.carried);
@@ -77,10 +78,10 @@ groups-preserved c =
 
 pub returns-clause-carried : goal.returns-clause-carried
 returns-clause-carried c =
-    let h = c.args.hand.now in
+    let h = c.args.handle.now in
     let past = c.groups-test.false in
     let C : ℕ → Type 0 = λ n.
-    IsCarriedOf n (history h.book.log) (history c.groups.hand.book.log) c.args.now (offers_in c.groups.entries.items) in
+    IsCarriedOf n (history h.book.log) (history c.groups.handle.book.log) c.args.now (offers_in c.groups.entries.items) in
     let last : c.groups.group ≡ 64 = omega arith in
     subst C last c.groups.invariant.carried
 

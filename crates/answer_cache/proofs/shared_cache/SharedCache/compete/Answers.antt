@@ -2,7 +2,7 @@ use Rattle.std.proofs.Common.{◌+◌, ◌-◌, ◌*◌, ℕ, arith, sym, ◌∙
 use Rattle.std.proofs.lemmas.List.{append-nil}
 use Rattle.std.proofs.lemmas.Result.{err_from_is_err_and}
 use Rattle.answer_log.specs.Groups.{group_limit}
-use Rattle.answer_log.specs.Hands.{SeesMore, spent_of}
+use Rattle.answer_log.specs.Handles.{SeesMore, spent_of}
 use Rattle.answer_log.specs.Logs.{history}
 use Rattle.answer_cache.specs.Nodes.{IsReady}
 use Rattle.answer_cache.proofs.Costing as costs
@@ -13,9 +13,9 @@ pub tries-init : goal.tries-init
 tries-init g c =
     let t = c.attempt.new in
     let it = c.attempt.ensures in
-    let R : ℕ → Type 0 = λ n. IsReady c.args.self.now.book t.hand.book.log n c.args.node.now t.pen.nib in record {
+    let R : ℕ → Type 0 = λ n. IsReady c.args.self.now.book t.handle.book.log n c.args.node.now t.pen.nib in record {
       least = omega arith;
-      hand = it.holds.hand;
+      handle = it.holds.handle;
       number = (it.holds.number, it.holds.seats);
       book = (it.holds.same, c.if-attempt.ensures.again.0);
       names = it.holds.names;
@@ -28,25 +28,25 @@ tries-init g c =
 
 pub returns-in_err-old-clause-competed : goal.returns-in_err-old-clause-competed
 returns-in_err-old-clause-competed g c =
-    let h = c.args.hand.now in
+    let h = c.args.handle.now in
     let i = c.tries.invariant in
-    let S : ℕ → Type 0 = λ n. SeesMore n c.tries.hand.book.log c.room.new.hand.book.log in
+    let S : ℕ → Type 0 = λ n. SeesMore n c.tries.handle.book.log c.room.new.handle.book.log in
     let e = err_from_is_err_and c.from_residual.result c.from_residual.ensures.1 in
-    rw e.1 (sees-trans h.number h.book.log c.tries.hand.book.log c.room.new.hand.book.log i.seen
+    rw e.1 (sees-trans h.number h.book.log c.tries.handle.book.log c.room.new.handle.book.log i.seen
     (subst S i.number.0 c.in_err-old.ensures.seen))
 
 pub attempt-requires-in-tries-clause-ready : goal.attempt-requires-in-tries-clause-ready
 attempt-requires-in-tries-clause-ready g c =
     let i = c.tries.invariant in
-    let k = c.room.new.hand in
+    let k = c.room.new.handle in
     let R : ℕ → Type 0 = λ n. IsReady c.args.self.now.book k.book.log n c.args.node.now c.tries.pen.nib in
     subst R (sym c.in_ok-old.ensures.holds.number)
-    (ready-on c.args.self.now.book c.tries.hand.book.log k.book.log c.tries.hand.number c.args.node.now c.tries.pen.nib
+    (ready-on c.args.self.now.book c.tries.handle.book.log k.book.log c.tries.handle.number c.args.node.now c.tries.pen.nib
     c.in_ok-old.ensures.seen i.ready)
 
 pub attempt-requires-in-tries-clause-room : goal.attempt-requires-in-tries-clause-room
 attempt-requires-in-tries-clause-room g c =
-    let log = c.room.new.hand.book.log in record {
+    let log = c.room.new.handle.book.log in record {
       seen = log;
       later = ([], append-nil log);
       top = sym c.in_ok-old.ensures.room.0;
@@ -55,29 +55,30 @@ attempt-requires-in-tries-clause-room g c =
 
 pub tries-preserved : goal.tries-preserved
 tries-preserved g c =
-    let h = c.args.hand.now in
+    let h = c.args.handle.now in
     let i = c.tries.invariant in
-    let k = c.room.new.hand in
+    let k = c.room.new.handle in
     let t = c.attempt-in-tries.new in
     let it = c.attempt-in-tries.ensures in
     let lost = c.if-attempt-2.ensures in
     let number = c.in_ok-old.ensures.holds.number ∙ i.number.0 in
-    let R : ℕ → Type 0 = λ n. IsReady c.args.self.now.book t.hand.book.log n c.args.node.now t.pen.nib in
-    let S : ℕ → Type 0 = λ n. SeesMore n c.tries.hand.book.log k.book.log in
-    let U : ℕ → Type 0 = λ n. SeesMore n k.book.log t.hand.book.log in record {
+    let R : ℕ → Type 0 = λ n. IsReady c.args.self.now.book t.handle.book.log n c.args.node.now t.pen.nib in
+    let S : ℕ → Type 0 = λ n. SeesMore n c.tries.handle.book.log k.book.log in
+    let U : ℕ → Type 0 = λ n. SeesMore n k.book.log t.handle.book.log in record {
       least = let l = i.least in omega arith;
-      hand = it.holds.hand;
+      handle = it.holds.handle;
       number = (it.holds.number ∙ number, it.holds.seats ∙ (c.in_ok-old.ensures.holds.seats ∙ i.number.1));
       book = (it.holds.same, lost.again.0);
       names = it.holds.names ∙ (c.in_ok-old.ensures.holds.names ∙ i.names);
       ready = subst R (sym it.holds.number) lost.again.1;
-      seen = sees-trans h.number h.book.log k.book.log t.hand.book.log
-          (sees-trans h.number h.book.log c.tries.hand.book.log k.book.log i.seen (subst S i.number.0 c.in_ok-old.ensures.seen))
+      seen = sees-trans h.number h.book.log k.book.log t.handle.book.log
+          (sees-trans h.number h.book.log c.tries.handle.book.log k.book.log i.seen (subst S i.number.0 c.in_ok-old.ensures.seen))
           (subst U number lost.placed);
       count = λ seen later last.
           let so = i.count seen later last in
           let less = lost.lost k.book.log ([], append-nil k.book.log) (sym c.in_ok-old.ensures.room.0) in
-          let on = longer (history c.tries.hand.book.log) (history k.book.log) 1 (history t.hand.book.log) c.in_ok-old.ensures.seen.stores
+          let on = longer (history c.tries.handle.book.log) (history k.book.log) 1 (history t.handle.book.log)
+          c.in_ok-old.ensures.seen.stores
           (let l = less in omega arith) in
           omega arith;
       costs =
@@ -85,8 +86,8 @@ tries-preserved g c =
           let l = i.least in
           costs.within _ _ ((n - 2) * group_limit + group_limit + 0) ((n + 1 - 2) * group_limit) ((n - 1) + 0 + 1) (n + 1 - 1)
           (omega arith) (omega arith)
-          (costs.both _ (spent_of c.room.new.hand) _ ((n - 2) * group_limit + group_limit) 0 ((n - 1) + 0) 1
-          (costs.both _ (spent_of c.tries.hand) _ ((n - 2) * group_limit) group_limit (n - 1) 0 i.costs c.in_ok-old.ensures.costs)
+          (costs.both _ (spent_of c.room.new.handle) _ ((n - 2) * group_limit + group_limit) 0 ((n - 1) + 0) 1
+          (costs.both _ (spent_of c.tries.handle) _ ((n - 2) * group_limit) group_limit (n - 1) 0 i.costs c.in_ok-old.ensures.costs)
           (costs.tried _ _ it.spent));
       tried = let a = i.tried in let b = c.in_ok-old.ensures.costs.before in let m = costs.more _ _ it.spent in omega arith;
     }

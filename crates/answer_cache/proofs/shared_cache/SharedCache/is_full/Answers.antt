@@ -1,5 +1,5 @@
 use Rattle.std.proofs.Common.{ap, arith, refl, ◌∙◌}
-use Rattle.answer_log.specs.Hands.{spent_of}
+use Rattle.answer_log.specs.Handles.{spent_of}
 use Rattle.answer_cache.specs.Nodes.{store_in}
 use Rattle.answer_cache.proofs.Costing as costs
 use Rattle.answer_cache.proofs.Lookups.{passed-all, passed-some, passes-on}
@@ -13,7 +13,7 @@ pub returns-in_default-clause-full : goal.returns-in_default-clause-full
 returns-in_default-clause-full c whole ahead =
     let it = c.stores.invariant.passes whole ahead in
     let met = rw c.in_default.is at c.in_ok-_node.ensures.met in
-    let all = passed-all whole c.stores.walk c.stores._store it (met it.left it.ahead) in
+    let all = passed-all whole c.stores.cursor c.stores._store it (met it.left it.ahead) in
     let less = c.stores-test.true in
     ((λ wrong. absurd (cc (wrong))), (λ full. absurd (omega arith)))
 
@@ -21,16 +21,16 @@ pub stores-preserved : goal.stores-preserved
 stores-preserved c =
     let met = rw c.in-Some.is at c.in_ok-_node.ensures.met in record {
       books = (c.in_ok-_node.ensures.book, ap (λ b. b.book) c.in_ok-_node.ensures.same.book ∙ c.stores.invariant.books.1);
-      same = costs.same-hand c.args.hand.now c.stores.hand c.step.new.hand c.stores.invariant.same c.in_ok-_node.ensures.same;
+      same = costs.same-handle c.args.handle.now c.stores.handle c.step.new.handle c.stores.invariant.same c.in_ok-_node.ensures.same;
       passes = λ whole ahead.
           let it = c.stores.invariant.passes whole ahead in
           let here = met it.left it.ahead in
-          passes-on whole c.stores.walk c.stores._store it here.0 (store_in here.1 c.in-Some._node.now) c.step.new.walk here.2 here.3;
-      costs = costs.both _ (spent_of c.stores.hand) _ c.stores._store 1 0 0 c.stores.invariant.costs c.in_ok-_node.ensures.costs;
+          passes-on whole c.stores.cursor c.stores._store it here.0 (store_in here.1 c.in-Some._node.now) c.step.new.cursor here.2 here.3;
+      costs = costs.both _ (spent_of c.stores.handle) _ c.stores._store 1 0 0 c.stores.invariant.costs c.in_ok-_node.ensures.costs;
     }
 
 pub returns-clause-full : goal.returns-clause-full
 returns-clause-full c whole ahead =
-    let some = passed-some whole c.stores.walk c.stores._store (c.stores.invariant.passes whole ahead) in
+    let some = passed-some whole c.stores.cursor c.stores._store (c.stores.invariant.passes whole ahead) in
     let past = c.stores-test.false in
     ((λ _. omega arith), (λ _. refl))

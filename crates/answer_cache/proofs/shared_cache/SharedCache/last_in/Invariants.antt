@@ -6,7 +6,7 @@ use Rattle.answer_cache.proofs.shared_cache.SharedCache.last_in.Given as goal
 
 abbrev pub invariant-loop-left : goal.invariant-loop-left
 invariant-loop-left l = record {
-  hand : l.hand ≡ l.fn.hand;
+  handle : l.handle ≡ l.fn.handle;
   few : length l.left ≤ length l.index.entries.items;
   searches : (stores : List Store) → TellsAll l.index.seen.log l.index.entries.items stores
       → Searches l.asked.question.now l.index.seen.log l.left stores;

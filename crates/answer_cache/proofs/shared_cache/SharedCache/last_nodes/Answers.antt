@@ -3,8 +3,8 @@ use Rattle.std.specs.List.{All, list_any}
 use Rattle.std.proofs.lemmas.List.{map-append}
 use Rattle.std.proofs.lemmas.List.Elements.{All-nil, All-push}
 use Rattle.answer_log.specs.Groups.{hash_of, hashed_of}
-use Rattle.answer_log.specs.Hands.{spent_of}
-use Rattle.answer_log.specs.Walks.{Ahead}
+use Rattle.answer_log.specs.Handles.{spent_of}
+use Rattle.answer_log.specs.Cursors.{Ahead}
 use Rattle.answer_log.specs.declared.store.Store.{Store}
 use Rattle.answer_cache.specs.Carried.{has_question}
 use Rattle.answer_cache.specs.Nodes.{offer_of_node, store_in}
@@ -24,12 +24,12 @@ Tagged nodes = All (λ node. node.now.tag ≡ hash_of (hashed_of node.now.questi
 pub links-init : goal.links-init
 links-init c = record {
   books = c.requires.books;
-  same = record { hand = c.requires.hand; number = refl; seats = refl; places = refl; book = refl };
+  same = record { handle = c.requires.handle; number = refl; seats = refl; node_count = refl; book = refl };
   tagged = subst Tagged (sym c.new-nodes.ensures.items) (All-nil (λ node. node.now.tag ≡ hash_of (hashed_of node.now.question)));
   gathers = λ whole ahead.
-      let G : List (Bor Node) → Type 0 = λ nodes. Gathers whole c.args.walk.now 0 (map said nodes) in
-      subst G (sym c.new-nodes.ensures.items) (gathers-none whole c.args.walk.now ahead);
-  costs = costs.free (spent_of c.args.hand.now);
+      let G : List (Bor Node) → Type 0 = λ nodes. Gathers whole c.args.cursor.now 0 (map said nodes) in
+      subst G (sym c.new-nodes.ensures.items) (gathers-none whole c.args.cursor.now ahead);
+  costs = costs.free (spent_of c.args.handle.now);
 }
 
 pub step-requires-clause-ahead : goal.step-requires-clause-ahead
@@ -43,7 +43,7 @@ pub returns-in_default-clause-last : goal.returns-in_default-clause-last
 returns-in_default-clause-last c left ahead few =
     let it = c.links.invariant.gathers left ahead in
     let met = rw c.in_default.is at c.in_ok-node.ensures.met in
-    gathered left c.links.walk c.links._link (map said c.links.nodes.items) it (met it.left it.ahead)
+    gathered left c.links.cursor c.links._link (map said c.links.nodes.items) it (met it.left it.ahead)
 
 pub returns-in_err-push-clause-wanted : goal.returns-in_err-push-clause-wanted
 returns-in_err-push-clause-wanted c =
@@ -51,7 +51,7 @@ returns-in_err-push-clause-wanted c =
     on-err c.from_residual-in_err-push.result _ (inl (λ whole ahead.
     let it = c.links.invariant.gathers whole ahead in
     let here = met it.left it.ahead in
-    some-left whole c.links.walk c.links._link (map said c.links.nodes.items) it here.0 (store_in here.1 c.in-Some.node.now) here.2))
+    some-left whole c.links.cursor c.links._link (map said c.links.nodes.items) it here.0 (store_in here.1 c.in-Some.node.now) here.2))
 
 pub links-preserved : goal.links-preserved
 links-preserved c =
@@ -61,13 +61,14 @@ links-preserved c =
     let its = c.in_ok-node.ensures in
     let met = rw c.in-Some.is at its.met in
     let tagged = rw c.in-Some.is at its.tagged in
-    let same = costs.same-hand c.args.hand.now c.links.hand c.step.new.hand i.same its.same in
-    let spent = costs.both _ (spent_of c.links.hand) _ c.links._link 1 0 0 i.costs its.costs in
-    let had : (whole : List Store) (ahead : Ahead c.args.walk.now whole)
+    let same = costs.same-handle c.args.handle.now c.links.handle c.step.new.handle i.same its.same in
+    let spent = costs.both _ (spent_of c.links.handle) _ c.links._link 1 0 0 i.costs its.costs in
+    let had : (whole : List Store) (ahead : Ahead c.args.cursor.now whole)
     → c.is_among.result ≡ has_question node.now.question (i.gathers whole ahead).done =
     (λ whole ahead. c.is_among.ensures
     ∙ (ap (list_any (λ it. asks node.now.question (said it))) c.deref.ensures.value
-    ∙ was-met c.same_questions_are_equal.ensures said items (i.gathers whole ahead).done node.now.question (i.gathers whole ahead).met)) in
+    ∙ was-met c.law_same_questions_are_equal.ensures said items (i.gathers whole ahead).done node.now.question (i.gathers whole ahead).met))
+    in
     elim c.if-not-is_among.branch [
       | then-not-is_among+in_ok-push w ↦
           (let grown = ap (λ v. v.items) w.nodes-is ∙ w.in_ok-push.ensures.items in record {
@@ -78,9 +79,9 @@ links-preserved c =
             gathers = λ whole ahead.
                 let it = i.gathers whole ahead in
                 let here = met it.left it.ahead in
-                let G : List Offer → Type 0 = λ offers. Gathers whole c.step.new.walk (c.links._link + 1) offers in
+                let G : List Offer → Type 0 = λ offers. Gathers whole c.step.new.cursor (c.links._link + 1) offers in
                 subst G (sym (ap (map said) grown ∙ map-append said items (node ∷ [])))
-                (gathers-new whole c.links.walk c.links._link (map said items) it here.0 (store_in here.1 node.now) c.step.new.walk
+                (gathers-new whole c.links.cursor c.links._link (map said items) it here.0 (store_in here.1 node.now) c.step.new.cursor
                 here.2 here.3 (sym (had whole ahead) ∙ w.if-not-is_among.true));
             costs = spent;
           })
@@ -92,9 +93,9 @@ links-preserved c =
             gathers = λ whole ahead.
                 let it = i.gathers whole ahead in
                 let here = met it.left it.ahead in
-                let G : List (Bor Node) → Type 0 = λ nodes. Gathers whole c.step.new.walk (c.links._link + 1) (map said nodes) in
+                let G : List (Bor Node) → Type 0 = λ nodes. Gathers whole c.step.new.cursor (c.links._link + 1) (map said nodes) in
                 subst G (sym stays)
-                (gathers-met whole c.links.walk c.links._link (map said items) it here.0 (store_in here.1 node.now) c.step.new.walk
+                (gathers-met whole c.links.cursor c.links._link (map said items) it here.0 (store_in here.1 node.now) c.step.new.cursor
                 here.2 here.3 (sym (had whole ahead) ∙ w.if-not-is_among.false));
             costs = spent;
           })
@@ -104,5 +105,5 @@ pub returns-clause-last : goal.returns-clause-last
 returns-clause-last c left ahead few =
     let it = c.links.invariant.gathers left ahead in
     let past = c.links-test.false in
-    gathered left c.links.walk c.links._link (map said c.links.nodes.items) it
-    (runs-out left c.links.walk c.links._link (map said c.links.nodes.items) it (omega arith))
+    gathered left c.links.cursor c.links._link (map said c.links.nodes.items) it
+    (runs-out left c.links.cursor c.links._link (map said c.links.nodes.items) it (omega arith))

@@ -1,8 +1,8 @@
 use Rattle.std.proofs.Common.{◌≡◌, List, map}
 use Rattle.std.specs.List.{All}
 use Rattle.answer_log.specs.Groups.{hash_of, hashed_of}
-use Rattle.answer_log.specs.Hands.{IsSame, spent_of}
-use Rattle.answer_log.specs.Walks.{Ahead}
+use Rattle.answer_log.specs.Handles.{IsSame, spent_of}
+use Rattle.answer_log.specs.Cursors.{Ahead}
 use Rattle.answer_log.specs.declared.store.Store.{Store}
 use Rattle.answer_cache.specs.Nodes.{Costs, offer_of_node}
 use Rattle.answer_cache.proofs.Gathering.{Gathers}
@@ -10,10 +10,10 @@ use Rattle.answer_cache.proofs.shared_cache.SharedCache.last_nodes.Given as goal
 
 abbrev pub invariant-links : goal.invariant-links
 invariant-links l = record {
-  books : (l.walk.seen.book ≡ l.self.book) × (l.hand.book.book ≡ l.self.book);
-  same : IsSame l.fn.hand l.hand;
+  books : (l.cursor.seen.book ≡ l.self.book) × (l.handle.book.book ≡ l.self.book);
+  same : IsSame l.fn.handle l.handle;
   tagged : All (λ node. node.now.tag ≡ hash_of (hashed_of node.now.question)) l.nodes.items;
-  gathers : (whole : List Store) → Ahead l.fn.walk whole
-      → Gathers whole l.walk l._link (map (λ node. offer_of_node node.now) l.nodes.items);
-  costs : Costs (spent_of l.fn.hand) (spent_of l.hand) l._link 0;
+  gathers : (whole : List Store) → Ahead l.fn.cursor whole
+      → Gathers whole l.cursor l._link (map (λ node. offer_of_node node.now) l.nodes.items);
+  costs : Costs (spent_of l.fn.handle) (spent_of l.handle) l._link 0;
 }

@@ -7,7 +7,7 @@ use Rattle.answer_cache.proofs.shared_cache.SharedCache.new.Goals as goal
 
 pub returns-clause-belong : goal.returns-clause-belong
 returns-clause-belong c =
-    let cache = cache_view c.in-Ok.hands.seen.book c.args.seats in
+    let cache = cache_view c.in-Ok.handles.seen.book c.args.seats in
     let made = cache_view c.in-Ok.log (length c.in-Ok-empty_shelves.shelves.items) in
     let B : CacheView → Type 0 = λ it. All (Belongs it) (map (new_seat cache) (range_with_len 0 c.args.seats)) in
     All-same (Belongs made) c.in-Ok-new_seats.made.items (map (new_seat cache) (range_with_len 0 c.args.seats)) c.in-Ok-new_seats.ensures

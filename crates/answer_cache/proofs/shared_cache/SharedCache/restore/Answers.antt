@@ -6,8 +6,8 @@ use Rattle.answer_cache.specs.Seats.{Offer}
 use Rattle.answer_cache.proofs.Succeeding.{own-next, sound-at}
 use Rattle.answer_cache.proofs.shared_cache.SharedCache.restore.Goals as goal
 
-pub put-requires-clause-hand : goal.put-requires-clause-hand
-put-requires-clause-hand g c = c.entries.invariant.holds.hand
+pub put-requires-clause-handle : goal.put-requires-clause-handle
+put-requires-clause-handle g c = c.entries.invariant.holds.handle
 
 pub put-requires-clause-book : goal.put-requires-clause-book
 put-requires-clause-book g c = c.entries.invariant.holds.same
@@ -22,14 +22,14 @@ pub entries-preserved : goal.entries-preserved
 entries-preserved g c =
     let i = c.entries.invariant in
     let p = c.put.ensures.holds in
-    let new = history c.put.new.hand.book.log in
-    let old = history c.entries.hand.book.log in
+    let new = history c.put.new.handle.book.log in
+    let old = history c.entries.handle.book.log in
     let Old : List Offer → Type 0 = λ offers. mine old 0 ≡ take c.entries.at (carried_stores offers) in
     let New : List Offer → Type 0 = λ offers. mine new 0 ≡ take (c.entries.at + 1) (carried_stores offers) in
     let len = c.len-at-end.ensures in
     let test = c.entries-test.true in record {
       holds = record {
-        hand = p.hand;
+        handle = p.handle;
         number = p.number ∙ i.holds.number;
         seats = p.seats ∙ i.holds.seats;
         same = p.same;
@@ -37,6 +37,6 @@ entries-preserved g c =
       };
       own = subst New c.carried.view_is
           (own-next c.carried.inside.entries.items c.entries.at c.index-entry.result.now (omega arith) c.index-entry.ensures
-          c.entries.hand.number old new (i.holds.number ∙ c.requires.first.0) (subst Old (sym c.carried.view_is) i.own)
+          c.entries.handle.number old new (i.holds.number ∙ c.requires.first.0) (subst Old (sym c.carried.view_is) i.own)
           c.in-Ok.ensures.put);
     }

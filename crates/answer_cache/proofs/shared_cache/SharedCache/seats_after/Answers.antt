@@ -9,8 +9,8 @@ use Rattle.answer_cache.specs.Shared.{Belongs, SharedView, cache_view, view_of}
 use Rattle.answer_cache.proofs.Succeeding.{alone, none-more, opened-first, seat-belongs, seat-seen, seat_seen, seats-are, seats-on}
 use Rattle.answer_cache.proofs.shared_cache.SharedCache.seats_after.Goals as goal
 
-pub deal-hand-requires-clause-seats : goal.deal-hand-requires-clause-seats
-deal-hand-requires-clause-seats c =
+pub deal-handle-requires-clause-seats : goal.deal-handle-requires-clause-seats
+deal-handle-requires-clause-seats c =
     let n = c.seats.invariant.next in
     let test = c.seats-test.true in
     omega (arith, n.0, n.1, test)
@@ -19,7 +19,7 @@ pub meet-requires-clause-told : goal.meet-requires-clause-told
 meet-requires-clause-told c =
     let i = c.seats.invariant in
     let told = c.again-told.result in
-    let deal = c.deal-hand.ensures in
+    let deal = c.deal-handle.ensures in
     let P : List Event → Type 0 = λ log. IsPrefix log told.log in
     let seats = ap (λ b. seats_in b.log) c.again-told.ensures
     ∙ (c.requires.first.0.seats ∙ (c.requires.first.2 ∙ sym i.next.1)) in
@@ -27,40 +27,40 @@ meet-requires-clause-told c =
     let many = i.next.1 in (
       ap (λ b. b.book) c.again-told.ensures ∙ (c.requires.here.1 ∙ sym (ap (λ v. v.book) c.self.view_is)),
       ap (λ b. b.names) c.again-told.ensures ∙ (c.requires.here.2 ∙ sym (ap (λ b. b.names) (deal.seen.1 ∙ i.seen))),
-      subst P (sym deal.hand.log) (opened-first told.log c.seats.hands.seats seats (omega (arith, some, many))),
+      subst P (sym deal.handle.log) (opened-first told.log c.seats.handles.seats seats (omega (arith, some, many))),
     )
 
 pub seats-preserved : goal.seats-preserved
 seats-preserved c =
     let i = c.seats.invariant in
-    let deal = c.deal-hand.ensures in
+    let deal = c.deal-handle.ensures in
     let met = c.meet.ensures in
     let told = c.again-told.result in
     let cache = cache_view c.args.self.now.book c.args.seats in
-    let hand = c.meet.new.hand in
+    let handle = c.meet.new.handle in
     let notes = c.none-in-seats.result in
-    let number = deal.hand.number ∙ i.next.0 in
-    let many = met.number.1 ∙ (deal.hand.count ∙ i.next.1) in
+    let number = deal.handle.number ∙ i.next.0 in
+    let many = met.number.1 ∙ (deal.handle.count ∙ i.next.1) in
     let its = ap (λ b. b.book) met.book ∙ (ap (λ b. b.book) c.again-told.ensures ∙ c.requires.here.1) in
     let grown = ap (λ b. b.log) met.book in
-    let view = view_of hand notes in
-    let H : List Event → Type 0 = λ log. mine (history log) c.deal-hand.result.number ≡ [] in
+    let view = view_of handle notes in
+    let H : List Event → Type 0 = λ log. mine (history log) c.deal-handle.result.number ≡ [] in
     let N : ℕ → Type 0 = λ n. mine (history told.log) n ≡ [] in
     let M : List SharedView → Type 0 = λ made. map (λ seat. seat.seat) made ≡ map (seat_seen (history told.log))
     (range_with_len 0 (c.seats._seat + 1)) in
     let B : List SharedView → Type 0 = λ made. All (Belongs cache) made in record {
       some = omega arith;
-      hands = deal.hands;
+      handles = deal.handles;
       next = (deal.next ∙ ap (λ n. n + 1) i.next.0, deal.seats ∙ i.next.1);
       seen = deal.seen.0 ∙ i.seen;
       made = subst M (sym c.in_ok-push-2.ensures.items)
           (seats-on c.seats.made.items view (history told.log) c.seats._seat i.made
-          (seat-seen hand notes told.log c.seats._seat grown (met.number.0 ∙ number) c.none-in-seats.ensures));
+          (seat-seen handle notes told.log c.seats._seat grown (met.number.0 ∙ number) c.none-in-seats.ensures));
       belong = subst B (sym c.in_ok-push-2.ensures.items)
           (All-push (Belongs cache) c.seats.made.items view i.belong
-          (seat-belongs hand notes cache told.log grown (λ j. cache_view (its j) (many j)) c.log_keeps_its_rule.ensures.history));
+          (seat-belongs handle notes cache told.log grown (λ j. cache_view (its j) (many j)) c.law_log_keeps_its_rule.ensures.history));
       alone = none-more (history told.log) c.seats._seat i.alone
-          (subst N number (met.seen.own ∙ subst H (sym deal.hand.log) refl));
+          (subst N number (met.seen.own ∙ subst H (sym deal.handle.log) refl));
     }
 
 pub returns-clause-seats : goal.returns-clause-seats
@@ -70,7 +70,7 @@ returns-clause-seats c =
     let seats = ap (λ b. seats_in b.log) c.again-told.ensures ∙ (c.requires.first.0.seats ∙ c.requires.first.2) in
     let past = c.seats-test.false in
     let A : ℕ → Type 0 = λ n. All (λ store. store.seat < n) (history told.log) in
-    let all = alone c.args.seats (history told.log) (subst A seats c.log_keeps_its_rule.ensures.seats)
+    let all = alone c.args.seats (history told.log) (subst A seats c.law_log_keeps_its_rule.ensures.seats)
     (λ seat some low. i.alone seat some (omega arith)) in
     let same = sym all ∙ (ap (λ b. mine (history b.log) 0) c.again-told.ensures ∙ c.requires.own) in
     let last : c.seats._seat ≡ c.args.seats = omega arith in

@@ -1,6 +1,6 @@
 use Rattle.std.proofs.Common.{◌≡◌, ◌<◌, ℕ, [], map}
 use Rattle.std.specs.List.{All, range_with_len}
-use Rattle.answer_log.specs.Hands.{AreHands}
+use Rattle.answer_log.specs.Handles.{AreHandles}
 use Rattle.answer_log.specs.Histories.{mine}
 use Rattle.answer_log.specs.Logs.{history}
 use Rattle.answer_cache.specs.Shared.{Belongs, cache_view}
@@ -10,9 +10,9 @@ use Rattle.answer_cache.proofs.shared_cache.SharedCache.seats_after.Given as goa
 abbrev pub invariant-seats : goal.invariant-seats
 invariant-seats l = record {
   some : 0 < l._seat;
-  hands : AreHands l.hands;
-  next : (l.hands.next ≡ l._seat) × (l.hands.seats ≡ l.seats);
-  seen : l.hands.seen ≡ l.fn.hands.seen;
+  handles : AreHandles l.handles;
+  next : (l.handles.next ≡ l._seat) × (l.handles.seats ≡ l.seats);
+  seen : l.handles.seen ≡ l.fn.handles.seen;
   made : map (λ seat. seat.seat) l.made.items ≡ map (seat_seen (history l.told.log)) (range_with_len 0 l._seat);
   belong : All (Belongs (cache_view l.self.book l.seats)) l.made.items;
   alone : (seat : ℕ) → 0 < seat → seat < l._seat → mine (history l.told.log) seat ≡ [];

@@ -6,22 +6,22 @@ loop-step-init c = begins _ _ _ c.group.result c.group.ensures.group (c.self.inv
 
 pub index-entry-requires : goal.index-entry-requires
 index-entry-requires c = rw c.self.inside.entries.ok.0
-    (within c.same_questions_are_equal.ensures _ _ _ _ _ c.in_ok-place.field-0 c.loop-step.invariant c.in_ok-place.was)
+    (within c.law_same_questions_are_equal.ensures _ _ _ _ _ c.in_ok-place.field-0 c.loop-step.invariant c.in_ok-place.was)
 
 pub returns-then-eq : goal.returns-then-eq
 returns-then-eq c = rw (← c.self.view_is)
-    (finds c.same_questions_are_equal.ensures _ _ _ _ _ c.in_ok-place.field-0 c.loop-step.invariant c.in_ok-place.was
+    (finds c.law_same_questions_are_equal.ensures _ _ _ _ _ c.in_ok-place.field-0 c.loop-step.invariant c.in_ok-place.was
     c.index-entry.result.now c.index-entry.ensures c.if-eq.ensures.value)
 
 pub loop-step-preserved : goal.loop-step-preserved
 loop-step-preserved c =
-    goes-on c.same_questions_are_equal.ensures _ _ _ _ _ c.in_ok-place.field-0 c.loop-step.invariant c.in_ok-place.was
+    goes-on c.law_same_questions_are_equal.ensures _ _ _ _ _ c.in_ok-place.field-0 c.loop-step.invariant c.in_ok-place.was
     c.index-entry.result.now c.index-entry.ensures c.if-eq.ensures.value
 
 pub returns-in_err-place : goal.returns-in_err-place
 returns-in_err-place c = rw (← c.self.view_is, c.from_residual.ensures)
-    (ends c.same_questions_are_equal.ensures _ _ _ _ _ c.loop-step.invariant c.in_err-place.was)
+    (ends c.law_same_questions_are_equal.ensures _ _ _ _ _ c.loop-step.invariant c.in_err-place.was)
 
 pub returns : goal.returns
 returns c = rw (← c.self.view_is)
-    (runs-out c.same_questions_are_equal.ensures _ _ _ _ _ c.loop-step.invariant c.loop-step-test.false)
+    (runs-out c.law_same_questions_are_equal.ensures _ _ _ _ _ c.loop-step.invariant c.loop-step-test.false)

@@ -39,5 +39,5 @@ returns-clause-all c =
     (rw c.notice-3.ensures.1 at three.told) (rw c.notice-notice.ensures.1 at c.learn-9.ensures.told)
     c.learn-9.ensures.goes_on c.learn-9.ensures.stores_nothing c.learn-9.ensures.stays.is in
     let S : ℕ → Type 0 = λ n. All (λ store. store.seat < n) all in
-    let sum = of-four all (subst S (ap (λ it. it.seats) three.stays.made ∙ c.requires.four) c.stores_are_of_the_seats.ensures) in
+    let sum = of-four all (subst S (ap (λ it. it.seats) three.stays.made ∙ c.requires.four) c.law_stores_are_of_the_seats.ensures) in
     omega arith

@@ -6,34 +6,34 @@ use Rattle.answer_log.specs.declared.store.Store.{Store}
 use Rattle.answer_log.specs.Logs.{In}
 use Rattle.answer_log.specs.Steps.{store_by}
 use Rattle.answer_log.proofs.Logs.{in-here}
-use Rattle.answer_log.proofs.Handling.{hand_adds, named_sees, named_low, names_more}
+use Rattle.answer_log.proofs.Handling.{handle_adds, named_sees, named_low, names_more}
 use Rattle.answer_log.proofs.log.Log.claim.Goals as goal
 
 pub claim_node-pen-requires-clause-below : goal.claim_node-pen-requires-clause-below
 claim_node-pen-requires-clause-below c =
-    let h = c.args.hand.now in names_more h.number h.places c.args.place h.book.log c.requires.place.0 c.requires.hand.names
+    let h = c.args.handle.now in names_more h.number h.node_count c.args.place h.book.log c.requires.place.0 c.requires.handle.names
 
-pub returns-clause-hand : goal.returns-clause-hand
-returns-clause-hand c =
-    let h = c.args.hand.now in
+pub returns-clause-handle : goal.returns-clause-handle
+returns-clause-handle c =
+    let h = c.args.handle.now in
     let t = c.claim_node-pen in
     let node : ℕ = c.node_at-node.result in
     let store : Store = store_by h.number c.args.question.now (arc_value c.args.answer.now) c.args.moment in
-    hand_adds h _
-    (Named node store t.result.nib.key) c.requires.hand t.ensures.adds refl refl
+    handle_adds h _
+    (Named node store t.result.nib.key) c.requires.handle t.ensures.adds refl refl
     (let p = c.requires.place.0 in omega arith) t.ensures.book.1 t.ensures.tally.0 t.ensures.tally.1 refl
     (named_low h.number c.args.place node store t.result.nib.key c.node_at-node.ensures)
 
 pub returns-clause-seen : goal.returns-clause-seen
 returns-clause-seen c =
-    let h = c.args.hand.now in
+    let h = c.args.handle.now in
     let t = c.claim_node-pen in
     let store : Store = store_by h.number c.args.question.now (arc_value c.args.answer.now) c.args.moment in
-    named_sees h t.new.book.log c.node_at-node.result store t.result.nib.key c.requires.hand refl t.ensures.adds
+    named_sees h t.new.book.log c.node_at-node.result store t.result.nib.key c.requires.handle refl t.ensures.adds
 
 pub returns-clause-named : goal.returns-clause-named
 returns-clause-named c =
-    let h = c.args.hand.now in
+    let h = c.args.handle.now in
     let t = c.claim_node-pen in
     let a = t.ensures.adds in
     let link = c.tracked-link in

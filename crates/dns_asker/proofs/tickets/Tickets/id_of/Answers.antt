@@ -5,7 +5,8 @@ use Rattle.dns_asker.proofs.tickets.Tickets.id_of.Goals as goal
 pub returns-then-eq : goal.returns-then-eq
 returns-then-eq c =
     let is : c.in-Some.ticket.now.question ≡ c.args.question.now =
-    let its = c.question.ensures in let same = c.same_questions_are_equal.ensures in let told = c.eq.ensures in let yes = c.if-eq.true in
+    let its = c.question.ensures in let same = c.law_same_questions_are_equal.ensures in let told = c.eq.ensures in let yes = c.if-eq.true
+    in
     search rules in
     let at = rw c.in-Some.ensures.steps at c.loop-ticket.invariant in
     rw (c.id.ensures)
@@ -14,7 +15,8 @@ returns-then-eq c =
 pub loop-ticket-preserved : goal.loop-ticket-preserved
 loop-ticket-preserved c =
     let other : c.in-Some.ticket.now.question ≢ c.args.question.now =
-    let its = c.question.ensures in let same = c.same_questions_are_equal.ensures in let told = c.eq.ensures in let no = c.if-eq.false in
+    let its = c.question.ensures in let same = c.law_same_questions_are_equal.ensures in let told = c.eq.ensures in let no = c.if-eq.false
+    in
     search rules in
     let at = rw c.in-Some.ensures.steps at c.loop-ticket.invariant in
     search-on c.args.question.now c.args.self.now.list.entries _ c.next.new.self at other

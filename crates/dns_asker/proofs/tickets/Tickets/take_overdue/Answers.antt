@@ -17,10 +17,11 @@ returns-then-deadline-get c =
 pub invariant_of-self : goal.invariant_of-self
 invariant_of-self c =
     let it = leads c.self.inside.list.entries c.in_ok-at.at c.in_ok-at.deadline c.in_ok-at.ensures.first in
-    let found = leader-found c.self.inside.list.entries c.in_ok-at.at c.in_ok-at.deadline c.stands_in_order.ensures.found it in
+    let found = leader-found c.self.inside.list.entries c.in_ok-at.at c.in_ok-at.deadline c.law_stands_in_order.ensures.found it in
     let more = (c.may_be_sent_again.ensures it.entry found).0 c.if-may_be_sent_again.true in
     let sent = (c.send_again.ensures it.entry found).0 in
-    let rest : without it.entry.id c.self.inside.list.entries ≡ it.others = c.stands_in_order.ensures.first it.entry it.others it.whole in
+    let rest : without it.entry.id c.self.inside.list.entries
+    ≡ it.others = c.law_stands_in_order.ensures.first it.entry it.others it.whole in
     let others : without c.in_ok-at.at c.self.inside.list.entries ≡ it.others =
     ap (λ id. without id c.self.inside.list.entries) it.at_is ∙ rest in
     rw (sent, others) record {
@@ -33,10 +34,11 @@ invariant_of-self c =
 pub returns-then-may_be_sent_again : goal.returns-then-may_be_sent_again
 returns-then-may_be_sent_again c =
     let it = leads c.self.inside.list.entries c.in_ok-at.at c.in_ok-at.deadline c.in_ok-at.ensures.first in
-    let found = leader-found c.self.inside.list.entries c.in_ok-at.at c.in_ok-at.deadline c.stands_in_order.ensures.found it in
+    let found = leader-found c.self.inside.list.entries c.in_ok-at.at c.in_ok-at.deadline c.law_stands_in_order.ensures.found it in
     let more = (c.may_be_sent_again.ensures it.entry found).0 c.if-may_be_sent_again.true in
     let sent = c.send_again.ensures it.entry found in
-    let rest : without it.entry.id c.self.inside.list.entries ≡ it.others = c.stands_in_order.ensures.first it.entry it.others it.whole in
+    let rest : without it.entry.id c.self.inside.list.entries
+    ≡ it.others = c.law_stands_in_order.ensures.first it.entry it.others it.whole in
     let others : without c.in_ok-at.at c.self.inside.list.entries ≡ it.others =
     ap (λ id. without id c.self.inside.list.entries) it.at_is ∙ rest in
     let now = c.get.ensures.seconds in
@@ -63,7 +65,7 @@ invariant_of-self-2 c =
 pub returns : goal.returns
 returns c =
     let it = leads c.self.inside.list.entries c.in_ok-at.at c.in_ok-at.deadline c.in_ok-at.ensures.first in
-    let found = leader-found c.self.inside.list.entries c.in_ok-at.at c.in_ok-at.deadline c.stands_in_order.ensures.found it in
+    let found = leader-found c.self.inside.list.entries c.in_ok-at.at c.in_ok-at.deadline c.law_stands_in_order.ensures.found it in
     let enough = not-more it.entry.item.sends _ (c.may_be_sent_again.ensures it.entry found) c.if-may_be_sent_again.false in
     let first : Entry Sent = record { id = c.in_ok-ticket.field-0-0; deadline = c.in_ok-ticket.field-0-1; item = c.in_ok-ticket.ticket } in
     let same =

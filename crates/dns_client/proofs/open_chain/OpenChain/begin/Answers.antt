@@ -18,7 +18,7 @@ returns-in_default-2 c = λ id question message asks begins chain cut.
 
 pub returns-in_default-3 : goal.returns-in_default-3
 returns-in_default-3 c = λ id question message asks begins.
-    let one = c.one_message_in_front.ensures in
+    let one = c.law_one_message_in_front.ensures in
     let query = c.in-Some.query in
     let so_far = c.in-Some-2.so_far in
     let asked : Asks c.args.octets.now query.id query.question = rw c.in-Some.is at c.in_ok-query.ensures in

@@ -15,7 +15,7 @@ returns-then-not-is_reply_to c = (
   refl,
   λ message next.
       let begins : Begins c.args.octets.now c.in-Some.reply = rw c.in-Some.is at c.in_ok-reply.ensures.read in
-      let same = one_message c.one_message_in_front.ensures c.args.octets.now c.in-Some.reply message begins next.read in
+      let same = one_message c.law_one_message_in_front.ensures c.args.octets.now c.in-Some.reply message begins next.read in
       let further = ap (λ (it : OpenValue). it.further) c.self.view_is in
       let is = ap (is_reply_to c.args.self.further) same ∙ next.is in
       absurd (cc (c.is_reply_to.ensures, further, is, c.if-not-is_reply_to.true)),

@@ -53,21 +53,21 @@ faultless c =
     c.without_closing_dot-dotted.ensures ∙ ap without_closing_dot c.as_bytes-text.ensures.value in
     (dotted', sym (rw dotted' at c.in_ok-check_labels.ensures))
 
-pub draft_of-requires : goal.draft_of-requires
-draft_of-requires c =
-    let k = faultless (goal.at.draft_of-requires c).In_ok-check_labels in
+pub builder_of-requires : goal.builder_of-requires
+builder_of-requires c =
+    let k = faultless (goal.at.builder_of-requires c).In_ok-check_labels in
     rw k.0 k.1
 
 pub finish-requires-2 : goal.finish-requires-2
 finish-requires-2 c =
     let k = faultless (goal.at.finish-requires-2 c).In_ok-check_labels in
     let parts : List (List ℕ) = parted (without_closing_dot c.args.text.now) in
-    (map small_letters parts, IsName-small parts k.1, rw k.0 at c.draft_of.ensures)
+    (map small_letters parts, IsName-small parts k.1, rw k.0 at c.builder_of.ensures)
 
 found : (c : In_ok-finish-2) → c.in_ok-finish-2.field-0 ≡ map small_letters (parted (without_closing_dot c.args.text.now))
 found c =
     let k = faultless (goal.at.returns-clause-found c).In_ok-check_labels in
-    let spelled = rw k.0 at c.draft_of.ensures in
+    let spelled = rw k.0 at c.builder_of.ensures in
     same_labels c.in_ok-finish-2.field-0 (map small_letters (parted (without_closing_dot c.args.text.now)))
     (c.in_ok-finish-2.ensures ∙ spelled)
 

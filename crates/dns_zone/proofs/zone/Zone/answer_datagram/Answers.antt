@@ -20,8 +20,8 @@ returns-in_default-clause-replied c = rw c.in_default.is at c.in_ok-query.ensure
 pub write_reply-requires-clause-rcode : goal.write_reply-requires-clause-rcode
 write_reply-requires-clause-rcode c =
     let headed = reply_headed c.args.self.now c.in-Some.query in
-    let code = ap (λ (header : Header). header.rcode) headed.header in
-    rw (c.in_ok-reply.ensures, code) headed.low
+    let type_number = ap (λ (header : Header). header.rcode) headed.header in
+    rw (c.in_ok-reply.ensures, type_number) headed.low
 
 pub returns-clause-quiet : goal.returns-clause-quiet
 returns-clause-quiet c = λ silent. absurd (silent c.in-Some.query (is_query (goal.at.returns-clause-quiet c).In-Some))
@@ -29,7 +29,7 @@ returns-clause-quiet c = λ silent. absurd (silent c.in-Some.query (is_query (go
 pub returns-clause-replied : goal.returns-clause-replied
 returns-clause-replied c = λ query is.
     let here = is_query (goal.at.returns-clause-replied c).In-Some in
-    let same = c.one_message_in_front.ensures c.args.octets.now here.begins.end is.begins.end c.in-Some.query query here.begins.spelled
+    let same = c.law_one_message_in_front.ensures c.args.octets.now here.begins.end is.begins.end c.in-Some.query query here.begins.spelled
     is.begins.spelled in
     rw (← same) (replies (goal.at.returns-clause-replied c).In_ok-write_reply)
 

@@ -43,7 +43,7 @@ loop-at-preserved-in-Ok-None c =
       is_finite = search rules;
       drafting = rw (length_push l.yielded (c.in-Some.at, c.in-Some.line))
           (passes (lines c.args.text.now)
-          (length l.yielded) c.in-Some.line.now this.1 this.2 l.draft.count l.draft.zone l.invariant.drafting
+          (length l.yielded) c.in-Some.line.now this.1 this.2 l.builder.count l.builder.zone l.invariant.drafting
           (rw c.in-Ok-None.field-0-is at c.in-Ok-None.ensures.found)
           (λ said is. rw c.in-Ok-None.field-0-is at c.in-Ok-None.ensures.read said is));
     }
@@ -56,7 +56,8 @@ loop-at-preserved c =
       can_next = search rules;
       is_finite = search rules;
       drafting = rw (length_push l.yielded (c.in-Some.at, c.in-Some.line))
-          (takes (lines c.args.text.now) (length l.yielded) c.in-Some.line.now this.1 this.2 l.draft.count l.draft.zone l.invariant.drafting
+          (takes (lines c.args.text.now) (length l.yielded) c.in-Some.line.now this.1 this.2 l.builder.count l.builder.zone
+          l.invariant.drafting
           c.in-Ok-Some.entry c.add.new.self.count c.add.new.self.zone
           (rw c.in-Ok-Some.field-0-is at c.in-Ok-Some.ensures.found)
           (λ said is. rw c.in-Ok-Some.field-0-is at c.in-Ok-Some.ensures.read said is)
@@ -68,7 +69,7 @@ returns-in-Err-Bad-clause-read c = λ records says few.
     let l = c.loop-at in
     let this = turn (goal.at.returns-in-Err-Bad-clause-read c).In-Some in
     absurd (says_nothing (lines c.args.text.now)
-    (length l.yielded) c.in-Some.line.now this.1 this.2 l.draft.count l.draft.zone l.invariant.drafting
+    (length l.yielded) c.in-Some.line.now this.1 this.2 l.builder.count l.builder.zone l.invariant.drafting
     (never (goal.at.returns-in-Err-Bad-clause-read c).In-Err-Bad) records says)
 
 pub returns-in-Err-Bad-clause-too_many : goal.returns-in-Err-Bad-clause-too_many
@@ -76,7 +77,7 @@ returns-in-Err-Bad-clause-too_many c = λ records says many.
     let l = c.loop-at in
     let this = turn (goal.at.returns-in-Err-Bad-clause-too_many c).In-Some in
     absurd (says_nothing (lines c.args.text.now)
-    (length l.yielded) c.in-Some.line.now this.1 this.2 l.draft.count l.draft.zone l.invariant.drafting
+    (length l.yielded) c.in-Some.line.now this.1 this.2 l.builder.count l.builder.zone l.invariant.drafting
     (never (goal.at.returns-in-Err-Bad-clause-too_many c).In-Err-Bad) records says)
 
 pub returns-in-Err-Bad-clause-refused : goal.returns-in-Err-Bad-clause-refused
@@ -84,16 +85,16 @@ returns-in-Err-Bad-clause-refused c =
     let l = c.loop-at in
     let this = turn (goal.at.returns-in-Err-Bad-clause-refused c).In-Some in
     rw this.0 (stops (lines c.args.text.now)
-    (length l.yielded) c.in-Some.line.now this.1 this.2 l.draft.count l.draft.zone l.invariant.drafting
+    (length l.yielded) c.in-Some.line.now this.1 this.2 l.builder.count l.builder.zone l.invariant.drafting
     (never (goal.at.returns-in-Err-Bad-clause-refused c).In-Err-Bad))
 
-pub returns-then-draft-gt-RECORD_LIMIT-clause-refused : goal.returns-then-draft-gt-RECORD_LIMIT-clause-refused
-returns-then-draft-gt-RECORD_LIMIT-clause-refused c =
+pub returns-then-builder-gt-RECORD_LIMIT-clause-refused : goal.returns-then-builder-gt-RECORD_LIMIT-clause-refused
+returns-then-builder-gt-RECORD_LIMIT-clause-refused c =
     let l = c.loop-at in
     let drafting = l.invariant.drafting in
-    let whole = all_turns (goal.at.returns-then-draft-gt-RECORD_LIMIT-clause-refused c).In-None in (
+    let whole = all_turns (goal.at.returns-then-builder-gt-RECORD_LIMIT-clause-refused c).In-None in (
       drafting.records,
-      all_said (lines c.args.text.now) (length l.yielded) l.draft.count l.draft.zone drafting whole,
+      all_said (lines c.args.text.now) (length l.yielded) l.builder.count l.builder.zone drafting whole,
       omega (arith, drafting.counted),
     )
 
@@ -103,7 +104,7 @@ returns-clause-found c =
     let drafting = l.invariant.drafting in
     let whole = all_turns (goal.at.returns-clause-found c).In-None in (
       drafting.records,
-      all_said (lines c.args.text.now) (length l.yielded) l.draft.count l.draft.zone drafting whole,
+      all_said (lines c.args.text.now) (length l.yielded) l.builder.count l.builder.zone drafting whole,
       omega (arith, drafting.counted),
       drafting.holds (omega arith),
     )
@@ -113,7 +114,7 @@ returns-clause-read c = λ records says few.
     let l = c.loop-at in
     let drafting = l.invariant.drafting in
     let whole = all_turns (goal.at.returns-clause-read c).In-None in
-    let same = are_all (lines c.args.text.now) (length l.yielded) l.draft.count l.draft.zone drafting whole records says in
+    let same = are_all (lines c.args.text.now) (length l.yielded) l.builder.count l.builder.zone drafting whole records says in
     rw same (drafting.holds (omega arith))
 
 pub returns-clause-too_many : goal.returns-clause-too_many
@@ -121,7 +122,7 @@ returns-clause-too_many c = λ records says many.
     let l = c.loop-at in
     let drafting = l.invariant.drafting in
     let whole = all_turns (goal.at.returns-clause-too_many c).In-None in
-    let same = are_all (lines c.args.text.now) (length l.yielded) l.draft.count l.draft.zone drafting whole records says in
+    let same = are_all (lines c.args.text.now) (length l.yielded) l.builder.count l.builder.zone drafting whole records says in
     absurd (omega (arith, drafting.counted, many, ap length same))
 
 pub returns-in-Err-Bad-clause-bad : goal.returns-in-Err-Bad-clause-bad
@@ -129,17 +130,17 @@ returns-in-Err-Bad-clause-bad c = λ number is.
     let l = c.loop-at in
     let this = turn (goal.at.returns-in-Err-Bad-clause-bad c).In-Some in
     let here = stops (lines c.args.text.now)
-    (length l.yielded) c.in-Some.line.now this.1 this.2 l.draft.count l.draft.zone l.invariant.drafting
+    (length l.yielded) c.in-Some.line.now this.1 this.2 l.builder.count l.builder.zone l.invariant.drafting
     (never (goal.at.returns-in-Err-Bad-clause-bad c).In-Err-Bad) in
     inl (ap BadLine (ap (λ (at : ℕ). at + 1) this.0 ∙ one_first_bad (lines c.args.text.now) (length l.yielded + 1) number here is))
 
-pub returns-then-draft-gt-RECORD_LIMIT-clause-bad : goal.returns-then-draft-gt-RECORD_LIMIT-clause-bad
-returns-then-draft-gt-RECORD_LIMIT-clause-bad c = λ number is.
+pub returns-then-builder-gt-RECORD_LIMIT-clause-bad : goal.returns-then-builder-gt-RECORD_LIMIT-clause-bad
+returns-then-builder-gt-RECORD_LIMIT-clause-bad c = λ number is.
     let l = c.loop-at in
     let drafting = l.invariant.drafting in
-    let whole = all_turns (goal.at.returns-then-draft-gt-RECORD_LIMIT-clause-bad c).In-None in
+    let whole = all_turns (goal.at.returns-then-builder-gt-RECORD_LIMIT-clause-bad c).In-None in
     absurd (none_bad (lines c.args.text.now) drafting.records number
-    (all_said (lines c.args.text.now) (length l.yielded) l.draft.count l.draft.zone drafting whole) is)
+    (all_said (lines c.args.text.now) (length l.yielded) l.builder.count l.builder.zone drafting whole) is)
 
 pub returns-clause-bad : goal.returns-clause-bad
 returns-clause-bad c = λ number is.
@@ -147,7 +148,7 @@ returns-clause-bad c = λ number is.
     let drafting = l.invariant.drafting in
     let whole = all_turns (goal.at.returns-clause-bad c).In-None in
     absurd (none_bad (lines c.args.text.now) drafting.records number
-    (all_said (lines c.args.text.now) (length l.yielded) l.draft.count l.draft.zone drafting whole) is)
+    (all_said (lines c.args.text.now) (length l.yielded) l.builder.count l.builder.zone drafting whole) is)
 
 pub returns-in-Err-Memory-clause-refused : goal.returns-in-Err-Memory-clause-refused
 returns-in-Err-Memory-clause-refused c =

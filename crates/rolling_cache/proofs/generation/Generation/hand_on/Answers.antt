@@ -3,13 +3,13 @@ use mathlib.Core.List.{IsPrefix}
 use Rattle.answer_cache.specs.Carried.{carried_stores}
 use Rattle.rolling_cache.specs.Eras.{Era, begun_with, era_of}
 use Rattle.rolling_cache.specs.Rolling.{GenerationView, rolling_of}
-use Rattle.rolling_cache.proofs.Opening.{descends-next, fresh-next, over}
+use Rattle.rolling_cache.proofs.Opening.{law_descends-next, fresh-next, over}
 use Rattle.rolling_cache.proofs.generation.Generation.hand_on.Goals as goal
 
-pub open-requires-clause-descends : goal.open-requires-clause-descends
-open-requires-clause-descends g c =
+pub open-requires-clause-law_descends : goal.open-requires-clause-law_descends
+open-requires-clause-law_descends g c =
     let B : List Era → Type 0 = λ past. IsPrefix (carried_stores (begun_with past)) c.args.seat.now.seat.seen in
-    descends-next _ _ c.args.now c.notice.result _ c.self.inside.lineage c.with-lineage.result c.with-lineage.ensures c.self.invariant
+    law_descends-next _ _ c.args.now c.notice.result _ c.self.inside.lineage c.with-lineage.result c.with-lineage.ensures c.self.invariant
     (subst B (ap (λ (it : GenerationView). it.past) (sym c.self.view_is)) c.requires.at.begins)
     c.carry.ensures.goes_on.seen c.notice.ensures.1 c.in_ok-carried.ensures.carried
 

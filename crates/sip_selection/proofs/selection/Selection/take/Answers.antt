@@ -6,7 +6,7 @@ use Rattle.sip_selection.proofs.selection.Selection.take.Goals as goal
 pub unreachable-requires : goal.unreachable-requires
 unreachable-requires c =
     let s = c.self.inside in
-    c.numeric_targets_ask_nothing.ensures.nothing s.request s.caps s.words.0 s.known
+    c.law_numeric_targets_ask_nothing.ensures.nothing s.request s.caps s.words.0 s.known
     (λ name is. c.in_default.not-Domain name (c.target.ensures ∙ is))
     c.requires.asked.0 (rw (← c.self.view_is) at c.requires.asked.1)
 

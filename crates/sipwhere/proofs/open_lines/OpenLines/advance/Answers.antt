@@ -1,4 +1,4 @@
-use Rattle.sipwhere.proofs.Later.{fates-later}
+use Rattle.sipwhere.proofs.Later.{line_outcomes-later}
 use Rattle.sipwhere.proofs.Meant.{meant-inside, meant-one}
 use Rattle.sipwhere.proofs.open_lines.OpenLines.advance.Goals as goal
 
@@ -16,7 +16,8 @@ returns-in-Some-clause-stands g c =
     let lines = c.self.inside.lines.now in
     c.settle.ensures.stands _ (record {
       requests = c.in-Some.ensures.stand;
-      fates = fates-later _ _ _ _ c.in-Some.ensures.works c.self.inside.sender lines c.self.inside.fates.items before.fates;
+      line_outcomes = line_outcomes-later _ _ _ _ c.in-Some.ensures.works c.self.inside.sender lines c.self.inside.line_outcomes.items
+          before.line_outcomes;
     }) c.in-Some.ensures.outcome
 
 pub returns-in_default-clause-stands : goal.returns-in_default-clause-stands
@@ -25,5 +26,6 @@ returns-in_default-clause-stands g c =
     let lines = c.self.inside.lines.now in
     record {
       requests = c.poll_over.ensures.stand;
-      fates = fates-later _ _ _ _ c.poll_over.ensures.works c.self.inside.sender lines c.self.inside.fates.items before.fates;
+      line_outcomes = line_outcomes-later _ _ _ _ c.poll_over.ensures.works c.self.inside.sender lines c.self.inside.line_outcomes.items
+          before.line_outcomes;
     }

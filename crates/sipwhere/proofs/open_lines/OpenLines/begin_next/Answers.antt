@@ -1,6 +1,6 @@
 use Rattle.std.proofs.Common.{◌<◌, length, arith, ◌∙◌}
 use Rattle.std.proofs.Math.ListN.{length-set}
-use Rattle.sipwhere.proofs.Meant.{fates-submitted, meant-next}
+use Rattle.sipwhere.proofs.Meant.{line_outcomes-submitted, meant-next}
 use Rattle.sipwhere.proofs.open_lines.OpenLines.begin_next.Goals as goal
 
 pub invariant_of-self-2 : goal.invariant_of-self-2
@@ -22,6 +22,7 @@ returns g c = record {
       let inside : c.len-place.result < length lines = omega arith in
       record {
         requests = c.submit.ensures.stand seat before.requests;
-        fates = fates-submitted _ _ seat c.self.inside.sender lines _ _ _ _ inside before.fates c.submit.ensures.fate;
+        line_outcomes = line_outcomes-submitted _ _ seat c.self.inside.sender lines _ _ _ _ inside before.line_outcomes
+            c.submit.ensures.line_outcome;
       };
 }

@@ -1,9 +1,9 @@
 use Rattle.std.proofs.lemmas.List.Elements.{All-nil}
-use Rattle.sipwhere.proofs.Later.{fates-not}
+use Rattle.sipwhere.proofs.Later.{line_outcomes-not}
 use Rattle.sipwhere.proofs.open_lines.OpenLines.new.Goals as goal
 
 pub returns-clause-stands : goal.returns-clause-stands
 returns-clause-stands g c = λ seat. record {
   requests = rw c.in_ok-new.ensures (record { ready = All-nil _; held = All-nil _; waiting = All-nil _; ended = All-nil _ });
-  fates = rw c.in_ok-unknown.ensures (fates-not _ _ seat c.args.sender c.args.lines.now);
+  line_outcomes = rw c.in_ok-unknown.ensures (line_outcomes-not _ _ seat c.args.sender c.args.lines.now);
 }

@@ -1,5 +1,5 @@
 use Rattle.std.proofs.Common.{◌<◌, length, arith}
-use Rattle.sipwhere.proofs.Meant.{fates-ended}
+use Rattle.sipwhere.proofs.Meant.{line_outcomes-ended}
 use Rattle.sipwhere.proofs.open_lines.OpenLines.settle.Goals as goal
 
 pub returns : goal.returns
@@ -12,7 +12,8 @@ returns g c = record {
       let inside : c.number-place.result < length lines = omega (arith, within) in
       record {
         requests = before.requests;
-        fates = fates-ended _ _ seat c.self.inside.sender lines _ c.number-place.result _ c.args.ended.sought c.args.ended.outcome _ _
-            inside c.number-place.ensures c.into_outcome.ensures own c.fate_of.ensures is before.fates;
+        line_outcomes = line_outcomes-ended _ _ seat c.self.inside.sender lines _ c.number-place.result _ c.args.ended.sought
+            c.args.ended.outcome _ _
+            inside c.number-place.ensures c.into_outcome.ensures own c.line_outcome_of.ensures is before.line_outcomes;
       };
 }

@@ -1,7 +1,7 @@
 use Rattle.std.proofs.Common.{◌≡◌, ◌<◌, length, Some, get_or, sym, subst}
 use Rattle.sipwhere.proofs.Later.{zip-at}
 use Rattle.sipwhere.proofs.Meant.{tells-same}
-use Rattle.sipwhere.specs.OpenLines.{IsFateOf, OpenView}
+use Rattle.sipwhere.specs.OpenLines.{IsLineOutcomeOf, OpenView}
 use Rattle.sipwhere.specs.declared.line.Line.{Line}
 use Rattle.sipwhere.proofs.open_lines.OpenLines.tell_first.Goals as goal
 
@@ -10,28 +10,29 @@ returns-clause-tells g c = λ seat was.
     let before = rw (← c.self.view_is) at (c.give_up.ensures.stands seat was) in
     let same = rw (← c.self.view_is) at c.give_up.ensures.same in
     let lines = c.self.inside.lines.now in
-    let fates = c.self.inside.fates.items in
+    let line_outcomes = c.self.inside.line_outcomes.items in
     let told = c.self.inside.told in
     let line = c.in_ok-line.line.now in
-    let fate = c.in_ok-fate.fate.now in
+    let line_outcome = c.in_ok-line_outcome.line_outcome.now in
     let looked = c.in_ok-line.ensures.lookup in
     let inside : told < length lines = looked.3.0 in
     let line-is : (d : Line) → get_or lines told d ≡ line = λ d. sym (looked.3.1 d) in
-    let found : c.index.result.now ≡ Some fate = sym c.in_ok-fate.ensures.value in
+    let found : c.index.result.now ≡ Some line_outcome = sym c.in_ok-line_outcome.ensures.value in
     let view : OpenView = record {
       sender = c.self.inside.sender;
       lines = lines;
       told = told;
       requests = c.self.inside.resolver.requests;
-      fates = fates;
+      line_outcomes = line_outcomes;
     } in
     tells-same g.W.MessageWire.gives g.C.Clock.shows seat c.args.style c.args.self.now view _ _ _ same.0 same.1 same.2 (record {
       inside = inside;
       tells = λ d. record {
         tries = c.as_slice.result.now;
-        fate = fate;
-        became = zip-at (IsFateOf g.W.MessageWire.gives g.C.Clock.shows seat c.self.inside.sender) lines fates told d (Some fate) inside
-            before.fates (subst (λ it. it ≡ get_or fates told it) found c.index.ensures);
+        line_outcome = line_outcome;
+        became = zip-at (IsLineOutcomeOf g.W.MessageWire.gives g.C.Clock.shows seat c.self.inside.sender) lines line_outcomes told d
+            (Some line_outcome) inside
+            before.line_outcomes (subst (λ it. it ≡ get_or line_outcomes told it) found c.index.ensures);
         told = rw (line-is d) c.tell-status.ensures.told;
       };
     })

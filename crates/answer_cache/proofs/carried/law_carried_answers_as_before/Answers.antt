@@ -1,0 +1,10 @@
+use Rattle.answer_cache.specs.Carried.{carried_stores}
+use Rattle.answer_cache.proofs.CarriedAnswers.{carried-answers, no-more}
+use Rattle.answer_cache.proofs.carried.law_carried_answers_as_before.Goals as goal
+
+pub returns-clause-same : goal.returns-clause-same
+returns-clause-same c before after now later le it question =
+    carried-answers question c.law_same_questions_are_equal.ensures now later le before after c.args.carried.now it
+
+pub returns-clause-no_more : goal.returns-clause-no_more
+returns-clause-no_more c now later le question none = no-more question (carried_stores c.args.carried.now) now later le none

@@ -1,0 +1,35 @@
+use Rattle.std.proofs.Common.{refl, sym, ap, ◌∙◌, []}
+use Rattle.std.proofs.lemmas.List.{append-nil}
+use Rattle.answer_log.proofs.Handling.{hand_on, handle_sees}
+use Rattle.answer_log.proofs.Logs.{prefix_trans}
+use Rattle.answer_log.proofs.log.Log.cursor_after.Goals as goal
+
+pub returns-clause-handle : goal.returns-clause-handle
+returns-clause-handle c =
+    let h = c.args.handle.now in
+    let t = c.top_node-next in
+    let whole = prefix_trans h.book.log c.learn.new.self.log t.new.book.log c.learn.ensures.2 t.ensures.later in
+    hand_on h _ whole.0 c.requires.handle refl refl refl (t.ensures.book.1 ∙ c.learn.ensures.1) t.ensures.same whole.1
+
+pub returns-clause-seen : goal.returns-clause-seen
+returns-clause-seen c =
+    let h = c.args.handle.now in
+    let t = c.top_node-next in
+    handle_sees h t.new.book.log c.requires.handle
+    (prefix_trans h.book.log c.learn.new.self.log t.new.book.log c.learn.ensures.2 t.ensures.later) t.ensures.same.2
+
+pub returns-clause-told : goal.returns-clause-told
+returns-clause-told c =
+    let t = c.top_node-next in
+    prefix_trans c.args.told.now.log c.learn.new.self.log t.new.book.log c.learn.ensures.3 t.ensures.later
+
+pub returns-clause-ahead : goal.returns-clause-ahead
+returns-clause-ahead c =
+    let t = c.top_node-next in record {
+      group = c.args.group;
+      front = t.new.book.log;
+      back = [];
+      split = ap (λ b. b.log) c.again.ensures ∙ sym (append-nil t.new.book.log);
+      at = t.ensures.top;
+      stores = refl;
+    }

@@ -1,7 +1,0 @@
-use Rattle.std.proofs.Common.{◌≡◌, drop}
-use Rattle.dns_answers.specs.Chains.{first_alias}
-use Rattle.dns_answers.proofs.chain.first_alias.Given as goal
-
--- the first alias is not among those that were passed
-abbrev pub invariant-loop-entry : goal.invariant-loop-entry
-invariant-loop-entry l = first_alias l.name (drop l.entry-index l.section) ≡ first_alias l.name l.section

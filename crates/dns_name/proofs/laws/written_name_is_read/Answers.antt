@@ -1,5 +1,0 @@
-use Rattle.dns_name.proofs.Places.{NameAt-written}
-use Rattle.dns_name.proofs.laws.written_name_is_read.Goals as goal
-
-pub returns : goal.returns
-returns c = λ front back name is. NameAt-written front back name is

@@ -1,5 +1,0 @@
-use Rattle.ip_text.proofs.Written.{address_written}
-use Rattle.ip_text.proofs.laws.written_address_is_read.Goals as goal
-
-pub returns : goal.returns
-returns c = address_written

@@ -1,5 +1,0 @@
-use Rattle.rolling_cache.proofs.Crossing.{rolling_sync}
-use Rattle.rolling_cache.proofs.laws.threads_may_share.Goals as goal
-
-pub returns : goal.returns
-returns c = rolling_sync

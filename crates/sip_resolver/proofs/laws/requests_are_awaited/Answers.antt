@@ -1,5 +1,0 @@
-use Rattle.sip_resolver.proofs.Keeping.{awaited-along}
-use Rattle.sip_resolver.proofs.laws.requests_are_awaited.Goals as goal
-
-pub returns : goal.returns
-returns c = awaited-along

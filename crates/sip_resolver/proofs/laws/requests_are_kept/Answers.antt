@@ -1,5 +1,0 @@
-use Rattle.sip_resolver.proofs.Keeping.{kept-along}
-use Rattle.sip_resolver.proofs.laws.requests_are_kept.Goals as goal
-
-pub returns : goal.returns
-returns c = kept-along

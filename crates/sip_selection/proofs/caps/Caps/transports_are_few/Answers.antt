@@ -1,4 +1,0 @@
-use Rattle.sip_selection.proofs.caps.Caps.transports_are_few.Goals as goal
-
-pub returns : goal.returns
-returns c = rw (← c.self.view_is) c.self.invariant.offered

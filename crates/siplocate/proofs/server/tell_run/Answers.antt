@@ -1,7 +1,0 @@
-use Rattle.std.proofs.Common.{}
-use Rattle.siplocate.proofs.Runs.{tells_fault}
-use Rattle.siplocate.proofs.server.tell_run.Goals as goal
-
-pub returns-in-Err-clause-told : goal.returns-in-Err-clause-told
-returns-in-Err-clause-told g c =
-    rw c.tell_fault.ensures (tells_fault c.args.workers c.args.text.now c.in-Err.fault c.in-Err.ensures.workers c.in-Err.ensures.requests)

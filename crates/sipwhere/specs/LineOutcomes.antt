@@ -1,0 +1,83 @@
+-- What becomes of a text.
+use Rattle.std.specs.Prelude.{◌≡◌, ℕ, List}
+use Rattle.answer_cache.specs.Seats.{SeatView}
+use Rattle.dns_client.specs.Draws.{drawn}
+use Rattle.dns_client.specs.RequestLines.{RequestText}
+use Rattle.sip_resolver.specs.Outcomes.{IsOutcome, Sought}
+use Rattle.sip_selection.specs.declared.caps.Caps.{Caps}
+use Rattle.sip_selection.specs.declared.request.Request.{Request}
+use Rattle.sip_uri.specs.declared.refusal.UriRefusal.{UriRefusal}
+use Rattle.sip_uri.specs.declared.refusal.UriRefusal.TheVariants as uri
+use Rattle.sipwhere.specs.declared.line_outcome.LineOutcome.{LineOutcome}
+use Rattle.sipwhere.specs.declared.line_outcome.LineOutcome.TheVariants.{Became, TimeOver, Bad, Memory}
+use Rattle.sipwhere.specs.declared.line.Line.{Line}
+use Rattle.sipwhere.specs.declared.sender.Sender.{Sender}
+use Rattle.sip_resolver.specs.declared.outcome.Outcome.{Outcome}
+
+-- no number that is made of a request tells one of two requests from the other
+abbrev pub AreAlike : Sought → Sought → Type 0
+AreAlike sought other = (measure : Sought → ℕ) → measure sought ≡ measure other
+
+-- What may become of a request, at a seat: it is the choice of RFC 3263 4 and 5 over answers that
+-- count, or the question whose answer is missing, as the resolver core says it. Nothing is said of
+-- time and memory.
+abbrev pub MayBecome : (List ℕ → Type 0) → (ℕ → Type 0) → SeatView → Sought → LineOutcome → Type 0
+MayBecome gives shows seat asked (Became outcome) =
+    (sought : Sought) × AreAlike sought asked × IsOutcome gives shows seat sought outcome
+MayBecome gives shows seat asked TimeOver = Unit {0}
+MayBecome gives shows seat asked (Bad refusal) = ⊥
+MayBecome gives shows seat asked Memory = Unit {0}
+
+-- a text is no request, unless memory was refused, where it may be one
+abbrev pub IsNoRequest : List ℕ → UriRefusal → Type 0
+IsNoRequest text refusal =
+    (request : Request) → RequestText text request → refusal ≡ uri.Memory
+
+-- A text is a request, of which this may become, under whatever number a resolver had it. Its words
+-- are those of its own number.
+pub record IsLocated (gives : List ℕ → Type 0) (shows : ℕ → Type 0) (seat : SeatView) (caps : Caps)
+    (words text : List ℕ) (line_outcome : LineOutcome) : Type 0 where
+  pub request : Request
+  pub is : RequestText text request
+  pub place : ℕ
+  pub became : MayBecome gives shows seat
+      (record { number = place; request = request; caps = caps; words = words }) line_outcome
+
+-- what may become of a line: it is no request, or what becomes of its request
+abbrev pub IsLineOutcome : (List ℕ → Type 0) → (ℕ → Type 0) → SeatView → Sender → Line → LineOutcome
+    → Type 0
+IsLineOutcome gives shows seat sender line (Bad refusal) = IsNoRequest line.text.now refusal
+IsLineOutcome gives shows seat sender line line_outcome =
+    IsLocated gives shows seat sender.caps (drawn sender.key line.number) line.text.now line_outcome
+
+-- ---- where a fate comes from
+
+-- the request that is submitted for a line, under whatever number
+pub record IsOfLine (sender : Sender) (line : Line) (sought : Sought) : Type 0 where
+  pub is : RequestText line.text.now sought.request
+  pub caps : sought.caps ≡ sender.caps
+  pub words : sought.words ≡ drawn sender.key line.number
+
+-- a text is a request
+pub record IsRequest (text : List ℕ) : Type 0 where
+  pub request : Request
+  pub is : RequestText text request
+
+-- what became of a text without a reply: it is no request, its time was over, or memory was refused
+abbrev pub NeedsNoReply : List ℕ → LineOutcome → Type 0
+NeedsNoReply text (Became outcome) = ⊥
+NeedsNoReply text TimeOver = IsRequest text
+NeedsNoReply text (Bad refusal) = IsNoRequest text refusal
+NeedsNoReply text Memory = IsRequest text
+
+-- a text is this request, and no other (RFC 3261 25.1)
+pub record IsOnly (text : List ℕ) (request : Request) : Type 0 where
+  pub is : RequestText text request
+  pub only : (other : Request) → RequestText text other → request ≡ other
+
+-- the request of a text ended so, or the text is no request
+abbrev pub EndsAs : List ℕ → Outcome → LineOutcome → Type 0
+EndsAs text outcome (Became it) = (it ≡ outcome) × (request : Request) × IsOnly text request
+EndsAs text outcome TimeOver = ⊥
+EndsAs text outcome (Bad refusal) = IsNoRequest text refusal
+EndsAs text outcome Memory = ⊥

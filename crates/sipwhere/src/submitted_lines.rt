@@ -1,0 +1,64 @@
+//! What becomes of a text, from what becomes of its request.
+ghost use Rattle.std.specs.Prelude.{◌≡◌, ℕ, IfSome};
+ghost use Rattle.answer_cache.specs.Seats.{SeatView};
+ghost use Rattle.sip_resolver.specs.Outcomes.{Sought};
+ghost use Rattle.sip_resolver.specs.Requests.{Stand, weight};
+ghost use Rattle.sipwhere.specs.LineOutcomes.{EndsAs, IsOfLine, NeedsNoReply};
+
+use crate::line::Line;
+use crate::line_outcome::LineOutcome;
+use crate::sender::Sender;
+use answer_cache::AnswerBook;
+use dns_client::{draw_words, read_request};
+use sip_resolver::{Ids, Origin, Outcome, Resolver};
+use std::alloc::Global;
+
+/// Hands the request of a text to a resolver, under this number, or gives what became of the text
+/// already: it is no request, or memory was refused.
+pub fn submit<B: AnswerBook, F: Origin, I: Ids + Drop>(
+    alloc: Global,
+    resolver: &mut Resolver<B, F, I>,
+    number: u64,
+    sender: &Sender,
+    line: &Line<'_>,
+) -> Option<LineOutcome>
+    ensures stand { (seat : SeatView) → Stand F.gives F.shows seat resolver.old.requests
+        → Stand F.gives F.shows seat resolver.new.requests }
+    // The request that is inside after it is that of the text.
+    ensures weighs { (h : Sought → ℕ)
+        → ((sought : Sought) → sought.number ≡ number → IsOfLine sender.now line.now sought
+        → h sought ≡ 0)
+        → weight h resolver.new.requests ≡ weight h resolver.old.requests }
+    ensures line_outcome { IfSome result (NeedsNoReply line.now.text.now) }
+{
+    let request = match read_request(alloc, line.text) {
+        Ok(request) => request,
+        Err(refusal) => return Some(LineOutcome::Bad(refusal)),
+    };
+    let words = draw_words(sender.key, line.number);
+    match resolver.submit(number, request, sender.caps, words) {
+        Ok(()) => None,
+        Err(_) => Some(LineOutcome::Memory),
+    }
+}
+
+/// What became of a text, by the outcome of its request. The text is read again, since the request
+/// is not kept.
+pub fn line_outcome_of(alloc: Global, text: &str, outcome: Outcome) -> LineOutcome
+    ensures { EndsAs text.now outcome result }
+{
+    match read_request(alloc, text) {
+        Ok(_) => LineOutcome::Became(outcome),
+        Err(refusal) => LineOutcome::Bad(refusal),
+    }
+}
+
+/// What became of a text whose time is over.
+pub fn line_outcome_in_vain(alloc: Global, text: &str) -> LineOutcome
+    ensures { NeedsNoReply text.now result }
+{
+    match read_request(alloc, text) {
+        Ok(_) => LineOutcome::TimeOver,
+        Err(refusal) => LineOutcome::Bad(refusal),
+    }
+}
