@@ -15,17 +15,17 @@ use Rattle.srv_choice.specs.Outcomes.{order_from, is_root, denies, listing}
 use Rattle.srv_choice.specs.declared.outcome.SrvOutcome.{SrvOutcome}
 use Rattle.srv_choice.specs.declared.outcome.SrvOutcome.TheVariants.{Absent, Denied, Listed}
 use Rattle.sip_selection.specs.Known.{Given, Needing, made, joined, find_answer, answer_to, addresses_in, servers_in, rules_in}
-use Rattle.sip_selection.specs.Services.{kind_targets, targets_of, server_targets, place_targets, Offer, listed, is_listed, is_denied, offer_of, offer_by, offer_named, offer_along, offers_along, next_word, target_at}
+use Rattle.sip_selection.specs.Services.{kind_targets, targets_of, server_targets, index_targets, Offer, listed, is_listed, is_denied, offer_of, offer_by, offer_named, offer_along, offers_along, next_word, target_at}
 use Rattle.sip_selection.specs.declared.target.Target.{Target}
-use Rattle.sip_selection.specs.declared.way.Way.{Way}
+use Rattle.sip_selection.specs.declared.service.Service.{Service}
 use Rattle.sip_selection.proofs.Growth.{answer-grows}
 use Rattle.sip_selection.proofs.Meeting.{Meets, meets-more, made-meets, after-meets, found-meets, joined-meets}
 
 abbrev pub AnyTarget : Target → Type 0
 AnyTarget target = ⊤
 
-abbrev AnyPlace : ℕ → Type 0
-AnyPlace place = ⊤
+abbrev AnyIndex : ℕ → Type 0
+AnyIndex index = ⊤
 
 pub or_left : (a b : Bool) → (a || b) ≡ false → a ≡ false
 or_left true b is = absurd cc
@@ -35,10 +35,10 @@ pub or_right : (a b : Bool) → (a || b) ≡ false → b ≡ false
 or_right true b is = absurd cc
 or_right false b is = is
 
-picked : {X : Type 0} (P : X → Type 0) (xs : List X) (place : ℕ) → All P xs → IfSome (slice_get xs place) P
-picked P [] place each = tt
+picked : {X : Type 0} (P : X → Type 0) (xs : List X) (index : ℕ) → All P xs → IfSome (slice_get xs index) P
+picked P [] index each = tt
 picked P (x ∷ xs) zero each = All-head P x xs each
-picked P (x ∷ xs) (suc place) each = picked P xs place (All-tail P x xs each)
+picked P (x ∷ xs) (suc index) each = picked P xs index (All-tail P x xs each)
 
 -- ---- what the answers say
 
@@ -50,19 +50,19 @@ abbrev pub rules_at : Needing AnswerValue → List NaptrRecord
 rules_at (Ok answer) = rules_in answer.records
 rules_at (Err question) = []
 
-abbrev pub services : List (List ℕ) → Question
-services name = record { name = name; kind = kind.Srv }
+abbrev pub srv_question : List (List ℕ) → Question
+srv_question name = record { name = name; kind = kind.Srv }
 
 abbrev pub servers_of : List Given → Option (List (List ℕ)) → List SrvRecord
 servers_of given None = []
-servers_of given (Some name) = servers_at (answer_to given (services name))
+servers_of given (Some name) = servers_at (answer_to given (srv_question name))
 
 abbrev pub are_some : List SrvRecord → Bool
 are_some [] = false
 are_some (first ∷ others) = true
 
-abbrev pub has_servers : List Given → Way → Bool
-has_servers given way = are_some (servers_of given way.name)
+abbrev pub has_servers : List Given → Service → Bool
+has_servers given service = are_some (servers_of given service.name)
 
 nothing_listed : (servers : List SrvRecord) (words : List ℕ) (word : ℕ) → order_from servers words word ≡ Absent → are_some servers ≡ false
 nothing_listed [] words word = λ is. refl
@@ -92,9 +92,9 @@ module _ (R : Question → Type 0) (given more : List Given) (kinds : List Kind)
   abbrev pub AsksOf : SrvRecord → Type 0
   AsksOf server = Asks server.target
 
-  abbrev pub WayAsks : Option (List (List ℕ)) → Type 0
-  WayAsks None = ⊤
-  WayAsks (Some name) = R (services name) × All AsksOf (servers_at (answer_to all (services name)))
+  abbrev pub ServiceAsks : Option (List (List ℕ)) → Type 0
+  ServiceAsks None = ⊤
+  ServiceAsks (Some name) = R (srv_question name) × All AsksOf (servers_at (answer_to all (srv_question name)))
 
   kind-asks : (transport : Transport) (port : ℕ) (name : List (List ℕ)) (asked : Kind) → R (record { name = name; kind = asked })
       → Meets (All AnyTarget) R (kind_targets given kinds transport port name asked)
@@ -119,10 +119,10 @@ module _ (R : Question → Type 0) (given more : List Given) (kinds : List Kind)
   server-by transport server true e asks = rw e (All-nil AnyTarget)
   server-by transport server false e asks = rw e (targets-ask transport server.port server.target asks)
 
-  place-by : (transport : Transport) (server : Option SrvRecord) → IfSome server AsksOf
+  index-by : (transport : Transport) (server : Option SrvRecord) → IfSome server AsksOf
       → Meets (All AnyTarget) R (option_map_or (server_targets given kinds transport) server (Ok []))
-  place-by transport None asks = All-nil AnyTarget
-  place-by transport (Some server) asks = server-by transport server (is_root server.target) refl asks
+  index-by transport None asks = All-nil AnyTarget
+  index-by transport (Some server) asks = server-by transport server (is_root server.target) refl asks
 
   -- where nothing is listed or denied there are no servers
   abbrev IsTold : List SrvRecord → Offer → Type 0
@@ -133,19 +133,19 @@ module _ (R : Question → Type 0) (given more : List Given) (kinds : List Kind)
       → Meets (IsTold servers) R (offer_of given kinds transport servers outcome)
   outcome-asks transport servers words word Absent e asks = λ _ _. nothing_listed servers words word e
   outcome-asks transport servers words word Denied e asks = λ _ is. absurd cc
-  outcome-asks transport servers words word (Listed places next) e asks =
-      made-meets R (IsTold servers) (λ targets. listed targets next) (joined (place_targets given kinds transport servers) places)
+  outcome-asks transport servers words word (Listed indexes next) e asks =
+      made-meets R (IsTold servers) (λ targets. listed targets next) (joined (index_targets given kinds transport servers) indexes)
       (meets-more R (All AnyTarget) (λ targets. IsTold servers (listed targets next))
-      (joined (place_targets given kinds transport servers) places) (λ targets _. λ is _. absurd cc)
-      (joined-meets R AnyTarget (place_targets given kinds transport servers) places
-      (All-weaker AnyPlace (λ place. Meets (All AnyTarget) R (place_targets given kinds transport servers place))
-      (λ place _. place-by transport (slice_get servers place) (picked AsksOf servers place asks)) places (λ i d lt. tt))))
+      (joined (index_targets given kinds transport servers) indexes) (λ targets _. λ is _. absurd cc)
+      (joined-meets R AnyTarget (index_targets given kinds transport servers) indexes
+      (All-weaker AnyIndex (λ index. Meets (All AnyTarget) R (index_targets given kinds transport servers index))
+      (λ index _. index-by transport (slice_get servers index) (picked AsksOf servers index asks)) indexes (λ i d lt. tt))))
 
-  named-asks : (words : List ℕ) (transport : Transport) (word : ℕ) (name : Option (List (List ℕ))) → WayAsks name
+  named-asks : (words : List ℕ) (transport : Transport) (word : ℕ) (name : Option (List (List ℕ))) → ServiceAsks name
       → Meets (IsTold (servers_of all name)) R (offer_named given kinds words transport word name)
   named-asks words transport word None asks = λ _ _. refl
   named-asks words transport word (Some name) asks =
-      let question : Question = services name in
+      let question : Question = srv_question name in
       let Told : Offer → Type 0 = IsTold (servers_at (answer_to all question)) in
       after-meets R Told (offer_by given kinds words transport word) (answer_to given question)
       (meets-more R (λ answer. answer_to all question ≡ Ok answer)
@@ -157,33 +157,35 @@ module _ (R : Question → Type 0) (given more : List Given) (kinds : List Kind)
       (outcome-asks transport (servers_in answer.records) words word (order_from (servers_in answer.records) words word) refl each))
       (answer-asks question asks.0))
 
-  abbrev pub AreTold : List Way → List Offer → Type 0
-  AreTold ways offers = list_any is_listed offers ≡ false → list_any is_denied offers ≡ false → list_any (has_servers all) ways ≡ false
+  abbrev pub AreTold : List Service → List Offer → Type 0
+  AreTold services offers = list_any is_listed offers ≡ false → list_any is_denied offers ≡ false → list_any (has_servers all) services
+      ≡ false
 
-  both-told : (way : Way) (ways : List Way) (offer : Offer) (others : List Offer) → IsTold (servers_of all way.name) offer
-      → AreTold ways others → AreTold (way ∷ ways) (offer ∷ others)
-  both-told way ways offer others is are unlisted undenied =
-      let first : has_servers all way ≡ false = is (or_left (is_listed offer) (list_any is_listed others) unlisted)
+  both-told : (service : Service) (services : List Service) (offer : Offer) (others : List Offer)
+      → IsTold (servers_of all service.name) offer
+      → AreTold services others → AreTold (service ∷ services) (offer ∷ others)
+  both-told service services offer others is are unlisted undenied =
+      let first : has_servers all service ≡ false = is (or_left (is_listed offer) (list_any is_listed others) unlisted)
       (or_left (is_denied offer) (list_any is_denied others) undenied) in
-      let rest : list_any (has_servers all) ways ≡ false =
+      let rest : list_any (has_servers all) services ≡ false =
       are (or_right (is_listed offer) (list_any is_listed others) unlisted)
       (or_right (is_denied offer) (list_any is_denied others) undenied) in
-      ap (λ b. b || list_any (has_servers all) ways) first ∙ rest
+      ap (λ b. b || list_any (has_servers all) services) first ∙ rest
 
-  pub offers-ask : (words : List ℕ) (ways : List Way) (word : ℕ) → All (λ way. WayAsks way.name) ways
-      → Meets (AreTold ways) R (offers_along given kinds words ways word)
+  pub offers-ask : (words : List ℕ) (services : List Service) (word : ℕ) → All (λ service. ServiceAsks service.name) services
+      → Meets (AreTold services) R (offers_along given kinds words services word)
   offers-ask words [] word asks = λ _ _. refl
-  offers-ask words (way ∷ ways) word asks =
-      after-meets R (AreTold (way ∷ ways)) (λ offer. made (λ others. offer ∷ others)
-      (offers_along given kinds words ways (next_word word offer))) (offer_along given kinds words way word)
-      (meets-more R (IsTold (servers_of all way.name))
-      (λ offer. Meets (AreTold (way ∷ ways)) R
-      (made (λ others. offer ∷ others) (offers_along given kinds words ways (next_word word offer))))
-      (offer_along given kinds words way word)
-      (λ offer is. made-meets R (AreTold (way ∷ ways)) (λ others. offer ∷ others)
-      (offers_along given kinds words ways (next_word word offer))
-      (meets-more R (AreTold ways) (λ others. AreTold (way ∷ ways) (offer ∷ others))
-      (offers_along given kinds words ways (next_word word offer))
-      (λ others are. both-told way ways offer others is are)
-      (offers-ask words ways (next_word word offer) (All-tail (λ way. WayAsks way.name) way ways asks))))
-      (named-asks words way.transport word way.name (All-head (λ way. WayAsks way.name) way ways asks)))
+  offers-ask words (service ∷ services) word asks =
+      after-meets R (AreTold (service ∷ services)) (λ offer. made (λ others. offer ∷ others)
+      (offers_along given kinds words services (next_word word offer))) (offer_along given kinds words service word)
+      (meets-more R (IsTold (servers_of all service.name))
+      (λ offer. Meets (AreTold (service ∷ services)) R
+      (made (λ others. offer ∷ others) (offers_along given kinds words services (next_word word offer))))
+      (offer_along given kinds words service word)
+      (λ offer is. made-meets R (AreTold (service ∷ services)) (λ others. offer ∷ others)
+      (offers_along given kinds words services (next_word word offer))
+      (meets-more R (AreTold services) (λ others. AreTold (service ∷ services) (offer ∷ others))
+      (offers_along given kinds words services (next_word word offer))
+      (λ others are. both-told service services offer others is are)
+      (offers-ask words services (next_word word offer) (All-tail (λ service. ServiceAsks service.name) service services asks))))
+      (named-asks words service.transport word service.name (All-head (λ service. ServiceAsks service.name) service services asks)))

@@ -7,7 +7,7 @@ use Rattle.sip_selection.specs.Callers.{CapsValue, kinds_of}
 use Rattle.sip_selection.specs.Choice.{IsNotRefused, resolved, to_name, by_offers, to_service}
 use Rattle.sip_selection.specs.Known.{after, made}
 use Rattle.sip_selection.specs.Requests.{default_port}
-use Rattle.sip_selection.specs.Services.{targets_of, offer_named, way_to}
+use Rattle.sip_selection.specs.Services.{targets_of, offer_named, service_at}
 use Rattle.sip_selection.specs.declared.caps.Families.{Families}
 use Rattle.sip_selection.specs.declared.caps.Families.TheVariants.{V4, V6, V4ThenV6, V6ThenV4}
 
@@ -26,13 +26,14 @@ pub name-asked : (caps : CapsValue) (name : List (List ℕ)) (port : ℕ) (trans
     → IsNotRefused (resolved (to_name caps [] name port transport))
 name-asked caps name port transport = kinds-asked caps.families name port transport
 
-service-named : (caps : CapsValue) (words : List ℕ) (name : List (List ℕ)) (transport : Transport) (service : Option (List (List ℕ)))
+named_service-named : (caps : CapsValue) (words : List ℕ) (name : List (List ℕ)) (transport : Transport)
+    (named_service : Option (List (List ℕ)))
     → IsNotRefused (resolved (after (by_offers caps [] name (Ok transport))
     (after (λ offer. made (λ others. offer ∷ others) (Ok []))
-    (offer_named [] (kinds_of caps.families) words transport 0 service))))
-service-named caps words name transport None = name-asked caps name (default_port transport) transport
-service-named caps words name transport (Some service) = tt
+    (offer_named [] (kinds_of caps.families) words transport 0 named_service))))
+named_service-named caps words name transport None = name-asked caps name (default_port transport) transport
+named_service-named caps words name transport (Some named_service) = tt
 
-pub service-asked : (caps : CapsValue) (words : List ℕ) (name : List (List ℕ)) (transport : Transport)
+pub named_service-asked : (caps : CapsValue) (words : List ℕ) (name : List (List ℕ)) (transport : Transport)
     → IsNotRefused (resolved (to_service caps words [] name (Ok transport)))
-service-asked caps words name transport = service-named caps words name transport (way_to name transport).name
+named_service-asked caps words name transport = named_service-named caps words name transport (service_at name transport).name

@@ -14,7 +14,7 @@ use Rattle.sip_uri.specs.Same.{same_transport}
 use Rattle.sip_selection.specs.Callers.{kinds_of, offers}
 use Rattle.sip_selection.specs.Choice.{targets, need, resolved, offered, is_tried, to_address, locate}
 use Rattle.sip_selection.specs.Known.{Given, find_answer}
-use Rattle.sip_selection.specs.Requests.{target_of, port_of, spoken_of, is_secure, meant_by, transport_of, usual_transport}
+use Rattle.sip_selection.specs.Requests.{target_of, port_of, spoken_of, is_secure, meant_by, transport_of, default_transport}
 use Rattle.sip_selection.specs.Rules.{is_usable}
 use Rattle.sip_selection.specs.declared.caps.Caps.{Caps}
 use Rattle.sip_selection.specs.declared.reason.Reason.{Reason}
@@ -24,7 +24,7 @@ use Rattle.sip_selection.specs.declared.target.Target.{Target}
 use Rattle.sip_selection.proofs.Outcomes.{AllOver, Resolves, Missing, Sound, all_over, all_sound}
 use Rattle.sip_selection.proofs.Sources.{IsAnswered}
 use Rattle.std.proofs.lemmas.Bool.{and_parts}
-use Rattle.sip_selection.proofs.Ways.{filter-all, own_offered, secure_means_tls, tls_alone}
+use Rattle.sip_selection.proofs.Services.{filter-all, own_offered, secure_means_tls, tls_alone}
 
 module _ (request : Request) (caps : Caps) (words : List ℕ) (given : List Given) where
   targets-of : (Q : List Target → Type 0) (R : Question → Type 0) (found : List Target) → locate request caps words given ≡ targets found
@@ -54,7 +54,7 @@ module _ (request : Request) (caps : Caps) (words : List ℕ) (given : List Give
     own = All-filter (is_tried (is_secure request)) (λ transport. offers caps transport ≡ true) caps.transports
         (own_offered caps);
     meant = λ transport is. (offered-is (transport_of request) transport is).1;
-    usually = λ transport is. (offered-is (Ok (usual_transport (is_secure request))) transport is).1;
+    usually = λ transport is. (offered-is (Ok (default_transport (is_secure request))) transport is).1;
   }
 
   pub offered_all : (found : List Target) → locate request caps words given ≡ targets found
@@ -79,15 +79,15 @@ module _ (request : Request) (caps : Caps) (words : List ℕ) (given : List Give
     meant-tls : (transport : Transport) → transport_of request ≡ Ok transport → transport ≡ Tls
     meant-tls transport is = secure_means_tls (spoken_of request) transport (ap (λ b. meant_by b (spoken_of request)) (sym secure) ∙ is)
 
-    usual-tls : (transport : Transport) → meant_by (is_secure request) None ≡ Ok transport → transport ≡ Tls
-    usual-tls transport is = secure_means_tls None transport (ap (λ b. meant_by b None) (sym secure) ∙ is)
+    offered_default-tls : (transport : Transport) → meant_by (is_secure request) None ≡ Ok transport → transport ≡ Tls
+    offered_default-tls transport is = secure_means_tls None transport (ap (λ b. meant_by b None) (sym secure) ∙ is)
 
     tls-over : AllOver request caps words given (λ transport. transport ≡ Tls)
     tls-over = record {
       by_rule = ruled-tls;
       own = filter-all (λ transport. transport ≡ Tls) (is_tried (is_secure request)) tried-tls caps.transports;
       meant = λ transport is. meant-tls transport (offered-is (transport_of request) transport is).0;
-      usually = λ transport is. usual-tls transport (offered-is (Ok (usual_transport (is_secure request))) transport is).0;
+      usually = λ transport is. offered_default-tls transport (offered-is (Ok (default_transport (is_secure request))) transport is).0;
     }
 
     pub tls_all : (found : List Target) → locate request caps words given ≡ targets found → All (λ it. it.transport ≡ Tls) found

@@ -25,18 +25,18 @@ use Rattle.srv_choice.specs.Outcomes.{order_from, is_root}
 use Rattle.srv_choice.specs.declared.outcome.SrvOutcome.{SrvOutcome}
 use Rattle.srv_choice.specs.declared.outcome.SrvOutcome.TheVariants.{Absent, Denied, Listed}
 use Rattle.sip_selection.specs.Callers.{kinds_of}
-use Rattle.sip_selection.specs.Choice.{targets, Settled, offered, usual, own_ways, is_tried, to_name, to_domain, by_offers, along, led, by_rules, by_naptr, to_address, to_port, to_service, discovered, to_host, locate}
+use Rattle.sip_selection.specs.Choice.{targets, Settled, offered, offered_default, own_services, is_tried, to_name, to_domain, by_offers, along, by_services, by_rules, by_naptr, to_address, to_port, to_service, discovered, to_host, locate}
 use Rattle.sip_selection.specs.Known.{Given, Needing, made, joined, find_answer, answer_to, addresses_in, servers_in, rules_in}
 use Rattle.sip_selection.specs.Requests.{target_of, port_of, spoken_of, is_secure, transport_of, default_port}
-use Rattle.sip_selection.specs.Rules.{Led, led_by, first_in_order, by_preference, way_of, kept}
-use Rattle.sip_selection.specs.Services.{way_to, kind_targets, targets_of, server_targets, place_targets, Offer, listed, offered_targets, is_listed, is_denied, offer_of, offer_by, offer_named, offer_along, offers_along, next_word, target_at}
+use Rattle.sip_selection.specs.Rules.{ServiceRule, service_rule_of, first_in_order, by_preference, service_of, usable_services}
+use Rattle.sip_selection.specs.Services.{service_at, kind_targets, targets_of, server_targets, index_targets, Offer, listed, offered_targets, is_listed, is_denied, offer_of, offer_by, offer_named, offer_along, offers_along, next_word, target_at}
 use Rattle.sip_selection.specs.declared.caps.Caps.{Caps}
 use Rattle.sip_selection.specs.declared.caps.Families.{Families}
 use Rattle.sip_selection.specs.declared.caps.Families.TheVariants as families
 use Rattle.sip_selection.specs.declared.reason.Reason.{Reason}
 use Rattle.sip_selection.specs.declared.request.Request.{Request}
 use Rattle.sip_selection.specs.declared.target.Target.{Target}
-use Rattle.sip_selection.specs.declared.way.Way.{Way}
+use Rattle.sip_selection.specs.declared.service.Service.{Service}
 use Rattle.sip_selection.proofs.Meeting.{Meets, meets-more, made-meets, after-meets, found-meets}
 use Rattle.sip_selection.proofs.Outcomes.{Settles, Resolves, meets-resolves}
 
@@ -98,8 +98,8 @@ found-small (it ∷ others) small question answer = by (same_question it.questio
     by false le rest is = rest is
 
 abbrev Counts : Type 0
-Counts = (records : List SrvRecord) (words : List ℕ) (from : ℕ) (places : List ℕ) (next : ℕ)
-    → order_from records words from ≡ Listed places next → length places ≡ length records
+Counts = (records : List SrvRecord) (words : List ℕ) (from : ℕ) (indexes : List ℕ) (next : ℕ)
+    → order_from records words from ≡ Listed indexes next → length indexes ≡ length records
 
 module _ (given : List Given) (small : All IsSmall given) where
   pub answer-small : (question : Question) → Meets (λ answer. count_of answer.records ≤ 32) Any-question (answer_to given question)
@@ -137,10 +137,10 @@ module _ (given : List Given) (small : All IsSmall given) where
     server-by transport server true e = rw e (omega arith)
     server-by transport server false e = rw e (targets-few transport server.port server.target)
 
-    place-by : (transport : Transport) (server : Option SrvRecord)
+    index-by : (transport : Transport) (server : Option SrvRecord)
         → Meets (AtMost 64) Any-question (option_map_or (server_targets given kinds transport) server (Ok []))
-    place-by transport None = omega arith
-    place-by transport (Some server) = server-by transport server (is_root server.target) refl
+    index-by transport None = omega arith
+    index-by transport (Some server) = server-by transport server (is_root server.target) refl
 
     abbrev OfFew : Offer → Type 0
     OfFew offer = length (offered_targets offer) ≤ 2048
@@ -151,11 +151,12 @@ module _ (given : List Given) (small : All IsSmall given) where
           → Meets OfFew Any-question (offer_of given kinds transport servers outcome)
       outcome-few transport servers word Absent e le = omega arith
       outcome-few transport servers word Denied e le = omega arith
-      outcome-few transport servers word (Listed places next) e le =
-          made-meets Any-question OfFew (λ targets. listed targets next) (joined (place_targets given kinds transport servers) places)
-          (meets-more Any-question (AtMost (length places * 64)) (AtMost 2048) (joined (place_targets given kinds transport servers) places)
-          (λ found le'. omega (arith, le, le', count servers words word places next e))
-          (joined-few 64 (place_targets given kinds transport servers) (λ place. place-by transport (slice_get servers place)) places))
+      outcome-few transport servers word (Listed indexes next) e le =
+          made-meets Any-question OfFew (λ targets. listed targets next) (joined (index_targets given kinds transport servers) indexes)
+          (meets-more Any-question (AtMost (length indexes * 64)) (AtMost 2048)
+          (joined (index_targets given kinds transport servers) indexes)
+          (λ found le'. omega (arith, le, le', count servers words word indexes next e))
+          (joined-few 64 (index_targets given kinds transport servers) (λ index. index-by transport (slice_get servers index)) indexes))
 
       named-few : (transport : Transport) (word : ℕ) (name : Option (List (List ℕ)))
           → Meets OfFew Any-question (offer_named given kinds words transport word name)
@@ -172,29 +173,30 @@ module _ (given : List Given) (small : All IsSmall given) where
       abbrev OfMany : ℕ → List Offer → Type 0
       OfMany count offers = length (flat_map offered_targets offers) ≤ count * 2048
 
-      offers-few : (ways : List Way) (word : ℕ) → Meets (OfMany (length ways)) Any-question (offers_along given kinds words ways word)
+      offers-few : (services : List Service) (word : ℕ) → Meets (OfMany (length services)) Any-question
+          (offers_along given kinds words services word)
       offers-few [] word = omega arith
-      offers-few (way ∷ ways) word =
-          after-meets Any-question (OfMany (length (way ∷ ways)))
-          (λ offer. made (λ others. offer ∷ others) (offers_along given kinds words ways (next_word word offer)))
-          (offer_along given kinds words way word)
-          (meets-more Any-question OfFew (λ offer. Meets (OfMany (length (way ∷ ways))) Any-question
-          (made (λ others. offer ∷ others) (offers_along given kinds words ways (next_word word offer))))
-          (offer_along given kinds words way word)
-          (λ offer is. made-meets Any-question (OfMany (length (way ∷ ways))) (λ others. offer ∷ others)
-          (offers_along given kinds words ways (next_word word offer))
-          (meets-more Any-question (OfMany (length ways)) (λ others. OfMany (length (way ∷ ways)) (offer ∷ others))
-          (offers_along given kinds words ways (next_word word offer))
+      offers-few (service ∷ services) word =
+          after-meets Any-question (OfMany (length (service ∷ services)))
+          (λ offer. made (λ others. offer ∷ others) (offers_along given kinds words services (next_word word offer)))
+          (offer_along given kinds words service word)
+          (meets-more Any-question OfFew (λ offer. Meets (OfMany (length (service ∷ services))) Any-question
+          (made (λ others. offer ∷ others) (offers_along given kinds words services (next_word word offer))))
+          (offer_along given kinds words service word)
+          (λ offer is. made-meets Any-question (OfMany (length (service ∷ services))) (λ others. offer ∷ others)
+          (offers_along given kinds words services (next_word word offer))
+          (meets-more Any-question (OfMany (length services)) (λ others. OfMany (length (service ∷ services)) (offer ∷ others))
+          (offers_along given kinds words services (next_word word offer))
           (λ others is'. grind (arith, is, is', length-append (offered_targets offer) (flat_map offered_targets others)))
-          (offers-few ways (next_word word offer))))
-          (named-few way.transport word way.name))
+          (offers-few services (next_word word offer))))
+          (named-few service.transport word service.name))
 
 -- ---- ways
 
-pub kept-few : (secure : Bool) (caps : Caps) (rules : List NaptrRecord) → length (kept secure caps rules) ≤ 8
-kept-few secure caps rules =
-    let led : List Led = by_preference (first_in_order (filter_map (led_by secure caps) rules)) in
-    omega (arith, length-map (take 8 led) way_of, length-take 8 led)
+pub usable_services-few : (secure : Bool) (caps : Caps) (rules : List NaptrRecord) → length (usable_services secure caps rules) ≤ 8
+usable_services-few secure caps rules =
+    let service_rule : List ServiceRule = by_preference (first_in_order (filter_map (service_rule_of secure caps) rules)) in
+    omega (arith, length-map (take 8 service_rule) service_of, length-take 8 service_rule)
 
 pub kinds-few : (families : Families) → length (kinds_of families) ≤ 2
 kinds-few families.V4 = omega arith
@@ -227,24 +229,25 @@ module _ (request : Request) (caps : Caps) (words : List ℕ) (given : List Give
   offers-by name fallback offers false true e e' le = rw (e, e') tt
   offers-by name fallback offers false false e e' le = rw (e, e') (domain-few name fallback)
 
-  along-few : (name : List (List ℕ)) (fallback : Result Transport Reason) (ways : List Way) → length ways ≤ 8
-      → Few (along caps words given name fallback ways)
-  along-few name fallback ways eight =
+  along-few : (name : List (List ℕ)) (fallback : Result Transport Reason) (services : List Service) → length services ≤ 8
+      → Few (along caps words given name fallback services)
+  along-few name fallback services eight =
       let kinds : List Kind = kinds_of caps.families in
       after-meets Any-question (Settles (AtMost 16384)) (by_offers caps given name fallback)
-      (offers_along given kinds words ways 0)
-      (meets-more Any-question (λ offers. length (flat_map offered_targets offers) ≤ length ways * 2048)
-      (λ offers. Few (by_offers caps given name fallback offers)) (offers_along given kinds words ways 0)
+      (offers_along given kinds words services 0)
+      (meets-more Any-question (λ offers. length (flat_map offered_targets offers) ≤ length services * 2048)
+      (λ offers. Few (by_offers caps given name fallback offers)) (offers_along given kinds words services 0)
       (λ offers le. offers-by name fallback offers (list_any is_listed offers) (list_any is_denied offers) refl refl
       (omega (arith, le, eight)))
-      (offers-few given small kinds (kinds-few caps.families) count words ways 0))
+      (offers-few given small kinds (kinds-few caps.families) count words services 0))
 
-  led-few : (name : List (List ℕ)) (ways : List Way) → length ways ≤ 8 → Few (led (is_secure request) caps words given name ways)
-  led-few name [] eight =
+  by_services-few : (name : List (List ℕ)) (services : List Service) → length services ≤ 8
+      → Few (by_services (is_secure request) caps words given name services)
+  by_services-few name [] eight =
       let tried : List Transport = filter (is_tried (is_secure request)) caps.transports in
-      along-few name (usual (is_secure request) caps) (own_ways (is_secure request) caps name)
-      (omega (arith, four, filter-few (is_tried (is_secure request)) caps.transports, length-map tried (way_to name)))
-  led-few name (first ∷ others) eight = along-few name (Ok first.transport) (first ∷ others) eight
+      along-few name (offered_default (is_secure request) caps) (own_services (is_secure request) caps name)
+      (omega (arith, four, filter-few (is_tried (is_secure request)) caps.transports, length-map tried (service_at name)))
+  by_services-few name (first ∷ others) eight = along-few name (Ok first.transport) (first ∷ others) eight
 
   naptr-few : (name : List (List ℕ)) → Few (by_naptr (is_secure request) caps words given name)
   naptr-few name =
@@ -254,8 +257,8 @@ module _ (request : Request) (caps : Caps) (words : List ℕ) (given : List Give
       (answer_to given question)
       (meets-more Any-question (λ answer. count_of answer.records ≤ 32)
       (λ answer. Few (by_rules (is_secure request) caps words given name (rules_in answer.records))) (answer_to given question)
-      (λ answer le. led-few name (kept (is_secure request) caps (rules_in answer.records))
-      (kept-few (is_secure request) caps (rules_in answer.records)))
+      (λ answer le. by_services-few name (usable_services (is_secure request) caps (rules_in answer.records))
+      (usable_services-few (is_secure request) caps (rules_in answer.records)))
       (answer-small given small question))
 
   address-few : (address : Address) (port : Option ℕ) (transport : Result Transport Reason)
@@ -268,9 +271,9 @@ module _ (request : Request) (caps : Caps) (words : List ℕ) (given : List Give
   port-few name port (Ok transport) = name-few name port transport
   port-few name port (Err reason) = tt
 
-  service-few : (name : List (List ℕ)) (transport : Result Transport Reason) → Few (to_service caps words given name transport)
-  service-few name (Ok transport) = along-few name (Ok transport) (way_to name transport ∷ []) (omega arith)
-  service-few name (Err reason) = tt
+  named_service-few : (name : List (List ℕ)) (transport : Result Transport Reason) → Few (to_service caps words given name transport)
+  named_service-few name (Ok transport) = along-few name (Ok transport) (service_at name transport ∷ []) (omega arith)
+  named_service-few name (Err reason) = tt
 
   discovered-or : (name : List (List ℕ)) (reason : Reason) (secure : Bool)
       → Few (if secure then Ok (Err reason) else by_naptr (is_secure request) caps words given name)
@@ -286,8 +289,8 @@ module _ (request : Request) (caps : Caps) (words : List ℕ) (given : List Give
   host-few (host.V4 octets) port named = address-few (address.V4 octets) port (offered caps (transport_of request))
   host-few (host.V6 octets) port named = address-few (address.V6 octets) port (offered caps (transport_of request))
   host-few (host.Domain name) (Some port) named = port-few name port (offered caps (transport_of request))
-  host-few (host.Domain name) None (Some named) = service-few name (offered caps (transport_of request))
-  host-few (host.Domain name) None None = discovered-few name (usual (is_secure request) caps)
+  host-few (host.Domain name) None (Some named) = named_service-few name (offered caps (transport_of request))
+  host-few (host.Domain name) None None = discovered-few name (offered_default (is_secure request) caps)
 
   pub few_found : (found : List Target) → locate request caps words given ≡ targets found → length found ≤ 16384
   few_found found is =

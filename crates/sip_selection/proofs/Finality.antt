@@ -8,12 +8,12 @@ use Rattle.sip_uri.specs.declared.host.Host.TheVariants as host
 use Rattle.sip_uri.specs.declared.transport.Spoken.{Spoken}
 use Rattle.sip_uri.specs.declared.transport.Transport.{Transport}
 use Rattle.sip_selection.specs.Callers.{kinds_of}
-use Rattle.sip_selection.specs.Choice.{need, Settled, resolved, offered, usual, own_ways, to_name, to_domain, by_offers, along, led, by_naptr, to_port, to_service, discovered, to_host, locate}
+use Rattle.sip_selection.specs.Choice.{need, Settled, resolved, offered, offered_default, own_services, to_name, to_domain, by_offers, along, by_services, by_naptr, to_port, to_service, discovered, to_host, locate}
 use Rattle.sip_selection.specs.Known.{Given, Needing, rules_in}
 use Rattle.sip_selection.specs.Requests.{target_of, port_of, spoken_of, is_secure, transport_of, default_port}
-use Rattle.sip_selection.specs.Rules.{kept}
-use Rattle.sip_selection.specs.Services.{way_to, Offer, is_listed, is_denied}
-use Rattle.sip_selection.specs.declared.way.Way.{Way}
+use Rattle.sip_selection.specs.Rules.{usable_services}
+use Rattle.sip_selection.specs.Services.{service_at, Offer, is_listed, is_denied}
+use Rattle.sip_selection.specs.declared.service.Service.{Service}
 use Rattle.sip_selection.specs.declared.caps.Caps.{Caps}
 use Rattle.sip_selection.specs.declared.reason.Reason.{Reason}
 use Rattle.sip_selection.specs.declared.request.Request.{Request}
@@ -39,10 +39,10 @@ module _ (caps : Caps) (words : List ℕ) (given more : List Given) where
   offers-by name fallback offers false true e e' = rw (e, e') (λ x is. is)
   offers-by name fallback offers false false e e' = rw (e, e') (domain-grows name fallback)
 
-  along-grows : (name : List (List ℕ)) (fallback : Result Transport Reason) (ways : List Way)
-      → Grows (along caps words given name fallback ways) (along caps words all name fallback ways)
-  along-grows name fallback ways =
-      after-grows _ _ _ _ (offers-grow given more (kinds_of caps.families) words ways 0)
+  along-grows : (name : List (List ℕ)) (fallback : Result Transport Reason) (services : List Service)
+      → Grows (along caps words given name fallback services) (along caps words all name fallback services)
+  along-grows name fallback services =
+      after-grows _ _ _ _ (offers-grow given more (kinds_of caps.families) words services 0)
       (λ offers. offers-by name fallback offers (list_any is_listed offers) (list_any is_denied offers) refl refl)
 
   port-grows : (name : List (List ℕ)) (port : ℕ) (transport : Result Transport Reason)
@@ -50,21 +50,21 @@ module _ (caps : Caps) (words : List ℕ) (given more : List Given) where
   port-grows name port (Ok transport) = name-grows name port transport
   port-grows name port (Err reason) = λ x is. is
 
-  service-grows : (name : List (List ℕ)) (transport : Result Transport Reason)
+  named_service-grows : (name : List (List ℕ)) (transport : Result Transport Reason)
       → Grows (to_service caps words given name transport) (to_service caps words all name transport)
-  service-grows name (Ok transport) = along-grows name (Ok transport) (way_to name transport ∷ [])
-  service-grows name (Err reason) = λ x is. is
+  named_service-grows name (Ok transport) = along-grows name (Ok transport) (service_at name transport ∷ [])
+  named_service-grows name (Err reason) = λ x is. is
 
   module _ (secure : Bool) where
-    led-grows : (name : List (List ℕ)) (ways : List Way)
-        → Grows (led secure caps words given name ways) (led secure caps words all name ways)
-    led-grows name [] = along-grows name (usual secure caps) (own_ways secure caps name)
-    led-grows name (first ∷ others) = along-grows name (Ok first.transport) (first ∷ others)
+    by_services-grows : (name : List (List ℕ)) (services : List Service)
+        → Grows (by_services secure caps words given name services) (by_services secure caps words all name services)
+    by_services-grows name [] = along-grows name (offered_default secure caps) (own_services secure caps name)
+    by_services-grows name (first ∷ others) = along-grows name (Ok first.transport) (first ∷ others)
 
     naptr-grows : (name : List (List ℕ)) → Grows (by_naptr secure caps words given name) (by_naptr secure caps words all name)
     naptr-grows name =
         after-grows _ _ _ _ (answer-grows given more (record { name = name; kind = kind.Naptr }))
-        (λ answer. led-grows name (kept secure caps (rules_in answer.records)))
+        (λ answer. by_services-grows name (usable_services secure caps (rules_in answer.records)))
 
   discovered-grows : (secure : Bool) (name : List (List ℕ)) (transport : Result Transport Reason)
       → Grows (discovered secure caps words given name transport) (discovered secure caps words all name transport)
@@ -78,8 +78,8 @@ module _ (caps : Caps) (words : List ℕ) (given more : List Given) where
     host-grows (host.V4 octets) port named = λ x is. is
     host-grows (host.V6 octets) port named = λ x is. is
     host-grows (host.Domain name) (Some port) named = port-grows name port (offered caps (transport_of request))
-    host-grows (host.Domain name) None (Some named) = service-grows name (offered caps (transport_of request))
-    host-grows (host.Domain name) None None = discovered-grows (is_secure request) name (usual (is_secure request) caps)
+    host-grows (host.Domain name) None (Some named) = named_service-grows name (offered caps (transport_of request))
+    host-grows (host.Domain name) None None = discovered-grows (is_secure request) name (offered_default (is_secure request) caps)
 
     -- what is no question, was known
     resolved-grows : (n n' : Needing Settled) → Grows n n' → ((question : Question) → resolved n ≡ need question → ⊥)

@@ -13,7 +13,7 @@ use Rattle.srv_choice.specs.declared.outcome.SrvOutcome.{SrvOutcome}
 use Rattle.srv_choice.specs.declared.outcome.SrvOutcome.TheVariants.{Absent, Denied, Listed}
 use Rattle.sip_selection.specs.Known.{Given, Needing, after, made, joined, find_answer, answer_to, addresses_in, servers_in}
 use Rattle.sip_selection.specs.Services.{targets_of, server_targets, Offer, listed, offer_of, offer_named, offers_along, next_word, target_at}
-use Rattle.sip_selection.specs.declared.way.Way.{Way}
+use Rattle.sip_selection.specs.declared.service.Service.{Service}
 
 -- where the first is known, the second is known to be the same
 abbrev pub Grows : {X : Type 0} → Needing X → Needing X → Type 0
@@ -80,18 +80,18 @@ module _ (given more : List Given) where
     server-by transport server true e = rw e (λ x is. is)
     server-by transport server false e = rw e (targets-grow transport server.port server.target)
 
-    place-by : (transport : Transport) (server : Option SrvRecord)
+    index-by : (transport : Transport) (server : Option SrvRecord)
         → Grows (option_map_or (server_targets given kinds transport) server (Ok []))
         (option_map_or (server_targets (given ++ more) kinds transport) server (Ok []))
-    place-by transport None = λ x is. is
-    place-by transport (Some server) = server-by transport server (is_root server.target) refl
+    index-by transport None = λ x is. is
+    index-by transport (Some server) = server-by transport server (is_root server.target) refl
 
     offer-grows : (transport : Transport) (servers : List SrvRecord) (outcome : SrvOutcome)
         → Grows (offer_of given kinds transport servers outcome) (offer_of (given ++ more) kinds transport servers outcome)
     offer-grows transport servers Absent = λ x is. is
     offer-grows transport servers Denied = λ x is. is
-    offer-grows transport servers (Listed places next) =
-        made-grows (λ targets. listed targets next) _ _ (joined-grows _ _ (λ place. place-by transport (slice_get servers place)) places)
+    offer-grows transport servers (Listed indexes next) =
+        made-grows (λ targets. listed targets next) _ _ (joined-grows _ _ (λ index. index-by transport (slice_get servers index)) indexes)
 
     named-grows : (words : List ℕ) (transport : Transport) (word : ℕ) (name : Option (List (List ℕ)))
         → Grows (offer_named given kinds words transport word name) (offer_named (given ++ more) kinds words transport word name)
@@ -100,9 +100,9 @@ module _ (given more : List Given) where
         after-grows _ _ _ _ (answer-grows (record { name = name; kind = kind.Srv }))
         (λ answer. offer-grows transport (servers_in answer.records) (order_from (servers_in answer.records) words word))
 
-    pub offers-grow : (words : List ℕ) (ways : List Way) (word : ℕ)
-        → Grows (offers_along given kinds words ways word) (offers_along (given ++ more) kinds words ways word)
+    pub offers-grow : (words : List ℕ) (services : List Service) (word : ℕ)
+        → Grows (offers_along given kinds words services word) (offers_along (given ++ more) kinds words services word)
     offers-grow words [] word = λ x is. is
-    offers-grow words (way ∷ ways) word =
-        after-grows _ _ _ _ (named-grows words way.transport word way.name)
-        (λ offer. made-grows (λ (others : List Offer). offer ∷ others) _ _ (offers-grow words ways (next_word word offer)))
+    offers-grow words (service ∷ services) word =
+        after-grows _ _ _ _ (named-grows words service.transport word service.name)
+        (λ offer. made-grows (λ (others : List Offer). offer ∷ others) _ _ (offers-grow words services (next_word word offer)))

@@ -3,7 +3,7 @@ mod TrialRuns
 mod Growth
 mod Finality
 mod Meeting
-mod Ways
+mod Services
 mod Sources
 mod Outcomes
 mod ChoiceLaws
@@ -16,8 +16,8 @@ mod Reaching
 mod Answered
 mod Walking
 mod Choosing
-mod Turns
-mod TriedWays
+mod Steps
+mod TriedServices
 mod Preferences
 mod LeastOrder
 mod Rising

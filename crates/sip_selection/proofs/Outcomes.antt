@@ -12,19 +12,19 @@ use Rattle.ip_text.specs.declared.address.Address.TheVariants as address
 use Rattle.sip_uri.specs.declared.transport.Spoken.{Spoken}
 use Rattle.sip_uri.specs.declared.transport.Transport.{Transport}
 use Rattle.sip_selection.specs.Callers.{kinds_of, offers}
-use Rattle.sip_selection.specs.Choice.{Resolution, targets, refused, need, Settled, settled, resolved, offered, usual, own_ways, is_tried, to_name, to_domain, by_offers, along, led, by_rules, by_naptr, to_address, to_port, to_service, discovered, to_host, locate}
+use Rattle.sip_selection.specs.Choice.{Resolution, targets, refused, need, Settled, settled, resolved, offered, offered_default, own_services, is_tried, to_name, to_domain, by_offers, along, by_services, by_rules, by_naptr, to_address, to_port, to_service, discovered, to_host, locate}
 use Rattle.sip_selection.specs.Known.{Given, Needing, find_answer, answer_to, rules_in}
 use Rattle.sip_selection.specs.Requests.{target_of, port_of, spoken_of, is_secure, transport_of, default_port}
-use Rattle.sip_selection.specs.Rules.{is_usable, kept}
-use Rattle.sip_selection.specs.Services.{way_to, target_at, targets_of, Offer, offers_along, offered_targets, is_listed, is_denied}
-use Rattle.sip_selection.specs.declared.way.Way.{Way}
+use Rattle.sip_selection.specs.Rules.{is_usable, usable_services}
+use Rattle.sip_selection.specs.Services.{service_at, target_at, targets_of, Offer, offers_along, offered_targets, is_listed, is_denied}
+use Rattle.sip_selection.specs.declared.service.Service.{Service}
 use Rattle.sip_selection.specs.declared.caps.Caps.{Caps}
 use Rattle.sip_selection.specs.declared.reason.Reason.{Reason}
 use Rattle.sip_selection.specs.declared.request.Request.{Request}
 use Rattle.sip_selection.specs.declared.target.Target.{Target}
 use Rattle.sip_selection.proofs.Meeting.{Meets, meets-more, made-meets, after-meets}
 use Rattle.sip_selection.proofs.Sources.{IsMissing, IsSound, answer-meets, targets-meet, offers-meet}
-use Rattle.sip_selection.proofs.Ways.{kept-over}
+use Rattle.sip_selection.proofs.Services.{usable_services-over}
 
 -- what holds of the targets, where there are any
 abbrev pub Settles : (List Target → Type 0) → Settled → Type 0
@@ -57,7 +57,7 @@ module _ (request : Request) (caps : Caps) (words : List ℕ) (given : List Give
     pub by_rule : (transport : Transport) → is_usable (is_secure request) caps transport ≡ true → T transport
     pub own : All T (filter (is_tried (is_secure request)) caps.transports)
     pub meant : (transport : Transport) → offered caps (transport_of request) ≡ Ok transport → T transport
-    pub usually : (transport : Transport) → usual (is_secure request) caps ≡ Ok transport → T transport
+    pub usually : (transport : Transport) → offered_default (is_secure request) caps ≡ Ok transport → T transport
 
   abbrev pub Sound : Target → Type 0
   Sound = IsSound given (kinds_of caps.families) T
@@ -87,28 +87,28 @@ module _ (request : Request) (caps : Caps) (words : List ℕ) (given : List Give
   offers-by name fallback offers false true e e' over are = rw (e, e') tt
   offers-by name fallback offers false false e e' over are = rw (e, e') (domain-meets name fallback over)
 
-  along-meets : (name : List (List ℕ)) (fallback : Result Transport Reason) (ways : List Way)
-      → ((transport : Transport) → fallback ≡ Ok transport → T transport) → All (λ way. T way.transport) ways
-      → Sounds (along caps words given name fallback ways)
-  along-meets name fallback ways over each =
+  along-meets : (name : List (List ℕ)) (fallback : Result Transport Reason) (services : List Service)
+      → ((transport : Transport) → fallback ≡ Ok transport → T transport) → All (λ service. T service.transport) services
+      → Sounds (along caps words given name fallback services)
+  along-meets name fallback services over each =
       after-meets Missing (Settles (All Sound)) (by_offers caps given name fallback)
-      (offers_along given (kinds_of caps.families) words ways 0)
+      (offers_along given (kinds_of caps.families) words services 0)
       (meets-more Missing (λ offers. All Sound (flat_map offered_targets offers))
       (λ offers. Sounds (by_offers caps given name fallback offers))
-      (offers_along given (kinds_of caps.families) words ways 0)
+      (offers_along given (kinds_of caps.families) words services 0)
       (λ offers are. offers-by name fallback offers (list_any is_listed offers) (list_any is_denied offers) refl refl over are)
-      (offers-meet given (kinds_of caps.families) T words ways 0 each))
+      (offers-meet given (kinds_of caps.families) T words services 0 each))
 
   module _ (over : AllOver) where
-    led-meets : (name : List (List ℕ)) (ways : List Way) → All (λ way. T way.transport) ways
-        → Sounds (led (is_secure request) caps words given name ways)
-    led-meets name [] each =
-        along-meets name (usual (is_secure request) caps) (own_ways (is_secure request) caps name) over.usually
-        (All-map (λ way. T way.transport) (way_to name) (filter (is_tried (is_secure request)) caps.transports) over.own)
-    led-meets name (first ∷ others) each =
+    by_services-meets : (name : List (List ℕ)) (services : List Service) → All (λ service. T service.transport) services
+        → Sounds (by_services (is_secure request) caps words given name services)
+    by_services-meets name [] each =
+        along-meets name (offered_default (is_secure request) caps) (own_services (is_secure request) caps name) over.usually
+        (All-map (λ service. T service.transport) (service_at name) (filter (is_tried (is_secure request)) caps.transports) over.own)
+    by_services-meets name (first ∷ others) each =
         along-meets name (Ok first.transport) (first ∷ others)
         (λ transport is. let same : first.transport ≡ transport = cc in subst T same
-        (All-head (λ way. T way.transport) first others each)) each
+        (All-head (λ service. T service.transport) first others each)) each
 
     naptr-meets : (name : List (List ℕ)) → Sounds (by_naptr (is_secure request) caps words given name)
     naptr-meets name =
@@ -117,8 +117,8 @@ module _ (request : Request) (caps : Caps) (words : List ℕ) (given : List Give
         (answer_to given question)
         (meets-more Missing (λ answer. find_answer given question ≡ Some answer)
         (λ answer. Sounds (by_rules (is_secure request) caps words given name (rules_in answer.records))) (answer_to given question)
-        (λ answer found. led-meets name (kept (is_secure request) caps (rules_in answer.records))
-        (kept-over (is_secure request) caps T over.by_rule (rules_in answer.records)))
+        (λ answer found. by_services-meets name (usable_services (is_secure request) caps (rules_in answer.records))
+        (usable_services-over (is_secure request) caps T over.by_rule (rules_in answer.records)))
         (answer-meets given (kinds_of caps.families) question (0, omega arith, refl)))
 
     port-meets : (name : List (List ℕ)) (port : ℕ) (transport : Result Transport Reason)
@@ -127,13 +127,14 @@ module _ (request : Request) (caps : Caps) (words : List ℕ) (given : List Give
     port-meets name port (Ok transport) e = name-meets name port transport (over.meant transport e)
     port-meets name port (Err reason) e = tt
 
-    service-meets : (name : List (List ℕ)) (transport : Result Transport Reason)
+    named_service-meets : (name : List (List ℕ)) (transport : Result Transport Reason)
         → offered caps (transport_of request) ≡ transport
         → Sounds (to_service caps words given name transport)
-    service-meets name (Ok transport) e =
-        along-meets name (Ok transport) (way_to name transport ∷ []) (λ same is. over.meant same (e ∙ is))
-        (All-cons (λ way. T way.transport) (way_to name transport) [] (over.meant transport e) (All-nil (λ way. T way.transport)))
-    service-meets name (Err reason) e = tt
+    named_service-meets name (Ok transport) e =
+        along-meets name (Ok transport) (service_at name transport ∷ []) (λ same is. over.meant same (e ∙ is))
+        (All-cons (λ service. T service.transport) (service_at name transport) [] (over.meant transport e)
+        (All-nil (λ service. T service.transport)))
+    named_service-meets name (Err reason) e = tt
 
     discovered-or : (name : List (List ℕ)) (reason : Reason) (secure : Bool)
         → Sounds (if secure then Ok (Err reason) else by_naptr (is_secure request) caps words given name)
@@ -148,8 +149,8 @@ module _ (request : Request) (caps : Caps) (words : List ℕ) (given : List Give
     pub domain-sound : (name : List (List ℕ)) (port : Option ℕ) (named : Option Spoken)
         → Sounds (to_host request caps words given (host.Domain name) port named)
     domain-sound name (Some port) named = port-meets name port (offered caps (transport_of request)) refl
-    domain-sound name None (Some named) = service-meets name (offered caps (transport_of request)) refl
-    domain-sound name None None = discovered-meets name (usual (is_secure request) caps)
+    domain-sound name None (Some named) = named_service-meets name (offered caps (transport_of request)) refl
+    domain-sound name None None = discovered-meets name (offered_default (is_secure request) caps)
 
     -- ---- any host
 

@@ -11,8 +11,8 @@ use Rattle.sip_uri.specs.declared.transport.Transport.{Transport}
 use Rattle.srv_choice.specs.Outcomes.{is_root}
 use Rattle.sip_selection.specs.Callers.{kinds_of}
 use Rattle.sip_selection.specs.Known.{Given, Needing, after, made, joined, answer_to, addresses_in}
-use Rattle.sip_selection.specs.Services.{place_targets, target_at}
-use Rattle.sip_selection.specs.Stages.{Extends, Reaches, kinds_left, server_left, place_left, places_left, servers_left}
+use Rattle.sip_selection.specs.Services.{index_targets, target_at}
+use Rattle.sip_selection.specs.Stages.{Extends, Reaches, kinds_left, server_left, index_left, indexes_left, servers_left}
 use Rattle.sip_selection.specs.declared.caps.Caps.{Caps}
 use Rattle.sip_selection.specs.declared.target.Target.{Target}
 use Rattle.sip_selection.proofs.Needings.{twice-in-front}
@@ -20,24 +20,24 @@ use Rattle.sip_selection.proofs.Needings.{twice-in-front}
 pub extends-itself : (given : List Given) → Extends given given
 extends-itself given = λ question answer is. is
 
-module _ {Place : Type 0} (given : List Given) (left : List Given → Place → Needing (List Target)) (from : Place)
+module _ {Index : Type 0} (given : List Given) (left : List Given → Index → Needing (List Target)) (from : Index)
     (before : List Target) where
-  pub record Came (at : Place) (now : List Target) : Type 0 where
+  pub record Came (at : Index) (now : List Target) : Type 0 where
     pub found : List Target
     pub are : now ≡ before ++ found
     pub is : (all : List Given) → Extends given all → left all from ≡ made (λ more. found ++ more) (left all at)
 
-  pub came-more : (at next : Place) (now then more : List Target) → Came at now → then ≡ now ++ more
+  pub came-more : (at next : Index) (now then more : List Target) → Came at now → then ≡ now ++ more
       → ((all : List Given) → Extends given all → left all at ≡ made (λ others. more ++ others) (left all next)) → Came next then
-  came-more at next now then more came grown step = record {
+  came-more at next now then more came grown onward = record {
     found = came.found ++ more;
     are = grown ∙ ap (λ (l : List Target). l ++ more) came.are ∙ append_assoc before came.found more;
-    is = λ all extends. came.is all extends ∙ ap (made (λ others. came.found ++ others)) (step all extends)
+    is = λ all extends. came.is all extends ∙ ap (made (λ others. came.found ++ others)) (onward all extends)
         ∙ twice-in-front came.found more (left all next);
   }
 
   -- a stop at a question
-  pub came-stop : (at : Place) (now : List Target) (question : Question) → Came at now → left given at ≡ Err question
+  pub came-stop : (at : Index) (now : List Target) (question : Question) → Came at now → left given at ≡ Err question
       → (found : List Target) × (now ≡ before ++ found) × Reaches given left from (Some (at, question)) found
   came-stop at now question came stops = (came.found, came.are, (came.is, stops))
 
@@ -82,31 +82,31 @@ server-kinds caps transport server named = λ j all from. same all from j
         → server_left caps all transport server from ≡ kinds_left caps all transport server.port server.target from
     same all from = rw named refl
 
-pub place-server : (caps : Caps) (transport : Transport) (servers : List SrvRecord) (place : ℕ) (server : SrvRecord)
-    → slice_get servers place ≡ Some server
-    → ◌≡◌ {A = Left} (λ all. place_left caps all transport servers place) (λ all. server_left caps all transport server)
-place-server caps transport servers place server there = λ j all from. same all from j
+pub index-server : (caps : Caps) (transport : Transport) (servers : List SrvRecord) (index : ℕ) (server : SrvRecord)
+    → slice_get servers index ≡ Some server
+    → ◌≡◌ {A = Left} (λ all. index_left caps all transport servers index) (λ all. server_left caps all transport server)
+index-server caps transport servers index server there = λ j all from. same all from j
   where
-    same : (all : List Given) (from : ℕ) → place_left caps all transport servers place from ≡ server_left caps all transport server from
+    same : (all : List Given) (from : ℕ) → index_left caps all transport servers index from ≡ server_left caps all transport server from
     same all from = rw there refl
 
 -- ---- the servers in an order
 
 module _ (caps : Caps) (transport : Transport) (servers : List SrvRecord) where
   abbrev targets_at : List Given → ℕ → Needing (List Target)
-  targets_at all = place_targets all (kinds_of caps.families) transport servers
+  targets_at all = index_targets all (kinds_of caps.families) transport servers
 
   -- before its first kind, a server is whole
-  pub all-left : (all : List Given) (places : List ℕ) → places_left caps all transport servers places 0 ≡ joined (targets_at all) places
+  pub all-left : (all : List Given) (indexes : List ℕ) → indexes_left caps all transport servers indexes 0 ≡ joined (targets_at all) indexes
   all-left all [] = refl
-  all-left all (place ∷ places) = refl
+  all-left all (index ∷ indexes) = refl
 
-  module _ (places : List ℕ) (at kind place : ℕ) (within : at < length places) (is : place ≡ get_or places at 0) where
-    places-are : drop at places ≡ place ∷ drop (at + 1) places
-    places-are = drop_more places at 0 within ∙ ap (λ (p : ℕ). p ∷ drop (at + 1) places) (sym is)
+  module _ (indexes : List ℕ) (at kind index : ℕ) (within : at < length indexes) (is : index ≡ get_or indexes at 0) where
+    indexes-are : drop at indexes ≡ index ∷ drop (at + 1) indexes
+    indexes-are = drop_more indexes at 0 within ∙ ap (λ (p : ℕ). p ∷ drop (at + 1) indexes) (sym is)
 
     abbrev rest : List Given → Needing (List Target)
-    rest all = joined (targets_at all) (drop (at + 1) places)
+    rest all = joined (targets_at all) (drop (at + 1) indexes)
 
     in-front : (found : List Target) (others here : Needing (List Target))
         → after (λ more. made (λ others. more ++ others) others) (made (λ more. found ++ more) here)
@@ -117,14 +117,14 @@ module _ (caps : Caps) (transport : Transport) (servers : List SrvRecord) where
 
     -- a question stops it
     pub server-part : (given : List Given) (stop : ℕ) (question : Question) (found : List Target)
-        → Reaches given (λ all. place_left caps all transport servers place) kind (Some (stop, question)) found
+        → Reaches given (λ all. index_left caps all transport servers index) kind (Some (stop, question)) found
         → (all : List Given) → Extends given all
-        → servers_left caps all transport servers places (record { server = at; kind = kind })
-        ≡ made (λ others. found ++ others) (servers_left caps all transport servers places (record { server = at; kind = stop }))
+        → servers_left caps all transport servers indexes (record { server = at; kind = kind })
+        ≡ made (λ others. found ++ others) (servers_left caps all transport servers indexes (record { server = at; kind = stop }))
     server-part given stop question found part all extends =
-        rw (places-are, part.0 all extends) (in-front found (rest all) (place_left caps all transport servers place stop))
+        rw (indexes-are, part.0 all extends) (in-front found (rest all) (index_left caps all transport servers index stop))
 
     pub server-stops : (given : List Given) (stop : ℕ) (question : Question) (found : List Target)
-        → Reaches given (λ all. place_left caps all transport servers place) kind (Some (stop, question)) found
-        → servers_left caps given transport servers places (record { server = at; kind = stop }) ≡ Err question
-    server-stops given stop question found part = rw (places-are, part.1) refl
+        → Reaches given (λ all. index_left caps all transport servers index) kind (Some (stop, question)) found
+        → servers_left caps given transport servers indexes (record { server = at; kind = stop }) ≡ Err question
+    server-stops given stop question found part = rw (indexes-are, part.1) refl

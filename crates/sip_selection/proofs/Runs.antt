@@ -25,19 +25,19 @@ use Rattle.ip_text.specs.declared.address.Address.TheVariants as address
 use Rattle.sip_uri.specs.declared.transport.Spoken.{Spoken}
 use Rattle.sip_uri.specs.declared.transport.Transport.{Transport}
 use Rattle.sip_selection.specs.Callers.{kinds_of}
-use Rattle.sip_selection.specs.Choice.{need, Settled, offered, usual, own_ways, is_tried, to_name, to_domain, by_offers, along, led, by_rules, by_naptr, to_address, to_port, to_service, discovered, to_host, locate}
+use Rattle.sip_selection.specs.Choice.{need, Settled, offered, offered_default, own_services, is_tried, to_name, to_domain, by_offers, along, by_services, by_rules, by_naptr, to_address, to_port, to_service, discovered, to_host, locate}
 use Rattle.sip_selection.specs.Known.{Given, Needing, find_answer, answer_to, rules_in}
 use Rattle.sip_selection.specs.Requests.{target_of, port_of, spoken_of, is_secure, transport_of, default_port}
-use Rattle.sip_selection.specs.Rules.{kept}
-use Rattle.sip_selection.specs.Services.{way_to, targets_of, Offer, offers_along, is_listed, is_denied}
+use Rattle.sip_selection.specs.Rules.{usable_services}
+use Rattle.sip_selection.specs.Services.{service_at, targets_of, Offer, offers_along, is_listed, is_denied}
 use Rattle.sip_selection.specs.declared.caps.Caps.{Caps}
 use Rattle.sip_selection.specs.declared.reason.Reason.{Reason}
 use Rattle.sip_selection.specs.declared.request.Request.{Request}
 use Rattle.sip_selection.specs.declared.target.Target.{Target}
-use Rattle.sip_selection.specs.declared.way.Way.{Way}
-use Rattle.sip_selection.proofs.Asking.{or_left, or_right, are_some, AnyTarget, AsksOf, WayAsks, AreTold, servers_at, rules_at, services, servers_of, has_servers, answer-asks, targets-ask, offers-ask}
+use Rattle.sip_selection.specs.declared.service.Service.{Service}
+use Rattle.sip_selection.proofs.Asking.{or_left, or_right, are_some, AnyTarget, AsksOf, ServiceAsks, AreTold, servers_at, rules_at, srv_question, servers_of, has_servers, answer-asks, targets-ask, offers-ask}
 use Rattle.sip_selection.proofs.ChoiceLaws.{missing_is}
-use Rattle.sip_selection.proofs.Counting.{IsSmall, Any-question, answer-small, filter-few, kept-few, kinds-few, servers-few}
+use Rattle.sip_selection.proofs.Counting.{IsSmall, Any-question, answer-small, filter-few, usable_services-few, kinds-few, servers-few}
 use Rattle.sip_selection.proofs.Meeting.{Meets, meets-more, made-meets, after-meets}
 use Rattle.sip_selection.proofs.Outcomes.{Resolves, Settles, meets-resolves}
 
@@ -50,29 +50,30 @@ abbrev rules : List (List ℕ) → Question
 rules name = record { name = name; kind = kind.Naptr }
 
 module _ (all : List Given) (kinds : List Kind) where
-  abbrev of_way : Option (List (List ℕ)) → List Question
-  of_way None = []
-  of_way (Some name) = services name ∷ flat_map (λ (server : SrvRecord). addresses kinds server.target)
-      (servers_at (answer_to all (services name)))
+  abbrev of_one_service : Option (List (List ℕ)) → List Question
+  of_one_service None = []
+  of_one_service (Some name) = srv_question name ∷ flat_map (λ (server : SrvRecord). addresses kinds server.target)
+      (servers_at (answer_to all (srv_question name)))
 
-  abbrev of_ways : List (List ℕ) → List Way → List Question
-  of_ways name ways = flat_map (λ (way : Way). of_way way.name) ways ++
-      (if list_any (has_servers all) ways then [] else addresses kinds name)
+  abbrev of_services : List (List ℕ) → List Service → List Question
+  of_services name services = flat_map (λ (service : Service). of_one_service service.name) services ++
+      (if list_any (has_servers all) services then [] else addresses kinds name)
 
 module _ (request : Request) (caps : Caps) (words : List ℕ) (all : List Given) where
   abbrev kinds : List Kind
   kinds = kinds_of caps.families
 
   -- the ways that are tried by these rules
-  abbrev tried : List (List ℕ) → List Way → List Way
-  tried name [] = own_ways (is_secure request) caps name
+  abbrev tried : List (List ℕ) → List Service → List Service
+  tried name [] = own_services (is_secure request) caps name
   tried name (first ∷ others) = first ∷ others
 
   abbrev of_domain : List (List ℕ) → List Question
-  of_domain name = rules name ∷ of_ways all kinds name (tried name (kept (is_secure request) caps (rules_at (answer_to all (rules name)))))
+  of_domain name = rules name ∷ of_services all kinds name (tried name (usable_services (is_secure request) caps
+      (rules_at (answer_to all (rules name)))))
 
   abbrev of_service : List (List ℕ) → Result Transport Reason → List Question
-  of_service name (Ok transport) = of_ways all kinds name (way_to name transport ∷ [])
+  of_service name (Ok transport) = of_services all kinds name (service_at name transport ∷ [])
   of_service name (Err reason) = []
 
   abbrev of_host : Host → Option ℕ → Option Spoken → List Question
@@ -121,15 +122,15 @@ module _ (request : Request) (caps : Caps) (words : List ℕ) (R : Question → 
   abbrev Needs : Needing Settled → Type 0
   Needs = Meets AnySettled R
 
-  way-asks : (name : Option (List (List ℕ))) → All R (of_way all asked_kinds name) → WayAsks R given more asked_kinds name
-  way-asks None each = tt
-  way-asks (Some name) each =
-      let servers : List SrvRecord = servers_at (answer_to all (services name)) in
+  service-asks : (name : Option (List (List ℕ))) → All R (of_one_service all asked_kinds name) → ServiceAsks R given more asked_kinds name
+  service-asks None each = tt
+  service-asks (Some name) each =
+      let servers : List SrvRecord = servers_at (answer_to all (srv_question name)) in
       let asked : List Question = flat_map (λ (server : SrvRecord). addresses asked_kinds server.target) servers in (
-        All-head R (services name) asked each,
+        All-head R (srv_question name) asked each,
         all-more (λ (server : SrvRecord). All R (addresses asked_kinds server.target)) (AsksOf R given more asked_kinds)
             (λ server asks. each-mapped R (λ asked. record { name = server.target; kind = asked }) asked_kinds asks) servers
-            (each-part R (λ (server : SrvRecord). addresses asked_kinds server.target) servers (All-tail R (services name) asked each)),
+            (each-part R (λ (server : SrvRecord). addresses asked_kinds server.target) servers (All-tail R (srv_question name) asked each)),
       )
 
   name-asks : (name : List (List ℕ)) (port : ℕ) (transport : Transport) → All R (addresses asked_kinds name)
@@ -158,40 +159,47 @@ module _ (request : Request) (caps : Caps) (words : List ℕ) (R : Question → 
   else-addresses name true is each = absurd cc
   else-addresses name false is each = each
 
-  along-asks : (name : List (List ℕ)) (fallback : Result Transport Reason) (ways : List Way) → All R (of_ways all asked_kinds name ways)
-      → Needs (along caps words given name fallback ways)
-  along-asks name fallback ways each =
-      let some : Bool = list_any (has_servers all) ways in
-      let asked : List Question = flat_map (λ (way : Way). of_way all asked_kinds way.name) ways in
+  along-asks : (name : List (List ℕ)) (fallback : Result Transport Reason) (services : List Service)
+      → All R (of_services all asked_kinds name services)
+      → Needs (along caps words given name fallback services)
+  along-asks name fallback services each =
+      let some : Bool = list_any (has_servers all) services in
+      let asked : List Question = flat_map (λ (service : Service). of_one_service all asked_kinds service.name) services in
       let after : List Question = (if some then [] else addresses asked_kinds name) in
-      after-meets R AnySettled (by_offers caps given name fallback) (offers_along given asked_kinds words ways 0)
-      (meets-more R (AreTold R given more asked_kinds ways) (λ offers. Needs (by_offers caps given name fallback offers))
-      (offers_along given asked_kinds words ways 0)
+      after-meets R AnySettled (by_offers caps given name fallback) (offers_along given asked_kinds words services 0)
+      (meets-more R (AreTold R given more asked_kinds services) (λ offers. Needs (by_offers caps given name fallback offers))
+      (offers_along given asked_kinds words services 0)
       (λ offers told. offers-by name fallback offers (list_any is_listed offers) (list_any is_denied offers) refl refl
       (λ unlisted undenied. else-addresses name some (told unlisted undenied) (back-of R asked after each)))
-      (offers-ask R given more asked_kinds words ways 0
-      (all-more (λ (way : Way). All R (of_way all asked_kinds way.name)) (λ way. WayAsks R given more asked_kinds way.name)
-      (λ way asks. way-asks way.name asks) ways
-      (each-part R (λ (way : Way). of_way all asked_kinds way.name) ways (front-of R asked after each)))))
+      (offers-ask R given more asked_kinds words services 0
+      (all-more (λ (service : Service). All R (of_one_service all asked_kinds service.name))
+      (λ service. ServiceAsks R given more asked_kinds service.name)
+      (λ service asks. service-asks service.name asks) services
+      (each-part R (λ (service : Service). of_one_service all asked_kinds service.name) services (front-of R asked after each)))))
 
-  led-asks : (name : List (List ℕ)) (ways : List Way) → All R (of_ways all asked_kinds name (tried request caps words all name ways))
-      → Needs (led (is_secure request) caps words given name ways)
-  led-asks name [] each = along-asks name (usual (is_secure request) caps) (own_ways (is_secure request) caps name) each
-  led-asks name (first ∷ others) each = along-asks name (Ok first.transport) (first ∷ others) each
+  by_services-asks : (name : List (List ℕ)) (services : List Service)
+      → All R (of_services all asked_kinds name (tried request caps words all name services))
+      → Needs (by_services (is_secure request) caps words given name services)
+  by_services-asks name [] each = along-asks name (offered_default (is_secure request) caps) (own_services (is_secure request) caps name)
+      each
+  by_services-asks name (first ∷ others) each = along-asks name (Ok first.transport) (first ∷ others) each
 
   naptr-asks : (name : List (List ℕ)) → All R (of_domain request caps words all name)
       → Needs (by_naptr (is_secure request) caps words given name)
   naptr-asks name each =
-      let ways : List Way = tried request caps words all name (kept (is_secure request) caps (rules_at (answer_to all (rules name)))) in
-      let rest : All R (of_ways all asked_kinds name ways) = All-tail R (rules name) (of_ways all asked_kinds name ways) each in
+      let services : List Service = tried request caps words all name (usable_services (is_secure request) caps
+      (rules_at (answer_to all (rules name)))) in
+      let rest : All R (of_services all asked_kinds name services) = All-tail R (rules name) (of_services all asked_kinds name services)
+      each in
       after-meets R AnySettled
       (λ answer. by_rules (is_secure request) caps words given name (rules_in answer.records)) (answer_to given (rules name))
       (meets-more R (λ answer. answer_to all (rules name) ≡ Ok answer)
       (λ answer. Needs (by_rules (is_secure request) caps words given name (rules_in answer.records))) (answer_to given (rules name))
-      (λ answer is. led-asks name (kept (is_secure request) caps (rules_in answer.records))
+      (λ answer is. by_services-asks name (usable_services (is_secure request) caps (rules_in answer.records))
       (subst (λ (it : Needing AnswerValue). All R
-      (of_ways all asked_kinds name (tried request caps words all name (kept (is_secure request) caps (rules_at it))))) is rest))
-      (answer-asks R given more asked_kinds (rules name) (All-head R (rules name) (of_ways all asked_kinds name ways) each)))
+      (of_services all asked_kinds name (tried request caps words all name (usable_services (is_secure request) caps (rules_at it))))) is
+      rest))
+      (answer-asks R given more asked_kinds (rules name) (All-head R (rules name) (of_services all asked_kinds name services) each)))
 
   address-asks : (address : Address) (port : Option ℕ) (transport : Result Transport Reason)
       → Needs (to_address address port transport)
@@ -203,10 +211,11 @@ module _ (request : Request) (caps : Caps) (words : List ℕ) (R : Question → 
   port-asks name port (Ok transport) each = name-asks name port transport each
   port-asks name port (Err reason) each = tt
 
-  service-asks : (name : List (List ℕ)) (transport : Result Transport Reason) → All R (of_service request caps words all name transport)
+  named_service-asks : (name : List (List ℕ)) (transport : Result Transport Reason)
+      → All R (of_service request caps words all name transport)
       → Needs (to_service caps words given name transport)
-  service-asks name (Ok transport) each = along-asks name (Ok transport) (way_to name transport ∷ []) each
-  service-asks name (Err reason) each = tt
+  named_service-asks name (Ok transport) each = along-asks name (Ok transport) (service_at name transport ∷ []) each
+  named_service-asks name (Err reason) each = tt
 
   discovered-or : (name : List (List ℕ)) (reason : Reason) (secure : Bool) → All R (of_domain request caps words all name)
       → Needs (if secure then Ok (Err reason) else by_naptr (is_secure request) caps words given name)
@@ -225,8 +234,8 @@ module _ (request : Request) (caps : Caps) (words : List ℕ) (R : Question → 
   host-asks (host.V6 octets) port named each = address-asks (address.V6 octets) port
       (offered caps (transport_of request))
   host-asks (host.Domain name) (Some port) named each = port-asks name port (offered caps (transport_of request)) each
-  host-asks (host.Domain name) None (Some named) each = service-asks name (offered caps (transport_of request)) each
-  host-asks (host.Domain name) None None each = discovered-asks name (usual (is_secure request) caps) each
+  host-asks (host.Domain name) None (Some named) each = named_service-asks name (offered caps (transport_of request)) each
+  host-asks (host.Domain name) None None each = discovered-asks name (offered_default (is_secure request) caps) each
 
 -- ---- how many they are
 
@@ -249,56 +258,66 @@ module _ (all : List Given) (small : All IsSmall all) (kinds : List Kind) (two :
       let asks : Kind → Question = (λ asked. record { name = name; kind = asked }) in
       omega (arith, two, length-map kinds asks)
 
-  way-few : (name : Option (List (List ℕ))) → length (of_way all kinds name) ≤ 65
-  way-few None = omega arith
-  way-few (Some name) =
-      let servers : List SrvRecord = servers_at (answer_to all (services name)) in
-      let le : length servers ≤ 32 = servers-at-few (answer_to all (services name)) (answer-small all small (services name)) in
+  service-few : (name : Option (List (List ℕ))) → length (of_one_service all kinds name) ≤ 65
+  service-few None = omega arith
+  service-few (Some name) =
+      let servers : List SrvRecord = servers_at (answer_to all (srv_question name)) in
+      let le : length servers ≤ 32 = servers-at-few (answer_to all (srv_question name)) (answer-small all small (srv_question name)) in
       let each = flat-few 2 (λ (server : SrvRecord). addresses kinds server.target) (λ server. addresses-two server.target) servers in
       omega (arith, le, each)
 
-  quiet-way : (name : Option (List (List ℕ))) → are_some (servers_of all name) ≡ false → length (of_way all kinds name) ≤ 1
-  quiet-way None quiet = omega arith
-  quiet-way (Some name) quiet =
-      let none : servers_at (answer_to all (services name)) ≡ [] = none-of (servers_at (answer_to all (services name))) quiet in
+  quiet-service : (name : Option (List (List ℕ))) → are_some (servers_of all name) ≡ false → length (of_one_service all kinds name) ≤ 1
+  quiet-service None quiet = omega arith
+  quiet-service (Some name) quiet =
+      let none : servers_at (answer_to all (srv_question name)) ≡ [] = none-of (servers_at (answer_to all (srv_question name))) quiet in
       rw none (omega arith)
 
-  quiet-ways : (ways : List Way) → list_any (has_servers all) ways ≡ false
-      → length (flat_map (λ (way : Way). of_way all kinds way.name) ways) ≤ length ways
-  quiet-ways [] quiet = omega arith
-  quiet-ways (way ∷ ways) quiet =
-      let first = quiet-way way.name (or_left (has_servers all way) (list_any (has_servers all) ways) quiet) in
-      let rest = quiet-ways ways (or_right (has_servers all way) (list_any (has_servers all) ways) quiet) in
-      omega (arith, first, rest, length-append (of_way all kinds way.name) (flat_map (λ (way : Way). of_way all kinds way.name) ways))
+  quiet-services : (services : List Service) → list_any (has_servers all) services ≡ false
+      → length (flat_map (λ (service : Service). of_one_service all kinds service.name) services) ≤ length services
+  quiet-services [] quiet = omega arith
+  quiet-services (service ∷ services) quiet =
+      let first = quiet-service service.name (or_left (has_servers all service) (list_any (has_servers all) services) quiet) in
+      let rest = quiet-services services (or_right (has_servers all service) (list_any (has_servers all) services) quiet) in
+      omega (
+        arith,
+        first,
+        rest,
+        length-append (of_one_service all kinds service.name)
+            (flat_map (λ (service : Service). of_one_service all kinds service.name) services),
+      )
 
-  ways-by : (name : List (List ℕ)) (ways : List Way) (some : Bool) → list_any (has_servers all) ways ≡ some → length ways ≤ 8
-      → length (flat_map (λ (way : Way). of_way all kinds way.name) ways ++ (if some then [] else addresses kinds name)) ≤ 520
-  ways-by name ways true e eight =
-      let asked : List Question = flat_map (λ (way : Way). of_way all kinds way.name) ways in
-      let each = flat-few 65 (λ (way : Way). of_way all kinds way.name) (λ way. way-few way.name) ways in
+  services-by : (name : List (List ℕ)) (services : List Service) (some : Bool) → list_any (has_servers all) services ≡ some
+      → length services ≤ 8
+      → length (flat_map (λ (service : Service). of_one_service all kinds service.name) services ++
+      (if some then [] else addresses kinds name)) ≤ 520
+  services-by name services true e eight =
+      let asked : List Question = flat_map (λ (service : Service). of_one_service all kinds service.name) services in
+      let each = flat-few 65 (λ (service : Service). of_one_service all kinds service.name) (λ service. service-few service.name) services
+      in
       omega (arith, each, eight, length-append asked [])
-  ways-by name ways false e eight =
-      let asked : List Question = flat_map (λ (way : Way). of_way all kinds way.name) ways in
-      omega (arith, quiet-ways ways e, eight, addresses-two name, length-append asked (addresses kinds name))
+  services-by name services false e eight =
+      let asked : List Question = flat_map (λ (service : Service). of_one_service all kinds service.name) services in
+      omega (arith, quiet-services services e, eight, addresses-two name, length-append asked (addresses kinds name))
 
-  ways-few : (name : List (List ℕ)) (ways : List Way) → length ways ≤ 8 → length (of_ways all kinds name ways) ≤ 520
-  ways-few name ways eight = ways-by name ways (list_any (has_servers all) ways) refl eight
+  services-few : (name : List (List ℕ)) (services : List Service) → length services ≤ 8 → length (of_services all kinds name services) ≤ 520
+  services-few name services eight = services-by name services (list_any (has_servers all) services) refl eight
 
 module _ (request : Request) (caps : Caps) (words : List ℕ) (four : length caps.transports ≤ 4) (all : List Given)
     (small : All IsSmall all) where
-  tried-few : (name : List (List ℕ)) (ways : List Way) → length ways ≤ 8 → length (tried request caps words all name ways) ≤ 8
+  tried-few : (name : List (List ℕ)) (services : List Service) → length services ≤ 8
+      → length (tried request caps words all name services) ≤ 8
   tried-few name [] eight =
       let own : List Transport = filter (is_tried (is_secure request)) caps.transports in
-      omega (arith, four, filter-few (is_tried (is_secure request)) caps.transports, length-map own (way_to name))
+      omega (arith, four, filter-few (is_tried (is_secure request)) caps.transports, length-map own (service_at name))
   tried-few name (first ∷ others) eight = eight
 
-  service-few : (name : List (List ℕ)) (transport : Result Transport Reason)
+  named_service-few : (name : List (List ℕ)) (transport : Result Transport Reason)
       → length (of_service request caps words all name transport) ≤ 521
-  service-few name (Ok transport) =
-      let le = ways-few all small (kinds_of caps.families) (kinds-few caps.families) name (way_to name transport ∷ [])
+  named_service-few name (Ok transport) =
+      let le = services-few all small (kinds_of caps.families) (kinds-few caps.families) name (service_at name transport ∷ [])
       (omega arith) in
       omega (arith, le)
-  service-few name (Err reason) = omega arith
+  named_service-few name (Err reason) = omega arith
 
   host-few : (target : Host) (port : Option ℕ) (named : Option Spoken) → length (of_host request caps words all target port named) ≤ 521
   host-few (host.V4 octets) port named = omega arith
@@ -306,12 +325,12 @@ module _ (request : Request) (caps : Caps) (words : List ℕ) (four : length cap
   host-few (host.Domain name) (Some port) named =
       let le = addresses-two all small (kinds_of caps.families) (kinds-few caps.families) name in
       omega (arith, le)
-  host-few (host.Domain name) None (Some named) = service-few name (offered caps (transport_of request))
+  host-few (host.Domain name) None (Some named) = named_service-few name (offered caps (transport_of request))
   host-few (host.Domain name) None None =
-      let ways : List Way = kept (is_secure request) caps (rules_at (answer_to all (rules name))) in
-      let eight = tried-few name ways (kept-few (is_secure request) caps (rules_at (answer_to all (rules name)))) in
-      let le = ways-few all small (kinds_of caps.families) (kinds-few caps.families) name
-      (tried request caps words all name ways) eight in
+      let services : List Service = usable_services (is_secure request) caps (rules_at (answer_to all (rules name))) in
+      let eight = tried-few name services (usable_services-few (is_secure request) caps (rules_at (answer_to all (rules name)))) in
+      let le = services-few all small (kinds_of caps.families) (kinds-few caps.families) name
+      (tried request caps words all name services) eight in
       omega (arith, le)
 
 -- ---- none comes twice

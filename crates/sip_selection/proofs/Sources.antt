@@ -13,9 +13,9 @@ use Rattle.srv_choice.specs.Outcomes.{order_from, is_root}
 use Rattle.srv_choice.specs.declared.outcome.SrvOutcome.{SrvOutcome}
 use Rattle.srv_choice.specs.declared.outcome.SrvOutcome.TheVariants.{Absent, Denied, Listed}
 use Rattle.sip_selection.specs.Known.{Given, made, joined, find_answer, answer_to, addresses_in, servers_in}
-use Rattle.sip_selection.specs.Services.{kind_targets, targets_of, server_targets, place_targets, Offer, listed, offered_targets, offer_of, offer_by, offer_named, offer_along, offers_along, next_word, target_at}
+use Rattle.sip_selection.specs.Services.{kind_targets, targets_of, server_targets, index_targets, Offer, listed, offered_targets, offer_of, offer_by, offer_named, offer_along, offers_along, next_word, target_at}
 use Rattle.sip_selection.specs.declared.target.Target.{Target}
-use Rattle.sip_selection.specs.declared.way.Way.{Way}
+use Rattle.sip_selection.specs.declared.service.Service.{Service}
 use Rattle.sip_selection.proofs.Meeting.{Meets, meets-more, made-meets, after-meets, found-meets, joined-meets}
 
 module _ (given : List Given) (kinds : List Kind) where
@@ -60,19 +60,19 @@ module _ (given : List Given) (kinds : List Kind) where
       server-by server true e = rw e (All-nil IsSound)
       server-by server false e = rw e (targets-meet server.port server.target)
 
-      place-by : (server : Option SrvRecord)
+      index-by : (server : Option SrvRecord)
           → Meets (All IsSound) IsMissing (option_map_or (server_targets given kinds transport) server (Ok []))
-      place-by None = All-nil IsSound
-      place-by (Some server) = server-by server (is_root server.target) refl
+      index-by None = All-nil IsSound
+      index-by (Some server) = server-by server (is_root server.target) refl
 
       offer-meets : (servers : List SrvRecord) (outcome : SrvOutcome)
           → Meets (λ offer. All IsSound (offered_targets offer)) IsMissing (offer_of given kinds transport servers outcome)
       offer-meets servers Absent = All-nil IsSound
       offer-meets servers Denied = All-nil IsSound
-      offer-meets servers (Listed places next) =
+      offer-meets servers (Listed indexes next) =
           made-meets IsMissing (λ offer. All IsSound (offered_targets offer)) (λ targets. listed targets next)
-          (joined (place_targets given kinds transport servers) places)
-          (joined-meets IsMissing IsSound (place_targets given kinds transport servers) places (λ i d lt. place-by (slice_get servers _)))
+          (joined (index_targets given kinds transport servers) indexes)
+          (joined-meets IsMissing IsSound (index_targets given kinds transport servers) indexes (λ i d lt. index-by (slice_get servers _)))
 
       named-meets : (words : List ℕ) (word : ℕ) (name : Option (List (List ℕ)))
           → Meets (λ offer. All IsSound (offered_targets offer)) IsMissing (offer_named given kinds words transport word name)
@@ -87,18 +87,18 @@ module _ (given : List Given) (kinds : List Kind) where
           (λ answer found. offer-meets (servers_in answer.records) (order_from (servers_in answer.records) words word))
           (answer-meets question (1, omega arith, refl)))
 
-    pub offers-meet : (words : List ℕ) (ways : List Way) (word : ℕ) → All (λ way. T way.transport) ways
-        → Meets (λ offers. All IsSound (flat_map offered_targets offers)) IsMissing (offers_along given kinds words ways word)
+    pub offers-meet : (words : List ℕ) (services : List Service) (word : ℕ) → All (λ service. T service.transport) services
+        → Meets (λ offers. All IsSound (flat_map offered_targets offers)) IsMissing (offers_along given kinds words services word)
     offers-meet words [] word each = All-nil IsSound
-    offers-meet words (way ∷ ways) word each =
+    offers-meet words (service ∷ services) word each =
         let Q : List Offer → Type 0 = (λ offers. All IsSound (flat_map offered_targets offers)) in
-        after-meets IsMissing Q (λ offer. made (λ others. offer ∷ others) (offers_along given kinds words ways (next_word word offer)))
-        (offer_along given kinds words way word)
+        after-meets IsMissing Q (λ offer. made (λ others. offer ∷ others) (offers_along given kinds words services (next_word word offer)))
+        (offer_along given kinds words service word)
         (meets-more IsMissing (λ offer. All IsSound (offered_targets offer))
-        (λ offer. Meets Q IsMissing (made (λ others. offer ∷ others) (offers_along given kinds words ways (next_word word offer))))
-        (offer_along given kinds words way word)
-        (λ offer is. made-meets IsMissing Q (λ others. offer ∷ others) (offers_along given kinds words ways (next_word word offer))
-        (meets-more IsMissing Q (λ others. Q (offer ∷ others)) (offers_along given kinds words ways (next_word word offer))
+        (λ offer. Meets Q IsMissing (made (λ others. offer ∷ others) (offers_along given kinds words services (next_word word offer))))
+        (offer_along given kinds words service word)
+        (λ offer is. made-meets IsMissing Q (λ others. offer ∷ others) (offers_along given kinds words services (next_word word offer))
+        (meets-more IsMissing Q (λ others. Q (offer ∷ others)) (offers_along given kinds words services (next_word word offer))
         (λ others is'. All-append IsSound (offered_targets offer) (flat_map offered_targets others) is is')
-        (offers-meet words ways (next_word word offer) (All-tail (λ way. T way.transport) way ways each))))
-        (named-meets way.transport (All-head (λ way. T way.transport) way ways each) words word way.name))
+        (offers-meet words services (next_word word offer) (All-tail (λ service. T service.transport) service services each))))
+        (named-meets service.transport (All-head (λ service. T service.transport) service services each) words word service.name))

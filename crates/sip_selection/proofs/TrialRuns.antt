@@ -41,13 +41,13 @@ module _ (targets : List Target) where
   stays_answered failures [] lt = refl
   stays_answered failures (event ∷ events) lt = rw (yes_lt failures (length targets) lt) (stays_answered failures events lt)
 
-  abbrev reached : ℕ → List Event → Trial
-  reached failures events =
+  abbrev service_step : ℕ → List Event → Trial
+  service_step failures events =
       at (min (length targets) (failures + failures_in events))
       (is_answered events && nat_lt (failures + failures_in events) (length targets))
 
   run : (failures : ℕ) (events : List Event) → failures ≤ length targets
-      → fold next_trial (at failures false) events ≡ reached failures events
+      → fold next_trial (at failures false) events ≡ service_step failures events
   run failures [] le = let here : min (length targets) (failures + 0) ≡ failures = omega arith in rw here refl
   run failures (Failed failure ∷ events) le =
       let n : ℕ = length targets in

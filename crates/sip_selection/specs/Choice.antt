@@ -15,14 +15,14 @@ use Rattle.sip_selection.specs.declared.caps.Caps.{Caps}
 use Rattle.sip_uri.specs.Same.{same_transport}
 use Rattle.sip_selection.specs.Callers.{offers, kinds_of}
 use Rattle.sip_selection.specs.Known.{Given, Needing, after, made, answer_to, rules_in}
-use Rattle.sip_selection.specs.Requests.{target_of, port_of, spoken_of, is_secure, transport_of, usual_transport, default_port}
-use Rattle.sip_selection.specs.Rules.{kept}
-use Rattle.sip_selection.specs.Services.{way_to, target_at, targets_of, Offer, offers_along, is_listed, is_denied, offered_targets}
+use Rattle.sip_selection.specs.Requests.{target_of, port_of, spoken_of, is_secure, transport_of, default_transport, default_port}
+use Rattle.sip_selection.specs.Rules.{usable_services}
+use Rattle.sip_selection.specs.Services.{service_at, target_at, targets_of, Offer, offers_along, is_listed, is_denied, offered_targets}
 use Rattle.sip_selection.specs.declared.reason.Reason.{Reason}
 use Rattle.sip_selection.specs.declared.reason.Reason.TheVariants.{TransportUnsupported, NotOffered, NoAddress}
 use Rattle.sip_selection.specs.declared.request.Request.{Request}
 use Rattle.sip_selection.specs.declared.target.Target.{Target}
-use Rattle.sip_selection.specs.declared.way.Way.{Way}
+use Rattle.sip_selection.specs.declared.service.Service.{Service}
 
 -- where a request goes: to `targets`, nowhere (`refused`), or as the answer to a question will say
 -- (`need`)
@@ -59,8 +59,8 @@ offered caps (Ok transport) =
 offered caps (Err reason) = Err reason
 
 -- the transport where none is named: TLS for SIPS, else UDP
-abbrev pub usual : Bool → Caps → Result Transport Reason
-usual secure caps = offered caps (Ok (usual_transport secure))
+abbrev pub offered_default : Bool → Caps → Result Transport Reason
+offered_default secure caps = offered caps (Ok (default_transport secure))
 
 -- ---- addresses
 
@@ -97,14 +97,14 @@ module _ (caps : Caps) (given : List Given) where
 
 module _ (caps : Caps) (words : List ℕ) (given : List Given) where
   -- the targets of these services, or of the domain where all of them are absent
-  abbrev pub along : List (List ℕ) → Result Transport Reason → List Way → Needing Settled
-  along name fallback ways =
+  abbrev pub along : List (List ℕ) → Result Transport Reason → List Service → Needing Settled
+  along name fallback services =
       after (by_offers caps given name fallback)
-      (offers_along given (kinds_of caps.families) words ways 0)
+      (offers_along given (kinds_of caps.families) words services 0)
 
   -- the targets of a domain by its service of the transport that is named
   abbrev pub to_service : List (List ℕ) → Result Transport Reason → Needing Settled
-  to_service name (Ok transport) = along name (Ok transport) (way_to name transport ∷ [])
+  to_service name (Ok transport) = along name (Ok transport) (service_at name transport ∷ [])
   to_service name (Err reason) = Ok (Err reason)
 
 -- ---- without NAPTR records: a SIP URI does without TLS, and a SIPS URI takes it alone
@@ -114,24 +114,26 @@ abbrev pub is_tried : Bool → Transport → Bool
 is_tried secure transport =
     if secure then same_transport transport Tls else not (same_transport transport Tls)
 
-abbrev pub tried_ways : Bool → List (List ℕ) → List (Option Transport) → List Way
-tried_ways secure name slots =
-    map (way_to name) (filter (is_tried secure) (filter_map (λ slot. slot) slots))
+abbrev pub tried_services : Bool → List (List ℕ) → List (Option Transport) → List Service
+tried_services secure name slots =
+    map (service_at name) (filter (is_tried secure) (filter_map (λ slot. slot) slots))
 
 -- the services of a domain by the caller's own transports, in their order
-abbrev pub own_ways : Bool → Caps → List (List ℕ) → List Way
-own_ways secure caps name = map (way_to name) (filter (is_tried secure) caps.transports)
+abbrev pub own_services : Bool → Caps → List (List ℕ) → List Service
+own_services secure caps name = map (service_at name) (filter (is_tried secure) caps.transports)
 
 module _ (secure : Bool) (caps : Caps) (words : List ℕ) (given : List Given) where
   -- the targets of the services that NAPTR records lead to; where these lead to none, those of the
   -- domain's own services
-  abbrev pub led : List (List ℕ) → List Way → Needing Settled
-  led name [] = along caps words given name (usual secure caps) (own_ways secure caps name)
-  led name (first ∷ others) = along caps words given name (Ok first.transport) (first ∷ others)
+  abbrev pub by_services : List (List ℕ) → List Service → Needing Settled
+  by_services name [] = along caps words given name (offered_default secure caps)
+      (own_services secure caps name)
+  by_services name (first ∷ others) = along caps words given name (Ok first.transport)
+      (first ∷ others)
 
   -- the targets of a name by these NAPTR records
   abbrev pub by_rules : List (List ℕ) → List NaptrRecord → Needing Settled
-  by_rules name rules = led name (kept secure caps rules)
+  by_rules name rules = by_services name (usable_services secure caps rules)
 
   -- the targets of a name by its NAPTR records (RFC 3263 4.1)
   abbrev pub by_naptr : List (List ℕ) → Needing Settled
@@ -160,7 +162,8 @@ module _ (request : Request) (caps : Caps) (words : List ℕ) (given : List Give
   to_host (host.Domain name) (Some port) named = to_port caps given name port transport
   to_host (host.Domain name) None (Some named) = to_service caps words given name transport
   to_host (host.Domain name) None None =
-      discovered (is_secure request) caps words given name (usual (is_secure request) caps)
+      discovered (is_secure request) caps words given name
+      (offered_default (is_secure request) caps)
 
   -- where the request goes, as a value that needs answers (`Needing`)
   abbrev pub chosen : Needing Settled

@@ -40,29 +40,29 @@ is_secure (Via via) = false
 -- ---- the transport (RFC 3263 4.1, 5)
 
 -- what a SIP URI or a Via means by the transport that it names: that one, where it is known
-abbrev pub plainly : Spoken → Result Transport Reason
-plainly (spoken.Known transport) = Ok transport
-plainly spoken.Other = Err TransportUnsupported
+abbrev pub transport_for_sip : Spoken → Result Transport Reason
+transport_for_sip (spoken.Known transport) = Ok transport
+transport_for_sip spoken.Other = Err TransportUnsupported
 
 -- what a SIPS URI means by the transport that it names: TLS over TCP, by `tcp` and by `tls` (RFC
 -- 3261 19.1.1, 26.2.2); UDP is not secure, and others are not supported
-abbrev pub securely : Spoken → Result Transport Reason
-securely (spoken.Known Udp) = Err TransportNotSecure
-securely (spoken.Known Tcp) = Ok Tls
-securely (spoken.Known Sctp) = Err TransportUnsupported
-securely (spoken.Known Tls) = Ok Tls
-securely spoken.Other = Err TransportUnsupported
+abbrev pub transport_for_sips : Spoken → Result Transport Reason
+transport_for_sips (spoken.Known Udp) = Err TransportNotSecure
+transport_for_sips (spoken.Known Tcp) = Ok Tls
+transport_for_sips (spoken.Known Sctp) = Err TransportUnsupported
+transport_for_sips (spoken.Known Tls) = Ok Tls
+transport_for_sips spoken.Other = Err TransportUnsupported
 
 -- the transport where none is named: TLS for a SIPS URI, else UDP (RFC 3263 4.1)
-abbrev pub usual_transport : Bool → Transport
-usual_transport true = Tls
-usual_transport false = Udp
+abbrev pub default_transport : Bool → Transport
+default_transport true = Tls
+default_transport false = Udp
 
 -- the transport that is meant, by whether the URI is a SIPS URI and by the transport that it names
 abbrev pub meant_by : Bool → Option Spoken → Result Transport Reason
-meant_by secure None = Ok (usual_transport secure)
-meant_by true (Some named) = securely named
-meant_by false (Some named) = plainly named
+meant_by secure None = Ok (default_transport secure)
+meant_by true (Some named) = transport_for_sips named
+meant_by false (Some named) = transport_for_sip named
 
 -- the transport that a request means, or why there is none (RFC 3263 4.1, 5, RFC 3261 26.2.2)
 abbrev pub transport_of : Request → Result Transport Reason

@@ -14,7 +14,7 @@ use Rattle.srv_choice.specs.declared.outcome.SrvOutcome.{SrvOutcome}
 use Rattle.srv_choice.specs.declared.outcome.SrvOutcome.TheVariants.{Absent, Denied, Listed}
 use Rattle.sip_selection.specs.Known.{Given, Needing, after, made, joined, answer_to, addresses_in, servers_in}
 use Rattle.sip_selection.specs.declared.target.Target.{Target}
-use Rattle.sip_selection.specs.declared.way.Way.{Way}
+use Rattle.sip_selection.specs.declared.service.Service.{Service}
 
 -- the labels in front of a domain, by the transport of the service (RFC 3263 4.1, RFC 2782)
 abbrev pub service_label : Transport → List ℕ
@@ -35,8 +35,8 @@ abbrev pub fitting : List (List ℕ) → Option (List (List ℕ))
 fitting name = if nat_lt 255 (length (wire_of name)) then None else Some name
 
 -- the service of a domain by a transport, and the name of its SRV records
-abbrev pub way_to : List (List ℕ) → Transport → Way
-way_to domain transport =
+abbrev pub service_at : List (List ℕ) → Transport → Service
+service_at domain transport =
     record {
       transport = transport;
       name =
@@ -66,9 +66,9 @@ module _ (given : List Given) (kinds : List Kind) where
       if is_root server.target then Ok [] else targets_of transport server.port server.target
 
   -- the targets of the server at a place of the list
-  abbrev pub place_targets : Transport → List SrvRecord → ℕ → Needing (List Target)
-  place_targets transport servers place =
-      option_map_or (server_targets transport) (slice_get servers place) (Ok [])
+  abbrev pub index_targets : Transport → List SrvRecord → ℕ → Needing (List Target)
+  index_targets transport servers index =
+      option_map_or (server_targets transport) (slice_get servers index) (Ok [])
 
 -- ---- a service
 
@@ -108,9 +108,9 @@ module _ (given : List Given) (kinds : List Kind) where
   abbrev pub offer_of : Transport → List SrvRecord → SrvOutcome → Needing Offer
   offer_of transport servers Absent = Ok absent
   offer_of transport servers Denied = Ok denied
-  offer_of transport servers (Listed places next) =
+  offer_of transport servers (Listed indexes next) =
       made (λ targets. listed targets next)
-      (joined (place_targets given kinds transport servers) places)
+      (joined (index_targets given kinds transport servers) indexes)
 
   -- what the SRV records of a way offer, ordered by the words from a place on; where a way has no
   -- name, there are none
@@ -127,14 +127,14 @@ module _ (given : List Given) (kinds : List Kind) where
       (answer_to given (record { name = name; kind = kind.Srv }))
 
   -- what the service of a way offers, ordered by the words from a place on
-  abbrev pub offer_along : List ℕ → Way → ℕ → Needing Offer
-  offer_along words way word = offer_named words way.transport word way.name
+  abbrev pub offer_along : List ℕ → Service → ℕ → Needing Offer
+  offer_along words service word = offer_named words service.transport word service.name
 
   -- What each of these services offers, one after the other: nothing, that it is not offered, or
   -- targets. The random words go on from each service to the next.
-  abbrev pub offers_along : List ℕ → List Way → ℕ → Needing (List Offer)
+  abbrev pub offers_along : List ℕ → List Service → ℕ → Needing (List Offer)
   offers_along words [] word = Ok []
-  offers_along words (way ∷ ways) word =
+  offers_along words (service ∷ services) word =
       after (λ offer. made
-      (λ others. offer ∷ others) (offers_along words ways (next_word word offer)))
-      (offer_along words way word)
+      (λ others. offer ∷ others) (offers_along words services (next_word word offer)))
+      (offer_along words service word)

@@ -15,27 +15,27 @@ use Rattle.srv_choice.specs.Outcomes.{is_root}
 use Rattle.srv_choice.specs.declared.outcome.SrvOutcome.{SrvOutcome}
 use Rattle.srv_choice.specs.declared.outcome.SrvOutcome.TheVariants.{Absent, Denied, Listed}
 use Rattle.sip_selection.specs.Callers.{kinds_of}
-use Rattle.sip_selection.specs.Choice.{Settled, to_domain, to_port, to_service, usual, by_naptr, discovered}
+use Rattle.sip_selection.specs.Choice.{Settled, to_domain, to_port, to_service, offered_default, by_naptr, discovered}
 use Rattle.sip_selection.specs.Known.{Given, Needing, after, made, joined, answer_to, servers_in}
-use Rattle.sip_selection.specs.Services.{Offer, is_listed, is_denied, offered_targets, next_word, kind_targets, place_targets, offers_along}
+use Rattle.sip_selection.specs.Services.{Offer, is_listed, is_denied, offered_targets, next_word, kind_targets, index_targets, offers_along}
 use Rattle.sip_selection.specs.declared.caps.Caps.{Caps}
 use Rattle.sip_selection.specs.declared.reason.Reason.{Reason}
 use Rattle.sip_selection.specs.declared.reason.Reason.TheVariants.{NotOffered}
-use Rattle.sip_selection.specs.declared.stage.Basis.{Basis}
+use Rattle.sip_selection.specs.declared.stage.Context.{Context}
 use Rattle.sip_selection.specs.declared.stage.Cursor.{Cursor}
-use Rattle.sip_selection.specs.declared.stage.Lead.{Lead}
-use Rattle.sip_selection.specs.declared.stage.Reached.{Reached}
-use Rattle.sip_selection.specs.declared.stage.Reached.TheVariants as reached
+use Rattle.sip_selection.specs.declared.stage.Candidates.{Candidates}
+use Rattle.sip_selection.specs.declared.stage.ServiceStep.{ServiceStep}
+use Rattle.sip_selection.specs.declared.stage.ServiceStep.TheVariants as service_step
 use Rattle.sip_selection.specs.declared.stage.Listing.{Listing}
-use Rattle.sip_selection.specs.declared.stage.Spot.{Spot}
-use Rattle.sip_selection.specs.declared.stage.Spot.TheVariants.{Service, Server}
+use Rattle.sip_selection.specs.declared.stage.ServiceStage.{ServiceStage}
+use Rattle.sip_selection.specs.declared.stage.ServiceStage.TheVariants.{ServiceRecords, Server}
 use Rattle.sip_selection.specs.declared.stage.Stage.{Stage}
 use Rattle.sip_selection.specs.declared.stage.Stage.TheVariants.{Rules, Along, Domain}
-use Rattle.sip_selection.specs.declared.stage.Turn.{Turn}
-use Rattle.sip_selection.specs.declared.stage.Turn.TheVariants.{Ask, Found, Refused}
-use Rattle.sip_selection.specs.declared.stage.Walk.{Walk}
+use Rattle.sip_selection.specs.declared.stage.Step.{Step}
+use Rattle.sip_selection.specs.declared.stage.Step.TheVariants.{Ask, Found, Refused}
+use Rattle.sip_selection.specs.declared.stage.Position.{Position}
 use Rattle.sip_selection.specs.declared.target.Target.{Target}
-use Rattle.sip_selection.specs.declared.way.Way.{Way}
+use Rattle.sip_selection.specs.declared.service.Service.{Service}
 
 -- ---- answers
 
@@ -47,9 +47,9 @@ Extends given all = (question : Question) (answer : AnswerValue)
 -- Where something is left of a list of targets from a place on: what was found is in front of what
 -- is left from a later place on, whatever is answered further; and there, this question has no
 -- answer. Or what was found is all.
-abbrev pub Reaches : {Place : Type 0} → List Given → (List Given → Place → Needing (List Target))
-    → Place
-    → Option (Place × Question) → List Target → Type 0
+abbrev pub Reaches : {Index : Type 0} → List Given → (List Given → Index → Needing (List Target))
+    → Index
+    → Option (Index × Question) → List Target → Type 0
 Reaches given left from None found = (all : List Given) → Extends given all
     → left all from ≡ Ok found
 Reaches given left from (Some stop) found =
@@ -59,18 +59,19 @@ Reaches given left from (Some stop) found =
 
 -- ---- a walk along ways
 
-abbrev pub start : Walk
-start = record { way = 0; word = 0; is_listed = false; is_denied = false }
+abbrev pub start : Position
+start = record { service = 0; word = 0; is_listed = false; is_denied = false }
 
 -- after the next way, of which the SRV records say this
-abbrev pub behind : Walk → SrvOutcome → Walk
-behind walk Absent = record walk { way = walk.way + 1 }
-behind walk Denied = record walk { way = walk.way + 1; is_denied = true }
-behind walk (Listed places next) = record walk { way = walk.way + 1; word = next; is_listed = true }
+abbrev pub behind : Position → SrvOutcome → Position
+behind position Absent = record position { service = position.service + 1 }
+behind position Denied = record position { service = position.service + 1; is_denied = true }
+behind position (Listed indexes next) = record position
+    { service = position.service + 1; word = next; is_listed = true }
 
 -- there are at most eight ways
-abbrev pub LeadFits : Lead → Type 0
-LeadFits lead = length lead.ways.items ≤ 8
+abbrev pub CandidatesFits : Candidates → Type 0
+CandidatesFits candidates = length candidates.services.items ≤ 8
 
 abbrev pub in_front : List Target → Settled → Settled
 in_front found (Ok more) = Ok (found ++ more)
@@ -90,114 +91,124 @@ module _ (caps : Caps) (all : List Given) where
   server_left transport server from =
       if is_root server.target then Ok [] else kinds_left transport server.port server.target from
 
-  abbrev pub place_left : Transport → List SrvRecord → ℕ → ℕ → Needing (List Target)
-  place_left transport servers place from =
-      option_map_or (λ server. server_left transport server from) (slice_get servers place) (Ok [])
+  abbrev pub index_left : Transport → List SrvRecord → ℕ → ℕ → Needing (List Target)
+  index_left transport servers index from =
+      option_map_or (λ server. server_left transport server from) (slice_get servers index) (Ok [])
 
   -- those of the servers at these places, of the first from a kind on
-  abbrev pub places_left : Transport → List SrvRecord → List ℕ → ℕ → Needing (List Target)
-  places_left transport servers [] from = Ok []
-  places_left transport servers (place ∷ places) from =
+  abbrev pub indexes_left : Transport → List SrvRecord → List ℕ → ℕ → Needing (List Target)
+  indexes_left transport servers [] from = Ok []
+  indexes_left transport servers (index ∷ indexes) from =
       after (λ here. made
       (λ others. here ++ others)
-      (joined (place_targets all (kinds_of caps.families) transport servers) places))
-      (place_left transport servers place from)
+      (joined (index_targets all (kinds_of caps.families) transport servers) indexes))
+      (index_left transport servers index from)
 
   -- those of the servers in an order, from a cursor on
   abbrev pub servers_left : Transport → List SrvRecord → List ℕ → Cursor → Needing (List Target)
-  servers_left transport servers places cursor =
-      places_left transport servers (drop cursor.server places) cursor.kind
+  servers_left transport servers indexes cursor =
+      indexes_left transport servers (drop cursor.server indexes) cursor.kind
 
   abbrev pub listing_left : Listing → Cursor → Needing (List Target)
   listing_left listing cursor =
       servers_left listing.transport
-      (servers_in (arc_value listing.answer).records) listing.places cursor
+      (servers_in (arc_value listing.answer).records) listing.indexes cursor
 
 -- ---- services
 
 module _ (caps : Caps) (name : List (List ℕ)) (all : List Given) where
   -- where all ways are done
-  abbrev pub ended : Result Transport Reason → Walk → List Target → List Offer → Needing Settled
-  ended fallback walk found offers =
-      if walk.is_listed || list_any is_listed offers
+  abbrev pub ended : Result Transport Reason → Position → List Target → List Offer → Needing Settled
+  ended fallback position found offers =
+      if position.is_listed || list_any is_listed offers
       then Ok (Ok (found ++ flat_map offered_targets offers)) else
-      (if walk.is_denied || list_any is_denied offers then Ok (Err NotOffered)
+      (if position.is_denied || list_any is_denied offers then Ok (Err NotOffered)
       else made (in_front found) (to_domain caps all name fallback))
 
 module _ (caps : Caps) (words : List ℕ) (name : List (List ℕ)) (all : List Given) where
-  abbrev pub walk_left : List Way → Result Transport Reason → Walk → List Target → Needing Settled
-  walk_left ways fallback walk found =
-      after (ended caps name all fallback walk found)
-      (offers_along all (kinds_of caps.families) words (drop walk.way ways) walk.word)
+  abbrev pub position_left : List Service → Result Transport Reason → Position → List Target
+      → Needing Settled
+  position_left services fallback position found =
+      after (ended caps name all fallback position found)
+      (offers_along all (kinds_of caps.families) words (drop position.service services)
+      position.word)
 
   -- where the next way offers this
-  abbrev pub offer_left : List Way → Result Transport Reason → Walk → List Target → Needing Offer
+  abbrev pub offer_left : List Service → Result Transport Reason → Position → List Target
+      → Needing Offer
       → Needing Settled
-  offer_left ways fallback walk found offer =
-      after (λ offer. after (ended caps name all fallback walk found)
+  offer_left services fallback position found offer =
+      after (λ offer. after (ended caps name all fallback position found)
       (made (λ others. offer ∷ others)
-      (offers_along all (kinds_of caps.families) words (drop (walk.way + 1) ways)
-      (next_word walk.word offer)))) offer
+      (offers_along all (kinds_of caps.families) words (drop (position.service + 1) services)
+      (next_word position.word offer)))) offer
 
   -- where the addresses of the servers of a service come first
-  abbrev pub servers_first : List Way → Result Transport Reason → Listing → Cursor → Walk
+  abbrev pub servers_first : List Service → Result Transport Reason → Listing → Cursor → Position
       → List Target → Needing Settled
-  servers_first ways fallback listing cursor walk found =
-      after (λ more. walk_left ways fallback walk (found ++ more))
+  servers_first services fallback listing cursor position found =
+      after (λ more. position_left services fallback position (found ++ more))
       (listing_left caps all listing cursor)
 
-  abbrev pub spot_left : List Way → Result Transport Reason → Spot → List Target → Needing Settled
-  spot_left ways fallback (Service walk) found = walk_left ways fallback walk found
-  spot_left ways fallback (Server listing cursor walk) found =
-      servers_first ways fallback (arc_value listing) cursor walk found
+  abbrev pub service_stage_left : List Service → Result Transport Reason → ServiceStage
+      → List Target → Needing Settled
+  service_stage_left services fallback (ServiceRecords position) found = position_left services
+      fallback position found
+  service_stage_left services fallback (Server listing cursor position) found =
+      servers_first services fallback (arc_value listing) cursor position found
 
-  abbrev pub reached_left : List Way → Result Transport Reason → Reached → List Target
+  abbrev pub service_step_left : List Service → Result Transport Reason → ServiceStep → List Target
       → Needing Settled
-  reached_left ways fallback (reached.Walk walk) found = walk_left ways fallback walk found
-  reached_left ways fallback (reached.Stop spot question) found = spot_left ways fallback spot found
+  service_step_left services fallback (service_step.Position position) found = position_left
+      services fallback position found
+  service_step_left services fallback (service_step.Stop service_stage question) found =
+      service_stage_left services fallback service_stage found
 
-abbrev pub walk_of : Spot → Walk
-walk_of (Service walk) = walk
-walk_of (Server listing cursor walk) = walk
+abbrev pub position_of : ServiceStage → Position
+position_of (ServiceRecords position) = position
+position_of (Server listing cursor position) = position
 
 -- enough words are left
-abbrev pub ReachedFits : Reached → Type 0
-ReachedFits (reached.Walk walk) = walk.word ≤ 32 * walk.way
-ReachedFits (reached.Stop spot question) = (walk_of spot).word ≤ 32 * (walk_of spot).way
+abbrev pub ServiceStepFits : ServiceStep → Type 0
+ServiceStepFits (service_step.Position position) = position.word ≤ 32 * position.service
+ServiceStepFits (service_step.Stop service_stage question) = (position_of service_stage).word ≤ 32 *
+    (position_of service_stage).service
 
 -- a walk that goes on does so at this way
-abbrev pub GoesOnAt : ℕ → Reached → Type 0
-GoesOnAt way (reached.Walk walk) = walk.way ≡ way
-GoesOnAt way (reached.Stop spot question) = ⊤
+abbrev pub GoesOnAt : ℕ → ServiceStep → Type 0
+GoesOnAt service (service_step.Position position) = position.service ≡ service
+GoesOnAt service (service_step.Stop service_stage question) = ⊤
 
 -- a walk that goes on has gone so many ways before
-abbrev pub IsPast : ℕ → Reached → Type 0
-IsPast count (reached.Walk walk) = count ≤ walk.way
-IsPast count (reached.Stop spot question) = ⊤
+abbrev pub IsPast : ℕ → ServiceStep → Type 0
+IsPast count (service_step.Position position) = count ≤ position.service
+IsPast count (service_step.Stop service_stage question) = ⊤
 
 -- a question that is asked is the one that what is left needs first
-abbrev pub ReachedAsks : Basis → List Way → Result Transport Reason → Reached → List Target → Type 0
-ReachedAsks basis ways fallback (reached.Walk walk) found = ⊤
-ReachedAsks basis ways fallback (reached.Stop spot question) found =
-    spot_left basis.caps.now basis.words.now.0 basis.name.now
-    basis.known.now ways fallback spot found ≡ Err question
+abbrev pub ServiceStepAsks : Context → List Service → Result Transport Reason → ServiceStep
+    → List Target → Type 0
+ServiceStepAsks context services fallback (service_step.Position position) found = ⊤
+ServiceStepAsks context services fallback (service_step.Stop service_stage question) found =
+    service_stage_left context.caps.now context.words.now.0 context.name.now
+    context.known.now services fallback service_stage found ≡ Err question
 
 -- What is left after some targets is what is left after these of what was reached, among these ways
 -- and whatever was found before.
-abbrev pub Walks : Basis → List Way
-    → (List Given → Result Transport Reason → List Target → Needing Settled) → Reached
+abbrev pub Walks : Context → List Service
+    → (List Given → Result Transport Reason → List Target → Needing Settled) → ServiceStep
     → List Target → List Target → Type 0
-Walks basis ways left reached before now =
+Walks context services left service_step before now =
     (fallback : Result Transport Reason) (front : List Target)
-    → ((all : List Given) → Extends basis.known.now all → left all fallback (front ++ before)
-    ≡ reached_left basis.caps.now basis.words.now.0 basis.name.now all ways fallback reached
+    → ((all : List Given) → Extends context.known.now all → left all fallback (front ++ before)
+    ≡ service_step_left context.caps.now context.words.now.0 context.name.now all services fallback
+    service_step
     (front ++ now))
-    × ReachedAsks basis ways fallback reached (front ++ now)
+    × ServiceStepAsks context services fallback service_step (front ++ now)
 
 -- ---- the whole choice
 
 -- a turn that asks nothing is what this says
-abbrev pub Settles : Turn → List Target → Needing Settled → Type 0
+abbrev pub Settles : Step → List Target → Needing Settled → Type 0
 Settles (Ask question stage) found choice = ⊥
 Settles Found found choice = choice ≡ Ok (Ok found)
 Settles (Refused reason) found choice = choice ≡ Ok (Err reason)
@@ -205,35 +216,37 @@ Settles (Refused reason) found choice = choice ≡ Ok (Err reason)
 -- there are few ways, and words enough
 abbrev pub StageFits : Stage → Type 0
 StageFits Rules = ⊤
-StageFits (Along lead spot) =
-    LeadFits (arc_value lead) × ((walk_of spot).word ≤ 32 * (walk_of spot).way)
+StageFits (Along candidates service_stage) =
+    CandidatesFits (arc_value candidates)
+    × ((position_of service_stage).word ≤ 32 * (position_of service_stage).service)
 StageFits (Domain transport port from) = ⊤
 
 module _ (secure : Bool) (caps : Caps) (words : List ℕ) (name : List (List ℕ)) where
   abbrev pub stage_left : Stage → List Target → List Given → Needing Settled
   stage_left Rules found all = made (in_front found) (by_naptr secure caps words all name)
-  stage_left (Along lead spot) found all =
-      spot_left caps words name all (arc_value lead).ways.items (arc_value lead).fallback spot found
+  stage_left (Along candidates service_stage) found all =
+      service_stage_left caps words name all (arc_value candidates).services.items
+      (arc_value candidates).fallback service_stage found
   stage_left (Domain transport port from) found all =
       made (λ more. Ok (found ++ more)) (kinds_left caps all transport port name from)
 
-  abbrev pub turn_left : Turn → List Target → List Given → Needing Settled
-  turn_left (Ask question stage) found all = stage_left stage found all
-  turn_left Found found all = Ok (Ok found)
-  turn_left (Refused reason) found all = Ok (Err reason)
+  abbrev pub step_left : Step → List Target → List Given → Needing Settled
+  step_left (Ask question stage) found all = stage_left stage found all
+  step_left Found found all = Ok (Ok found)
+  step_left (Refused reason) found all = Ok (Err reason)
 
   -- a question that is asked is the one that what is left needs first
-  abbrev pub Asks : List Given → Turn → List Target → Type 0
+  abbrev pub Asks : List Given → Step → List Target → Type 0
   Asks given (Ask question stage) found = (stage_left stage found given ≡ Err question)
       × StageFits stage
   Asks given Found found = ⊤
   Asks given (Refused reason) found = ⊤
 
   -- a choice comes to this turn, with these targets found
-  abbrev pub ComesTo : List Given → (List Given → Needing Settled) → Turn → List Target → Type 0
-  ComesTo given choice turn found =
-      ((all : List Given) → Extends given all → choice all ≡ turn_left turn found all)
-      × Asks given turn found
+  abbrev pub ComesTo : List Given → (List Given → Needing Settled) → Step → List Target → Type 0
+  ComesTo given choice step found =
+      ((all : List Given) → Extends given all → choice all ≡ step_left step found all)
+      × Asks given step found
 
   -- the choice for the domain, by the port that is written, the transport that is named and the one
   -- that is meant
@@ -241,18 +254,20 @@ module _ (secure : Bool) (caps : Caps) (words : List ℕ) (name : List (List ℕ
       → Needing Settled
   domain_choice all (Some port) named transport = to_port caps all name port transport
   domain_choice all None (Some named) transport = to_service caps words all name transport
-  domain_choice all None None transport = discovered secure caps words all name (usual secure caps)
+  domain_choice all None None transport = discovered secure caps words all name
+      (offered_default secure caps)
 
 -- the choice for a domain comes to this turn with these targets
-abbrev pub Comes : Basis → (List Given → Needing Settled) → Turn → List Target → Type 0
-Comes basis = ComesTo basis.secure basis.caps.now basis.words.now.0 basis.name.now basis.known.now
+abbrev pub Comes : Context → (List Given → Needing Settled) → Step → List Target → Type 0
+Comes context = ComesTo context.secure context.caps.now context.words.now.0 context.name.now
+    context.known.now
 
 -- The same, whatever was found before: what is left after some targets comes to this turn with
 -- these.
-abbrev pub Goes : Basis → (List Target → List Given → Needing Settled) → Turn → List Target
+abbrev pub Goes : Context → (List Target → List Given → Needing Settled) → Step → List Target
     → List Target → Type 0
-Goes basis left turn before now = (front : List Target)
-    → Comes basis (left (front ++ before)) turn (front ++ now)
+Goes context left step before now = (front : List Target)
+    → Comes context (left (front ++ before)) step (front ++ now)
 
 -- the name whose services and addresses are needed; an address has none
 abbrev pub name_of : Host → List (List ℕ)

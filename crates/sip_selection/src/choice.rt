@@ -10,15 +10,15 @@ ghost use Rattle.sip_selection.specs.Stages as left_of;
 
 use crate::caps::Caps;
 use crate::known::{Known, Stop};
+use crate::position::push_from;
 use crate::reason::Reason;
 use crate::request::Request;
-use crate::rules::kept;
-use crate::stage::{Basis, Lead, Reached, Spot, Stage, Turn, Walk};
+use crate::rules::usable_services;
+use crate::service::{Service, service_at};
+use crate::stage::{Candidates, Context, Position, ServiceStage, ServiceStep, Stage, Step};
 use crate::target::Target;
 use crate::targets::push_kinds;
-use crate::transports::{default_port, transport_offered, usual};
-use crate::walk::push_from;
-use crate::way::{Way, way_to};
+use crate::transports::{default_port, offered_default, transport_offered};
 use dns_answers::{Answer, Records};
 use dns_message::{Kind, NaptrRecord};
 use dns_name::Name;
@@ -30,21 +30,21 @@ use std::sync::Arc;
 /// The addresses of the domain by a transport at a port, from a kind on.
 fn to_domain(
     targets: &mut Vec<Target>,
-    basis: &Basis<'_>,
+    context: &Context<'_>,
     transport: Transport,
     port: u16,
     from: usize,
-) -> Result<Turn, AllocError>
-    ensures { IfOk result (λ turn. left_of.Goes basis.now
+) -> Result<Step, AllocError>
+    ensures { IfOk result (λ step. left_of.Goes context.now
         (λ found all. made
         (λ more. Ok (found ++ more))
-        (left_of.kinds_left basis.now.caps.now all transport port basis.now.name.now from))
-        turn targets.old.items targets.new.items) }
+        (left_of.kinds_left context.now.caps.now all transport port context.now.name.now from))
+        step targets.old.items targets.new.items) }
 {
-    let stop = push_kinds(targets, basis, transport, port, basis.name, from)?;
+    let stop = push_kinds(targets, context, transport, port, context.name, from)?;
     Ok(match stop {
-        None => Turn::Found,
-        Some((kind, question)) => Turn::Ask(question, Stage::Domain(transport, port, kind)),
+        None => Step::Found,
+        Some((kind, question)) => Step::Ask(question, Stage::Domain(transport, port, kind)),
     })
 }
 
@@ -52,62 +52,74 @@ fn to_domain(
 /// those of the domain.
 fn ended(
     targets: &mut Vec<Target>,
-    basis: &Basis<'_>,
+    context: &Context<'_>,
     fallback: Result<Transport, Reason>,
-    walk: Walk,
-) -> Result<Turn, AllocError>
-    ensures { IfOk result (λ turn. left_of.Goes basis.now
-        (λ found all. left_of.ended basis.now.caps.now
-        basis.now.name.now all fallback walk found [])
-        turn targets.old.items targets.new.items) }
+    position: Position,
+) -> Result<Step, AllocError>
+    ensures { IfOk result (λ step. left_of.Goes context.now
+        (λ found all. left_of.ended context.now.caps.now
+        context.now.name.now all fallback position found [])
+        step targets.old.items targets.new.items) }
 {
-    if walk.is_listed {
-        return Ok(Turn::Found);
+    if position.is_listed {
+        return Ok(Step::Found);
     }
-    if walk.is_denied {
-        return Ok(Turn::Refused(Reason::NotOffered));
+    if position.is_denied {
+        return Ok(Step::Refused(Reason::NotOffered));
     }
     match fallback {
-        Ok(transport) => to_domain(targets, basis, transport, default_port(transport), 0),
-        Err(reason) => Ok(Turn::Refused(reason)),
+        Ok(transport) => to_domain(targets, context, transport, default_port(transport), 0),
+        Err(reason) => Ok(Step::Refused(reason)),
     }
 }
 
 /// The services that are looked for, from a spot on.
 fn along(
     targets: &mut Vec<Target>,
-    basis: &Basis<'_>,
-    lead: &Arc<Lead>,
-    spot: &Spot,
-) -> Result<Turn, AllocError>
-    requires few { left_of.LeadFits (arc_value lead.now) }
-    requires words { (left_of.walk_of spot.now).word ≤ 32 * (left_of.walk_of spot.now).way }
-    ensures { IfOk result (λ turn. left_of.Goes basis.now
-        (λ found all. left_of.spot_left basis.now.caps.now basis.now.words.now.0
-        basis.now.name.now all
-        (arc_value lead.now).ways.items (arc_value lead.now).fallback spot.now found)
-        turn targets.old.items targets.new.items) }
+    context: &Context<'_>,
+    candidates: &Arc<Candidates>,
+    service_stage: &ServiceStage,
+) -> Result<Step, AllocError>
+    requires few { left_of.CandidatesFits (arc_value candidates.now) }
+    requires words { (left_of.position_of service_stage.now).word ≤ 32 *
+        (left_of.position_of service_stage.now).service }
+    ensures { IfOk result (λ step. left_of.Goes context.now
+        (λ found all. left_of.service_stage_left context.now.caps.now context.now.words.now.0
+        context.now.name.now all
+        (arc_value candidates.now).services.items (arc_value candidates.now).fallback
+        service_stage.now found)
+        step targets.old.items targets.new.items) }
 {
-    match push_from(targets, basis, &lead.ways, spot)? {
-        Reached::Walk(walk) => ended(targets, basis, lead.fallback, walk),
-        Reached::Stop(spot, question) => Ok(Turn::Ask(
+    match push_from(targets, context, &candidates.services, service_stage)? {
+        ServiceStep::Position(position) => ended(targets, context, candidates.fallback, position),
+        ServiceStep::Stop(service_stage, question) => Ok(Step::Ask(
             question,
-            Stage::Along(Arc::try_clone(lead)?, spot),
+            Stage::Along(Arc::try_clone(candidates)?, service_stage),
         )),
     }
 }
 
 /// The services of a lead, from the first on.
-fn along_all(targets: &mut Vec<Target>, basis: &Basis<'_>, lead: Lead) -> Result<Turn, AllocError>
-    requires { left_of.LeadFits lead }
-    ensures { IfOk result (λ turn. left_of.Goes basis.now
+fn along_all(
+    targets: &mut Vec<Target>,
+    context: &Context<'_>,
+    candidates: Candidates,
+) -> Result<Step, AllocError>
+    requires { left_of.CandidatesFits candidates }
+    ensures { IfOk result (λ step. left_of.Goes context.now
         (λ found all. made (left_of.in_front found)
-        (spec.along basis.now.caps.now basis.now.words.now.0 all basis.now.name.now lead.fallback
-        lead.ways.items))
-        turn targets.old.items targets.new.items) }
+        (spec.along context.now.caps.now context.now.words.now.0 all context.now.name.now
+        candidates.fallback
+        candidates.services.items))
+        step targets.old.items targets.new.items) }
 {
-    let lead = Arc::new(basis.alloc, lead)?;
-    along(targets, basis, &lead, &Spot::Service(Walk::start()))
+    let candidates = Arc::new(context.alloc, candidates)?;
+    along(
+        targets,
+        context,
+        &candidates,
+        &ServiceStage::ServiceRecords(Position::start()),
+    )
 }
 
 /// Whether a service of the domain is tried without NAPTR records.
@@ -119,17 +131,18 @@ fn is_tried(secure: bool, transport: Transport) -> bool
 
 /// Adds the service of a domain by the transport of a slot, where that is tried.
 fn push_tried(
-    ways: &mut Vec<Way>,
+    services: &mut Vec<Service>,
     secure: bool,
     slot: Option<Transport>,
     name: &Name,
 ) -> Result<(), AllocError>
     ensures { OnOk result
-        (ways.new.items ≡ ways.old.items ++ spec.tried_ways secure name.now (slot ∷ [])) }
+        (services.new.items ≡ services.old.items ++ spec.tried_services secure name.now
+        (slot ∷ [])) }
 {
     match slot {
         Some(transport) if is_tried(secure, transport) => {
-            ways.push(way_to(name, transport)?)?;
+            services.push(service_at(name, transport)?)?;
             Ok(())
         }
         _ => Ok(()),
@@ -137,15 +150,21 @@ fn push_tried(
 }
 
 /// The services of a domain by the caller's transports.
-fn own_ways(alloc: Global, secure: bool, caps: &Caps, name: &Name) -> Result<Vec<Way>, AllocError>
-    ensures ways { IfOk result (λ ways. ways.items ≡ spec.own_ways secure caps.now name.now) }
-    ensures few { IfOk result (λ ways. length ways.items ≤ 8) }
+fn own_services(
+    alloc: Global,
+    secure: bool,
+    caps: &Caps,
+    name: &Name,
+) -> Result<Vec<Service>, AllocError>
+    ensures services { IfOk result (λ services. services.items
+        ≡ spec.own_services secure caps.now name.now) }
+    ensures few { IfOk result (λ services. length services.items ≤ 8) }
 {
-    let mut ways = Vec::new(alloc);
+    let mut services = Vec::new(alloc);
     for slot in caps.slots() {
-        push_tried(&mut ways, secure, *slot, name)?;
+        push_tried(&mut services, secure, *slot, name)?;
     }
-    Ok(ways)
+    Ok(services)
 }
 
 /// The rules of an answer.
@@ -160,38 +179,39 @@ fn rules_in(answer: &Answer) -> &[NaptrRecord]
 }
 
 /// Where rules lead; without one that is kept, to the services of the domain.
-fn lead_by(basis: &Basis<'_>, rules: &[NaptrRecord]) -> Result<Lead, AllocError>
-    ensures few { IfOk result left_of.LeadFits }
-    ensures is { IfOk result (λ lead. (all : List known_as.Given)
-        → spec.by_rules basis.now.secure basis.now.caps.now basis.now.words.now.0 all
-        basis.now.name.now rules.now
-        ≡ spec.along basis.now.caps.now basis.now.words.now.0 all basis.now.name.now lead.fallback
-        lead.ways.items) }
+fn candidates_by(context: &Context<'_>, rules: &[NaptrRecord]) -> Result<Candidates, AllocError>
+    ensures few { IfOk result left_of.CandidatesFits }
+    ensures is { IfOk result (λ candidates. (all : List known_as.Given)
+        → spec.by_rules context.now.secure context.now.caps.now context.now.words.now.0 all
+        context.now.name.now rules.now
+        ≡ spec.along context.now.caps.now context.now.words.now.0 all context.now.name.now
+        candidates.fallback
+        candidates.services.items) }
 {
-    let ways = kept(basis.alloc, basis.secure, basis.caps, rules)?;
-    match ways.first() {
+    let services = usable_services(context.alloc, context.secure, context.caps, rules)?;
+    match services.first() {
         Some(first) => {
             let fallback = Ok(first.transport);
-            Ok(Lead { ways, fallback })
+            Ok(Candidates { services, fallback })
         }
-        None => Ok(Lead {
-            ways: own_ways(basis.alloc, basis.secure, basis.caps, basis.name)?,
-            fallback: usual(basis.secure, basis.caps),
+        None => Ok(Candidates {
+            services: own_services(context.alloc, context.secure, context.caps, context.name)?,
+            fallback: offered_default(context.secure, context.caps),
         }),
     }
 }
 
 /// Where the NAPTR records of the domain lead.
-fn by_naptr(targets: &mut Vec<Target>, basis: &Basis<'_>) -> Result<Turn, AllocError>
-    ensures { IfOk result (λ turn. left_of.Goes basis.now
+fn by_naptr(targets: &mut Vec<Target>, context: &Context<'_>) -> Result<Step, AllocError>
+    ensures { IfOk result (λ step. left_of.Goes context.now
         (λ found all. made (left_of.in_front found)
-        (spec.by_naptr basis.now.secure basis.now.caps.now basis.now.words.now.0 all
-        basis.now.name.now))
-        turn targets.old.items targets.new.items) }
+        (spec.by_naptr context.now.secure context.now.caps.now context.now.words.now.0 all
+        context.now.name.now))
+        step targets.old.items targets.new.items) }
 {
-    match basis.known.answer_to(basis.name, Kind::Naptr) {
-        Ok(answer) => along_all(targets, basis, lead_by(basis, rules_in(answer))?),
-        Err(Stop::Need(question)) => Ok(Turn::Ask(question, Stage::Rules)),
+    match context.known.answer_to(context.name, Kind::Naptr) {
+        Ok(answer) => along_all(targets, context, candidates_by(context, rules_in(answer))?),
+        Err(Stop::Need(question)) => Ok(Step::Ask(question, Stage::Rules)),
         Err(Stop::Memory) => Err(AllocError),
     }
 }
@@ -199,18 +219,18 @@ fn by_naptr(targets: &mut Vec<Target>, basis: &Basis<'_>) -> Result<Turn, AllocE
 /// The service of the domain by the transport that is named.
 fn to_service(
     targets: &mut Vec<Target>,
-    basis: &Basis<'_>,
+    context: &Context<'_>,
     transport: Transport,
-) -> Result<Turn, AllocError>
-    ensures { IfOk result (λ turn. left_of.Goes basis.now
+) -> Result<Step, AllocError>
+    ensures { IfOk result (λ step. left_of.Goes context.now
         (λ found all. made (left_of.in_front found)
-        (spec.to_service basis.now.caps.now basis.now.words.now.0 all basis.now.name.now
+        (spec.to_service context.now.caps.now context.now.words.now.0 all context.now.name.now
         (Ok transport)))
-        turn targets.old.items targets.new.items) }
+        step targets.old.items targets.new.items) }
 {
-    let ways = vec![in basis.alloc; way_to(basis.name, transport)?]?;
+    let services = vec![in context.alloc; service_at(context.name, transport)?]?;
     let fallback = Ok(transport);
-    along_all(targets, basis, Lead { ways, fallback })
+    along_all(targets, context, Candidates { services, fallback })
 }
 
 /// An address, at the port that is written or the usual one.
@@ -219,16 +239,16 @@ fn to_address(
     address: Address,
     port: Option<u16>,
     transport: Result<Transport, Reason>,
-) -> Result<Turn, AllocError>
+) -> Result<Step, AllocError>
     requires { targets.old.items ≡ [] }
     ensures settles { IfOk result
-        (λ turn. left_of.Settles turn targets.new.items (spec.to_address address port transport)) }
+        (λ step. left_of.Settles step targets.new.items (spec.to_address address port transport)) }
     ensures memory { OnErr result
         (spec.IsNotRefused (spec.resolved (spec.to_address address port transport))) }
 {
     let transport = match transport {
         Ok(transport) => transport,
-        Err(reason) => return Ok(Turn::Refused(reason)),
+        Err(reason) => return Ok(Step::Refused(reason)),
     };
     let port = port.unwrap_or(default_port(transport));
     targets.push(Target {
@@ -236,53 +256,54 @@ fn to_address(
         address,
         port,
     })?;
-    Ok(Turn::Found)
+    Ok(Step::Found)
 }
 
 /// Where the domain leads without a transport that is named. For SIPS, TLS has to be one of the
 /// caller's.
-fn discovered(targets: &mut Vec<Target>, basis: &Basis<'_>) -> Result<Turn, AllocError>
-    ensures goes { IfOk result (λ turn. left_of.Goes basis.now
+fn discovered(targets: &mut Vec<Target>, context: &Context<'_>) -> Result<Step, AllocError>
+    ensures goes { IfOk result (λ step. left_of.Goes context.now
         (λ found all. made (left_of.in_front found)
-        (spec.discovered basis.now.secure basis.now.caps.now basis.now.words.now.0 all
-        basis.now.name.now
-        (spec.usual basis.now.secure basis.now.caps.now)))
-        turn targets.old.items targets.new.items) }
+        (spec.discovered context.now.secure context.now.caps.now context.now.words.now.0 all
+        context.now.name.now
+        (spec.offered_default context.now.secure context.now.caps.now)))
+        step targets.old.items targets.new.items) }
     ensures memory { OnErr result (spec.IsNotRefused (spec.resolved
-        (spec.discovered basis.now.secure basis.now.caps.now basis.now.words.now.0 []
-        basis.now.name.now
-        (spec.usual basis.now.secure basis.now.caps.now)))) }
+        (spec.discovered context.now.secure context.now.caps.now context.now.words.now.0 []
+        context.now.name.now
+        (spec.offered_default context.now.secure context.now.caps.now)))) }
 {
-    match usual(basis.secure, basis.caps) {
-        Ok(_) => by_naptr(targets, basis),
-        Err(_) if !basis.secure => by_naptr(targets, basis),
-        Err(reason) => Ok(Turn::Refused(reason)),
+    match offered_default(context.secure, context.caps) {
+        Ok(_) => by_naptr(targets, context),
+        Err(_) if !context.secure => by_naptr(targets, context),
+        Err(reason) => Ok(Step::Refused(reason)),
     }
 }
 
 /// The choice for a domain, from the beginning.
 fn for_domain(
     targets: &mut Vec<Target>,
-    basis: &Basis<'_>,
+    context: &Context<'_>,
     port: Option<u16>,
     spoken: Option<Spoken>,
     transport: Result<Transport, Reason>,
-) -> Result<Turn, AllocError>
+) -> Result<Step, AllocError>
     requires { targets.old.items ≡ [] }
-    ensures comes { IfOk result (λ turn. left_of.Comes basis.now
-        (λ all. left_of.domain_choice basis.now.secure basis.now.caps.now basis.now.words.now.0
-        basis.now.name.now all port spoken transport)
-        turn targets.new.items) }
+    ensures comes { IfOk result (λ step. left_of.Comes context.now
+        (λ all. left_of.domain_choice context.now.secure context.now.caps.now
+        context.now.words.now.0
+        context.now.name.now all port spoken transport)
+        step targets.new.items) }
     ensures memory { OnErr result (spec.IsNotRefused (spec.resolved
-        (left_of.domain_choice basis.now.secure basis.now.caps.now basis.now.words.now.0
-        basis.now.name.now [] port spoken transport))) }
+        (left_of.domain_choice context.now.secure context.now.caps.now context.now.words.now.0
+        context.now.name.now [] port spoken transport))) }
 {
     match (port, spoken, transport) {
-        (Some(_), _, Err(reason)) => Ok(Turn::Refused(reason)),
-        (Some(port), _, Ok(transport)) => to_domain(targets, basis, transport, port, 0),
-        (None, Some(_), Err(reason)) => Ok(Turn::Refused(reason)),
-        (None, Some(_), Ok(transport)) => to_service(targets, basis, transport),
-        (None, None, _) => discovered(targets, basis),
+        (Some(_), _, Err(reason)) => Ok(Step::Refused(reason)),
+        (Some(port), _, Ok(transport)) => to_domain(targets, context, transport, port, 0),
+        (None, Some(_), Err(reason)) => Ok(Step::Refused(reason)),
+        (None, Some(_), Ok(transport)) => to_service(targets, context, transport),
+        (None, None, _) => discovered(targets, context),
     }
 }
 
@@ -294,12 +315,12 @@ pub(crate) fn begin<'a>(
     caps: &'a Caps,
     words: &'a Words,
     known: &'a Known,
-) -> Result<Turn, AllocError>
+) -> Result<Step, AllocError>
     requires { targets.old.items ≡ [] }
     ensures comes { IfOk result
-        (λ turn. left_of.ComesTo (is_secure request.now) caps.now words.now.0
+        (λ step. left_of.ComesTo (is_secure request.now) caps.now words.now.0
         (left_of.name_of (target_of request.now)) known.now
-        (spec.chosen request.now caps.now words.now.0) turn targets.new.items) }
+        (spec.chosen request.now caps.now words.now.0) step targets.new.items) }
     ensures memory { OnErr result
         (spec.IsNotRefused (spec.locate request.now caps.now words.now.0 [])) }
 {
@@ -310,7 +331,7 @@ pub(crate) fn begin<'a>(
         Host::V6(octets) => to_address(targets, Address::V6(*octets), port, transport),
         Host::Domain(name) => {
             let secure = request.is_secure();
-            let basis = Basis {
+            let context = Context {
                 alloc,
                 secure,
                 caps,
@@ -318,7 +339,7 @@ pub(crate) fn begin<'a>(
                 name,
                 known,
             };
-            for_domain(targets, &basis, port, request.spoken(), transport)
+            for_domain(targets, &context, port, request.spoken(), transport)
         }
     }
 }
@@ -326,20 +347,25 @@ pub(crate) fn begin<'a>(
 /// The choice for a domain, from a stage on.
 pub(crate) fn resume(
     targets: &mut Vec<Target>,
-    basis: &Basis<'_>,
+    context: &Context<'_>,
     stage: &Stage,
-) -> Result<Turn, AllocError>
+) -> Result<Step, AllocError>
     requires { left_of.StageFits stage.now }
-    ensures { IfOk result (λ turn. left_of.Goes basis.now
-        (left_of.stage_left basis.now.secure basis.now.caps.now basis.now.words.now.0
-        basis.now.name.now stage.now)
-        turn targets.old.items targets.new.items) }
+    ensures { IfOk result (λ step. left_of.Goes context.now
+        (left_of.stage_left context.now.secure context.now.caps.now context.now.words.now.0
+        context.now.name.now stage.now)
+        step targets.old.items targets.new.items) }
 {
     match stage {
-        Stage::Rules => by_naptr(targets, basis),
-        Stage::Along(lead, spot) => along(targets, basis, lead, spot),
+        Stage::Rules => by_naptr(targets, context),
+        Stage::Along(candidates, service_stage) => along(
+            targets,
+            context,
+            candidates,
+            service_stage,
+        ),
         Stage::Domain(transport, port, from) => {
-            to_domain(targets, basis, *transport, *port, *from)
+            to_domain(targets, context, *transport, *port, *from)
         }
     }
 }

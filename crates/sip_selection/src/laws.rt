@@ -5,7 +5,7 @@ ghost use Rattle.std.specs.List.{fold};
 ghost use Rattle.std.specs.List.Sorted.{IsNonDecreasingBy};
 ghost use Rattle.sip_selection.specs.Choice.{locate, need};
 ghost use Rattle.sip_selection.specs.Known.{Given};
-ghost use Rattle.sip_selection.specs.Rules.{Led, by_preference};
+ghost use Rattle.sip_selection.specs.Rules.{ServiceRule, by_preference};
 ghost use Rattle.sip_selection.specs.declared.caps.Caps.{Caps};
 ghost use Rattle.sip_selection.specs.declared.request.Request.{Request};
 ghost use Rattle.sip_selection.specs.Trials.{begun, next_trial, progress_by, progress_of, tried_by, tried_in};
@@ -32,10 +32,10 @@ pub fn law_resolutions_are_final()
 /// The rules are ordered by PREFERENCE: each of them once, none before one of a lower PREFERENCE,
 /// and those of the same one in the order that they had (RFC 3403 4.1).
 pub fn law_rules_stand_by_preference()
-    ensures complete { (rules : List Led) → IsPermutation rules (by_preference rules) }
-    ensures lowest_first { (rules : List Led)
+    ensures complete { (rules : List ServiceRule) → IsPermutation rules (by_preference rules) }
+    ensures lowest_first { (rules : List ServiceRule)
         → IsNonDecreasingBy (λ it. it.rule.preference) (by_preference rules) }
-    ensures as_they_stood { (rules : List Led) (preference : ℕ)
+    ensures as_they_stood { (rules : List ServiceRule) (preference : ℕ)
         → filter (λ it. it.rule.preference == preference) (by_preference rules)
         ≡ filter (λ it. it.rule.preference == preference) rules }
 {}

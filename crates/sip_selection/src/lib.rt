@@ -56,16 +56,16 @@ mod choice_laws;
 mod failover;
 mod known;
 mod laws;
+mod position;
 mod reason;
 mod request;
 mod rules;
 mod selection;
+mod service;
 mod stage;
 mod target;
 mod targets;
 mod transports;
-mod walk;
-mod way;
 
 pub use caps::{Caps, Families};
 pub use choice_laws::{

@@ -16,7 +16,7 @@ use crate::choice_laws::{
 use crate::known::Known;
 use crate::reason::Reason;
 use crate::request::Request;
-use crate::stage::{Basis, Stage, Turn};
+use crate::stage::{Context, Stage, Step};
 use crate::target::Target;
 use dns_answers::Answer;
 use dns_message::{Question, law_same_questions_are_equal};
@@ -63,7 +63,7 @@ pub struct Selection {
     targets: Vec<Target>,
     /// What the last step found: kept for its memory.
     found: Vec<Target>,
-    turn: Turn,
+    step: Step,
 }
 
 impl Model for Selection {
@@ -84,7 +84,7 @@ impl Model for Selection {
 
     ghost invariant = { λ it. ComesTo (is_secure it.request) it.caps it.words.0
         (name_of (target_of it.request)) it.known (chosen it.request it.caps it.words.0)
-        it.turn it.targets.items
+        it.step it.targets.items
         × AreAskedOneByOne it.request it.caps it.words.0 it.known };
 }
 
@@ -93,19 +93,19 @@ impl Model for Selection {
 fn advance(
     targets: &mut Vec<Target>,
     found: &mut Vec<Target>,
-    basis: &Basis<'_>,
+    context: &Context<'_>,
     stage: Stage,
-) -> Result<Turn, Stage>
+) -> Result<Step, Stage>
     requires { StageFits stage }
-    ensures goes { IfOk result (λ turn. Comes basis.now
-        (stage_left basis.now.secure basis.now.caps.now basis.now.words.now.0
-        basis.now.name.now stage targets.old.items)
-        turn targets.new.items) }
+    ensures goes { IfOk result (λ step. Comes context.now
+        (stage_left context.now.secure context.now.caps.now context.now.words.now.0
+        context.now.name.now stage targets.old.items)
+        step targets.new.items) }
     ensures unchanged { OnErr result (targets.new.items ≡ targets.old.items) }
     ensures given_back { IfErr result (λ it. it ≡ stage) }
 {
-    match go_on(targets, found, basis, &stage) {
-        Ok(turn) => Ok(turn),
+    match go_on(targets, found, context, &stage) {
+        Ok(step) => Ok(step),
         Err(AllocError) => Err(stage),
     }
 }
@@ -114,20 +114,21 @@ fn advance(
 fn go_on(
     targets: &mut Vec<Target>,
     found: &mut Vec<Target>,
-    basis: &Basis<'_>,
+    context: &Context<'_>,
     stage: &Stage,
-) -> Result<Turn, AllocError>
+) -> Result<Step, AllocError>
     requires { StageFits stage.now }
-    ensures goes { IfOk result (λ turn. Comes basis.now
-        (stage_left basis.now.secure basis.now.caps.now basis.now.words.now.0 basis.now.name.now
+    ensures goes { IfOk result (λ step. Comes context.now
+        (stage_left context.now.secure context.now.caps.now context.now.words.now.0
+        context.now.name.now
         stage.now targets.old.items)
-        turn targets.new.items) }
+        step targets.new.items) }
     ensures unchanged { OnErr result (targets.new.items ≡ targets.old.items) }
 {
     found.clear();
-    let turn = resume(found, basis, stage)?;
+    let step = resume(found, context, stage)?;
     targets.extend_from_slice(found.as_slice())?;
-    Ok(turn)
+    Ok(step)
 }
 
 impl Selection {
@@ -144,7 +145,7 @@ impl Selection {
     {
         let known = Known::new(alloc);
         let mut targets = Vec::new(alloc);
-        let turn = begin(&mut targets, alloc, &request, &caps, &words, &known)?;
+        let step = begin(&mut targets, alloc, &request, &caps, &words, &known)?;
         Ok(Selection {
             request,
             caps,
@@ -152,7 +153,7 @@ impl Selection {
             known,
             targets,
             found: Vec::new(alloc),
-            turn,
+            step,
         })
     }
 
@@ -162,11 +163,11 @@ impl Selection {
     pub fn next(&self) -> Next<'_>
         ensures { next_of result ≡ now_of self.now }
     {
-        match &self.turn {
-            Turn::Ask(question, _) => Next::Ask(question),
-            Turn::Refused(reason) => Next::Refused(*reason),
-            Turn::Found if self.targets.is_empty() => Next::Refused(Reason::NoAddress),
-            Turn::Found => Next::Targets(self.targets.as_slice()),
+        match &self.step {
+            Step::Ask(question, _) => Next::Ask(question),
+            Step::Refused(reason) => Next::Refused(*reason),
+            Step::Found if self.targets.is_empty() => Next::Refused(Reason::NoAddress),
+            Step::Found => Next::Targets(self.targets.as_slice()),
         }
     }
 
@@ -231,12 +232,12 @@ impl Selection {
         let Host::Domain(name) = self.request.target() else {
             unreachable!()
         };
-        let (asked, stage) = self.turn.take_ask();
+        let (asked, stage) = self.step.take_ask();
         if let Err(asked) = self.known.push(asked, answer) {
-            self.turn = Turn::Ask(asked, stage);
+            self.step = Step::Ask(asked, stage);
             return Err(AllocError);
         }
-        let basis = Basis {
+        let context = Context {
             alloc,
             secure: self.request.is_secure(),
             caps: &self.caps,
@@ -244,13 +245,13 @@ impl Selection {
             name,
             known: &self.known,
         };
-        match advance(&mut self.targets, &mut self.found, &basis, stage) {
-            Ok(turn) => {
-                self.turn = turn;
+        match advance(&mut self.targets, &mut self.found, &context, stage) {
+            Ok(step) => {
+                self.step = step;
                 Ok(())
             }
             Err(stage) => {
-                self.turn = Turn::Ask(self.known.pop(), stage);
+                self.step = Step::Ask(self.known.pop(), stage);
                 Err(AllocError)
             }
         }

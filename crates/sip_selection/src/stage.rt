@@ -1,12 +1,12 @@
 //! How far a choice has come (RFC 3263 4.1, 4.2).
 ghost use Rattle.std.specs.Prelude.{◌≡◌, ◌<◌};
 ghost use Rattle.sip_selection.specs.Stages as spec;
-ghost use Rattle.sip_selection.specs.declared.stage.Turn.TheVariants as turn;
+ghost use Rattle.sip_selection.specs.declared.stage.Step.TheVariants as step;
 
 use crate::caps::Caps;
 use crate::known::Known;
 use crate::reason::Reason;
-use crate::way::Way;
+use crate::service::Service;
 use dns_answers::Answer;
 use dns_message::Question;
 use dns_name::Name;
@@ -18,7 +18,7 @@ use std::sync::Arc;
 
 /// What the choice for a domain goes by, with the answers so far.
 #[derive(Clone, Copy)]
-pub(crate) struct Basis<'a> {
+pub(crate) struct Context<'a> {
     pub(crate) alloc: Global,
     /// For a SIPS URI.
     pub(crate) secure: bool,
@@ -31,18 +31,18 @@ pub(crate) struct Basis<'a> {
 
 /// The services that are looked for.
 #[derive(Drop)]
-pub(crate) struct Lead {
+pub(crate) struct Candidates {
     /// One after the other.
-    pub(crate) ways: Vec<Way>,
+    pub(crate) services: Vec<Service>,
     /// The transport of the domain itself, where all of them are absent.
     pub(crate) fallback: Result<Transport, Reason>,
 }
 
 /// How far services were looked for.
 #[derive(Clone, Copy)]
-pub(crate) struct Walk {
+pub(crate) struct Position {
     /// The place of the next way.
-    pub(crate) way: usize,
+    pub(crate) service: usize,
     /// The place of the next random word.
     pub(crate) word: usize,
     /// One is listed at least.
@@ -51,13 +51,13 @@ pub(crate) struct Walk {
     pub(crate) is_denied: bool,
 }
 
-impl Walk {
+impl Position {
     /// Before the first way.
-    pub(crate) fn start() -> Walk
+    pub(crate) fn start() -> Position
         ensures { result ≡ spec.start }
     {
-        Walk {
-            way: 0,
+        Position {
+            service: 0,
             word: 0,
             is_listed: false,
             is_denied: false,
@@ -65,24 +65,24 @@ impl Walk {
     }
 
     /// After the next way, of which the SRV records say this.
-    pub(crate) fn behind(self, outcome: &SrvOutcome) -> Walk
-        requires { self.way < 8 }
+    pub(crate) fn behind(self, outcome: &SrvOutcome) -> Position
+        requires { self.service < 8 }
         ensures { result ≡ spec.behind self outcome.now }
     {
-        let walk = Walk {
-            way: self.way + 1,
+        let position = Position {
+            service: self.service + 1,
             ..self
         };
         match outcome {
-            SrvOutcome::Absent => walk,
-            SrvOutcome::Denied => Walk {
+            SrvOutcome::Absent => position,
+            SrvOutcome::Denied => Position {
                 is_denied: true,
-                ..walk
+                ..position
             },
-            SrvOutcome::Listed(_, next) => Walk {
+            SrvOutcome::Listed(_, next) => Position {
                 word: *next,
                 is_listed: true,
-                ..walk
+                ..position
             },
         }
     }
@@ -95,7 +95,7 @@ pub(crate) struct Listing {
     /// Its SRV records.
     pub(crate) answer: Arc<Answer>,
     /// Their order.
-    pub(crate) places: Indexes,
+    pub(crate) indexes: Indexes,
 }
 
 /// How far the addresses of servers were looked for.
@@ -109,21 +109,21 @@ pub(crate) struct Cursor {
 
 /// Where a question comes up among services.
 #[derive(Drop)]
-pub(crate) enum Spot {
+pub(crate) enum ServiceStage {
     /// The SRV records of the next way.
-    Service(Walk),
+    ServiceRecords(Position),
     /// The addresses of a server of a listed service; after the service, the walk goes on from
     /// there.
-    Server(Arc<Listing>, Cursor, Walk),
+    Server(Arc<Listing>, Cursor, Position),
 }
 
 /// How far a walk has come.
 #[derive(Drop)]
-pub(crate) enum Reached {
+pub(crate) enum ServiceStep {
     /// It goes on from here.
-    Walk(Walk),
+    Position(Position),
     /// It stops here, where this question has no answer.
-    Stop(Spot, Question),
+    Stop(ServiceStage, Question),
 }
 
 /// Where a question comes up in a choice.
@@ -132,14 +132,14 @@ pub(crate) enum Stage {
     /// The NAPTR records of the domain.
     Rules,
     /// One of its services.
-    Along(Arc<Lead>, Spot),
+    Along(Arc<Candidates>, ServiceStage),
     /// The addresses of the domain, by a transport at a port; so many kinds are done.
     Domain(Transport, u16, usize),
 }
 
 /// What is next in a choice.
 #[derive(Drop)]
-pub(crate) enum Turn {
+pub(crate) enum Step {
     /// The answer to this question, at this stage.
     Ask(Question, Stage),
     /// The targets that were found are all.
@@ -148,16 +148,16 @@ pub(crate) enum Turn {
     Refused(Reason),
 }
 
-impl Turn {
+impl Step {
     /// Takes out the question that is asked, and its stage.
     pub(crate) fn take_ask(&mut self) -> (Question, Stage)
-        requires { (question : Question) × (stage : Stage) × (self.old ≡ turn.Ask question stage) }
-        ensures taken { self.old ≡ turn.Ask result.0 result.1 }
-        ensures left { self.new ≡ turn.Found }
+        requires { (question : Question) × (stage : Stage) × (self.old ≡ step.Ask question stage) }
+        ensures taken { self.old ≡ step.Ask result.0 result.1 }
+        ensures left { self.new ≡ step.Found }
     {
-        match mem::replace(self, Turn::Found) {
-            Turn::Ask(question, stage) => (question, stage),
-            Turn::Found | Turn::Refused(_) => unreachable!(),
+        match mem::replace(self, Step::Found) {
+            Step::Ask(question, stage) => (question, stage),
+            Step::Found | Step::Refused(_) => unreachable!(),
         }
     }
 }

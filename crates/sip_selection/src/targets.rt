@@ -7,7 +7,7 @@ ghost use Rattle.sip_selection.specs.declared.target.Target as target;
 
 use crate::caps::kinds_of;
 use crate::known::Stop;
-use crate::stage::{Basis, Cursor};
+use crate::stage::{Context, Cursor};
 use crate::target::Target;
 use dns_answers::Records;
 use dns_message::{Question, SrvRecord};
@@ -76,7 +76,7 @@ fn push_addresses(
 /// has no answer.
 pub(crate) fn push_kinds(
     targets: &mut Vec<Target>,
-    basis: &Basis<'_>,
+    context: &Context<'_>,
     transport: Transport,
     port: u16,
     name: &Name,
@@ -84,12 +84,13 @@ pub(crate) fn push_kinds(
 ) -> Result<Option<(usize, Question)>, AllocError>
     ensures { IfOk result
         (λ stop. (found : List target.Target) × (targets.new.items ≡ targets.old.items ++ found)
-        × stage.Reaches basis.now.known.now
-        (λ all. stage.kinds_left basis.now.caps.now all transport port name.now) from stop found) }
+        × stage.Reaches context.now.known.now
+        (λ all. stage.kinds_left context.now.caps.now all transport port name.now) from stop
+        found) }
 {
-    let kinds = kinds_of(basis.caps.families());
+    let kinds = kinds_of(context.caps.families());
     for at in from..kinds.len() {
-        match basis.known.answer_to(name, kinds[at]) {
+        match context.known.answer_to(name, kinds[at]) {
             Ok(answer) => push_addresses(targets, transport, port, answer.records())?,
             Err(Stop::Need(question)) => return Ok(Some((at, question))),
             Err(Stop::Memory) => return Err(AllocError),
@@ -101,67 +102,74 @@ pub(crate) fn push_kinds(
 /// Adds the addresses of a server at its port, from a kind on, unless its target is the root.
 fn push_server(
     targets: &mut Vec<Target>,
-    basis: &Basis<'_>,
+    context: &Context<'_>,
     transport: Transport,
     server: &SrvRecord,
     from: usize,
 ) -> Result<Option<(usize, Question)>, AllocError>
     ensures { IfOk result
         (λ stop. (found : List target.Target) × (targets.new.items ≡ targets.old.items ++ found)
-        × stage.Reaches basis.now.known.now
-        (λ all. stage.server_left basis.now.caps.now all transport server.now) from stop found) }
+        × stage.Reaches context.now.known.now
+        (λ all. stage.server_left context.now.caps.now all transport server.now) from stop found) }
 {
     if server.target.is_root() {
         return Ok(None);
     }
-    push_kinds(targets, basis, transport, server.port, &server.target, from)
+    push_kinds(
+        targets,
+        context,
+        transport,
+        server.port,
+        &server.target,
+        from,
+    )
 }
 
 /// Adds the addresses of the server at a place, if there is one, from a kind on.
-fn push_place(
+fn push_index(
     targets: &mut Vec<Target>,
-    basis: &Basis<'_>,
+    context: &Context<'_>,
     transport: Transport,
     servers: &[SrvRecord],
-    place: usize,
+    index: usize,
     from: usize,
 ) -> Result<Option<(usize, Question)>, AllocError>
     ensures { IfOk result
         (λ stop. (found : List target.Target) × (targets.new.items ≡ targets.old.items ++ found)
-        × stage.Reaches basis.now.known.now
-        (λ all. stage.place_left basis.now.caps.now all transport
-        servers.now place) from stop found) }
+        × stage.Reaches context.now.known.now
+        (λ all. stage.index_left context.now.caps.now all transport
+        servers.now index) from stop found) }
 {
-    match servers.get(place) {
-        Some(server) => push_server(targets, basis, transport, server, from),
+    match servers.get(index) {
+        Some(server) => push_server(targets, context, transport, server, from),
         None => Ok(None),
     }
 }
 
 /// Adds the addresses of the servers at these places, in this order, from a cursor on: all, or up
 /// to the first question without an answer.
-pub(crate) fn push_places(
+pub(crate) fn push_indexes(
     targets: &mut Vec<Target>,
-    basis: &Basis<'_>,
+    context: &Context<'_>,
     transport: Transport,
     servers: &[SrvRecord],
-    places: &[usize],
+    indexes: &[usize],
     from: Cursor,
 ) -> Result<Option<(Cursor, Question)>, AllocError>
     ensures { IfOk result
         (λ stop. (found : List target.Target) × (targets.new.items ≡ targets.old.items ++ found)
-        × stage.Reaches basis.now.known.now
-        (λ all. stage.servers_left basis.now.caps.now all transport servers.now
-        places.now) from stop found) }
+        × stage.Reaches context.now.known.now
+        (λ all. stage.servers_left context.now.caps.now all transport servers.now
+        indexes.now) from stop found) }
 {
     let mut kind = from.kind;
-    for server in from.server..places.len() {
-        if let Some((kind, question)) = push_place(
+    for server in from.server..indexes.len() {
+        if let Some((kind, question)) = push_index(
             targets,
-            basis,
+            context,
             transport,
             servers,
-            places[server],
+            indexes[server],
             kind,
         )? {
             return Ok(Some((Cursor { server, kind }, question)));

@@ -34,7 +34,7 @@ pub(crate) enum Says {
 }
 
 /// The kind and the name of a question, and what its answer says.
-type Step = (Kind, &'static str, Says);
+type Reply = (Kind, &'static str, Says);
 
 /// The URI or Via of a text, where there is memory for it.
 pub(crate) fn request_of(alloc: Global, text: &str) -> Option<Request> {

@@ -19,8 +19,8 @@ pub(crate) fn default_port(transport: Transport) -> u16
 }
 
 /// The transport that is meant by one as it is written.
-fn plainly(spoken: Spoken) -> Result<Transport, Reason>
-    ensures { result ≡ spec.plainly spoken }
+fn transport_for_sip(spoken: Spoken) -> Result<Transport, Reason>
+    ensures { result ≡ spec.transport_for_sip spoken }
 {
     match spoken {
         Spoken::Known(transport) => Ok(transport),
@@ -29,8 +29,8 @@ fn plainly(spoken: Spoken) -> Result<Transport, Reason>
 }
 
 /// The transport that is meant by one of a SIPS URI (RFC 3261 19.1.1, 26.2.2).
-fn securely(spoken: Spoken) -> Result<Transport, Reason>
-    ensures { result ≡ spec.securely spoken }
+fn transport_for_sips(spoken: Spoken) -> Result<Transport, Reason>
+    ensures { result ≡ spec.transport_for_sips spoken }
 {
     match spoken {
         Spoken::Known(Transport::Tcp | Transport::Tls) => Ok(Transport::Tls),
@@ -40,8 +40,8 @@ fn securely(spoken: Spoken) -> Result<Transport, Reason>
 }
 
 /// The transport where none is named.
-fn usual_transport(secure: bool) -> Transport
-    ensures { result ≡ spec.usual_transport secure }
+fn default_transport(secure: bool) -> Transport
+    ensures { result ≡ spec.default_transport secure }
 {
     if secure {
         Transport::Tls
@@ -55,9 +55,9 @@ fn transport_of(request: &Request) -> Result<Transport, Reason>
     ensures { result ≡ spec.transport_of request.now }
 {
     match request.spoken() {
-        None => Ok(usual_transport(request.is_secure())),
-        Some(spoken) if request.is_secure() => securely(spoken),
-        Some(spoken) => plainly(spoken),
+        None => Ok(default_transport(request.is_secure())),
+        Some(spoken) if request.is_secure() => transport_for_sips(spoken),
+        Some(spoken) => transport_for_sip(spoken),
     }
 }
 
@@ -81,8 +81,8 @@ pub(crate) fn transport_offered(request: &Request, caps: &Caps) -> Result<Transp
 }
 
 /// The transport where none is named, if it is one of the caller's.
-pub(crate) fn usual(secure: bool, caps: &Caps) -> Result<Transport, Reason>
-    ensures { result ≡ choice.usual secure caps.now }
+pub(crate) fn offered_default(secure: bool, caps: &Caps) -> Result<Transport, Reason>
+    ensures { result ≡ choice.offered_default secure caps.now }
 {
-    offered(caps, Ok(usual_transport(secure)))
+    offered(caps, Ok(default_transport(secure)))
 }

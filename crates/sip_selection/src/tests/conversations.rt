@@ -1,7 +1,7 @@
 //! Requests, the questions that they ask with the answers given, and where they go, worked out by
 //! hand.
 use super::rules::EXAMPLE;
-use super::{Server, Step, answer_of, asks, begun, question_of, words_of};
+use super::{Reply, Server, answer_of, asks, begun, question_of, words_of};
 use crate::tests::Says::{A, Aaaa, Absent, Naptr, Srv};
 use crate::{Families, Next, Reason, Selection, Target};
 use dns_message::Kind;
@@ -10,13 +10,13 @@ use sip_uri::{Address, Transport};
 use std::alloc::Global;
 
 /// Where a request can be sent.
-type Place = (Transport, Address, u16);
+type Index = (Transport, Address, u16);
 
 /// What is next.
 #[derive(Clone, Copy)]
 enum Outcome {
     Asks(Kind, &'static str),
-    Goes(&'static [Place]),
+    Goes(&'static [Index]),
     Fails(Reason),
 }
 
@@ -29,7 +29,7 @@ struct Row {
     transports: &'static [Transport],
     families: Families,
     words: &'static [u64],
-    steps: &'static [Step],
+    replies: &'static [Reply],
     outcome: Outcome,
 }
 
@@ -64,7 +64,7 @@ const DISCOVERED: &[Row] = &[
         transports: &[Tcp, Tls],
         families: Families::V4,
         words: &[],
-        steps: &[(
+        replies: &[(
             Kind::Naptr,
             "b.example.",
             Naptr(&[
@@ -80,7 +80,7 @@ const DISCOVERED: &[Row] = &[
         transports: &[Udp, Tcp, Sctp],
         families: Families::V4,
         words: &[],
-        steps: &[
+        replies: &[
             (Kind::Naptr, "b.example.", Absent),
             (Kind::Srv, "_sip._udp.b.example.", Absent),
             (Kind::Srv, "_sip._tcp.b.example.", Absent),
@@ -95,7 +95,7 @@ const DISCOVERED: &[Row] = &[
         transports: &[Udp, Tls, Tcp],
         families: Families::V4,
         words: &[],
-        steps: &[
+        replies: &[
             (Kind::Naptr, "b.example.", Absent),
             (Kind::Srv, "_sip._udp.b.example.", Absent),
         ],
@@ -106,7 +106,7 @@ const DISCOVERED: &[Row] = &[
         transports: &[Udp, Tls, Tcp],
         families: Families::V4,
         words: &[],
-        steps: &[
+        replies: &[
             (Kind::Naptr, "b.example.", Absent),
             (Kind::Srv, "_sips._tcp.b.example.", Absent),
             (Kind::A, "b.example.", A(&[[192, 0, 2, 5], [192, 0, 2, 6]])),
@@ -122,7 +122,7 @@ const DISCOVERED: &[Row] = &[
         transports: &[Udp, Tcp],
         families: Families::V4,
         words: &[],
-        steps: &[
+        replies: &[
             (Kind::Naptr, "b.example.", Absent),
             (Kind::Srv, "_sip._udp.b.example.", Srv(&[(0, 0, 0, ".")])),
             (
@@ -139,7 +139,7 @@ const DISCOVERED: &[Row] = &[
         transports: &[Udp, Tcp],
         families: Families::V4,
         words: &[],
-        steps: &[
+        replies: &[
             (Kind::Naptr, "b.example.", Absent),
             (Kind::Srv, "_sip._udp.b.example.", Srv(&[(0, 0, 0, ".")])),
             (Kind::Srv, "_sip._tcp.b.example.", Absent),
@@ -152,7 +152,7 @@ const DISCOVERED: &[Row] = &[
         transports: &[Tcp],
         families: Families::V4,
         words: &[],
-        steps: &[
+        replies: &[
             (Kind::Naptr, "b.example.", Absent),
             (Kind::Srv, "_sip._tcp.b.example.", Absent),
         ],
@@ -164,7 +164,7 @@ const DISCOVERED: &[Row] = &[
         transports: &[Tcp, Udp],
         families: Families::V4,
         words: &[],
-        steps: &[
+        replies: &[
             (Kind::Naptr, "example.com.", Naptr(EXAMPLE)),
             (
                 Kind::Srv,
@@ -188,7 +188,7 @@ const DISCOVERED: &[Row] = &[
         transports: &[Tcp, Udp],
         families: Families::V4,
         words: &[2],
-        steps: &[
+        replies: &[
             (Kind::Naptr, "example.com.", Naptr(EXAMPLE)),
             (
                 Kind::Srv,
@@ -217,7 +217,7 @@ const DISCOVERED: &[Row] = &[
         transports: &[Tcp, Tls, Udp],
         families: Families::V4,
         words: &[],
-        steps: &[
+        replies: &[
             (Kind::Naptr, "example.com.", Naptr(EXAMPLE)),
             (Kind::Srv, "_sips._tcp.example.com.", Absent),
             (Kind::A, "example.com.", A(&[[192, 0, 2, 33]])),
@@ -230,7 +230,7 @@ const DISCOVERED: &[Row] = &[
         transports: &[Udp, Tcp],
         families: Families::V4,
         words: &[2, 0, 0, 0],
-        steps: &[
+        replies: &[
             (Kind::Naptr, "b.example.", Absent),
             (
                 Kind::Srv,
@@ -262,7 +262,7 @@ const NAMED: &[Row] = &[
         transports: &[Udp, Tcp],
         families: Families::V4,
         words: &[],
-        steps: &[(Kind::Srv, "_sip._tcp.e.example.", Srv(&[(0, 0, 0, ".")]))],
+        replies: &[(Kind::Srv, "_sip._tcp.e.example.", Srv(&[(0, 0, 0, ".")]))],
         outcome: Fails(Reason::NotOffered),
     },
     // responses go by the Via
@@ -271,7 +271,7 @@ const NAMED: &[Row] = &[
         transports: &[Udp, Tls],
         families: Families::V4,
         words: &[],
-        steps: &[],
+        replies: &[],
         outcome: Asks(Kind::Srv, "_sips._tcp.d.example."),
     },
     Row {
@@ -279,7 +279,7 @@ const NAMED: &[Row] = &[
         transports: &[Udp, Tls],
         families: Families::V4,
         words: &[],
-        steps: &[
+        replies: &[
             (Kind::Srv, "_sips._tcp.d.example.", Absent),
             (Kind::A, "d.example.", A(&[[192, 0, 2, 7]])),
         ],
@@ -290,7 +290,7 @@ const NAMED: &[Row] = &[
         transports: &[Udp],
         families: Families::V4,
         words: &[],
-        steps: &[(Kind::A, "d.example.", A(&[[192, 0, 2, 7]]))],
+        replies: &[(Kind::A, "d.example.", A(&[[192, 0, 2, 7]]))],
         outcome: Goes(&[(Udp, Address::V4([192, 0, 2, 7]), 5070)]),
     },
     Row {
@@ -298,7 +298,7 @@ const NAMED: &[Row] = &[
         transports: &[Tcp],
         families: Families::V4,
         words: &[],
-        steps: &[],
+        replies: &[],
         outcome: Goes(&[(Tcp, Address::V4([192, 0, 2, 9]), 5060)]),
     },
     Row {
@@ -306,7 +306,7 @@ const NAMED: &[Row] = &[
         transports: &[Udp],
         families: Families::V4,
         words: &[],
-        steps: &[],
+        replies: &[],
         outcome: Fails(Reason::TransportUnsupported),
     },
     // the name of its service would have 260 octets
@@ -315,7 +315,7 @@ const NAMED: &[Row] = &[
         transports: &[Udp],
         families: Families::V4,
         words: &[],
-        steps: &[],
+        replies: &[],
         outcome: Asks(Kind::A, LONG_DOMAIN),
     },
     // the families in their order
@@ -324,7 +324,7 @@ const NAMED: &[Row] = &[
         transports: &[Udp],
         families: Families::V6ThenV4,
         words: &[],
-        steps: &[
+        replies: &[
             (Kind::Aaaa, "a.example.", Aaaa(&[V6])),
             (Kind::A, "a.example.", A(&[[192, 0, 2, 8], [192, 0, 2, 9]])),
         ],
@@ -339,7 +339,7 @@ const NAMED: &[Row] = &[
         transports: &[Udp],
         families: Families::V4ThenV6,
         words: &[],
-        steps: &[(Kind::A, "a.example.", A(&[[192, 0, 2, 8]]))],
+        replies: &[(Kind::A, "a.example.", A(&[[192, 0, 2, 8]]))],
         outcome: Asks(Kind::Aaaa, "a.example."),
     },
     Row {
@@ -347,7 +347,7 @@ const NAMED: &[Row] = &[
         transports: &[Udp],
         families: Families::V6,
         words: &[],
-        steps: &[(Kind::Aaaa, "a.example.", Absent)],
+        replies: &[(Kind::Aaaa, "a.example.", Absent)],
         outcome: Fails(Reason::NoAddress),
     },
     // the servers of the zone in RFC 2782, as ones of SIP
@@ -356,7 +356,7 @@ const NAMED: &[Row] = &[
         transports: &[Tcp],
         families: Families::V4,
         words: &[2, 1],
-        steps: &[
+        replies: &[
             (Kind::Srv, "_sip._tcp.example.com.", Srv(ZONE)),
             (
                 Kind::A,
@@ -388,7 +388,7 @@ const NAMED: &[Row] = &[
         transports: &[Tls],
         families: Families::V6,
         words: &[],
-        steps: &[
+        replies: &[
             (Kind::Srv, "_sips._tcp.b.example.", Absent),
             (Kind::Aaaa, "b.example.", Aaaa(&[V6])),
         ],
@@ -400,7 +400,7 @@ const NAMED: &[Row] = &[
         transports: &[Udp],
         families: Families::V4,
         words: &[],
-        steps: &[
+        replies: &[
             (
                 Kind::Srv,
                 "_sip._udp.b.example.",
@@ -416,7 +416,7 @@ const NAMED: &[Row] = &[
         transports: &[Udp],
         families: Families::V4,
         words: &[],
-        steps: &[
+        replies: &[
             (
                 Kind::Srv,
                 "_sip._udp.b.example.",
@@ -441,7 +441,7 @@ const NAMED: &[Row] = &[
         transports: &[Udp],
         families: Families::V4,
         words: &[],
-        steps: &[
+        replies: &[
             (
                 Kind::Srv,
                 "_sip._udp.b.example.",
@@ -457,7 +457,7 @@ const NAMED: &[Row] = &[
         transports: &[Udp],
         families: Families::V4,
         words: &[],
-        steps: &[],
+        replies: &[],
         outcome: Asks(Kind::Srv, "_sip._udp.m.example."),
     },
     Row {
@@ -465,7 +465,7 @@ const NAMED: &[Row] = &[
         transports: &[Udp],
         families: Families::V4,
         words: &[],
-        steps: &[],
+        replies: &[],
         outcome: Goes(&[(Udp, Address::V4([192, 0, 2, 7]), 5060)]),
     },
     Row {
@@ -473,7 +473,7 @@ const NAMED: &[Row] = &[
         transports: &[Udp, Tls],
         families: Families::V4,
         words: &[],
-        steps: &[],
+        replies: &[],
         outcome: Goes(&[(Tls, Address::V4([192, 0, 2, 7]), 5090)]),
     },
     Row {
@@ -481,7 +481,7 @@ const NAMED: &[Row] = &[
         transports: &[Udp, Tls],
         families: Families::V4,
         words: &[],
-        steps: &[],
+        replies: &[],
         outcome: Fails(Reason::TransportNotSecure),
     },
     Row {
@@ -489,7 +489,7 @@ const NAMED: &[Row] = &[
         transports: &[Sctp, Tls],
         families: Families::V4,
         words: &[],
-        steps: &[],
+        replies: &[],
         outcome: Fails(Reason::TransportUnsupported),
     },
     Row {
@@ -497,14 +497,14 @@ const NAMED: &[Row] = &[
         transports: &[Udp],
         families: Families::V4,
         words: &[],
-        steps: &[],
+        replies: &[],
         outcome: Fails(Reason::TransportUnsupported),
     },
 ];
 
-/// Gives the answer of a step, if its question is asked and there is memory for it.
-fn take(alloc: Global, selection: &mut Selection, step: &Step) -> Option<()> {
-    let (kind, name, says) = *step;
+/// Gives the answer of a reply, if its question is asked and there is memory for it.
+fn take(alloc: Global, selection: &mut Selection, reply: &Reply) -> Option<()> {
+    let (kind, name, says) = *reply;
     let question = question_of(alloc, kind, name)?;
     let answer = answer_of(alloc, kind, says)?;
     selection.give(alloc, &question, answer).ok()
@@ -514,27 +514,27 @@ fn take(alloc: Global, selection: &mut Selection, step: &Step) -> Option<()> {
 fn answered(alloc: Global, row: &Row) -> Option<Selection> {
     let words = words_of(row.words);
     let mut selection = begun(alloc, row.request, row.transports, row.families, words)?;
-    for step in row.steps {
-        take(alloc, &mut selection, step)?;
+    for reply in row.replies {
+        take(alloc, &mut selection, reply)?;
     }
     Some(selection)
 }
 
 /// Whether these are the places where a request can be sent.
-fn are_at(targets: &[Target], places: &[Place]) -> bool {
-    targets.len() == places.len()
-        && targets.iter().zip(places).all(|(target, place)| (
+fn are_at(targets: &[Target], indexes: &[Index]) -> bool {
+    targets.len() == indexes.len()
+        && targets.iter().zip(indexes).all(|(target, index)| (
             target.transport,
             target.address,
             target.port,
-        ) == *place)
+        ) == *index)
 }
 
 /// Whether this is next.
 fn is_so(alloc: Global, next: Next<'_>, outcome: Outcome) -> bool {
     match outcome {
         Asks(kind, name) => asks(alloc, next, kind, name),
-        Goes(places) => matches!(next, Next::Targets(targets) if are_at(targets, places)),
+        Goes(indexes) => matches!(next, Next::Targets(targets) if are_at(targets, indexes)),
         Fails(expected) => matches!(next, Next::Refused(reason) if reason == expected),
     }
 }

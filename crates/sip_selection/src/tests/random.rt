@@ -4,7 +4,7 @@ use super::rules::NINE;
 use super::{Says, Server, ZEROS, answer_of, begun, request_of};
 use crate::choice::begin;
 use crate::known::Known;
-use crate::stage::Turn;
+use crate::stage::Step;
 use crate::tests::Says::{A, Aaaa, Absent, Naptr, Srv};
 use crate::{Caps, Families, Next, Reason, Request, Selection, Target};
 use dns_message::{Kind, Question};
@@ -94,12 +94,12 @@ fn words_of(dice: &mut Dice) -> Words {
 }
 
 /// Whether a choice and one made at once come to the same.
-fn is_same(next: Next<'_>, turn: &Turn, targets: &[Target]) -> bool {
-    match (next, turn) {
-        (Next::Ask(question), Turn::Ask(other, _)) => *question == *other,
-        (Next::Targets(found), Turn::Found) => found == targets,
-        (Next::Refused(Reason::NoAddress), Turn::Found) => targets.is_empty(),
-        (Next::Refused(reason), Turn::Refused(other)) => reason == *other,
+fn is_same(next: Next<'_>, step: &Step, targets: &[Target]) -> bool {
+    match (next, step) {
+        (Next::Ask(question), Step::Ask(other, _)) => *question == *other,
+        (Next::Targets(found), Step::Found) => found == targets,
+        (Next::Refused(Reason::NoAddress), Step::Found) => targets.is_empty(),
+        (Next::Refused(reason), Step::Refused(other)) => reason == *other,
         _ => false,
     }
 }
@@ -142,7 +142,7 @@ impl Run {
     /// memory.
     fn agrees(&self, alloc: Global) -> Option<bool> {
         let mut targets = Vec::new(alloc);
-        let turn = begin(
+        let step = begin(
             &mut targets,
             alloc,
             &self.request,
@@ -150,8 +150,8 @@ impl Run {
             &self.words,
             &self.known,
         );
-        match turn {
-            Ok(turn) => Some(is_same(self.selection.next(), &turn, targets.as_slice())),
+        match step {
+            Ok(step) => Some(is_same(self.selection.next(), &step, targets.as_slice())),
             Err(AllocError) => None,
         }
     }

@@ -1,7 +1,7 @@
 //! NAPTR records and where they lead, worked out by hand, as a table.
 use crate::caps::{Caps, Families};
-use crate::rules::kept;
-use crate::way::Way;
+use crate::rules::usable_services;
+use crate::service::Service;
 use dns_message::{CharString, NaptrRecord};
 use dns_name::Name;
 use sip_uri::Transport;
@@ -23,7 +23,7 @@ struct Row {
     rules: &'static [Rule],
     secure: bool,
     transports: &'static [Transport],
-    ways: &'static [(Transport, &'static str)],
+    services: &'static [(Transport, &'static str)],
 }
 
 /// The example of RFC 3263 4.1.
@@ -52,38 +52,38 @@ const ROWS: &[Row] = &[
         rules: EXAMPLE,
         secure: false,
         transports: &[Udp, Tcp],
-        ways: &[(Tcp, "_sip._tcp.example.com.")],
+        services: &[(Tcp, "_sip._tcp.example.com.")],
     },
     Row {
         rules: EXAMPLE,
         secure: false,
         transports: &[Udp, Tcp, Tls],
-        ways: &[(Tls, "_sips._tcp.example.com.")],
+        services: &[(Tls, "_sips._tcp.example.com.")],
     },
     Row {
         rules: EXAMPLE,
         secure: false,
         transports: &[Sctp, Udp],
-        ways: &[(Udp, "_sip._udp.example.com.")],
+        services: &[(Udp, "_sip._udp.example.com.")],
     },
     Row {
         rules: EXAMPLE,
         secure: false,
         transports: &[Sctp],
-        ways: &[],
+        services: &[],
     },
     // a SIPS URI goes by TLS alone
     Row {
         rules: EXAMPLE,
         secure: true,
         transports: &[Udp, Tcp, Tls],
-        ways: &[(Tls, "_sips._tcp.example.com.")],
+        services: &[(Tls, "_sips._tcp.example.com.")],
     },
     Row {
         rules: EXAMPLE,
         secure: true,
         transports: &[Udp, Tcp],
-        ways: &[],
+        services: &[],
     },
     Row {
         rules: &[
@@ -92,7 +92,7 @@ const ROWS: &[Row] = &[
         ],
         secure: true,
         transports: &[Tcp, Tls],
-        ways: &[(Tls, "_sips._tcp.b.example.")],
+        services: &[(Tls, "_sips._tcp.b.example.")],
     },
     // letters of any case, and of a name small ones
     Row {
@@ -104,7 +104,7 @@ const ROWS: &[Row] = &[
         ],
         secure: false,
         transports: &[Udp, Tcp, Sctp, Tls],
-        ways: &[
+        services: &[
             (Udp, "u.example."),
             (Tcp, "t.example."),
             (Sctp, "s.example."),
@@ -124,7 +124,7 @@ const ROWS: &[Row] = &[
         ],
         secure: false,
         transports: &[Udp, Tcp],
-        ways: &[],
+        services: &[],
     },
     // other services
     Row {
@@ -138,7 +138,7 @@ const ROWS: &[Row] = &[
         ],
         secure: false,
         transports: &[Udp, Tcp, Sctp, Tls],
-        ways: &[],
+        services: &[],
     },
     // the least ORDER is that of the rules that lead to a service
     Row {
@@ -154,7 +154,7 @@ const ROWS: &[Row] = &[
         ],
         secure: false,
         transports: &[Udp, Tcp],
-        ways: &[(Tcp, "g.example."), (Udp, "f.example.")],
+        services: &[(Tcp, "g.example."), (Udp, "f.example.")],
     },
     // ORDER counts before PREFERENCE
     Row {
@@ -165,7 +165,7 @@ const ROWS: &[Row] = &[
         ],
         secure: false,
         transports: &[Udp, Tcp],
-        ways: &[(Tcp, "b.example.")],
+        services: &[(Tcp, "b.example.")],
     },
     // of one PREFERENCE they stand as in the message
     Row {
@@ -179,7 +179,7 @@ const ROWS: &[Row] = &[
         ],
         secure: false,
         transports: &[Tls, Udp, Tcp],
-        ways: &[
+        services: &[
             (Tls, "c.example."),
             (Udp, "f.example."),
             (Tcp, "a.example."),
@@ -193,7 +193,7 @@ const ROWS: &[Row] = &[
         rules: NINE,
         secure: false,
         transports: &[Udp, Tcp],
-        ways: &[
+        services: &[
             (Tcp, "a.example."),
             (Udp, "b.example."),
             (Udp, "c.example."),
@@ -208,7 +208,7 @@ const ROWS: &[Row] = &[
         rules: NINE,
         secure: false,
         transports: &[Tcp],
-        ways: &[
+        services: &[
             (Tcp, "a.example."),
             (Tcp, "d.example."),
             (Tcp, "g.example."),
@@ -218,7 +218,7 @@ const ROWS: &[Row] = &[
         rules: &[],
         secure: false,
         transports: &[Udp],
-        ways: &[],
+        services: &[],
     },
 ];
 
@@ -250,34 +250,34 @@ pub(crate) fn records(alloc: Global, rules: &[Rule]) -> Option<Vec<NaptrRecord>>
 }
 
 /// The transports of ways and the texts of their names, where there is memory for them.
-fn told(alloc: Global, ways: &[Way]) -> Option<Vec<(Transport, String)>> {
+fn told(alloc: Global, services: &[Service]) -> Option<Vec<(Transport, String)>> {
     let mut told = Vec::new(alloc);
-    for way in ways {
-        let name = way.name.as_ref()?.text().ok()?;
-        told.push((way.transport, name)).ok()?;
+    for service in services {
+        let name = service.name.as_ref()?.text().ok()?;
+        told.push((service.transport, name)).ok()?;
     }
     Some(told)
 }
 
 /// Where the rules of a row lead, where there is memory for it.
-fn led(alloc: Global, row: &Row) -> Option<Vec<(Transport, String)>> {
+fn service_rule(alloc: Global, row: &Row) -> Option<Vec<(Transport, String)>> {
     let caps = Caps::new(row.transports, Families::V4)?;
     let rules = records(alloc, row.rules)?;
-    let ways = kept(alloc, row.secure, &caps, &rules).ok()?;
-    told(alloc, &ways)
+    let services = usable_services(alloc, row.secure, &caps, &rules).ok()?;
+    told(alloc, &services)
 }
 
 /// Whether these are the transports and names.
-fn are_so(told: &[(Transport, String)], ways: &[(Transport, &str)]) -> bool {
-    told.len() == ways.len()
-        && told.iter().zip(ways).all(|(way, expected)| way.0 == expected.0
-            && way.1.as_str() == expected.1)
+fn are_so(told: &[(Transport, String)], services: &[(Transport, &str)]) -> bool {
+    told.len() == services.len()
+        && told.iter().zip(services).all(|(service, expected)| service.0 == expected.0
+            && service.1.as_str() == expected.1)
 }
 
 /// Whether the rules of a row lead where it says.
 fn is_right(alloc: Global, row: &Row) -> bool {
-    match led(alloc, row) {
-        Some(told) => are_so(&told, row.ways),
+    match service_rule(alloc, row) {
+        Some(told) => are_so(&told, row.services),
         None => false,
     }
 }
@@ -285,6 +285,6 @@ fn is_right(alloc: Global, row: &Row) -> bool {
 #[test]
 fn rules_lead(rt: HostRuntime) {
     for row in ROWS {
-        assert!(rt; is_right(rt.alloc(), row), "{:?}", row.ways);
+        assert!(rt; is_right(rt.alloc(), row), "{:?}", row.services);
     }
 }

@@ -13,7 +13,7 @@ returns-in-Domain-clause-comes c =
       c.spoken.ensures,
       c.transport_offered-transport.ensures,
     ) at c.for_domain.ensures.comes in
-    rw there (ok-each _ _ (λ turn first. (
+    rw there (ok-each _ _ (λ step first. (
       λ all extends. domain-is a.request.now a.caps.now a.words.now.0 all c.in-Domain.name _ _ ∙ first.0 all extends,
       first.1,
     )) c.for_domain.result comes)

@@ -9,8 +9,8 @@ pub loop-at-preserved : goal.loop-at-preserved
 loop-at-preserved c =
     let l = c.loop-at in
     let a = c.args in
-    let caps = a.basis.now.caps.now in
-    let given = a.basis.now.known.now in
+    let caps = a.context.now.caps.now in
+    let given = a.context.now.known.now in
     let are = c.kinds_of-kinds.ensures ∙ ap kinds_of c.families.ensures in
     came-more given
     (λ all. kinds_left caps all a.transport a.port a.name.now) a.from a.targets.now.items l.at _ l.targets.items _ _ l.invariant
@@ -22,8 +22,8 @@ pub returns-in-Err-Need : goal.returns-in-Err-Need
 returns-in-Err-Need c =
     let l = c.loop-at in
     let a = c.args in
-    let caps = a.basis.now.caps.now in
-    let given = a.basis.now.known.now in
+    let caps = a.context.now.caps.now in
+    let given = a.context.now.known.now in
     let it = c.in-Err-Need in
     let are = c.kinds_of-kinds.ensures ∙ ap kinds_of c.families.ensures in
     let unknown = rw it.field-0-is at it.ensures in

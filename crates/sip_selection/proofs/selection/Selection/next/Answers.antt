@@ -1,5 +1,5 @@
 use Rattle.std.proofs.Common.{rules, sym}
-use Rattle.sip_selection.proofs.Turns.{asked-is, found-is, refused-is}
+use Rattle.sip_selection.proofs.Steps.{asked-is, found-is, refused-is}
 use Rattle.sip_selection.proofs.selection.Selection.next.Goals as goal
 
 pub returns-in-Ask : goal.returns-in-Ask

@@ -1,6 +1,6 @@
 use Rattle.std.proofs.Common.{◌∙◌, ap, sym}
 use Rattle.sip_selection.specs.Stages.{name_of}
-use Rattle.sip_selection.proofs.Turns.{asked-is, asked-too, unknown-is, goes-on, turn-asks}
+use Rattle.sip_selection.proofs.Steps.{asked-is, asked-too, unknown-is, goes-on, step-asks}
 use Rattle.sip_selection.proofs.selection.Selection.take.Goals as goal
 
 pub unreachable-requires : goal.unreachable-requires
@@ -14,7 +14,7 @@ pub take_ask-asked-requires : goal.take_ask-asked-requires
 take_ask-asked-requires c =
     let s = c.self.inside in
     let question = c.requires.asked.0 in
-    let asks = turn-asks s.request s.caps s.words.0 s.known s.targets.items s.turn question c.self.invariant.0
+    let asks = step-asks s.request s.caps s.words.0 s.known s.targets.items s.step question c.self.invariant.0
     (rw (← c.self.view_is) at c.requires.asked.1) in
     (question, asks.0, asks.1)
 
@@ -38,7 +38,7 @@ invariant_of-self-in-Ok c =
     let pushed = c.in_default-push.ensures.pushed in
     let before = rw taken.ensures.taken at c.self.invariant.0 in
     rw pushed (
-      goes-on s.request s.caps s.words.0 s.known s.targets.items taken.result.0 taken.result.1 before _ c.in-Ok.turn _
+      goes-on s.request s.caps s.words.0 s.known s.targets.items taken.result.0 taken.result.1 before _ c.in-Ok.step _
           (rw (pushed, c.is_secure.ensures, ← (ap name_of there)) at c.in-Ok.ensures.goes),
       asked-too s.request s.caps s.words.0 s.known s.targets.items c.self.invariant.1 _
           (asked-is s.request s.caps s.words.0 s.known s.targets.items taken.result.0 taken.result.1 before)

@@ -1,0 +1,84 @@
+-- What is next in a choice is where it goes by the answers so far.
+use Rattle.std.proofs.Common.{◌≡◌, ℕ, ◌≤◌, Bool, true, false, not, true≢false, sym, List, [], ◌∷◌, ◌++◌, length, Ok, Err, refl, ap, ◌∙◌, inl, inr, arith}
+use Rattle.std.proofs.lemmas.Bool.{cases_lt}
+use Rattle.std.proofs.lemmas.List.{get_or_append_left, get_or_push, length_push, take-append-le, take_at}
+use Rattle.std.proofs.lemmas.List.Elements.{All-push}
+use Rattle.dns_answers.specs.Records.{count_of}
+use Rattle.dns_message.specs.declared.question.Question.{Question}
+use Rattle.sip_selection.specs.Choice.{Settled, need, refused, settled, resolved, chosen, locate}
+use Rattle.sip_selection.specs.Known.{Given, answer_to}
+use Rattle.sip_selection.specs.Requests.{is_secure, target_of}
+use Rattle.sip_selection.specs.Selections.{AreAskedOneByOne}
+use Rattle.sip_selection.specs.Stages.{ComesTo, name_of, stage_left}
+use Rattle.sip_selection.specs.declared.caps.Caps.{Caps}
+use Rattle.sip_selection.specs.declared.reason.Reason.{Reason}
+use Rattle.sip_selection.specs.declared.request.Request.{Request}
+use Rattle.sip_selection.specs.declared.stage.Stage.{Stage}
+use Rattle.sip_selection.specs.declared.stage.Step.{Step}
+use Rattle.sip_selection.specs.declared.stage.Step.TheVariants.{Ask, Found, Refused}
+use Rattle.sip_selection.specs.declared.target.Target.{Target}
+use Rattle.sip_selection.proofs.ChoiceLaws.{missing_is}
+use Rattle.sip_selection.proofs.Growth.{answer-grows}
+use Rattle.sip_selection.proofs.Reaching.{extends-itself}
+
+nothing-needed : (settles : Settled) (question : Question) → settled settles ≡ need question → ⊥
+nothing-needed (Ok []) question is = absurd cc
+nothing-needed (Ok (first ∷ others)) question is = absurd cc
+nothing-needed (Err reason) question is = absurd cc
+
+module _ (request : Request) (caps : Caps) (words : List ℕ) (given : List Given) (found : List Target) where
+  abbrev pub Stands : Step → Type 0
+  Stands step = ComesTo (is_secure request) caps words (name_of (target_of request)) given (chosen request caps words) step found
+
+  pub asked-is : (question : Question) (stage : Stage) → Stands (Ask question stage) → locate request caps words given ≡ need question
+  asked-is question stage comes = ap resolved (comes.0 given (extends-itself given) ∙ comes.1.0)
+
+  pub found-is : Stands Found → locate request caps words given ≡ settled (Ok found)
+  found-is comes = ap resolved (comes.0 given (extends-itself given))
+
+  pub refused-is : (reason : Reason) → Stands (Refused reason) → locate request caps words given ≡ refused reason
+  refused-is reason comes = ap resolved (comes.0 given (extends-itself given))
+
+  pub unknown-is : (question : Question) (stage : Stage) → Stands (Ask question stage) → answer_to given question ≡ Err question
+  unknown-is question stage comes = rw (missing_is request caps words given question (asked-is question stage comes)).0 refl
+
+  -- a question is needed where it is asked
+  pub step-asks : (step : Step) (question : Question) → Stands step → locate request caps words given ≡ need question
+      → (stage : Stage) × (step ≡ Ask question stage)
+  step-asks (Ask asked stage) question comes is =
+      let needed = sym (asked-is asked stage comes) ∙ is in
+      let same : asked ≡ question = cc in
+      (stage, ap (λ (it : Question). Ask it stage) same)
+  step-asks Found question comes is = absurd (nothing-needed (Ok found) question (sym (found-is comes) ∙ is))
+  step-asks (Refused reason) question comes is = absurd (nothing-needed (Err reason) question (sym (refused-is reason comes) ∙ is))
+
+  -- the answer to the question that is needed stands behind the others
+  pub asked-too : AreAskedOneByOne request caps words given → (more : Given) → locate request caps words given ≡ need more.question
+      → count_of more.answer.records ≤ 32 → AreAskedOneByOne request caps words (given ++ more ∷ [])
+  asked-too asked more needed few = record {
+    few = All-push (λ (it : Given). count_of it.answer.records ≤ 32) given more asked.few few;
+    needed = λ k it within. elim (cases_lt k (length given)) [
+      | inl before ↦
+          let front = take-append-le k given (more ∷ []) (omega (arith, before)) in
+          rw (front, get_or_append_left given (more ∷ []) it k before) (asked.needed k it before)
+      | inr behind ↦
+          let last : length given ≡ k = omega (arith, behind, within, length_push given more) in
+          rw (take_at given (more ∷ []) k last, get_or_push given more it k last) needed
+    ];
+  }
+
+  -- with an answer more, the choice goes on from its stage
+  pub goes-on : (question : Question) (stage : Stage) → Stands (Ask question stage)
+      → (more : Given) (step : Step) (found' : List Target)
+      → ComesTo (is_secure request) caps words (name_of (target_of request)) (given ++ more ∷ [])
+      (stage_left (is_secure request) caps words (name_of (target_of request)) stage found) step found'
+      → ComesTo (is_secure request) caps words (name_of (target_of request)) (given ++ more ∷ []) (chosen request caps words) step found'
+  goes-on question stage comes more step found' next = (
+    λ all extends. comes.0 all
+        (λ asked answer is. extends asked answer (answer-grows given (more ∷ []) asked answer is)) ∙ next.0 all extends,
+    next.1,
+  )
+
+pub not-false : (b : Bool) → false ≡ not b → b ≡ true
+not-false true is = refl
+not-false false is = absurd (true≢false (sym is))

@@ -1,8 +1,0 @@
-use Rattle.sip_selection.specs.Stages.{servers_left}
-use Rattle.sip_selection.proofs.Reaching.{Came}
-use Rattle.sip_selection.proofs.targets.push_places.Given as goal
-
-abbrev pub invariant-loop-server : goal.invariant-loop-server
-invariant-loop-server l =
-    Came l.basis.known.now (λ all. servers_left l.basis.caps.now all l.transport l.servers l.places) l.fn.from l.initial.targets.items
-    (record { server = l.server; kind = l.kind }) l.targets.items

@@ -1,0 +1,200 @@
+//! What services offer, one after the other (RFC 3263 4.1, 4.2, RFC 2782).
+ghost use Rattle.std.specs.Prelude.{◌≡◌, ◌+◌, ◌*◌, ◌<◌, ◌≤◌, ◌∷◌, drop, length, List, IfOk};
+ghost use Rattle.std.specs.Arc.{arc_value};
+ghost use Rattle.sip_selection.specs.Callers.{kinds_of};
+ghost use Rattle.sip_selection.specs.Known.{servers_in};
+ghost use Rattle.sip_selection.specs.Services.{offer_by};
+ghost use Rattle.sip_selection.specs.Stages as spec;
+ghost use Rattle.sip_selection.specs.declared.service.Service.{Service};
+
+use crate::known::Stop;
+use crate::service::Service;
+use crate::stage::{Context, Cursor, Listing, Position, ServiceStage, ServiceStep};
+use crate::target::Target;
+use crate::targets::push_indexes;
+use dns_answers::{Answer, Records};
+use dns_message::{Kind, SrvRecord};
+use sip_uri::Transport;
+use srv_choice::{SrvOutcome, order};
+use std::alloc::AllocError;
+use std::sync::Arc;
+
+/// The servers of an answer.
+fn servers_in(answer: &Answer) -> &[SrvRecord]
+    ensures servers { result.now ≡ servers_in answer.now.records }
+    ensures few { length result.now ≤ 32 }
+{
+    match answer.records() {
+        Records::Srv(servers) => servers.as_slice(),
+        Records::V4(_) | Records::V6(_) | Records::Naptr(_) => &[],
+    }
+}
+
+/// Adds the addresses of the servers of a listed service, from a cursor on. After them goes this
+/// walk.
+fn push_listing(
+    targets: &mut Vec<Target>,
+    context: &Context<'_>,
+    listing: &Arc<Listing>,
+    from: Cursor,
+    position: Position,
+) -> Result<ServiceStep, AllocError>
+    requires { position.word ≤ 32 * position.service }
+    ensures left { IfOk result (λ service_step. (services : List Service)
+        → spec.Walks context.now services
+        (λ all fallback found. spec.servers_first context.now.caps.now context.now.words.now.0
+        context.now.name.now all services fallback
+        (arc_value listing.now) from position found)
+        service_step targets.old.items targets.new.items) }
+    ensures fits { IfOk result spec.ServiceStepFits }
+    ensures goes_on { IfOk result (spec.GoesOnAt position.service) }
+{
+    let servers = servers_in(&listing.answer);
+    let indexes = listing.indexes.as_slice();
+    match push_indexes(targets, context, listing.transport, servers, indexes, from)? {
+        None => Ok(ServiceStep::Position(position)),
+        Some((cursor, question)) => Ok(ServiceStep::Stop(
+            ServiceStage::Server(Arc::try_clone(listing)?, cursor, position),
+            question,
+        )),
+    }
+}
+
+/// What the SRV records of an answer offer.
+fn push_answer(
+    targets: &mut Vec<Target>,
+    context: &Context<'_>,
+    transport: Transport,
+    answer: &Arc<Answer>,
+    position: Position,
+) -> Result<ServiceStep, AllocError>
+    requires few { position.service < 8 }
+    requires words { position.word ≤ 32 * position.service }
+    ensures left { IfOk result (λ service_step. (services : List Service)
+        → spec.Walks context.now services
+        (λ all fallback found. spec.offer_left context.now.caps.now context.now.words.now.0
+        context.now.name.now all services fallback position found
+        (offer_by all
+        (kinds_of context.now.caps.now.families) context.now.words.now.0 transport position.word
+        (arc_value answer.now)))
+        service_step targets.old.items targets.new.items) }
+    ensures fits { IfOk result spec.ServiceStepFits }
+    ensures goes_on { IfOk result (spec.GoesOnAt (position.service + 1)) }
+{
+    let outcome = order(
+        context.alloc,
+        servers_in(answer),
+        context.words,
+        position.word,
+    )?;
+    let behind = position.behind(&outcome);
+    match outcome {
+        SrvOutcome::Absent | SrvOutcome::Denied => Ok(ServiceStep::Position(behind)),
+        SrvOutcome::Listed(indexes, _) => {
+            let listing = Listing {
+                transport,
+                answer: Arc::try_clone(answer)?,
+                indexes,
+            };
+            let listing = Arc::new(context.alloc, listing)?;
+            push_listing(
+                targets,
+                context,
+                &listing,
+                Cursor { server: 0, kind: 0 },
+                behind,
+            )
+        }
+    }
+}
+
+/// What the next way offers. Without a name it offers nothing.
+fn push_service(
+    targets: &mut Vec<Target>,
+    context: &Context<'_>,
+    service: &Service,
+    position: Position,
+) -> Result<ServiceStep, AllocError>
+    requires few { position.service < 8 }
+    requires words { position.word ≤ 32 * position.service }
+    ensures left { IfOk result
+        (λ service_step. (services : List Service) → drop position.service services
+        ≡ service.now ∷ drop (position.service + 1) services
+        → spec.Walks context.now services
+        (λ all fallback found. spec.position_left context.now.caps.now context.now.words.now.0
+        context.now.name.now all services fallback position found)
+        service_step targets.old.items targets.new.items) }
+    ensures fits { IfOk result spec.ServiceStepFits }
+    ensures goes_on { IfOk result (spec.GoesOnAt (position.service + 1)) }
+{
+    let Some(name) = &service.name else {
+        return Ok(ServiceStep::Position(position.behind(&SrvOutcome::Absent)));
+    };
+    match context.known.answer_to(name, Kind::Srv) {
+        Ok(answer) => push_answer(targets, context, service.transport, answer, position),
+        Err(Stop::Need(question)) => Ok(ServiceStep::Stop(
+            ServiceStage::ServiceRecords(position),
+            question,
+        )),
+        Err(Stop::Memory) => Err(AllocError),
+    }
+}
+
+/// What the ways offer, one after the other, from a walk on: all, or up to the first question
+/// without an answer.
+fn push_services(
+    targets: &mut Vec<Target>,
+    context: &Context<'_>,
+    services: &[Service],
+    from: Position,
+) -> Result<ServiceStep, AllocError>
+    requires few { length services.now ≤ 8 }
+    requires words { from.word ≤ 32 * from.service }
+    ensures left { IfOk result (λ service_step. spec.Walks context.now services.now
+        (λ all fallback found. spec.position_left context.now.caps.now context.now.words.now.0
+        context.now.name.now all services.now fallback from found)
+        service_step targets.old.items targets.new.items) }
+    ensures fits { IfOk result spec.ServiceStepFits }
+    ensures all { IfOk result (spec.IsPast (length services.now)) }
+{
+    let mut position = from;
+    for at in from.service..services.len() {
+        match push_service(targets, context, &services[at], position)? {
+            ServiceStep::Position(behind) => position = behind,
+            stop => return Ok(stop),
+        }
+    }
+    Ok(ServiceStep::Position(position))
+}
+
+/// What the services offer from a spot on.
+pub(crate) fn push_from(
+    targets: &mut Vec<Target>,
+    context: &Context<'_>,
+    services: &[Service],
+    service_stage: &ServiceStage,
+) -> Result<ServiceStep, AllocError>
+    requires few { length services.now ≤ 8 }
+    requires words { (spec.position_of service_stage.now).word ≤ 32 *
+        (spec.position_of service_stage.now).service }
+    ensures left { IfOk result (λ service_step. spec.Walks context.now services.now
+        (λ all fallback found. spec.service_stage_left context.now.caps.now context.now.words.now.0
+        context.now.name.now all services.now fallback service_stage.now found)
+        service_step targets.old.items targets.new.items) }
+    ensures fits { IfOk result spec.ServiceStepFits }
+    ensures all { IfOk result (spec.IsPast (length services.now)) }
+{
+    match service_stage {
+        ServiceStage::ServiceRecords(position) => push_services(
+            targets, context, services, *position,
+        ),
+        ServiceStage::Server(listing, cursor, position) => {
+            match push_listing(targets, context, listing, *cursor, *position)? {
+                ServiceStep::Position(position) => push_services(
+                    targets, context, services, position,
+                ),
+                stop => Ok(stop),
+            }
+        }
+    }
+}
