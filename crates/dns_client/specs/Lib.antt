@@ -14,3 +14,4 @@ pub mod WireCounts
 pub mod CnameChains
 pub mod Steps
 pub mod WireTries
+pub mod Datagrams

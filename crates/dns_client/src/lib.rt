@@ -6,8 +6,10 @@
 //! sockets: UDP, TCP for replies that were cut, and several servers in turn. `QueryForm` says in
 //! which form queries go out: whether recursion is desired, and with EDNS or without. `WireCounts`
 //! and `WireTry` say what went over such a wire. `RunClock` is a clock that counts from its start,
-//! and a `Timer`. `random_ids` and `draw_words` make ids of queries and random words of a key,
-//! which `random_key` takes from the system's entropy. `read_request` reads the request of a line.
+//! and a `Timer`; `SystemClock` shows the time of the system. `UdpWire` and `UdpServerWire` are the
+//! wires of `dns_asker` over UDP, to one server and to many peers. `random_ids` and `draw_words`
+//! make ids of queries and random words of a key, which `random_key` takes from the system's
+//! entropy. `read_request` reads the request of a line.
 //!
 //! `ResolverFile` is what the system's resolver file (resolv.conf(5)) says: the name servers, how
 //! long and how often each is asked, and whether over TCP alone. Its octets are handed in: nothing
@@ -51,9 +53,11 @@ mod sent_queries;
 mod server;
 mod server_order;
 mod server_wire;
+mod system_clock;
 mod tcp;
 mod try_log;
 mod udp;
+mod udp_wire;
 mod warning;
 mod wire_counts;
 mod wire_origin;
@@ -71,6 +75,8 @@ pub use request_line::read_request;
 pub use resolver_file::{ResolverFile, SERVER_LIMIT, SERVER_PORT};
 pub use run_clock::{RunClock, Timer};
 pub use server_wire::{ServerWire, WireOptions};
+pub use system_clock::SystemClock;
+pub use udp_wire::{UdpServerWire, UdpWire};
 pub use warning::{LineFault, LineWarning};
 pub use wire_counts::WireCounts;
 pub use wire_origin::WireOrigin;

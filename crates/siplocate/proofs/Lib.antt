@@ -4,6 +4,5 @@ mod Parts
 mod Runs
 mod Talks
 mod Resolutions
-mod Colons
 mod Books
 mod Takings

@@ -8,9 +8,6 @@ pub mod Refusals
 pub mod Replies
 pub mod Requests
 pub mod Words
-pub mod Draws
 pub mod Talks
 pub mod Takings
 pub mod Books
-pub mod Datagrams
-pub mod Clocks

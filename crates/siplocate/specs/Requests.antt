@@ -1,18 +1,15 @@
 -- A request with replies, in lines.
-use Rattle.std.specs.Prelude.{◌≡◌, ◌≢◌, ℕ, List, [], ◌∷◌, ◌++◌, codes, drop, Some, slice_index_or}
+use Rattle.std.specs.Prelude.{◌≡◌, ◌≢◌, ℕ, List, [], drop, Some, slice_index_or}
 use Rattle.std.specs.List.{AllZip}
 use Rattle.std.specs.Str.Lines.{lines}
-use Rattle.dns_name.specs.Labels.{small_letters}
 use Rattle.dns_message.specs.declared.message.Message.{Message}
-use Rattle.sip_uri.specs.Uris.{UriText}
-use Rattle.sip_uri.specs.Vias.{ViaText}
 use Rattle.sip_uri.specs.declared.refusal.UriRefusal.{UriRefusal}
 use Rattle.sip_uri.specs.declared.refusal.UriRefusal.TheVariants as uri
 use Rattle.sip_selection.specs.declared.caps.Families.{Families}
 use Rattle.sip_selection.specs.declared.request.Request.{Request}
-use Rattle.sip_selection.specs.declared.request.Request.TheVariants.{Uri, Via}
 use Rattle.sip_selection.specs.Choice.{Resolution}
 use Rattle.sip_selection.specs.Known.{Given}
+use Rattle.dns_client.specs.RequestLines.{RequestText}
 use Rattle.siplocate.specs.Talks.{goes, talk}
 use Rattle.siplocate.specs.declared.reply.BadReply.{BadReply}
 use Rattle.siplocate.specs.declared.reply.BadReply.TheVariants as bad
@@ -25,17 +22,6 @@ first_line text = slice_index_or (lines text) 0 []
 -- the lines of a text after the first one
 abbrev pub other_lines : List ℕ → List (List ℕ)
 other_lines text = drop 1 (lines text)
-
--- a line is `Via:`, in letters of any case, and this rest
-pub record BeginsVia (line rest : List ℕ) : Type 0 where
-  pub word : List ℕ
-  pub joined : line ≡ word ++ 58 ∷ rest
-  pub is : small_letters word ≡ codes "via"
-
--- a line is a URI, or a Via after `Via:` in letters of any case (RFC 3261 7.3.1)
-abbrev pub RequestText : List ℕ → Request → Type 0
-RequestText line (Uri uri) = UriText line uri
-RequestText line (Via via) = (rest : List ℕ) × BeginsVia line rest × ViaText rest via
 
 -- What becomes of the request in the first line: each of the other lines is a reply to the question
 -- that is needed then.

@@ -6,22 +6,18 @@ ghost use Rattle.std.specs.Prelude.{◌≡◌, ◌≤◌, ◌↔◌, IfOk, IsErr
 
 mod arguments;
 mod caller;
-mod clock;
-mod draw;
 mod input;
 mod job;
 mod line_outcome;
 mod one;
 mod output;
 mod reply;
-mod request;
 mod requests;
 mod run;
 mod server;
 mod talk;
 #[cfg(test)]
 mod tests;
-mod udp;
 
 use arguments::{Command, arguments};
 use input::input_text;

@@ -15,8 +15,8 @@ ghost use Rattle.siplocate.specs.Words as words;
 
 use crate::output::{bad_reply, bad_request};
 use crate::reply::BadReply;
-use crate::request::read_request;
 use crate::talk::Talk;
+use dns_client::read_request;
 use sip_selection::{Families, Request};
 use sip_uri::UriRefusal;
 use std::alloc::{AllocError, Global};

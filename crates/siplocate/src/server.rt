@@ -8,13 +8,12 @@ ghost use Rattle.siplocate.specs.Served.{Faults, IsAsked, IsBadZone, IsCountOfWo
 ghost use Rattle.siplocate.specs.declared.server.RunFault.TheVariants as faults;
 ghost use Rattle.dns_zone.specs.Refusals.{RefusedFor};
 
-use crate::clock::SystemClock;
 use crate::job::JobOutput;
 use crate::requests::parts;
 use crate::run::run_text;
-use crate::udp::{UdpServerWire, UdpWire};
 use answer_cache::{CacheRefusal, SharedCache};
 use dns_asker::{PeerWire, serve};
+use dns_client::{SystemClock, UdpServerWire, UdpWire};
 use dns_zone::{Zone, ZoneRefusal};
 use sip_workers::{OpenGate, RunRefusal};
 use std::alloc::{AllocError, AllocFailed, Global};

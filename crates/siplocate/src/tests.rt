@@ -1,9 +1,7 @@
-//! What no file of `tests/cases` reaches: readers and writers that fail, draws, wires and sockets,
-//! and refused memory.
+//! What no file of `tests/cases` reaches: readers and writers that fail, wires, and refused
+//! memory.
 mod allocations;
-mod draw;
 mod edges;
 mod hostile;
 mod run;
 mod server;
-mod udp;

@@ -1,8 +1,8 @@
 //! The edges of the program: an input of the greatest length, a reader and a writer that fail.
-use crate::clock::SystemClock;
 use crate::input::{InputRefusal, input_text};
 use crate::job::{JobOutput, report};
 use dns_asker::Clock;
+use dns_client::SystemClock;
 use std::io::{self, ErrorKind, Read, Write};
 use std::test::Fail;
 

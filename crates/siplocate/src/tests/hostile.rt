@@ -1,11 +1,11 @@
 //! Requests over wires in memory that lose what is sent, give it twice or late, forge it and fail.
 ghost use Rattle.std.specs.Prelude.{◌≡◌, ◌+◌, ◌-◌, ◌^◌, ◌<◌, ◌≤◌};
 
-use crate::draw::draw_words;
 use crate::run::run_text;
 use answer_cache::SharedCache;
 use dns_answers::Moment;
 use dns_asker::{Clock, DATAGRAM_LIMIT, Wire, WireFault, Zone};
+use dns_client::draw_words;
 use sip_workers::OpenGate;
 use std::alloc::Global;
 use std::collections::VecDeque;

@@ -1,16 +1,32 @@
 //! Runs to the server that the environment names, and to one to which the first query is lost.
 use super::run::{LINES, TEXT};
-use super::udp::named_server;
 use crate::requests::parts;
 use crate::server::{local_wire, run_to_server};
-use crate::udp::UdpServerWire;
 use dns_asker::{DATAGRAM_LIMIT, PeerWire, Zone, serve};
+use dns_client::UdpServerWire;
 use std::alloc::Global;
+use std::env::{self, VarError};
 use std::net::{Ipv6Addr, SocketAddr};
+use std::rt::Env;
 use std::sync::atomic::{AtomicBool, Ordering};
 use std::sync::{Arc, Wait};
 use std::test::Fail;
 use std::thread;
+
+/// Names a DNS server that answers from the same zone, by its address and port.
+const SERVER: &str = "SIPLOCATE_TEST_SERVER";
+
+/// The server that the environment names, if it does.
+fn named_server<R: Env + AllocGlobal>(rt: &R) -> Result<Option<SocketAddr>, Fail> {
+    match env::var(rt, SERVER) {
+        Ok(text) => match text.as_str().parse::<SocketAddr>() {
+            Ok(server) => Ok(Some(server)),
+            Err(_) => Err(Fail::new(format_args!("{text} is no address and port"))),
+        },
+        Err(VarError::NotPresent) => Ok(None),
+        Err(_) => Err(Fail::new(format_args!("{SERVER} could not be read"))),
+    }
+}
 
 #[test]
 fn requests_to_a_named_server(rt: HostRuntime) -> Result<(), Fail> {
@@ -88,5 +104,14 @@ fn first_query_lost(rt: HostRuntime) -> Result<(), Fail> {
             "{address}"
         );
     }
+    Ok(())
+}
+
+/// Two servers of this host can run at once.
+#[test]
+fn ports_of_two_servers(rt: HostRuntime) -> Result<(), Fail> {
+    let one = local_wire(&rt)?;
+    let other = local_wire(&rt)?;
+    assert!(rt; one.address()? != other.address()?);
     Ok(())
 }

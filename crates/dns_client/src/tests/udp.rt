@@ -1,14 +1,11 @@
-//! A question over UDP, to a server on another thread, and to the one that the environment names.
-use crate::server::local_wire;
-use crate::udp::{UdpServerWire, UdpWire};
+//! A question over UDP, to a server on another thread.
+use crate::udp_wire::{UdpServerWire, UdpWire};
 use dns_answers::{Records, answer_of};
 use dns_asker::{DATAGRAM_LIMIT, PeerWire, Wire, Zone, serve};
 use dns_message::{Kind, Question, read_message};
 use dns_name::Name;
 use std::alloc::Global;
-use std::env::{self, VarError};
 use std::net::{Ipv4Addr, Ipv6Addr, Net, SocketAddr};
-use std::rt::Env;
 use std::sync::Arc;
 use std::sync::atomic::{AtomicBool, Ordering};
 use std::test::Fail;
@@ -26,9 +23,6 @@ const REPLY: &[u8; 52] = b"\x12\x34\x85\x00\x00\x01\x00\x01\x00\x00\x00\x00\
 
 /// How often it is sent, at most, until a reply comes.
 const TRIES: u64 = 50;
-
-/// Names a DNS server that answers from the same zone, by its address and port.
-const SERVER: &str = "SIPLOCATE_TEST_SERVER";
 
 /// Whether octets are an authoritative reply to the query with the address 192.0.2.7, which lives
 /// for 300 seconds; if there is memory.
@@ -68,23 +62,12 @@ fn reply_of<R: Net + AllocGlobal>(rt: &R, server: SocketAddr) -> io::Result<Vec<
     Ok(Vec::new(rt.alloc()))
 }
 
-/// The server that the environment names, if it does.
-pub(crate) fn named_server<R: Env + AllocGlobal>(rt: &R) -> Result<Option<SocketAddr>, Fail> {
-    match env::var(rt, SERVER) {
-        Ok(text) => match text.as_str().parse::<SocketAddr>() {
-            Ok(server) => Ok(Some(server)),
-            Err(_) => Err(Fail::new(format_args!("{text} is no address and port"))),
-        },
-        Err(VarError::NotPresent) => Ok(None),
-        Err(_) => Err(Fail::new(format_args!("{SERVER} could not be read"))),
-    }
-}
-
 #[test]
 fn answer_over_udp(rt: HostRuntime) -> Result<(), Fail> {
     // A host without IPv6 has no such address.
     let sixth = UdpServerWire::bind(&rt, SocketAddr::from((Ipv6Addr::LOCALHOST, 0)));
-    for wire in [Ok(local_wire(&rt)?), sixth] {
+    let fourth = UdpServerWire::bind(&rt, SocketAddr::from((Ipv4Addr::LOCALHOST, 0)));
+    for wire in [fourth, sixth] {
         let Ok(mut wire) = wire else {
             continue;
         };
@@ -102,19 +85,6 @@ fn answer_over_udp(rt: HostRuntime) -> Result<(), Fail> {
         assert_eq!(rt; reply.as_slice(), REPLY.as_slice(), "{own}");
         assert_eq!(rt; is_right(rt.alloc(), &reply), Some(true));
     }
-    if let Some(server) = named_server(&rt)? {
-        let reply = reply_of(&rt, server)?;
-        assert_eq!(rt; is_right(rt.alloc(), &reply), Some(true), "{server}");
-    }
-    Ok(())
-}
-
-/// Two servers of this host can run at once.
-#[test]
-fn ports_of_two_servers(rt: HostRuntime) -> Result<(), Fail> {
-    let one = local_wire(&rt)?;
-    let other = local_wire(&rt)?;
-    assert!(rt; one.address()? != other.address()?);
     Ok(())
 }
 

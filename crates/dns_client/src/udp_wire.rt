@@ -4,7 +4,7 @@ ghost use Rattle.std.specs.IoError.{error_kind};
 ghost use Rattle.std.specs.Net.Addr.{is_ipv4};
 ghost use Rattle.std.specs.Net.Socket.{socket_ip, socket_port};
 ghost use Rattle.dns_asker.specs.Wires.{IsGiven};
-ghost use Rattle.siplocate.specs.Datagrams.{HearsFrom, IsWait};
+ghost use Rattle.dns_client.specs.Datagrams.{HearsFrom, IsWait};
 
 use dns_asker::{DATAGRAM_LIMIT, PeerWire, Wire, WireFault};
 use std::io::{self, ErrorKind};
@@ -154,7 +154,7 @@ pub struct UdpWire {
 }
 
 impl Model for UdpWire {
-    ghost use Rattle.siplocate.specs.Datagrams.{UdpWireValue};
+    ghost use Rattle.dns_client.specs.Datagrams.{UdpWireValue};
 
     ghost Value = { UdpWireValue };
 

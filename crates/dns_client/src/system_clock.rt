@@ -1,7 +1,7 @@
 //! The clock of the system.
 ghost use Rattle.std.specs.Prelude.{◌≡◌, IfErr, IfOk};
 ghost use Rattle.std.specs.Time.{system_time_nanos};
-ghost use Rattle.siplocate.specs.Clocks.{IsMomentOf};
+ghost use Rattle.dns_client.specs.Clocks.{IsMomentOf};
 
 use dns_answers::Moment;
 use dns_asker::Clock;
