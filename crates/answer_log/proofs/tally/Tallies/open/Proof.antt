@@ -20,7 +20,7 @@ use denote.Struct.Tuple.{Tuple}
 use denote.Triple.Walked.{Stays, stay_dropped, walk_of, Goes-dropped}
 use Rattle.logbook.specs.contracts.tokens.Start as Start
 use Rattle.logbook.proofs.Fields.{token, Token, token_made, ends}
-use Rattle.std.proofs.raw_atomic.Cursors.{proved}
+use Rattle.std.proofs.raw_atomic.Walks.{proved}
 use Rattle.answer_log.specs.Counts.{tallies_own, keeps_counts}
 use Rattle.answer_log.specs.contracts.event.Event as Event
 use Rattle.answer_log.specs.contracts.event.Counted as Counted

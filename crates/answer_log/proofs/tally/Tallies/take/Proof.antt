@@ -18,7 +18,7 @@ use denote.Ref.{mut_vals, mut_Tells}
 use denote.Steps.{nothing, opens, closes}
 use denote.Triple.Walked.{Stays, stay_ref, walk_of, Goes-ref}
 use Rattle.logbook.proofs.Fields.{token, Token, token_made}
-use Rattle.std.proofs.raw_atomic.Cursors.{proved, leaves}
+use Rattle.std.proofs.raw_atomic.Walks.{proved, leaves}
 use Rattle.answer_log.specs.Counts.{tally_owns, tallies_own}
 use Rattle.answer_log.specs.contracts.tally.Tally as Tally
 use Rattle.answer_log.specs.contracts.tally.Tallies as Tallies

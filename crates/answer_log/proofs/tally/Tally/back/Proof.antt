@@ -18,7 +18,7 @@ use denote.Steps.{nothing, opens, closes}
 use denote.Struct.Tuple.{Tuple}
 use denote.Triple.Walked.{Stays, stay_dropped, stay_ref, walk_of, Goes-dropped, Goes-ref}
 use Rattle.logbook.proofs.Fields.{token, token_told, ends}
-use Rattle.std.proofs.raw_atomic.Cursors.{proved}
+use Rattle.std.proofs.raw_atomic.Walks.{proved}
 use Rattle.logbook.specs.contracts.tokens.Gained as Gained
 use Rattle.answer_log.specs.Counts.{first_name, first_seat, first_count}
 use Rattle.answer_log.specs.contracts.event.Event as Event

@@ -23,7 +23,7 @@ use denote.Struct.Tuple.{Tuple}
 use denote.Triple.Walked.{Stays, stay_dropped, stay_ref, walk_of, Goes-dropped, Goes-ref}
 use Rattle.logbook.specs.Kept.{offer_owns}
 use Rattle.logbook.proofs.Fields.{token, Token, token_made, ends}
-use Rattle.std.proofs.raw_atomic.Cursors.{proved}
+use Rattle.std.proofs.raw_atomic.Walks.{proved}
 use Rattle.std.specs.Prelude.{None, false}
 use Rattle.answer_log.specs.Logs.{seat_of}
 use Rattle.answer_log.specs.Counts.{holding, keeps_counts, gains_count, Counts}

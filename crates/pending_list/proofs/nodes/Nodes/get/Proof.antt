@@ -27,7 +27,7 @@ use denote.Builtin.{RefOf}
 use denote.Struct.Lending.{lent_at}
 use denote.Triple.Walked.{Stays, stay_dropped, walk_of, Goes-dropped}
 use Rattle.core.proofs.atomic.Steps.{tail}
-use Rattle.std.proofs.raw_atomic.Iters.{proved_at, leaves}
+use Rattle.std.proofs.raw_atomic.Walks.{proved_at, leaves}
 use Rattle.std_alloc.proofs.RcSteps.{word, word-Good}
 use Rattle.pending_list.specs.Cells.{value_at}
 use Rattle.pending_list.specs.contracts.nodes.Nodes as nodes

@@ -28,7 +28,7 @@ use denote.Steps.{nothing, heard, opens}
 use denote.Param.{param, layout, layouts}
 use denote.Triple.Walked.{Stays, stay_dropped, walk_of, Goes-dropped, Goes-spent_ref}
 use Rattle.core.proofs.atomic.Steps.{tail}
-use Rattle.std.proofs.raw_atomic.Iters.{proved_at, leaves}
+use Rattle.std.proofs.raw_atomic.Walks.{proved_at, leaves}
 use Rattle.std_alloc.proofs.RcSteps.{word, word-Good}
 use Rattle.libc.specs.Heap.{chunk}
 use Rattle.pending_list.specs.Cells.{value_at, without, set_at, cells_own}

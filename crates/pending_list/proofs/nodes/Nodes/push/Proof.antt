@@ -24,7 +24,7 @@ use denote.Param.{param, layouts}
 use denote.Param.Laws.{Laws, param_laws}
 use denote.Triple.Walked.{Stays, stay_dropped, stay_ref, walk_of, Goes-ref}
 use Rattle.core.proofs.alloc.Calls.{Goes-blank}
-use Rattle.std.proofs.raw_atomic.Iters.{proved_at, leaves}
+use Rattle.std.proofs.raw_atomic.Walks.{proved_at, leaves}
 use Rattle.std_alloc.proofs.RcSteps.{word, word-Good}
 use Rattle.std.specs.contracts.alloc.Global as heap
 use Rattle.std.proofs.alloc.Global.TheLaws as heap_laws
