@@ -5,11 +5,16 @@ use Rattle.std.proofs.lemmas.List.{get_or_append_left, get_or_push, length_push,
 use Rattle.std.proofs.lemmas.List.Elements.{All-push}
 use Rattle.dns_answers.specs.Records.{count_of}
 use Rattle.dns_message.specs.declared.question.Question.{Question}
-use Rattle.sip_selection.specs.Choice.{Settled, need, refused, settled, resolved, chosen, locate}
+use Rattle.std.specs.Prelude.{Option, Some}
+use Rattle.std.specs.Box.{box_value}
+use Rattle.std.specs.declared.boxed.Box.{Box}
+use Rattle.std.specs.Option.{option_map}
+use Rattle.srv_choice.specs.declared.words.Words.{Words}
+use Rattle.sip_selection.specs.Choice.{IsNotRefused, Settled, need, refused, settled, resolved, chosen, locate}
 use Rattle.sip_selection.specs.Known.{Given, answer_to}
 use Rattle.sip_selection.specs.Requests.{is_secure, target_of}
 use Rattle.sip_selection.specs.Selections.{AreAskedOneByOne}
-use Rattle.sip_selection.specs.Stages.{ComesTo, name_of, stage_left}
+use Rattle.sip_selection.specs.Stages.{AreHeld, ComesTo, IsAsking, name_of, stage_left}
 use Rattle.sip_selection.specs.declared.caps.Caps.{Caps}
 use Rattle.sip_selection.specs.declared.reason.Reason.{Reason}
 use Rattle.sip_selection.specs.declared.request.Request.{Request}
@@ -38,6 +43,12 @@ module _ (request : Request) (caps : Caps) (words : List ℕ) (given : List Give
 
   pub refused-is : (reason : Reason) → Stands (Refused reason) → locate request caps words given ≡ refused reason
   refused-is reason comes = ap resolved (comes.0 given (extends-itself given))
+
+  -- what asks is not refused
+  pub not-refused : (step : Step) → IsAsking step → Stands step → IsNotRefused (locate request caps words given)
+  not-refused (Ask question stage) asking comes = rw (asked-is question stage comes) tt
+  not-refused Found asking comes = absurd asking
+  not-refused (Refused reason) asking comes = absurd asking
 
   pub unknown-is : (question : Question) (stage : Stage) → Stands (Ask question stage) → answer_to given question ≡ Err question
   unknown-is question stage comes = rw (missing_is request caps words given question (asked-is question stage comes)).0 refl
@@ -78,6 +89,17 @@ module _ (request : Request) (caps : Caps) (words : List ℕ) (given : List Give
         (λ asked answer is. extends asked answer (answer-grows given (more ∷ []) asked answer is)) ∙ next.0 all extends,
     next.1,
   )
+
+-- words that are in memory are so at each turn
+pub held-by : {Z : Type 0} (step : Step) (held : Option (Box Words Z)) (words : Words)
+    → option_map box_value held ≡ Some words → AreHeld step held words
+held-by (Ask question stage) held words is = is
+held-by Found held words is = tt
+held-by (Refused reason) held words is = tt
+
+pub held-are : {Z : Type 0} (held : Option (Box Words Z)) (box : Box Words Z) (words : Words)
+    → held ≡ Some box → option_map box_value held ≡ Some words → box.value ≡ words
+held-are held box words is are = cc
 
 pub not-false : (b : Bool) → false ≡ not b → b ≡ true
 not-false true is = refl

@@ -2,8 +2,10 @@
 -- found so far stands in front.
 use Rattle.std.specs.Prelude.{◌≡◌, ⊤, ℕ, ◌+◌, ◌*◌, ◌≤◌, Bool, true, false, ◌||◌, List, [], ◌∷◌, ◌++◌, length, drop, Option, Some, None, slice_get, Result, Ok, Err, if◌then◌else◌}
 use Rattle.std.specs.Arc.{arc_value}
+use Rattle.std.specs.Box.{box_value}
+use Rattle.std.specs.declared.boxed.Box.{Box}
 use Rattle.std.specs.List.{flat_map, list_any}
-use Rattle.std.specs.Option.{option_map_or}
+use Rattle.std.specs.Option.{option_map, option_map_or}
 use Rattle.dns_answers.specs.Values.{AnswerValue}
 use Rattle.dns_message.specs.declared.question.Question.{Question}
 use Rattle.dns_message.specs.declared.srv.SrvRecord.{SrvRecord}
@@ -14,6 +16,7 @@ use Rattle.sip_uri.specs.declared.transport.Transport.{Transport}
 use Rattle.srv_choice.specs.Outcomes.{is_root}
 use Rattle.srv_choice.specs.declared.outcome.SrvOutcome.{SrvOutcome}
 use Rattle.srv_choice.specs.declared.outcome.SrvOutcome.TheVariants.{Absent, Denied, Listed}
+use Rattle.srv_choice.specs.declared.words.Words.{Words}
 use Rattle.sip_selection.specs.Callers.{kinds_of}
 use Rattle.sip_selection.specs.Choice.{Settled, to_domain, to_port, to_service, offered_default, by_naptr, discovered}
 use Rattle.sip_selection.specs.Known.{Given, Needing, after, made, joined, answer_to, servers_in}
@@ -212,6 +215,18 @@ abbrev pub Settles : Step → List Target → Needing Settled → Type 0
 Settles (Ask question stage) found choice = ⊥
 Settles Found found choice = choice ≡ Ok (Ok found)
 Settles (Refused reason) found choice = choice ≡ Ok (Err reason)
+
+-- a turn asks a question
+abbrev pub IsAsking : Step → Type 0
+IsAsking (Ask question stage) = ⊤
+IsAsking Found = ⊥
+IsAsking (Refused reason) = ⊥
+
+-- where a question is asked, these random words are in memory of their own
+abbrev pub AreHeld : {Z : Type 0} → Step → Option (Box Words Z) → Words → Type 0
+AreHeld (Ask question stage) held words = option_map box_value held ≡ Some words
+AreHeld Found held words = ⊤
+AreHeld (Refused reason) held words = ⊤
 
 -- there are few ways, and words enough
 abbrev pub StageFits : Stage → Type 0

@@ -1,10 +1,11 @@
 //! The answers that were given (RFC 3263 4), and the question that comes first where one lacks.
-ghost use Rattle.std.specs.Prelude.{◌≡◌, ◌<◌, ◌∷◌, ◌++◌, [], List, length, IfErr, MatchResult, OnOk, OnErr, Err};
+ghost use Rattle.std.specs.Prelude.{◌≡◌, ◌<◌, ◌∷◌, ◌++◌, [], List, length, IfErr, IfSome, MatchResult, OnOk, OnErr, Ok, Err};
 ghost use Rattle.std.specs.Arc.{arc_value};
 ghost use Rattle.sip_selection.specs.Known.{Given, answer_to};
 ghost use Rattle.sip_selection.specs.Views.{StopsAt};
 ghost use Rattle.sip_selection.specs.declared.known.Stop.TheVariants as stop;
 
+use crate::question_key::QuestionKey;
 use dns_answers::Answer;
 use dns_message::{Kind, Question};
 use dns_name::Name;
@@ -33,7 +34,7 @@ impl From<AllocError> for Stop {
 /// The answers that were given, in the order in which they came, and by their questions.
 #[derive(Drop)]
 pub(crate) struct Known {
-    answers: IndexMap<Question, Arc<Answer>>,
+    answers: IndexMap<QuestionKey, Arc<Answer>>,
 }
 
 impl Model for Known {
@@ -66,14 +67,31 @@ impl Known {
             ≡ Ok (arc_value answer.now))
             (λ it. StopsAt it (answer_to self.now (record { name = name.now; kind = kind }))) }
     {
-        let question = Question {
-            name: name.try_clone()?,
-            kind,
-        };
-        match self.answers.get(&question) {
-            Some(answer) => Ok(answer),
-            None => Err(Stop::Need(question)),
+        if let Some(answer) = self.last_answer_to(name, kind) {
+            return Ok(answer);
         }
+        let name = name.try_clone()?;
+        let asked = QuestionKey {
+            question: Question { name, kind },
+        };
+        match self.answers.get(&asked) {
+            Some(answer) => Ok(answer),
+            None => Err(Stop::Need(asked.question)),
+        }
+    }
+
+    /// The last answer, if it is to the question for this kind of records of a name: a choice that
+    /// goes on asks first for the answer that was just given.
+    fn last_answer_to(&self, name: &Name, kind: Kind) -> Option<&Arc<Answer>>
+        ensures { IfSome result (λ answer. answer_to self.now
+            (record { name = name.now; kind = kind }) ≡ Ok (arc_value answer.now)) }
+    {
+        let last = self.answers.len().checked_sub(1)?;
+        let (asked, answer) = self.answers.get_index(last)?;
+        if !asked.is_for(name, kind) {
+            return None;
+        }
+        Some(answer)
     }
 
     /// Adds the answer to a question that had none, or gives the question back.
@@ -87,9 +105,9 @@ impl Known {
         if self.make_room().is_err() {
             return Err(question);
         }
-        match self.answers.insert(question, answer) {
+        match self.answers.insert(QuestionKey { question }, answer) {
             Ok(_) => Ok(()),
-            Err(failed) => Err(failed.value.0),
+            Err(failed) => Err(failed.value.0.question),
         }
     }
 
@@ -108,7 +126,7 @@ impl Known {
     pub(crate) fn put(&mut self, question: &Question, answer: &Arc<Answer>) -> Option<()> {
         let question = question.try_clone().ok()?;
         let answer = Arc::try_clone(answer).ok()?;
-        self.answers.insert(question, answer).ok()?;
+        self.answers.insert(QuestionKey { question }, answer).ok()?;
         Some(())
     }
 
@@ -119,7 +137,7 @@ impl Known {
             → (self.new ≡ others) × (result ≡ last.question) }
     {
         match self.answers.pop() {
-            Some((question, _)) => question,
+            Some((asked, _)) => asked.question,
             None => unreachable!(),
         }
     }

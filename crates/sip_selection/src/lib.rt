@@ -57,6 +57,7 @@ mod failover;
 mod known;
 mod laws;
 mod position;
+mod question_key;
 mod reason;
 mod request;
 mod rules;

@@ -1,11 +1,11 @@
 //! The choice of one request, question by question (RFC 3263 4, 5).
-ghost use Rattle.std.specs.Prelude.{◌≡◌, ◌≢◌, ◌↔◌, ◌≤◌, List, length, IfErr, IfOk, IsTrue, OnErr, OnOk};
+ghost use Rattle.std.specs.Prelude.{◌≡◌, ◌≢◌, ◌↔◌, ◌≤◌, ◌++◌, List, length, IfErr, IfOk, IsTrue, OnErr, OnOk};
 ghost use Rattle.std.specs.Arc.{arc_value};
 ghost use Rattle.dns_answers.specs.Records.{count_of, kind_of};
 ghost use Rattle.sip_selection.specs.Choice.{IsNotRefused, need, targets};
 ghost use Rattle.sip_selection.specs.Nexts.{next_of};
 ghost use Rattle.sip_selection.specs.Selections.{begun, given_too, now_of};
-ghost use Rattle.sip_selection.specs.Stages.{Comes, StageFits, stage_left};
+ghost use Rattle.sip_selection.specs.Stages.{AreHeld, Comes, IsAsking, StageFits, stage_left};
 ghost use Rattle.sip_selection.specs.declared.target.Target.{Target};
 
 use crate::caps::Caps;
@@ -23,7 +23,10 @@ use dns_message::{Question, law_same_questions_are_equal};
 use sip_uri::Host;
 use srv_choice::Words;
 use std::alloc::{AllocError, Global};
+use std::boxed::Box;
 use std::marker::Model;
+use std::mem;
+use std::snapshot::Snapshot;
 use std::sync::Arc;
 use thiserror::Error;
 
@@ -58,7 +61,10 @@ pub enum GiveRefusal {
 pub struct Selection {
     request: Request,
     caps: Caps,
-    words: Words,
+    /// The random words, as contracts see them.
+    drawn: Snapshot<Words>,
+    /// The same in memory, where a question is asked.
+    words: Option<Box<Words>>,
     known: Known,
     targets: Vec<Target>,
     /// What the last step found: kept for its memory.
@@ -70,22 +76,23 @@ impl Model for Selection {
     ghost use Rattle.sip_selection.specs.Choice.{chosen};
     ghost use Rattle.sip_selection.specs.Requests.{is_secure, target_of};
     ghost use Rattle.sip_selection.specs.Selections.{AreAskedOneByOne, SelectionValue};
-    ghost use Rattle.sip_selection.specs.Stages.{ComesTo, name_of};
+    ghost use Rattle.sip_selection.specs.Stages.{AreHeld, ComesTo, name_of};
 
     ghost Value = { SelectionValue };
 
     ghost view = { λ it. record {
       request = it.request;
       caps = it.caps;
-      words = it.words.0;
+      words = it.drawn.value.0;
       given =
           it.known;
     } };
 
-    ghost invariant = { λ it. ComesTo (is_secure it.request) it.caps it.words.0
-        (name_of (target_of it.request)) it.known (chosen it.request it.caps it.words.0)
+    ghost invariant = { λ it. ComesTo (is_secure it.request) it.caps it.drawn.value.0
+        (name_of (target_of it.request)) it.known (chosen it.request it.caps it.drawn.value.0)
         it.step it.targets.items
-        × AreAskedOneByOne it.request it.caps it.words.0 it.known };
+        × AreAskedOneByOne it.request it.caps it.drawn.value.0 it.known
+        × AreHeld it.step it.words it.drawn.value };
 }
 
 /// Goes on from a stage with one answer more, and adds the targets that are found, or gives the
@@ -110,6 +117,19 @@ fn advance(
     }
 }
 
+/// Adds the targets that were found behind the others. The first ones are not copied.
+fn append(targets: &mut Vec<Target>, found: &mut Vec<Target>) -> Result<(), AllocError>
+    ensures added { OnOk result (targets.new.items ≡ targets.old.items ++ found.old.items) }
+    ensures unchanged { OnErr result (targets.new.items ≡ targets.old.items) }
+{
+    if targets.is_empty() {
+        mem::swap(targets, found);
+        return Ok(());
+    }
+    targets.extend_from_slice(found.as_slice())?;
+    Ok(())
+}
+
 /// Goes on from a stage with one answer more, and adds the targets that are found.
 fn go_on(
     targets: &mut Vec<Target>,
@@ -127,8 +147,19 @@ fn go_on(
 {
     found.clear();
     let step = resume(found, context, stage)?;
-    targets.extend_from_slice(found.as_slice())?;
+    append(targets, found)?;
     Ok(step)
+}
+
+/// The random words in memory of their own, where a question is asked.
+fn held_words(alloc: Global, step: &Step, words: &Words) -> Result<Option<Box<Words>>, AllocError>
+    ensures held { IfOk result (λ held. AreHeld step.now held words.now) }
+    ensures memory { OnErr result (IsAsking step.now) }
+{
+    match step {
+        Step::Ask(_, _) => Ok(Some(Box::new(alloc, *words)?)),
+        Step::Found | Step::Refused(_) => Ok(None),
+    }
 }
 
 impl Selection {
@@ -149,7 +180,8 @@ impl Selection {
         Ok(Selection {
             request,
             caps,
-            words,
+            drawn: Snapshot::of(&words),
+            words: held_words(alloc, &step, &words)?,
             known,
             targets,
             found: Vec::new(alloc),
@@ -232,6 +264,9 @@ impl Selection {
         let Host::Domain(name) = self.request.target() else {
             unreachable!()
         };
+        let Some(words) = &self.words else {
+            unreachable!()
+        };
         let (asked, stage) = self.step.take_ask();
         if let Err(asked) = self.known.push(asked, answer) {
             self.step = Step::Ask(asked, stage);
@@ -241,7 +276,7 @@ impl Selection {
             alloc,
             secure: self.request.is_secure(),
             caps: &self.caps,
-            words: &self.words,
+            words,
             name,
             known: &self.known,
         };
