@@ -184,7 +184,7 @@ impl Log {
         ensures spent { spent_of handle.new ≡ spent_of handle.old }
         ensures told { IsPrefix (history told.now.log) (history handle.new.book.log) }
     {
-        let _walk = self.cursor_after(handle, told, 0);
+        let _cursor = self.cursor_after(handle, told, 0);
     }
 
     /// Sees just what a notice says: one load of a head. What it says goes on from what the seat
