@@ -1,4 +1,4 @@
--- What holds of the nodes of a shared cache, and of a walk along them.
+-- What holds of the nodes of a shared cache, and of a cursor along them.
 use Rattle.std.specs.Prelude.{◌≡◌, ℕ, ◌+◌, ◌<◌, ◌≤◌, List, [], ◌∷◌, ◌++◌, length, Option, Some}
 use Rattle.std.specs.Prelude.{None}
 use Rattle.std.specs.Arc.{arc_value}
@@ -46,7 +46,7 @@ pub record IsNode (book : Book) (it : Node) : Type 0 where
 abbrev pub IsShelved : List ℕ → Node → Type 0
 IsShelved tag it = (numbers_of it.seen.book ≡ tag) × IsNode it.seen.book it
 
--- what a walk meets: nothing where nothing is ahead, else the node of the last store ahead, which
+-- what a cursor meets: nothing where nothing is ahead, else the node of the last store ahead, which
 -- was placed for it
 abbrev pub Meets : Book → Cursor → List Store → Option Node → Type 0
 Meets book cursor left None = left ≡ []
@@ -67,7 +67,7 @@ pub record Costs (old new : Spending) (links tries : ℕ) : Type 0 where
   pub tried : new.tries ≤ old.tries + tries
   pub missed : old.missed ≤ new.missed
 
--- the hand goes on at its book
+-- the handle goes on at its book
 pub record Holds (book : Book) (old new : Handle) : Type 0 where
   pub handle : IsHandle new
   pub number : new.number ≡ old.number

@@ -60,7 +60,7 @@ fn add_living(entries: &mut Vec<Entry>, nodes: &[&Node], now: Moment) -> Result<
 }
 
 impl SharedCache {
-    /// The nodes ahead of a walk that are the last of their questions, the newest first.
+    /// The nodes ahead of a cursor that are the last of their questions, the newest first.
     fn last_nodes(
         &self,
         alloc: Global,

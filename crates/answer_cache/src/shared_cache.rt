@@ -161,7 +161,7 @@ impl SharedCache {
         }
     }
 
-    /// The next node of a walk: one load of its link.
+    /// The next node of a cursor: one load of its link.
     pub(crate) fn step(
         &self,
         cursor: &mut Cursor,
@@ -231,8 +231,9 @@ impl SharedCache {
         Ok(None)
     }
 
-    /// The node of the last store of a question among those ahead of a walk. The walk goes to what
-    /// the index tells, and the nodes on its way are added to the index, as far as there is memory.
+    /// The node of the last store of a question among those ahead of a cursor. The cursor goes to
+    /// what the index tells, and the nodes on its way are added to the index, as far as there is
+    /// memory.
     fn last_ahead(
         &self,
         cursor: &mut Cursor,
@@ -318,7 +319,7 @@ impl SharedCache {
         self.last_ahead(&mut cursor, handle, index, asked, GROUP_LIMIT)
     }
 
-    /// Whether as many stores are ahead of a walk as a group can have.
+    /// Whether as many stores are ahead of a cursor as a group can have.
     fn is_full(&self, cursor: &mut Cursor, handle: &mut Handle) -> Result<bool, AllocError>
         requires books { (cursor.old.seen.book ≡ self.now.book)
             × (handle.old.book.book ≡ self.now.book) }

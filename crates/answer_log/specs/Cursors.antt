@@ -1,4 +1,4 @@
--- A walk along the placed nodes of a group, from the last one to the first.
+-- A cursor along the placed nodes of a group, from the last one to the first.
 use Rattle.std.specs.Prelude.{◌≡◌, ℕ, List, ◌++◌}
 use Rattle.answer_log.specs.Histories.{in_group}
 use Rattle.answer_log.specs.Logs.{history, top}
@@ -6,7 +6,7 @@ use Rattle.answer_log.specs.declared.event.Event.{Event}
 use Rattle.answer_log.specs.declared.store.Store.{Store}
 use Rattle.answer_log.specs.declared.cursor.Cursor.{Cursor}
 
--- The nodes ahead of a walk are those of its group that were placed up to some moment. These are
+-- The nodes ahead of a cursor are those of its group that were placed up to some moment. These are
 -- their stores, and the next node is the last one.
 pub record Ahead (cursor : Cursor) (left : List Store) : Type 0 where
   pub group : ℕ

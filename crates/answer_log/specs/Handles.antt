@@ -15,7 +15,7 @@ use Rattle.answer_log.specs.declared.handle.Handle.{Handle}
 use Rattle.answer_log.specs.declared.handle.Handles.{Handles}
 use Rattle.answer_log.specs.declared.store.Store.{Store}
 
--- what the calls of a hand have spent
+-- what the calls of a handle have spent
 abbrev pub spent_of : Handle → Spending
 spent_of handle = handle.spent
 
@@ -38,7 +38,7 @@ pub record IsNew (handle : Handle) (new_book : Book) (seat seats : ℕ) : Type 0
   pub spent : spent_of handle ≡ nothing
   pub log : handle.book.log ≡ Opened seats ∷ []
 
--- the hand has what it had before, but for what it has spent
+-- the handle has what it had before, but for what it has spent
 pub record IsSame (old new : Handle) : Type 0 where
   pub handle : IsHandle new
   pub number : new.number ≡ old.number

@@ -23,7 +23,7 @@ abbrev pub store_by : ℕ → Question → AnswerValue → ℕ → Store
 store_by seat question answer moment =
     record { seat = seat; question = question; answer = answer; moment = moment }
 
--- the store that a draft becomes
+-- the store that is made of it
 abbrev pub store_of : NewStore → Store
 store_of new_store = store_by new_store.seat new_store.question.now (arc_value new_store.answer.now)
     new_store.moment

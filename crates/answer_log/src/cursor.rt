@@ -1,4 +1,4 @@
-//! A walk along the placed nodes of a group.
+//! A cursor along the placed nodes of a group.
 ghost use Rattle.std.specs.Prelude.{◌≡◌, ◌≢◌, ◌∷◌, ◌++◌, [], IfNone, IfSome, List};
 ghost use mathlib.Core.List.{IsPrefix};
 ghost use Rattle.answer_log.specs.Handles.{IsHandle, IsNamed, IsPlaced, IsSame, spent_of};
@@ -10,8 +10,8 @@ use crate::handle::Handle;
 use crate::log::law_log_keeps_its_rule;
 use crate::steps::{SeenLog, Word, node_before};
 
-/// A walk from a group's node placed last to its first one: what it has seen, and the next node, 0
-/// at the end.
+/// A cursor from a group's node placed last to its first one: what it has seen, and the next node,
+/// 0 at the end.
 #[derive(Drop)]
 pub struct Cursor {
     pub seen: SeenLog,
@@ -19,7 +19,7 @@ pub struct Cursor {
 }
 
 impl Cursor {
-    /// The next node, unless the walk is at its end.
+    /// The next node, unless the cursor is at its end.
     pub fn next(&self) -> Option<u64>
         ensures end { IfNone result ((left : List Store) → Ahead self.now left → left ≡ []) }
         ensures node { IfSome result (λ node. (node ≡ self.now.next) × (node ≢ 0)) }
@@ -33,7 +33,7 @@ impl Cursor {
     }
 
     /// Passes the next node, which the log that `named` has seen named so: one load of its link.
-    /// The seat of the walk has spent one link more.
+    /// The seat of the cursor has spent one link more.
     pub fn pass(&mut self, handle: &mut Handle, link: &Word, named: &SeenLog)
         requires books { named.now.book ≡ self.old.seen.book }
         requires handle { IsHandle handle.old }

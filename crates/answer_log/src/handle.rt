@@ -20,7 +20,7 @@ pub struct Handle {
 }
 
 impl Handle {
-    /// Notes that a walk of the seat was led to a number whose node was not found.
+    /// Notes that a cursor of the seat was led to a number whose node was not found.
     pub fn miss(&mut self)
         requires { IsHandle self.old }
         ensures same { IsSame self.old self.new }

@@ -66,7 +66,7 @@
 //! Read `specs/Histories.antt` and `specs/Logs.antt` first: what a history answers, and what events
 //! say of it. Then `specs/Rules.antt`, what holds at each moment, `specs/Steps.antt`, what each
 //! step says, `specs/Handles.antt`, what a seat has, `specs/Spending.antt`, what its calls spend,
-//! and `specs/Cursors.antt`, what is ahead of a walk.
+//! and `specs/Cursors.antt`, what is ahead of a cursor.
 #![tactic(auto)]
 
 mod cursor;

@@ -115,7 +115,7 @@ impl Log {
         &self.heads[group as usize]
     }
 
-    /// Sees what a notice says, and what came since: a walk from the node of a group placed last,
+    /// Sees what a notice says, and what came since: a cursor from the node of a group placed last,
     /// by one load of its head.
     pub fn cursor_after(&self, handle: &mut Handle, told: &SeenLog, group: u8) -> Cursor
         requires book { handle.old.book.book ≡ self.now }
@@ -150,7 +150,7 @@ impl Log {
         }
     }
 
-    /// A walk from the node of a group placed last: one load of its head.
+    /// A cursor from the node of a group placed last: one load of its head.
     pub fn cursor(&self, handle: &mut Handle, group: u8) -> Cursor
         requires book { handle.old.book.book ≡ self.now }
         requires handle { IsHandle handle.old }

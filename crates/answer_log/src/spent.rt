@@ -11,11 +11,11 @@ use std::snapshot::Snapshot;
 pub(crate) enum Last {
     /// Nothing is spent yet.
     Nothing,
-    /// A walk passed a link.
+    /// A cursor passed a link.
     Link(Snapshot<Spent>),
     /// A store tried to place a node.
     Try(Snapshot<Spent>),
-    /// A walk led to a number whose node was not found.
+    /// A cursor led to a number whose node was not found.
     Miss(Snapshot<Spent>),
 }
 

@@ -45,7 +45,7 @@ module _ (context : Context) where
 -- ---- services
 
 module _ (caps : Caps) (words : List ℕ) (name : List (List ℕ)) (all : List Given) where
-  -- behind the last way
+  -- behind the last service
   pub position-ended : (services : List Service) (fallback : Result Transport Reason) (position : Position) (found : List Target)
       → length services ≤ position.service
       → position_left caps words name all services fallback position found ≡ ended caps name all fallback position found []

@@ -191,7 +191,7 @@ module _ (given : List Given) (small : All IsSmall given) where
           (offers-few services (next_word word offer))))
           (named-few service.transport word service.name))
 
--- ---- ways
+-- ---- services
 
 pub usable_services-few : (secure : Bool) (caps : Caps) (rules : List NaptrRecord) → length (usable_services secure caps rules) ≤ 8
 usable_services-few secure caps rules =

@@ -1,4 +1,4 @@
--- What is known of each way that rules lead.
+-- What is known of each service that rules lead to.
 use Rattle.std.proofs.Common.{◌≡◌, Bool, true, false, List, [], ◌∷◌, All, Option, Some, None, take, refl, subst}
 use Rattle.std.specs.List.{filter_map}
 use Rattle.std.specs.Option.{option_map, option_and_then}

@@ -63,7 +63,7 @@ module _ (request : Request) (caps : Caps) (words : List ℕ) (all : List Given)
   abbrev kinds : List Kind
   kinds = kinds_of caps.families
 
-  -- the ways that are tried by these rules
+  -- the services that are tried by these rules
   abbrev tried : List (List ℕ) → List Service → List Service
   tried name [] = own_services (is_secure request) caps name
   tried name (first ∷ others) = first ∷ others

@@ -1,4 +1,4 @@
--- The ways that NAPTR records lead to, and those of a caller's own transports.
+-- The services that NAPTR records lead to, and those of a caller's own transports.
 use Rattle.std.proofs.Common.{◌≡◌, Bool, true, false, if◌then◌else◌, List, [], ◌∷◌, filter, Option, Some, None, Ok, All, Contains, refl}
 use Rattle.std.proofs.lemmas.List.Elements.{All-cons, All-contains_itself, All-nil, All-weaker}
 use Rattle.std.proofs.lemmas.List.Folds.{list_any-from_Any}

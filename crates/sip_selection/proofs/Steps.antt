@@ -90,7 +90,7 @@ module _ (request : Request) (caps : Caps) (words : List ℕ) (given : List Give
     next.1,
   )
 
--- words that are in memory are so at each turn
+-- words that are in memory are so at each step
 pub held-by : {Z : Type 0} (step : Step) (held : Option (Box Words Z)) (words : Words)
     → option_map box_value held ≡ Some words → AreHeld step held words
 held-by (Ask question stage) held words is = is

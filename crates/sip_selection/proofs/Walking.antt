@@ -1,4 +1,4 @@
--- What is left of a walk along ways, from one way to the next.
+-- What is left of the services, from one to the next.
 use Rattle.std.proofs.Common.{◌≡◌, ℕ, ◌+◌, ◌<◌, Bool, true, false, List, ◌∷◌, ◌++◌, drop, get_or, length, Some, Result, Ok, Err, IfOk, refl, sym, ap, ◌∙◌, append_assoc, ◌⊎◌, inl, inr, ◌≤◌, ◌*◌, arith}
 use Rattle.std.specs.List.{flat_map}
 use Rattle.std.proofs.lemmas.List.{drop_more}
@@ -110,7 +110,7 @@ module _ (caps : Caps) (words : List ℕ) (name : List (List ℕ)) (all : List G
         | inr e ↦ rw e (denied-left (sym is ∙ e))
       ]
 
-    -- ---- the next way
+    -- ---- the next service
 
     pub service-left : (service : Service) → drop position.service services ≡ service ∷ drop (position.service + 1) services
         → position_left caps words name all services fallback position found
@@ -128,7 +128,7 @@ module _ (caps : Caps) (words : List ℕ) (name : List (List ℕ)) (all : List G
         (offer_by all (kinds_of caps.families) words service.transport position.word answer)
     named-left service owner named there answer known = service-left service there ∙ rw (named, known) refl
 
--- ---- the servers of a service, and then the walk
+-- ---- the servers of a service, and then the other services
 
 module _ (caps : Caps) (words : List ℕ) (name : List (List ℕ)) (services : List Service) (listing : Listing) (position : Position)
     (before found : List Target) where
@@ -159,7 +159,7 @@ pub listing-asks : (caps : Caps) (words : List ℕ) (name : List (List ℕ)) (gi
     → servers_first caps words name given services fallback listing cursor position found ≡ Err question
 listing-asks caps words name given services fallback listing cursor position found question is = rw is refl
 
--- ---- a way that lists nothing
+-- ---- a service that lists nothing
 
 pub goes-on-unlisted : (position : Position) (outcome : SrvOutcome) → (outcome ≡ Absent) ⊎ (outcome ≡ Denied)
     → (behind position outcome).service ≡ position.service + 1
@@ -176,7 +176,7 @@ fits-unlisted position outcome which few = elim which [
   | inr e ↦ rw e (omega arith)
 ]
 
--- ---- what is reached
+-- ---- how far it comes
 
 pub ok-each : {X E : Type 0} (P Q : X → Type 0) → ((x : X) → P x → Q x) → (result : Result X E) → IfOk result P → IfOk result Q
 ok-each P Q each (Ok x) is = each x is
@@ -201,7 +201,7 @@ pub next-service : (services : List Service) (position : Position) (at : ℕ) (s
 next-service services position at service here within is = rw here (drop_more services at service within ∙ ap
     (λ (w : Service). w ∷ drop (at + 1) services) (sym is))
 
--- what leads to the beginning of a walk, and then the walk
+-- what leads to the first service, and then the others
 pub walks-then : (context : Context) (services : List Service) (left left' : AlongLeft) (to : ServiceStep)
     (before between now : List Target)
     → ((fallback : Result Transport Reason) (front : List Target) (all : List Given) → Extends context.known.now all

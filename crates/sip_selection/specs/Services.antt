@@ -65,7 +65,7 @@ module _ (given : List Given) (kinds : List Kind) where
   server_targets transport server =
       if is_root server.target then Ok [] else targets_of transport server.port server.target
 
-  -- the targets of the server at a place of the list
+  -- the targets of the server at an index of the list
   abbrev pub index_targets : Transport → List SrvRecord → ℕ → Needing (List Target)
   index_targets transport servers index =
       option_map_or (server_targets transport) (slice_get servers index) (Ok [])
@@ -97,7 +97,7 @@ offered_targets absent = []
 offered_targets denied = []
 offered_targets (listed targets next) = targets
 
--- the place of the next random word after a service; absent and denied services use none
+-- the index of the next random word after a service; absent and denied services use none
 abbrev pub next_word : ℕ → Offer → ℕ
 next_word word absent = word
 next_word word denied = word
@@ -112,7 +112,7 @@ module _ (given : List Given) (kinds : List Kind) where
       made (λ targets. listed targets next)
       (joined (index_targets given kinds transport servers) indexes)
 
-  -- what the SRV records of a way offer, ordered by the words from a place on; where a way has no
+  -- what the SRV records of a service offer, ordered by the words from an index on; where it has no
   -- name, there are none
   abbrev pub offer_by : List ℕ → Transport → ℕ → AnswerValue → Needing Offer
   offer_by words transport word answer =
@@ -126,7 +126,7 @@ module _ (given : List Given) (kinds : List Kind) where
       after (offer_by words transport word)
       (answer_to given (record { name = name; kind = kind.Srv }))
 
-  -- what the service of a way offers, ordered by the words from a place on
+  -- what a service offers, ordered by the words from an index on
   abbrev pub offer_along : List ℕ → Service → ℕ → Needing Offer
   offer_along words service word = offer_named words service.transport word service.name
 

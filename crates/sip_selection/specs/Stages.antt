@@ -47,8 +47,8 @@ abbrev pub Extends : List Given → List Given → Type 0
 Extends given all = (question : Question) (answer : AnswerValue)
     → answer_to given question ≡ Ok answer → answer_to all question ≡ Ok answer
 
--- Where something is left of a list of targets from a place on: what was found is in front of what
--- is left from a later place on, whatever is answered further; and there, this question has no
+-- Where something is left of a list of targets from an index on: what was found is in front of what
+-- is left from a later index on, whatever is answered further; and there, this question has no
 -- answer. Or what was found is all.
 abbrev pub Reaches : {Index : Type 0} → List Given → (List Given → Index → Needing (List Target))
     → Index
@@ -60,19 +60,19 @@ Reaches given left from (Some stop) found =
     → left all from ≡ made (λ more. found ++ more) (left all stop.0))
     × (left given stop.0 ≡ Err stop.1)
 
--- ---- a walk along ways
+-- ---- services, one after the other
 
 abbrev pub start : Position
 start = record { service = 0; word = 0; is_listed = false; is_denied = false }
 
--- after the next way, of which the SRV records say this
+-- after the next service, of which the SRV records say this
 abbrev pub behind : Position → SrvOutcome → Position
 behind position Absent = record position { service = position.service + 1 }
 behind position Denied = record position { service = position.service + 1; is_denied = true }
 behind position (Listed indexes next) = record position
     { service = position.service + 1; word = next; is_listed = true }
 
--- there are at most eight ways
+-- there are at most eight services
 abbrev pub CandidatesFits : Candidates → Type 0
 CandidatesFits candidates = length candidates.services.items ≤ 8
 
@@ -98,7 +98,7 @@ module _ (caps : Caps) (all : List Given) where
   index_left transport servers index from =
       option_map_or (λ server. server_left transport server from) (slice_get servers index) (Ok [])
 
-  -- those of the servers at these places, of the first from a kind on
+  -- those of the servers at these indexes, of the first from a kind on
   abbrev pub indexes_left : Transport → List SrvRecord → List ℕ → ℕ → Needing (List Target)
   indexes_left transport servers [] from = Ok []
   indexes_left transport servers (index ∷ indexes) from =
@@ -120,7 +120,7 @@ module _ (caps : Caps) (all : List Given) where
 -- ---- services
 
 module _ (caps : Caps) (name : List (List ℕ)) (all : List Given) where
-  -- where all ways are done
+  -- where all services are done
   abbrev pub ended : Result Transport Reason → Position → List Target → List Offer → Needing Settled
   ended fallback position found offers =
       if position.is_listed || list_any is_listed offers
@@ -136,7 +136,7 @@ module _ (caps : Caps) (words : List ℕ) (name : List (List ℕ)) (all : List G
       (offers_along all (kinds_of caps.families) words (drop position.service services)
       position.word)
 
-  -- where the next way offers this
+  -- where the next service offers this
   abbrev pub offer_left : List Service → Result Transport Reason → Position → List Target
       → Needing Offer
       → Needing Settled
@@ -177,12 +177,12 @@ ServiceStepFits (service_step.Position position) = position.word ≤ 32 * positi
 ServiceStepFits (service_step.Stop service_stage question) = (position_of service_stage).word ≤ 32 *
     (position_of service_stage).service
 
--- a walk that goes on does so at this way
+-- a step that goes on does so at this service
 abbrev pub GoesOnAt : ℕ → ServiceStep → Type 0
 GoesOnAt service (service_step.Position position) = position.service ≡ service
 GoesOnAt service (service_step.Stop service_stage question) = ⊤
 
--- a walk that goes on has gone so many ways before
+-- a step that goes on is past this many services
 abbrev pub IsPast : ℕ → ServiceStep → Type 0
 IsPast count (service_step.Position position) = count ≤ position.service
 IsPast count (service_step.Stop service_stage question) = ⊤
@@ -195,7 +195,7 @@ ServiceStepAsks context services fallback (service_step.Stop service_stage quest
     service_stage_left context.caps.now context.words.now.0 context.name.now
     context.known.now services fallback service_stage found ≡ Err question
 
--- What is left after some targets is what is left after these of what was reached, among these ways
+-- What is left after some targets is what is left after these of the step, among these services
 -- and whatever was found before.
 abbrev pub Walks : Context → List Service
     → (List Given → Result Transport Reason → List Target → Needing Settled) → ServiceStep
@@ -210,13 +210,13 @@ Walks context services left service_step before now =
 
 -- ---- the whole choice
 
--- a turn that asks nothing is what this says
+-- a step that asks nothing is what this says
 abbrev pub Settles : Step → List Target → Needing Settled → Type 0
 Settles (Ask question stage) found choice = ⊥
 Settles Found found choice = choice ≡ Ok (Ok found)
 Settles (Refused reason) found choice = choice ≡ Ok (Err reason)
 
--- a turn asks a question
+-- a step asks a question
 abbrev pub IsAsking : Step → Type 0
 IsAsking (Ask question stage) = ⊤
 IsAsking Found = ⊥
@@ -228,7 +228,7 @@ AreHeld (Ask question stage) held words = option_map box_value held ≡ Some wor
 AreHeld Found held words = ⊤
 AreHeld (Refused reason) held words = ⊤
 
--- there are few ways, and words enough
+-- there are few services, and words enough
 abbrev pub StageFits : Stage → Type 0
 StageFits Rules = ⊤
 StageFits (Along candidates service_stage) =
@@ -257,7 +257,7 @@ module _ (secure : Bool) (caps : Caps) (words : List ℕ) (name : List (List ℕ
   Asks given Found found = ⊤
   Asks given (Refused reason) found = ⊤
 
-  -- a choice comes to this turn, with these targets found
+  -- a choice comes to this step, with these targets found
   abbrev pub ComesTo : List Given → (List Given → Needing Settled) → Step → List Target → Type 0
   ComesTo given choice step found =
       ((all : List Given) → Extends given all → choice all ≡ step_left step found all)
@@ -272,12 +272,12 @@ module _ (secure : Bool) (caps : Caps) (words : List ℕ) (name : List (List ℕ
   domain_choice all None None transport = discovered secure caps words all name
       (offered_default secure caps)
 
--- the choice for a domain comes to this turn with these targets
+-- the choice for a domain comes to this step with these targets
 abbrev pub Comes : Context → (List Given → Needing Settled) → Step → List Target → Type 0
 Comes context = ComesTo context.secure context.caps.now context.words.now.0 context.name.now
     context.known.now
 
--- The same, whatever was found before: what is left after some targets comes to this turn with
+-- The same, whatever was found before: what is left after some targets comes to this step with
 -- these.
 abbrev pub Goes : Context → (List Target → List Given → Needing Settled) → Step → List Target
     → List Target → Type 0

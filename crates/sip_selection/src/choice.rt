@@ -48,8 +48,8 @@ fn to_domain(
     })
 }
 
-/// Where all ways are done: the targets of those that are listed; where none is, and none denied,
-/// those of the domain.
+/// Where all services are done: the targets of those that are listed; where none is, and none
+/// denied, those of the domain.
 fn ended(
     targets: &mut Vec<Target>,
     context: &Context<'_>,
@@ -73,7 +73,7 @@ fn ended(
     }
 }
 
-/// The services that are looked for, from a spot on.
+/// The services that are looked for, from a stage on.
 fn along(
     targets: &mut Vec<Target>,
     context: &Context<'_>,
@@ -99,7 +99,7 @@ fn along(
     }
 }
 
-/// The services of a lead, from the first on.
+/// The services that are looked for, from the first on.
 fn along_all(
     targets: &mut Vec<Target>,
     context: &Context<'_>,

@@ -108,7 +108,7 @@ fn push_answer(
     }
 }
 
-/// What the next way offers. Without a name it offers nothing.
+/// What the next service offers. Without a name it offers nothing.
 fn push_service(
     targets: &mut Vec<Target>,
     context: &Context<'_>,
@@ -140,8 +140,8 @@ fn push_service(
     }
 }
 
-/// What the ways offer, one after the other, from a walk on: all, or up to the first question
-/// without an answer.
+/// What the services offer, one after the other, from a position on: all, or up to the first
+/// question without an answer.
 fn push_services(
     targets: &mut Vec<Target>,
     context: &Context<'_>,
@@ -167,7 +167,7 @@ fn push_services(
     Ok(ServiceStep::Position(position))
 }
 
-/// What the services offer from a spot on.
+/// What the services offer from a stage on.
 pub(crate) fn push_from(
     targets: &mut Vec<Target>,
     context: &Context<'_>,

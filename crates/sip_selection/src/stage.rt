@@ -41,9 +41,9 @@ pub(crate) struct Candidates {
 /// How far services were looked for.
 #[derive(Clone, Copy)]
 pub(crate) struct Position {
-    /// The place of the next way.
+    /// The index of the next service.
     pub(crate) service: usize,
-    /// The place of the next random word.
+    /// The index of the next random word.
     pub(crate) word: usize,
     /// One is listed at least.
     pub(crate) is_listed: bool,
@@ -52,7 +52,7 @@ pub(crate) struct Position {
 }
 
 impl Position {
-    /// Before the first way.
+    /// Before the first service.
     pub(crate) fn start() -> Position
         ensures { result ≡ spec.start }
     {
@@ -64,7 +64,7 @@ impl Position {
         }
     }
 
-    /// After the next way, of which the SRV records say this.
+    /// After the next service, of which the SRV records say this.
     pub(crate) fn behind(self, outcome: &SrvOutcome) -> Position
         requires { self.service < 8 }
         ensures { result ≡ spec.behind self outcome.now }
@@ -110,14 +110,14 @@ pub(crate) struct Cursor {
 /// Where a question comes up among services.
 #[derive(Drop)]
 pub(crate) enum ServiceStage {
-    /// The SRV records of the next way.
+    /// The SRV records of the next service.
     ServiceRecords(Position),
-    /// The addresses of a server of a listed service; after the service, the walk goes on from
+    /// The addresses of a server of a listed service; after the service, it goes on from
     /// there.
     Server(Arc<Listing>, Cursor, Position),
 }
 
-/// How far a walk has come.
+/// How far services were looked for.
 #[derive(Drop)]
 pub(crate) enum ServiceStep {
     /// It goes on from here.

@@ -125,7 +125,7 @@ fn push_server(
     )
 }
 
-/// Adds the addresses of the server at a place, if there is one, from a kind on.
+/// Adds the addresses of the server at an index, if there is one, from a kind on.
 fn push_index(
     targets: &mut Vec<Target>,
     context: &Context<'_>,
@@ -146,7 +146,7 @@ fn push_index(
     }
 }
 
-/// Adds the addresses of the servers at these places, in this order, from a cursor on: all, or up
+/// Adds the addresses of the servers at these indexes, in this order, from a cursor on: all, or up
 /// to the first question without an answer.
 pub(crate) fn push_indexes(
     targets: &mut Vec<Target>,

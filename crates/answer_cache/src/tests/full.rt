@@ -84,7 +84,7 @@ fn life_for<B: AnswerBook>(alloc: Global, book: &B, seat: &mut B::Seat, name: &s
 }
 
 /// Whether all groups are filled so, and each look-up finds its own last store: for the first names
-/// at the end of its walk, and for the others at its begin.
+/// at the end of what it goes along, and for the others at the begin.
 fn fills_all<B: AnswerBook>(
     rt: &(impl Wait + AllocGlobal),
     book: &B,

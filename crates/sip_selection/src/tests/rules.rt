@@ -249,7 +249,7 @@ pub(crate) fn records(alloc: Global, rules: &[Rule]) -> Option<Vec<NaptrRecord>>
     Some(records)
 }
 
-/// The transports of ways and the texts of their names, where there is memory for them.
+/// The transports of services and the texts of their names, where there is memory for them.
 fn told(alloc: Global, services: &[Service]) -> Option<Vec<(Transport, String)>> {
     let mut told = Vec::new(alloc);
     for service in services {
