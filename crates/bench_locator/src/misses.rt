@@ -36,7 +36,7 @@ struct Reply<'a> {
 fn kind_of(code: u16) -> Option<Kind> {
     [Kind::A, Kind::Aaaa, Kind::Srv, Kind::Naptr]
         .into_iter()
-        .find(|kind| kind.code() == code)
+        .find(|kind| kind.type_number() == code)
 }
 
 /// The first question of a message.
@@ -44,7 +44,7 @@ fn first_question(message: &Message) -> Option<Question> {
     let asked = message.questions.as_slice().first()?;
     Some(Question {
         name: asked.name.try_clone().ok()?,
-        kind: kind_of(asked.code)?,
+        kind: kind_of(asked.type_number)?,
     })
 }
 
