@@ -4,3 +4,5 @@ mod Colons
 mod CnameLinks
 mod SameQueries
 mod Works
+mod Drives
+mod Rounds

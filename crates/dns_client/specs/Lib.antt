@@ -3,6 +3,7 @@ pub mod ResolverFiles
 pub mod Views
 pub mod Driven
 pub mod Draws
+pub mod IdStreams
 pub mod Clocks
 pub mod RequestLines
 pub mod ServerOrders
@@ -10,6 +11,7 @@ pub mod SentQueries
 pub mod QueryForms
 pub mod ReplyBits
 pub mod Wires
+pub mod WireEvents
 pub mod WireCounts
 pub mod CnameChains
 pub mod Steps

@@ -1,9 +1,9 @@
 -- The queries that were sent last.
-use Rattle.std.specs.Prelude.{◌≡◌, ℕ, ◌+◌, ◌<◌, take, Bool, true, false, List, Option, Some, None, not, slice_get}
-use Rattle.std.specs.List.{Contains, position, position_or_len}
+use Rattle.std.specs.Prelude.{◌≡◌, ℕ, ◌+◌, ◌<◌, ◌≤◌, take, Bool, true, false, List, length, Option, Some, None, not, slice_get}
+use Rattle.std.specs.List.{AllWithin, Contains, position, position_or_len}
 use Rattle.std.specs.Option.{unwrap_or}
 use Rattle.std.specs.Str.{bytes_eq}
-use Rattle.dns_client.specs.ServerOrders.{place_of}
+use Rattle.dns_client.specs.ServerOrders.{server_at}
 
 -- a query, the server that it goes to first, how often it was sent, whether no reply to it was
 -- handed on since, whether it went out, and the server that it went to last, where that was with
@@ -66,16 +66,45 @@ IsWithEdns server (Some sent) = sent.edns_server ≡ Some server
 abbrev pub WentWithEdns : ℕ → List ℕ → List SentValue → Type 0
 WentWithEdns server query kept = IsWithEdns server (sent_of query kept)
 
--- it has the first two octets of a message, which are its id, and was sent to this server
+-- one of the sends of a query went to this one of so many servers
+pub record WentTo (server servers : ℕ) (sent : SentValue) : Type 0 where
+  pub inside : server < servers
+  pub before : ℕ
+  pub less : before < sent.sends
+  pub goes : server_at sent.first before servers ≡ server
+
+-- a query has the id of a message, which is its first two octets (RFC 1035 4.1.1), and was sent to
+-- this server
 pub record HasIdOf (message : List ℕ) (server servers : ℕ) (sent : SentValue) : Type 0 where
-  pub asked : place_of sent.first server servers < sent.sends
+  pub asked : WentTo server servers sent
+  pub long : 2 ≤ length message
   pub id : take 2 sent.octets ≡ take 2 message
 
--- a query can go on to the next server: it is out, this server was asked last, and one was not
+-- a query has another id, or was not sent to this server
+abbrev pub LacksIdOf : List ℕ → ℕ → ℕ → SentValue → Type 0
+LacksIdOf message server servers sent = HasIdOf message server servers sent → ⊥
+
+-- a query is the last one that has the id of a message and was sent to this server
+pub record IsLastOf (message : List ℕ) (server servers : ℕ) (query : List ℕ)
+    (kept : List SentValue) : Type 0 where
+  pub at : ℕ
+  pub sent : SentValue
+  pub stands : slice_get kept at ≡ Some sent
+  pub octets : sent.octets ≡ query
+  pub has : HasIdOf message server servers sent
+  pub others : AllWithin (LacksIdOf message server servers) kept (at + 1) (length kept)
+
+-- the last send of a query went to this one of so many servers
+pub record WentLastTo (server servers : ℕ) (sent : SentValue) : Type 0 where
+  pub before : ℕ
+  pub last : sent.sends ≡ before + 1
+  pub goes : server_at sent.first before servers ≡ server
+
+-- a query can go on to the next server: it is out, its last send went to this one, and one was not
 -- asked yet
 pub record CanGoOn (server servers : ℕ) (sent : SentValue) : Type 0 where
   pub is_out : sent.is_out ≡ true
-  pub last : sent.sends ≡ place_of sent.first server servers + 1
+  pub last : WentLastTo server servers sent
   pub others : sent.sends < servers
 
 -- a query that is kept can go on to the next server

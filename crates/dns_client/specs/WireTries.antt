@@ -1,5 +1,6 @@
 -- Queries that went over a wire, and what came back.
-use Rattle.std.specs.Prelude.{◌≡◌, ℕ, ◌+◌, ◌*◌, ◌%◌, List, [], ◌∷◌, Option, Some, None, IfSome, length, slice_get}
+use Rattle.std.specs.Prelude.{◌≡◌, ℕ, ◌+◌, ◌*◌, ◌%◌, Bool, List, [], ◌∷◌, Option, Some, None, IfSome, length, slice_get}
+use Rattle.std.specs.declared.net.SocketAddr.{SocketAddr}
 use Rattle.dns_message.specs.Messages.{Begins}
 use Rattle.dns_message.specs.declared.message.Message.{Message}
 use Rattle.dns_message.specs.declared.question.Asked.{Asked}
@@ -13,17 +14,12 @@ id_of [] = 0
 id_of (high ∷ []) = 0
 id_of (high ∷ low ∷ others) = high * 256 + low
 
--- the first of questions; none where there is none
-abbrev pub IsFirst : List Asked → Option Asked → Type 0
-IsFirst questions None = questions ≡ []
-IsFirst questions (Some asked) = (others : List Asked) × (questions ≡ asked ∷ others)
-
--- what the octets of a query ask: its first question; none where they are no message, or one of no
--- question
+-- what the octets of a query ask: the first question of the message in front; none where there is
+-- no message, or one of no question
 abbrev pub Asks : List ℕ → Option Asked → Type 0
-Asks query None = (it : Message) → Begins query it → it.questions ≡ []
+Asks query None = (it : Message) → Begins query it → slice_get it.questions 0 ≡ None
 Asks query (Some asked) =
-    (it : Message) × (others : List Asked) × Begins query it × (it.questions ≡ asked ∷ others)
+    (it : Message) × Begins query it × (slice_get it.questions 0 ≡ Some asked)
 
 -- octets begin with a message, or with none
 abbrev pub IsInFront : List ℕ → Option Message → Type 0
@@ -46,6 +42,14 @@ pub record IsTry (one : WireTry) : Type 0 where
   pub id : one.id ≡ id_of query
   pub asks : Asks query one.asked
   pub reply : IfSome one.reply (IsReplyTo one.id)
+
+-- A message of this id that comes from this server, over TCP or over UDP, may be the reply to a
+-- query: the query has this id and went this way, and no reply to it came.
+pub record Awaits (id : ℕ) (server : SocketAddr) (over_tcp : Bool) (one : WireTry) : Type 0 where
+  pub waits : one.reply ≡ None
+  pub of_id : one.id ≡ id
+  pub from : one.route.server ≡ server
+  pub over : one.route.over_tcp ≡ over_tcp
 
 -- how much went over a wire, and the tries that were kept
 pub record LogValue : Type 0 where

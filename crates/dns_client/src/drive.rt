@@ -1,6 +1,6 @@
 //! The loop that drives a resolver over a wire.
 ghost use Rattle.std.specs.Prelude.{◌≡◌, ◌⊎◌, [], None, IfSome, MatchOption};
-ghost use Rattle.dns_client.specs.Driven.{GivesOut};
+ghost use Rattle.dns_client.specs.Driven.{Drives, Gives, GivesOut, SendsNext};
 ghost use Rattle.sip_resolver.specs.Outcomes.{IsOutcome};
 ghost use Rattle.sip_resolver.specs.Questions.{deadlines_of};
 ghost use Rattle.sip_resolver.specs.Requests.{AreSame, Stand};
@@ -30,6 +30,8 @@ fn send_next<B: AnswerBook, W: MessageWire, C: Clock, I: Ids + Drop>(
     ensures works { Works W.gives C.shows (B.shown seat.old) (B.shown seat.new) }
     ensures stand { Stand W.gives C.shows (B.shown seat.new) resolver.new.requests }
     ensures same { AreSame resolver.old.requests resolver.new.requests }
+    ensures sends { SendsNext W.does (Gives W.gives C.shows I.draws)
+        wire.old wire.new resolver.old resolver.new result }
 {
     let now = clock.now();
     match resolver.poll_transmit(book, seat, now, rounded_up(now)) {
@@ -55,12 +57,36 @@ fn send_all<B: AnswerBook, W: MessageWire, C: Clock, I: Ids + Drop>(
     ensures works { Works W.gives C.shows (B.shown seat.old) (B.shown seat.new) }
     ensures stand { Stand W.gives C.shows (B.shown seat.new) resolver.new.requests }
     ensures same { AreSame resolver.old.requests resolver.new.requests }
+    ensures drives { Drives W.does wire.old wire.new }
 {
     'sends: for _send in 0..SEND_LIMIT {
         if !send_next(resolver, book, seat, wire, clock) {
             break;
         }
     }
+}
+
+/// Sends what there is to send, and gives the next request that ended, with what became of it.
+fn send_and_poll<B: AnswerBook, W: MessageWire, C: Clock, I: Ids + Drop>(
+    resolver: &mut Resolver<B, WireOrigin<W, C>, I>,
+    book: &B,
+    seat: &mut B::Seat,
+    wire: &mut W,
+    clock: &C,
+) -> Option<Resolved<B>>
+    requires made_here { B.belongs book.now seat.old }
+    requires stand { Stand W.gives C.shows (B.shown seat.old) resolver.old.requests }
+    ensures stays { B.belongs book.now seat.new }
+    ensures works { Works W.gives C.shows (B.shown seat.old) (B.shown seat.new) }
+    ensures stand { Stand W.gives C.shows (B.shown seat.new) resolver.new.requests }
+    ensures outcome { IfSome result (λ ended.
+        IsOutcome W.gives C.shows (B.shown seat.new) ended.sought ended.outcome) }
+    ensures once { GivesOut result resolver.old.requests resolver.new.requests }
+    ensures none { result ≡ None → resolver.new.requests.ended ≡ [] }
+    ensures drives { Drives W.does wire.old wire.new }
+{
+    send_all(resolver, book, seat, wire, clock);
+    resolver.poll_outcome()
 }
 
 /// Receives once, and hands on what came. Where memory is refused for it, it is lost.
@@ -78,6 +104,7 @@ fn receive_once<R: Wait, B: AnswerBook, W: MessageWire, C: Clock, I: Ids + Drop>
     ensures works { Works W.gives C.shows (B.shown seat.old) (B.shown seat.new) }
     ensures stand { Stand W.gives C.shows (B.shown seat.new) resolver.new.requests }
     ensures same { AreSame resolver.old.requests resolver.new.requests }
+    ensures drives { Drives W.does wire.old wire.new }
 {
     if let Some(message) = wire.receive() {
         let _heard = resolver.handle(
@@ -113,9 +140,10 @@ pub fn poll_over<R: Wait, B: AnswerBook, W: MessageWire, C: Clock, I: Ids + Drop
     ensures outcome { IfSome result (λ ended.
         IsOutcome W.gives C.shows (B.shown seat.new) ended.sought ended.outcome) }
     ensures once { GivesOut result resolver.old.requests resolver.new.requests }
+    // What goes out over the wire is queries of one question, with RD set (RFC 1035 4.1.1).
+    ensures drives { Drives W.does wire.old wire.new }
 {
-    send_all(resolver, book, seat, wire, clock);
-    if let Some(ended) = resolver.poll_outcome() {
+    if let Some(ended) = send_and_poll(resolver, book, seat, wire, clock) {
         return Some(ended);
     }
     if resolver.next_timeout().is_none() {
@@ -150,10 +178,11 @@ pub fn next_outcome<R: Wait, B: AnswerBook, W: MessageWire, C: Clock, I: Ids + D
     ensures once { GivesOut result resolver.old.requests resolver.new.requests }
     ensures none { result ≡ None → (resolver.new.requests.ended ≡ [])
         × ((deadlines_of resolver.new.questions ≡ []) ⊎ W.over wire.new) }
+    // What goes out over the wire is queries of one question, with RD set (RFC 1035 4.1.1).
+    ensures drives { Drives W.does wire.old wire.new }
 {
     'rounds: for _ in rt.forever() {
-        send_all(resolver, book, seat, wire, clock);
-        if let Some(ended) = resolver.poll_outcome() {
+        if let Some(ended) = send_and_poll(resolver, book, seat, wire, clock) {
             return Some(ended);
         }
         if resolver.next_timeout().is_none() || wire.is_over() {

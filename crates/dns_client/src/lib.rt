@@ -9,7 +9,8 @@
 //! and a `Timer`; `SystemClock` shows the time of the system. `UdpWire` and `UdpServerWire` are the
 //! wires of `dns_asker` over UDP, to one server and to many peers. `random_ids` and `draw_words`
 //! make ids of queries and random words of a key, which `random_key` takes from the system's
-//! entropy. `read_request` reads the request of a line.
+//! entropy; `law_id_streams_are_apart` says that they come of streams of their own. `read_request`
+//! reads the request of a line.
 //!
 //! `ResolverFile` is what the system's resolver file (resolv.conf(5)) says: the name servers, how
 //! long and how often each is asked, and whether over TCP alone. Its octets are handed in: nothing
@@ -27,8 +28,9 @@
 //! let warned = file.warnings().len() == 1;
 //! ```
 //!
-//! Read `specs/Driven.antt` first: what the loop gives. `specs/ResolverLines.antt` says what a line
-//! of a resolver file says, and `specs/ResolverFiles.antt` what a file says in all.
+//! Read `specs/Driven.antt` first: what the loop gives, and what it does at the wire.
+//! `specs/ResolverLines.antt` says what a line of a resolver file says, and
+//! `specs/ResolverFiles.antt` what a file says in all.
 #![tactic(auto)]
 
 mod cname_chain;
@@ -67,7 +69,7 @@ mod words;
 pub use counting_book::{CountingBook, CountingSeat};
 pub use draw::draw_words;
 pub use drive::{next_outcome, poll_over};
-pub use ids::random_ids;
+pub use ids::{law_id_streams_are_apart, random_ids};
 pub use key::random_key;
 pub use message_wire::MessageWire;
 pub use query_form::QueryForm;

@@ -1,5 +1,6 @@
 //! What DNS messages are sent and received through.
-ghost use Rattle.std.specs.Prelude.{◌≡◌, ℕ, false, IfSome, IsTrue, List};
+ghost use Rattle.std.specs.Prelude.{ℕ, IfNone, IfSome, IsTrue, List};
+ghost use Rattle.dns_client.specs.WireEvents.{Event, began, nothing, received, sent};
 
 /// A wire to DNS servers. It gives whole messages, of up to 65,535 octets (RFC 1035 4.2.2).
 ///
@@ -11,15 +12,22 @@ pub trait MessageWire {
     // Its time is over.
     ghost over: { Self → Type 0 };
 
+    // What a call does takes it from one state to another. Of most wires nothing is known.
+    ghost does: { Self → Event → Self → Type 0 } = { λ _ _ _. Unit {0} };
+
     /// Begins the time of the wire anew.
-    fn begin(&mut self);
+    fn begin(&mut self)
+        ensures did { does self.old began self.new };
 
     /// Sends the octets of a query. What can't be sent is lost.
-    fn send(&mut self, query: &[u8]);
+    fn send(&mut self, query: &[u8])
+        ensures did { does self.old (sent query.now) self.new };
 
     /// The octets of a message, if one came in the time that the wire waits.
     fn receive(&mut self) -> Option<Vec<u8>>
-        ensures { IfSome result (λ message. gives message.items) };
+        ensures given { IfSome result (λ message. gives message.items) }
+        ensures did { IfSome result (λ message. does self.old (received message.items) self.new) }
+        ensures waited { IfNone result (does self.old nothing self.new) };
 
     /// Whether the time of the wire is over, so that the caller waits for nothing more.
     fn is_over(&self) -> bool

@@ -1,9 +1,9 @@
 //! The queries that were sent last.
-ghost use Rattle.std.specs.Prelude.{◌≡◌, ◌<◌, IfOk, IfSome, IsTrue, length, take};
-ghost use Rattle.std.specs.List.{position};
-ghost use Rattle.dns_client.specs.SentQueries.{CanGoOn, HasIdOf, IsFurther, IsNotOut, WentWithEdns, first_of, has_octets, is_answered, is_out, place_to_leave, sends_of};
+ghost use Rattle.std.specs.Prelude.{◌≡◌, ◌<◌, ◌≤◌, ◌↔◌, IfOk, IfSome, IsTrue, MatchOption, length, take};
+ghost use Rattle.std.specs.List.{All, position};
+ghost use Rattle.dns_client.specs.SentQueries.{CanGoOn, HasIdOf, IsFurther, IsLastOf, IsNotOut, LacksIdOf, WentLastTo, WentTo, WentWithEdns, first_of, has_octets, is_answered, is_out, place_to_leave, sends_of};
 
-use crate::server_order::place_of as place_in_round;
+use crate::server_order::{place_of as place_in_round, server_at};
 use std::alloc::{AllocError, Global};
 use std::marker::Model;
 
@@ -53,21 +53,41 @@ impl SentQuery {
         !self.is_out
     }
 
+    /// Whether it was sent to this one of so many servers.
+    fn went_to(&self, server: usize, servers: usize) -> bool
+        ensures { IsTrue result ↔ WentTo server servers self.now }
+    {
+        server < servers && place_in_round(self.first, server, servers) < self.sends
+    }
+
+    /// Whether a message has its id.
+    fn has_id_of(&self, message: &[u8]) -> bool
+        ensures { IsTrue result
+            ↔ ((2 ≤ length message.now) × (take 2 self.now.octets ≡ take 2 message.now)) }
+    {
+        message.len() >= 2 && self.octets.starts_with(&message[..2])
+    }
+
     /// Whether a message has its id, and it was sent to this one of so many servers.
     fn fits(&self, message: &[u8], server: usize, servers: usize) -> bool
-        ensures { IsTrue result → HasIdOf message.now server servers self.now }
+        ensures { IsTrue result ↔ HasIdOf message.now server servers self.now }
     {
-        place_in_round(self.first, server, servers) < self.sends
-            && message.len() >= 2
-            && self.octets.starts_with(&message[..2])
+        self.went_to(server, servers) && self.has_id_of(message)
+    }
+
+    /// Whether the last send went to this one of so many servers.
+    fn went_last_to(&self, server: usize, servers: usize) -> bool
+        requires { 0 < servers }
+        ensures { IsTrue result ↔ WentLastTo server servers self.now }
+    {
+        self.sends > 0 && server_at(self.first, self.sends - 1, servers) == server
     }
 
     /// Whether it is out, this server was asked last, and one of so many was not asked yet.
     fn can_go_on(&self, server: usize, servers: usize) -> bool
-        ensures { IsTrue result → CanGoOn server servers self.now }
+        ensures { IsTrue result ↔ CanGoOn server servers self.now }
     {
-        let place = place_in_round(self.first, server, servers);
-        self.is_out && place < self.sends && self.sends - place == 1 && self.sends < servers
+        self.is_out && self.sends < servers && self.went_last_to(server, servers)
     }
 }
 
@@ -220,11 +240,12 @@ impl SentQueries {
 
     /// The last query of a message's id that was sent to this one of so many servers.
     pub(crate) fn query_of(&self, message: &[u8], server: usize, servers: usize) -> Option<&[u8]>
-        ensures { IfSome result (λ query. take 2 query.now ≡ take 2 message.now) }
+        ensures { MatchOption result (All (LacksIdOf message.now server servers) self.now)
+            (λ query. IsLastOf message.now server servers query.now self.now) }
     {
-        for sent in self.items.iter().rev() {
-            if sent.fits(message, server, servers) {
-                return Some(sent.octets.as_slice());
+        for at in (0..self.items.len()).rev() {
+            if self.items[at].fits(message, server, servers) {
+                return Some(self.items[at].octets.as_slice());
             }
         }
         None

@@ -1,5 +1,6 @@
 //! The order in which a query goes to servers.
 ghost use Rattle.std.specs.Prelude.{◌≡◌, ◌<◌};
+ghost use Rattle.dns_client.specs.ServerOrders.{IsPlace};
 ghost use Rattle.dns_client.specs.ServerOrders as spec;
 
 /// The server that a query goes to after so many sends, where the first one goes to this server.
@@ -8,10 +9,11 @@ pub(crate) fn server_at(first: usize, sends: usize, servers: usize) -> usize
     ensures is { result ≡ spec.server_at first sends servers }
     ensures inside { result < servers }
 {
+    let start = first % servers;
     let place = sends % servers;
-    let behind = servers.saturating_sub(first);
+    let behind = servers - start;
     if place < behind {
-        first + place
+        start + place
     } else {
         place - behind
     }
@@ -19,13 +21,13 @@ pub(crate) fn server_at(first: usize, sends: usize, servers: usize) -> usize
 
 /// How many servers come before this one, where a query goes to that one first.
 pub(crate) fn place_of(first: usize, server: usize, servers: usize) -> usize
-    ensures is { result ≡ spec.place_of first server servers }
-    // The order is one of all servers.
-    ensures round { first < servers → spec.IsRound first servers }
+    requires { server < servers }
+    ensures { IsPlace first server servers result }
 {
-    if server < first {
-        server + servers.saturating_sub(first)
+    let start = first % servers;
+    if server < start {
+        server + (servers - start)
     } else {
-        server - first
+        server - start
     }
 }

@@ -1,8 +1,8 @@
 //! What goes over a wire, as it is noted.
-ghost use Rattle.std.specs.Prelude.{◌≡◌, [], length, IfOk, IfSome, ◌<◌};
+ghost use Rattle.std.specs.Prelude.{◌≡◌, [], length, IfOk, IfSome, ◌<◌, slice_get};
 ghost use Rattle.std.specs.List.{All, HoldsAt};
 ghost use Rattle.dns_client.specs.WireCounts.{with_query, with_reply};
-ghost use Rattle.dns_client.specs.WireTries.{Asks, IsFirst, IsTry};
+ghost use Rattle.dns_client.specs.WireTries.{Asks, IsTry};
 ghost use Rattle.dns_client.specs.WireTries as spec;
 
 use crate::reply_bits::rcode_of;
@@ -17,7 +17,7 @@ use std::{io, mem};
 
 /// A copy of the first of these questions, if there is one.
 fn first_of(questions: &[Asked]) -> Result<Option<Asked>, AllocError>
-    ensures { IfOk result (IsFirst questions.now) }
+    ensures { IfOk result (λ first. first ≡ slice_get questions.now 0) }
 {
     match questions {
         [asked, ..] => Ok(Some(asked.try_clone()?)),

@@ -1,5 +1,5 @@
 //! Queries that went over a wire, and what came back.
-ghost use Rattle.std.specs.Prelude.{◌≡◌, IsTrue};
+ghost use Rattle.std.specs.Prelude.{◌≡◌, ◌↔◌, IsTrue};
 ghost use Rattle.std.specs.List.{All};
 ghost use Rattle.dns_client.specs.WireTries as spec;
 
@@ -59,7 +59,7 @@ pub(crate) fn id_of(message: &[u8]) -> u16
 impl WireTry {
     /// Whether a message of this id, which came from this server, may be its reply.
     pub(crate) fn awaits(&self, id: u16, server: SocketAddr, over_tcp: bool) -> bool
-        ensures { IsTrue result → self.now.id ≡ id }
+        ensures { IsTrue result ↔ spec.Awaits id server over_tcp self.now }
     {
         self.reply.is_none()
             && self.id == id

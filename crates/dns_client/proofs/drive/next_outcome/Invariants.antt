@@ -1,5 +1,6 @@
 use Rattle.sip_resolver.specs.Requests.{AreSame, Stand}
 use Rattle.sip_resolver.specs.Works.{Works}
+use Rattle.dns_client.specs.Driven.{Drives}
 use Rattle.dns_client.proofs.drive.next_outcome.Given as goal
 
 abbrev pub invariant-rounds : goal.invariant-rounds
@@ -8,4 +9,5 @@ invariant-rounds g l = record {
   works : Works g.W.MessageWire.gives g.C.Clock.shows (g.B.AnswerBook.shown l.fn.seat) (g.B.AnswerBook.shown l.seat);
   stand : Stand g.W.MessageWire.gives g.C.Clock.shows (g.B.AnswerBook.shown l.seat) l.resolver.requests;
   same : AreSame l.fn.resolver.requests l.resolver.requests;
+  drives : Drives g.W.MessageWire.does l.fn.wire l.wire;
 }

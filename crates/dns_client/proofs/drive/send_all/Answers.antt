@@ -1,4 +1,6 @@
 use Rattle.std.proofs.Common.{refl, ◌∙◌}
+use Rattle.dns_client.specs.Driven.{begun}
+use Rattle.dns_client.proofs.Drives.{drives-sent, drives-still}
 use Rattle.dns_client.proofs.Works.{works-not, works-through}
 use Rattle.dns_client.proofs.drive.send_all.Goals as goal
 
@@ -8,6 +10,7 @@ sends-init g c = record {
   works = works-not _ _ (g.B.AnswerBook.shown c.args.seat.now);
   stand = c.requires.stand;
   same = (refl, (λ h. refl));
+  drives = begun;
 }
 
 pub sends-preserved : goal.sends-preserved
@@ -19,7 +22,12 @@ sends-preserved g c =
       works = works-through _ _ _ _ _ so-far.works sent.works;
       stand = sent.stand;
       same = (sent.same.0 ∙ so-far.same.0, (λ h. sent.same.1 h ∙ so-far.same.1 h));
+      drives = drives-sent _ _ _ _ _ _ _ _ _ so-far.drives (rw c.if-not-send_next.false at sent.sends);
     }
 
 pub returns-then-not-send_next-clause-works : goal.returns-then-not-send_next-clause-works
 returns-then-not-send_next-clause-works g c = works-through _ _ _ _ _ c.sends.invariant.works c.send_next.ensures.works
+
+pub returns-then-not-send_next-clause-drives : goal.returns-then-not-send_next-clause-drives
+returns-then-not-send_next-clause-drives g c =
+    drives-still _ _ _ _ _ _ _ _ _ c.sends.invariant.drives (rw c.if-not-send_next.true at c.send_next.ensures.sends)

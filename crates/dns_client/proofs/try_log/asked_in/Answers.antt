@@ -1,16 +1,17 @@
-use Rattle.std.proofs.Common.{◌≡◌, ℕ, List, Option, Some, None, Result, Ok, Err, ap, ◌∙◌}
+use Rattle.std.proofs.Common.{◌≡◌, ℕ, List, Option, Some, None, Result, Ok, Err, slice_get, sym, ap, ◌∙◌}
 use Rattle.std.specs.Prelude.{IfOk}
 use Rattle.dns_message.specs.Messages.{Begins}
 use Rattle.dns_message.specs.declared.message.Message.{Message}
 use Rattle.dns_message.specs.declared.question.Asked.{Asked}
-use Rattle.dns_client.specs.WireTries.{Asks, IsFirst}
+use Rattle.dns_client.specs.WireTries.{Asks}
 use Rattle.dns_client.proofs.try_log.asked_in.Goals as goal
 
 -- the message in front asks what its first question does
 asks-first : (query : List ℕ) (found : Message) → Begins query found → ((it : Message) → Begins query it → it ≡ found)
-    → (asked : Option Asked) → IsFirst found.questions asked → Asks query asked
-asks-first query found begins only None none = λ it there. ap (λ (message : Message). message.questions) (only it there) ∙ none
-asks-first query found begins only (Some asked) first = (found, first.0, begins, first.1)
+    → (asked : Option Asked) → asked ≡ slice_get found.questions 0 → Asks query asked
+asks-first query found begins only None first =
+    λ it there. ap (λ (message : Message). slice_get message.questions 0) (only it there) ∙ sym first
+asks-first query found begins only (Some asked) first = (found, begins, sym first)
 
 if-ok : {T E : Type 0} (P Q : T → Type 0) → ((it : T) → P it → Q it) → (result : Result T E) → IfOk result P → IfOk result Q
 if-ok P Q then (Ok it) is = then it is
@@ -23,7 +24,7 @@ returns-in-Some c =
     let begins : Begins query found = rw c.in-Some.is at c.in_ok-message.ensures.read in
     let only = λ (it : Message) (there : Begins query it).
     c.law_one_message_in_front.ensures query there.end begins.end it found there.spelled begins.spelled in
-    if-ok (IsFirst found.questions) (Asks query) (asks-first query found begins only) c.first_of.result
+    if-ok (λ first. first ≡ slice_get found.questions 0) (Asks query) (asks-first query found begins only) c.first_of.result
     (rw c.as_slice.ensures at c.first_of.ensures)
 
 pub returns-in-None : goal.returns-in-None
