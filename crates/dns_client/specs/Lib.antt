@@ -17,3 +17,5 @@ pub mod CnameChains
 pub mod Steps
 pub mod WireTries
 pub mod Datagrams
+pub mod Frames
+pub mod Waits

@@ -2,6 +2,7 @@
 use Rattle.std.specs.Prelude.{ℕ, ◌-◌, ◌%◌, ◌==◌, nat_le, nat_lt, Bool, true, false, ◌&&◌, List, [], ◌∷◌, ◌++◌, length, Option, Some, None, slice_index, slice_set, if◌then◌else◌}
 use Rattle.std.specs.Int.{w16, to_be_bytes}
 use Rattle.dns_client.specs.declared.query_form.QueryForm.{QueryForm}
+use Rattle.dns_client.specs.declared.server.Server.{Server}
 
 -- a query without RD, which is the lowest bit of the third octet (RFC 1035 4.1.1)
 abbrev pub without_recursion : List ℕ → List ℕ
@@ -40,3 +41,8 @@ with_edns (Some size) query = with_opt size query
 -- the octets that go out for a query, with or without RD and EDNS
 abbrev pub form_octets : QueryForm → List ℕ → List ℕ
 form_octets form query = with_edns form.edns (with_recursion form.recursion query)
+
+-- the form in which a query goes to a server: without EDNS, where the server refused it
+abbrev pub form_for : QueryForm → Option Server → QueryForm
+form_for form None = form
+form_for form (Some server) = if server.refused_edns then record form { edns = None } else form

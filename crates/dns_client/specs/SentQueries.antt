@@ -1,6 +1,6 @@
 -- The queries that were sent last.
-use Rattle.std.specs.Prelude.{◌≡◌, ℕ, ◌+◌, ◌<◌, ◌≤◌, take, Bool, true, false, List, length, Option, Some, None, not, slice_get}
-use Rattle.std.specs.List.{AllWithin, Contains, position, position_or_len}
+use Rattle.std.specs.Prelude.{◌≡◌, ℕ, ◌+◌, ◌-◌, ◌^◌, ◌<◌, ◌≤◌, min, nat_eq, nat_lt, take, Bool, true, false, ◌||◌, List, [], ◌∷◌, ◌++◌, length, Option, Some, None, if◌then◌else◌, not, slice_get, slice_set}
+use Rattle.std.specs.List.{AllWithin, Contains, position, position_or_len, remove}
 use Rattle.std.specs.Option.{unwrap_or}
 use Rattle.std.specs.Str.{bytes_eq}
 use Rattle.dns_client.specs.ServerOrders.{server_at}
@@ -50,21 +50,25 @@ out_in (Some sent) = sent.is_out
 abbrev pub is_out : List ℕ → List SentValue → Bool
 is_out query kept = out_in (sent_of query kept)
 
-abbrev pub HasNotGone : Option SentValue → Type 0
-HasNotGone None = ⊥
-HasNotGone (Some sent) = sent.went_out ≡ false
+abbrev pub goes_first_in : Option SentValue → Bool
+goes_first_in None = false
+goes_first_in (Some sent) = not sent.went_out
 
--- a query that is kept did not go out yet
-abbrev pub IsNotOut : List ℕ → List SentValue → Type 0
-IsNotOut query kept = HasNotGone (sent_of query kept)
+-- a query is kept that did not go out yet
+abbrev pub goes_first : List ℕ → List SentValue → Bool
+goes_first query kept = goes_first_in (sent_of query kept)
 
 abbrev pub IsWithEdns : ℕ → Option SentValue → Type 0
 IsWithEdns server None = ⊥
-IsWithEdns server (Some sent) = sent.edns_server ≡ Some server
+IsWithEdns server (Some sent) = (sent.is_out ≡ true) × (sent.edns_server ≡ Some server)
 
--- a query that is kept went out to this server last, with EDNS
+-- a query that is out went to this server last, with EDNS
 abbrev pub WentWithEdns : ℕ → List ℕ → List SentValue → Type 0
 WentWithEdns server query kept = IsWithEdns server (sent_of query kept)
+
+-- a message has the id of a query: their first two octets are the same (RFC 1035 4.1.1)
+abbrev pub HasSameId : List ℕ → List ℕ → Type 0
+HasSameId query message = (2 ≤ length message) × (take 2 query ≡ take 2 message)
 
 -- one of the sends of a query went to this one of so many servers
 pub record WentTo (server servers : ℕ) (sent : SentValue) : Type 0 where
@@ -73,12 +77,10 @@ pub record WentTo (server servers : ℕ) (sent : SentValue) : Type 0 where
   pub less : before < sent.sends
   pub goes : server_at sent.first before servers ≡ server
 
--- a query has the id of a message, which is its first two octets (RFC 1035 4.1.1), and was sent to
--- this server
+-- a query has the id of a message, and was sent to this server
 pub record HasIdOf (message : List ℕ) (server servers : ℕ) (sent : SentValue) : Type 0 where
   pub asked : WentTo server servers sent
-  pub long : 2 ≤ length message
-  pub id : take 2 sent.octets ≡ take 2 message
+  pub id : HasSameId sent.octets message
 
 -- a query has another id, or was not sent to this server
 abbrev pub LacksIdOf : List ℕ → ℕ → ℕ → SentValue → Type 0
@@ -107,6 +109,9 @@ pub record CanGoOn (server servers : ℕ) (sent : SentValue) : Type 0 where
   pub last : WentLastTo server servers sent
   pub others : sent.sends < servers
 
+abbrev pub CannotGoOn : ℕ → ℕ → SentValue → Type 0
+CannotGoOn server servers sent = CanGoOn server servers sent → ⊥
+
 -- a query that is kept can go on to the next server
 pub record IsFurther (server servers : ℕ) (query : List ℕ) (kept : List SentValue) : Type 0 where
   pub sent : SentValue
@@ -120,3 +125,63 @@ is_answered sent = not sent.is_out
 -- the place of the first query that is not out, or the first place of all
 abbrev pub place_to_leave : List SentValue → ℕ
 place_to_leave kept = unwrap_or (position is_answered kept) 0
+
+abbrev pub changed_in : (SentValue → SentValue) → ℕ → Option SentValue → List SentValue
+    → List SentValue
+changed_in change at None kept = kept
+changed_in change at (Some sent) kept = slice_set kept at (change sent)
+
+-- a query is changed, if it is kept, and all others are as they were
+abbrev pub changed : (SentValue → SentValue) → List ℕ → List SentValue → List SentValue
+changed change query kept =
+    changed_in change (position_or_len (has_octets query) kept) (sent_of query kept) kept
+
+-- a query that is sent once more
+abbrev pub sent_again : SentValue → SentValue
+sent_again sent = record sent { sends = min (sent.sends + 1) (2 ^ 64 - 1); is_out = true }
+
+-- a query that is sent for the first time
+abbrev pub sent_first : List ℕ → ℕ → SentValue
+sent_first query first = record {
+  octets = query;
+  first = first;
+  sends = 1;
+  is_out = true;
+  went_out = false;
+  edns_server = None;
+}
+
+-- a query to which a reply was handed on
+abbrev pub settled : SentValue → SentValue
+settled sent = record sent { is_out = false }
+
+-- a query whose EDNS may not be refused any more
+abbrev pub without_edns : SentValue → SentValue
+without_edns sent = record sent { edns_server = None }
+
+-- a query that goes out, with EDNS to this server, if to one
+abbrev pub gone_out : Option ℕ → SentValue → SentValue
+gone_out edns_server sent = record sent { went_out = true; edns_server = edns_server }
+
+-- what is kept, with room for one more: of 256 one leaves
+abbrev pub with_room : List SentValue → List SentValue
+with_room kept =
+    if nat_lt (length kept) 256 then kept else remove kept (place_to_leave kept)
+
+abbrev pub kept_in : Option SentValue → List ℕ → ℕ → List SentValue → List SentValue
+kept_in (Some sent) query first kept = changed sent_again query kept
+kept_in None query first kept = with_room kept ++ sent_first query first ∷ []
+
+-- what is kept once a query is sent, to this server first if it was not sent before
+abbrev pub kept_too : List ℕ → ℕ → List SentValue → List SentValue
+kept_too query first kept = kept_in (sent_of query kept) query first kept
+
+abbrev pub last_in : ℕ → Option SentValue → Option ℕ
+last_in servers None = None
+last_in servers (Some sent) =
+    if nat_eq servers 0 || nat_eq sent.sends 0 then None
+    else Some (server_at sent.first (sent.sends - 1) servers)
+
+-- the one of so many servers that a query was sent to last, as far as it is kept
+abbrev pub last_server : ℕ → List ℕ → List SentValue → Option ℕ
+last_server servers query kept = last_in servers (sent_of query kept)

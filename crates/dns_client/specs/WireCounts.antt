@@ -10,6 +10,10 @@ one_if false = 0
 abbrev pub more : ℕ → ℕ → ℕ
 more count many = min (count + many) (2 ^ 64 - 1)
 
+-- nothing went over a wire
+abbrev pub none : WireCounts
+none = record { questions = 0; again = 0; over_tcp = 0; replies = 0 }
+
 -- a query is a question the first time, and goes out again else
 abbrev pub with_query : Bool → Bool → WireCounts → WireCounts
 with_query is_first over_tcp counts = record counts {

@@ -1,9 +1,10 @@
 -- Queries that went over a wire, and what came back.
-use Rattle.std.specs.Prelude.{◌≡◌, ℕ, ◌+◌, ◌*◌, ◌%◌, Bool, List, [], ◌∷◌, Option, Some, None, IfSome, length, slice_get}
+use Rattle.std.specs.Prelude.{◌≡◌, ℕ, ◌+◌, ◌*◌, Bool, List, [], ◌∷◌, Option, Some, None, IfSome, length, slice_get}
 use Rattle.std.specs.declared.net.SocketAddr.{SocketAddr}
 use Rattle.dns_message.specs.Messages.{Begins}
 use Rattle.dns_message.specs.declared.message.Message.{Message}
 use Rattle.dns_message.specs.declared.question.Asked.{Asked}
+use Rattle.dns_client.specs.ReplyBits.{IsRcode}
 use Rattle.dns_client.specs.declared.wire_counts.WireCounts.{WireCounts}
 use Rattle.dns_client.specs.declared.wire_try.WireReply.{WireReply}
 use Rattle.dns_client.specs.declared.wire_try.WireTry.{WireTry}
@@ -26,13 +27,12 @@ abbrev pub IsInFront : List ℕ → Option Message → Type 0
 IsInFront octets None = (it : Message) → Begins octets it → ⊥
 IsInFront octets (Some it) = Begins octets it
 
--- Octets of this id came back: this number of them, with this message in front. The lower four bits
--- of RCODE are in the fourth octet.
+-- octets of this id came back: this number of them, with this RCODE, and with this message in front
 pub record IsReplyTo (id : ℕ) (reply : WireReply) : Type 0 where
   pub came : List ℕ
   pub is : id_of came ≡ id
   pub octets : reply.octets ≡ length came
-  pub rcode : IfSome (slice_get came 3) (λ octet. reply.rcode % 16 ≡ octet % 16)
+  pub rcode : IsRcode came reply.rcode
   pub message : IsInFront came reply.message
 
 -- A query was sent, of this id and with this question; and if something is said to have come back,

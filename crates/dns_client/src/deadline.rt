@@ -1,5 +1,5 @@
 //! Until when something is waited for.
-ghost use Rattle.std.specs.Prelude.{◌<◌, ◌≤◌, IfOk};
+ghost use Rattle.std.specs.Prelude.{◌≡◌, ◌<◌, ◌≤◌, IfOk};
 ghost use Rattle.std.specs.Duration.{as_nanos};
 
 use std::io::{self, ErrorKind};
@@ -14,7 +14,9 @@ pub(crate) struct Deadline {
 
 impl Deadline {
     /// So much time from now on.
-    pub(crate) fn after<R: Clock>(rt: &R, limit: Duration) -> io::Result<Deadline> {
+    pub(crate) fn after<R: Clock>(rt: &R, limit: Duration) -> io::Result<Deadline>
+        ensures { IfOk result (λ it. it.limit ≡ limit) }
+    {
         let start = Instant::now(rt)?;
         Ok(Deadline { start, limit })
     }
@@ -25,6 +27,7 @@ impl Deadline {
         requires { 0 < as_nanos most }
         ensures some { IfOk result (λ time. 0 < as_nanos time) }
         ensures most { IfOk result (λ time. as_nanos time ≤ as_nanos most) }
+        ensures limit { IfOk result (λ time. as_nanos time ≤ as_nanos self.now.limit) }
     {
         let gone = self.start.elapsed(rt)?;
         match self.limit.checked_sub(gone) {

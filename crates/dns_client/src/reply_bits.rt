@@ -1,6 +1,7 @@
 //! What the header of a reply says (RFC 1035 4.1.1), and its OPT record (RFC 6891 6.1.3).
-ghost use Rattle.std.specs.Prelude.{◌≡◌, ◌↔◌, ◌%◌, IfOk, IfSome, IsTrue, slice_get};
-ghost use Rattle.std.specs.List.{list_any};
+ghost use Rattle.std.specs.Prelude.{◌≡◌, ◌↔◌, ◌/◌, ◌%◌, ◌^◌, IfOk, IsTrue, slice_get};
+ghost use Rattle.std.specs.List.{list_any, position};
+ghost use Rattle.std.specs.Option.{unwrap_or};
 ghost use Rattle.dns_client.specs.ReplyBits as spec;
 
 use dns_message::{Record, law_one_message_in_front, message_in};
@@ -52,11 +53,18 @@ pub(crate) fn tells_failure(message: &[u8]) -> bool
     has_rcode(message, SERVER_FAILURE) || has_rcode(message, REFUSED)
 }
 
+/// Whether a record is an OPT record.
+fn is_opt(entry: &Record) -> bool
+    ensures { result ≡ spec.is_opt entry.now }
+{
+    entry.rdata.type_number() == TYPE_OPT
+}
+
 /// Whether a record is an OPT record that has upper bits of RCODE.
 fn has_upper_bits(entry: &Record) -> bool
     ensures { result ≡ spec.has_upper_bits entry.now }
 {
-    entry.rdata.type_number() == TYPE_OPT && entry.ttl >= 1 << 24
+    is_opt(entry) && entry.ttl >= 1 << 24
 }
 
 /// Whether one of these records does.
@@ -87,31 +95,55 @@ pub(crate) fn refuses_edns(alloc: Global, message: &[u8]) -> Result<bool, AllocE
     Ok(is_reply(message) && has_long_rcode(alloc, message)?)
 }
 
-/// The upper bits of RCODE that the first OPT record of these has; none where there is none.
-fn upper_bits(entries: &[Record]) -> u8 {
-    'entries: for entry in entries {
-        if entry.rdata.type_number() == TYPE_OPT {
-            return entry.ttl.to_be_bytes()[0];
-        }
-    }
-    0
-}
-
-/// The upper bits of the RCODE of a message; none where memory is refused.
-fn upper_bits_of(alloc: Global, message: &[u8]) -> u8 {
-    match message_in(alloc, message) {
-        Ok(Some(message)) => upper_bits(message.additional.as_slice()),
-        _ => 0,
-    }
-}
-
-/// The RCODE of a message with a header, with its upper bits.
-pub(crate) fn rcode_of(alloc: Global, message: &[u8]) -> u16
-    ensures { IfSome (slice_get message.now 3) (λ octet. result % 16 ≡ octet % 16) }
+/// The upper bits of RCODE in the TTL of an OPT record.
+fn upper_bits_in(ttl: u32) -> u8
+    ensures { result ≡ ttl / 2 ^ 24 }
 {
-    let low = match message {
-        [_, _, _, low, ..] => low % 16,
+    ttl.to_be_bytes()[0]
+}
+
+/// The place of the first OPT record.
+fn opt_place(entries: &[Record]) -> Option<usize>
+    ensures { result ≡ position spec.is_opt entries.now }
+{
+    entries.iter().position(is_opt)
+}
+
+/// The upper bits of RCODE that the first OPT record of these has; none where there is none.
+fn upper_bits(entries: &[Record]) -> u8
+    ensures { result ≡ spec.upper_bits entries.now }
+{
+    match opt_place(entries) {
+        Some(at) => upper_bits_in(entries[at].ttl),
+        None => 0,
+    }
+}
+
+/// The upper bits of the RCODE of a message.
+fn upper_bits_of(alloc: Global, message: &[u8]) -> Result<u8, AllocError>
+    ensures { IfOk result (spec.AreUpperBits message.now) }
+{
+    law_one_message_in_front();
+    match message_in(alloc, message)? {
+        Some(message) => Ok(upper_bits(message.additional.as_slice())),
+        None => Ok(0),
+    }
+}
+
+/// The lower bits of the RCODE of a message; none where it has no fourth octet.
+fn lower_bits_of(message: &[u8]) -> u8
+    ensures { result ≡ unwrap_or (slice_get message.now 3) 0 % 16 }
+{
+    match message {
+        [_, _, _, octet, ..] => octet % 16,
         _ => 0,
-    };
-    u16::from(upper_bits_of(alloc, message)) * 16 + u16::from(low)
+    }
+}
+
+/// The RCODE of a message, with its upper bits.
+pub(crate) fn rcode_of(alloc: Global, message: &[u8]) -> Result<u16, AllocError>
+    ensures { IfOk result (spec.IsRcode message.now) }
+{
+    let upper = upper_bits_of(alloc, message)?;
+    Ok(u16::from(upper) * 16 + u16::from(lower_bits_of(message)))
 }

@@ -1,7 +1,7 @@
 //! The queries that were sent last.
-ghost use Rattle.std.specs.Prelude.{◌≡◌, ◌<◌, ◌≤◌, ◌↔◌, IfOk, IfSome, IsTrue, MatchOption, length, take};
+ghost use Rattle.std.specs.Prelude.{◌≡◌, ◌<◌, ◌↔◌, ◌++◌, ◌∷◌, [], IfOk, IsTrue, MatchOption, OnErr, OnOk, length};
 ghost use Rattle.std.specs.List.{All, position};
-ghost use Rattle.dns_client.specs.SentQueries.{CanGoOn, HasIdOf, IsFurther, IsLastOf, IsNotOut, LacksIdOf, WentLastTo, WentTo, WentWithEdns, first_of, has_octets, is_answered, is_out, place_to_leave, sends_of};
+ghost use Rattle.dns_client.specs.SentQueries.{CanGoOn, CannotGoOn, HasIdOf, HasSameId, IsFurther, IsLastOf, LacksIdOf, WentLastTo, WentTo, WentWithEdns, changed, first_of, goes_first, gone_out, has_octets, is_answered, is_out, kept_too, place_to_leave, sends_of, sent_first, settled, with_room, without_edns};
 
 use crate::server_order::{place_of as place_in_round, server_at};
 use std::alloc::{AllocError, Global};
@@ -9,6 +9,13 @@ use std::marker::Model;
 
 /// How many queries are kept: the last ones, and those that are out before others.
 const QUERY_LIMIT: usize = 256;
+
+/// Whether a message has the id of a query (RFC 1035 4.1.1).
+pub(crate) fn has_same_id(query: &[u8], message: &[u8]) -> bool
+    ensures { IsTrue result ↔ HasSameId query.now message.now }
+{
+    message.len() >= 2 && query.starts_with(&message[..2])
+}
 
 /// A query, the server that it goes to first, how often it was sent, whether no reply to it was
 /// handed on since, whether it went out, and the server whose refusal of EDNS makes it go out once
@@ -60,19 +67,11 @@ impl SentQuery {
         server < servers && place_in_round(self.first, server, servers) < self.sends
     }
 
-    /// Whether a message has its id.
-    fn has_id_of(&self, message: &[u8]) -> bool
-        ensures { IsTrue result
-            ↔ ((2 ≤ length message.now) × (take 2 self.now.octets ≡ take 2 message.now)) }
-    {
-        message.len() >= 2 && self.octets.starts_with(&message[..2])
-    }
-
     /// Whether a message has its id, and it was sent to this one of so many servers.
     fn fits(&self, message: &[u8], server: usize, servers: usize) -> bool
         ensures { IsTrue result ↔ HasIdOf message.now server servers self.now }
     {
-        self.went_to(server, servers) && self.has_id_of(message)
+        self.went_to(server, servers) && has_same_id(self.octets.as_slice(), message)
     }
 
     /// Whether the last send went to this one of so many servers.
@@ -110,7 +109,9 @@ impl Model for SentQueries {
 
 impl SentQueries {
     /// None was sent.
-    pub(crate) fn new(alloc: Global) -> SentQueries {
+    pub(crate) fn new(alloc: Global) -> SentQueries
+        ensures { result ≡ [] }
+    {
         SentQueries {
             alloc,
             items: Vec::new(alloc),
@@ -143,21 +144,23 @@ impl SentQueries {
         }
     }
 
-    /// Keeps a query that is sent, and tells how often it was sent before. One that was not goes to
-    /// this server first.
-    pub(crate) fn keep(&mut self, query: &[u8], first: usize) -> Result<usize, AllocError>
-        ensures { IfOk result (λ before. before ≡ sends_of query.now self.old) }
+    /// Makes room for one more: of 256 one leaves.
+    fn make_room(&mut self)
+        ensures { self.new ≡ with_room self.old }
     {
-        if let Some(at) = self.place_of(query) {
-            let sends = self.items[at].sends;
-            self.items[at].sends = sends.saturating_add(1);
-            self.items[at].is_out = true;
-            return Ok(sends);
-        }
         if self.items.len() >= QUERY_LIMIT {
             let place = self.place_to_leave();
             self.items.remove(place);
         }
+    }
+
+    /// Keeps a query that is sent for the first time, to this server.
+    fn keep_first(&mut self, query: &[u8], first: usize) -> Result<(), AllocError>
+        ensures kept { OnOk result
+            (self.new ≡ with_room self.old ++ sent_first query.now first ∷ []) }
+        ensures refused { OnErr result (self.new ≡ with_room self.old) }
+    {
+        self.make_room();
         let octets = Vec::from_slice(self.alloc, query)?;
         self.items.push(SentQuery {
             octets,
@@ -167,7 +170,25 @@ impl SentQueries {
             went_out: false,
             edns_server: None,
         })?;
-        Ok(0)
+        Ok(())
+    }
+
+    /// Keeps a query that is sent, and tells how often it was sent before. One that was not goes to
+    /// this server first.
+    pub(crate) fn keep(&mut self, query: &[u8], first: usize) -> Result<usize, AllocError>
+        ensures before { IfOk result (λ before. before ≡ sends_of query.now self.old) }
+        ensures kept { OnOk result (self.new ≡ kept_too query.now first self.old) }
+        ensures refused { OnErr result (self.new ≡ with_room self.old) }
+    {
+        let Some(at) = self.place_of(query) else {
+            self.keep_first(query, first)?;
+            return Ok(0);
+        };
+        let sent = &mut self.items[at];
+        let before = sent.sends;
+        sent.sends = before.saturating_add(1);
+        sent.is_out = true;
+        Ok(before)
     }
 
     /// How often a query was sent, as far as it is kept.
@@ -202,7 +223,7 @@ impl SentQueries {
 
     /// Notes that a reply to a query was handed on.
     pub(crate) fn settle(&mut self, query: &[u8])
-        ensures { length self.new ≡ length self.old }
+        ensures { self.new ≡ changed settled query.now self.old }
     {
         if let Some(at) = self.place_of(query) {
             self.items[at].is_out = false;
@@ -212,29 +233,31 @@ impl SentQueries {
     /// Notes that a query goes out, and the server that it goes to with EDNS, if it does. Tells
     /// whether it goes out for the first time, as far as it is kept.
     pub(crate) fn note_out(&mut self, query: &[u8], edns_server: Option<usize>) -> bool
-        ensures first { IsTrue result → IsNotOut query.now self.old }
-        ensures count { length self.new ≡ length self.old }
+        ensures first { result ≡ goes_first query.now self.old }
+        ensures kept { self.new ≡ changed (gone_out edns_server) query.now self.old }
     {
         let Some(at) = self.place_of(query) else {
             return false;
         };
-        let is_first = !self.items[at].went_out;
-        self.items[at].went_out = true;
-        self.items[at].edns_server = edns_server;
+        let sent = &mut self.items[at];
+        let is_first = !sent.went_out;
+        sent.went_out = true;
+        sent.edns_server = edns_server;
         is_first
     }
 
     /// Whether a query that is out went with EDNS to this server, and to none since. From now on it
     /// did not.
     pub(crate) fn take_edns(&mut self, query: &[u8], server: usize) -> bool
-        ensures was { IsTrue result → WentWithEdns server query.now self.old }
-        ensures count { length self.new ≡ length self.old }
+        ensures was { IsTrue result ↔ WentWithEdns server query.now self.old }
+        ensures kept { self.new ≡ changed without_edns query.now self.old }
     {
         let Some(at) = self.place_of(query) else {
             return false;
         };
-        let went = self.items[at].is_out && self.items[at].edns_server == Some(server);
-        self.items[at].edns_server = None;
+        let sent = &mut self.items[at];
+        let went = sent.is_out && sent.edns_server == Some(server);
+        sent.edns_server = None;
         went
     }
 
@@ -253,13 +276,13 @@ impl SentQueries {
 
     /// A query that is out, for which this server was asked last, and one of so many not yet.
     pub(crate) fn further(&self, server: usize, servers: usize) -> Option<&[u8]>
-        ensures { IfSome result (λ query. IsFurther server servers query.now self.now) }
+        ensures { MatchOption result (All (CannotGoOn server servers) self.now)
+            (λ query. IsFurther server servers query.now self.now) }
     {
-        for sent in self.items.iter() {
-            if sent.can_go_on(server, servers) {
-                return Some(sent.octets.as_slice());
-            }
-        }
-        None
+        let sent = self
+            .items
+            .iter()
+            .find(|sent| sent.can_go_on(server, servers))?;
+        Some(sent.octets.as_slice())
     }
 }

@@ -1,13 +1,14 @@
 //! A server of a wire.
-ghost use Rattle.std.specs.Prelude.{◌≤◌, IfOk, length};
+ghost use Rattle.std.specs.Prelude.{◌≡◌, ◌≤◌, IfOk, false, length, true};
+ghost use Rattle.std.specs.Duration.{as_nanos};
+ghost use Rattle.std.specs.List.{filter};
+ghost use Rattle.dns_client.specs.Waits as spec;
 
 use crate::udp::socket_to;
+use dns_asker::DATAGRAM_LIMIT;
 use std::io::{self, ErrorKind};
 use std::net::{IpAddr, Net, SocketAddr, UdpSocket};
 use std::time::Duration;
-
-/// The most octets of a datagram that is taken.
-pub(crate) const DATAGRAM_LIMIT: usize = 4_096;
 
 /// How long a receive waits where one server was asked, in milliseconds.
 pub(crate) const LONG_WAIT: u64 = 100;
@@ -27,7 +28,11 @@ pub(crate) struct Server {
 
 impl Server {
     /// The server of an address, which is asked from this local address where one is named.
-    pub(crate) fn new<R: Net>(rt: &R, local: Option<IpAddr>, address: SocketAddr) -> Server {
+    pub(crate) fn new<R: Net>(rt: &R, local: Option<IpAddr>, address: SocketAddr) -> Server
+        ensures address { result.address ≡ address }
+        ensures takes_edns { result.refused_edns ≡ false }
+        ensures is_not_asked { result.asked ≡ false }
+    {
         Server {
             address,
             refused_edns: false,
@@ -37,7 +42,11 @@ impl Server {
     }
 
     /// Sends octets, and tells whether they could be sent.
-    pub(crate) fn send(&mut self, octets: &[u8]) -> bool {
+    pub(crate) fn send(&mut self, octets: &[u8]) -> bool
+        ensures address { self.new.address ≡ self.old.address }
+        ensures edns { self.new.refused_edns ≡ self.old.refused_edns }
+        ensures is_asked { self.new.asked ≡ true }
+    {
         self.asked = true;
         match &self.socket {
             Some(socket) => socket.send(octets).is_ok(),
@@ -64,13 +73,22 @@ impl Server {
     }
 }
 
-/// Whether the system says that nothing came in the time that a socket waits.
-pub(crate) fn is_wait(kind: ErrorKind) -> bool {
-    matches!(kind, ErrorKind::WouldBlock | ErrorKind::TimedOut)
+/// How many of these servers were asked.
+fn asked_count(servers: &[Server]) -> usize
+    ensures { result ≡ length (filter (λ server. server.asked) servers.now) }
+{
+    servers.iter().filter(|server| server.asked).count()
 }
 
 /// How long a receive waits for each server that was asked.
-pub(crate) fn wait_for(servers: &[Server]) -> Duration {
-    let asked = servers.iter().filter(|server| server.asked).count();
-    Duration::from_millis(if asked > 1 { SHORT_WAIT } else { LONG_WAIT })
+pub(crate) fn wait_for(servers: &[Server]) -> Duration
+    ensures { as_nanos result
+        ≡ spec.wait_for (length (filter (λ server. server.asked) servers.now)) }
+{
+    let wait = if asked_count(servers) > 1 {
+        SHORT_WAIT
+    } else {
+        LONG_WAIT
+    };
+    Duration::from_millis(wait)
 }

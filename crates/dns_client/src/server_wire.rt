@@ -1,6 +1,8 @@
 //! A wire to DNS servers over sockets.
-ghost use Rattle.std.specs.Prelude.{◌≡◌, ◌≤◌, IfOk, IfSome, IsFalse, length};
+ghost use Rattle.std.specs.Prelude.{◌≡◌, ◌≤◌, IfOk, IfSome, IsFalse, Some, length, slice_get};
 ghost use Rattle.dns_client.specs.CnameChains.{IsHandedOn};
+ghost use Rattle.dns_client.specs.QueryForms.{form_for};
+ghost use Rattle.dns_client.specs.SentQueries.{last_server, sends_of};
 ghost use Rattle.dns_client.specs.Wires.{HandsOn};
 
 use crate::deadline::Deadline;
@@ -9,13 +11,15 @@ use crate::open_chains::OpenChains;
 use crate::query_form::QueryForm;
 use crate::reply_bits::{is_cut, refuses_edns, tells_failure};
 use crate::sent_queries::SentQueries;
-use crate::server::{DATAGRAM_LIMIT, LONG_WAIT, Server, is_wait, wait_for};
+use crate::server::{LONG_WAIT, Server, wait_for};
 use crate::server_order::server_at;
 use crate::tcp::ask_over_tcp;
 use crate::try_log::TryLog;
 use crate::udp::try_bind;
+use crate::udp_wire::is_wait;
 use crate::wire_counts::WireCounts;
 use crate::wire_try::{Route, Tracer, WireTry};
+use dns_asker::DATAGRAM_LIMIT;
 use std::alloc::Global;
 use std::collections::VecDeque;
 use std::io::{self, ErrorKind};
@@ -122,7 +126,10 @@ impl<'a, R: Net + Clock> ServerWire<'a, R> {
     }
 
     /// The form in which a query goes to a server.
-    fn form_for(&self, server: usize) -> QueryForm {
+    fn form_for(&self, server: usize) -> QueryForm
+        ensures { result
+            ≡ form_for self.now.options.form (slice_get self.now.servers.items server) }
+    {
         match self.servers.get(server) {
             Some(server) if server.refused_edns => self.options.form.without_edns(),
             _ => self.options.form,
@@ -204,7 +211,10 @@ impl<'a, R: Net + Clock> ServerWire<'a, R> {
     }
 
     /// The server that a query was sent to last, if it was.
-    fn last_server(&self, query: &[u8]) -> Option<usize> {
+    fn last_server(&self, query: &[u8]) -> Option<usize>
+        ensures { result
+            ≡ last_server (length self.now.servers.items) query.now self.now.sent }
+    {
         let servers = self.servers.len();
         let sends = self.sent.sends_of(query);
         if servers == 0 || sends == 0 {
@@ -226,7 +236,11 @@ impl<'a, R: Net + Clock> ServerWire<'a, R> {
     /// Whether a query that this server failed to answer is with another server: with one that was
     /// asked since, or with the next one, which is asked now.
     fn goes_on(&mut self, server: usize, query: &[u8]) -> bool
-        ensures { IsFalse result → self.new.options ≡ self.old.options }
+        ensures same { IsFalse result → self.new.options ≡ self.old.options }
+        ensures last { IsFalse result
+            → last_server (length self.old.servers.items) query.now self.old.sent ≡ Some server }
+        ensures all_asked { IsFalse result
+            → length self.old.servers.items ≤ sends_of query.now self.old.sent }
     {
         if self.last_server(query) != Some(server) {
             return true;

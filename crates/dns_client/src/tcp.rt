@@ -1,7 +1,12 @@
 //! Questions over TCP (RFC 1035 4.2.2, RFC 7766).
-ghost use Rattle.std.specs.Prelude.{◌≡◌, ◌<◌, ◌≤◌, IfOk, length};
+ghost use Rattle.std.specs.Prelude.{◌≡◌, ◌<◌, ◌≤◌, ◌∷◌, [], IfOk, OnOk, length};
+ghost use Rattle.std.specs.Int.{to_be_bytes, w16};
+ghost use Rattle.std.specs.Io.KnownBytes.{Appends, Consumes};
+ghost use Rattle.dns_client.specs.Frames.{framed};
+ghost use Rattle.dns_client.specs.SentQueries.{HasSameId};
 
 use crate::deadline::Deadline;
+use crate::sent_queries::has_same_id;
 use std::alloc::Global;
 use std::io::{self, ErrorKind, Read, Write};
 use std::net::{Net, OpenStream, SocketAddr, TcpStream};
@@ -16,7 +21,10 @@ fn fill<R: Clock, S: Read + OpenStream>(
     stream: &mut S,
     deadline: &Deadline,
     buffer: &mut [u8],
-) -> io::Result<()> {
+) -> io::Result<()>
+    ensures { OnOk result
+        (Consumes (S.remaining stream.old) (S.remaining stream.new) buffer.new) }
+{
     let mut at = 0;
     'parts: while at < buffer.len() {
         stream.set_read_timeout(Some(deadline.left(rt, Duration::from_secs(TCP_LIMIT))?))?;
@@ -30,7 +38,10 @@ fn fill<R: Clock, S: Read + OpenStream>(
 }
 
 /// Writes a message behind the two octets of its length.
-fn write_message<S: Write>(alloc: Global, stream: &mut S, message: &[u8]) -> io::Result<()> {
+fn write_message<S: Write>(alloc: Global, stream: &mut S, message: &[u8]) -> io::Result<()>
+    ensures { OnOk result
+        (Appends (S.contents stream.old) (S.contents stream.new) (framed message.now)) }
+{
     let Ok(count) = u16::try_from(message.len()) else {
         return Err(io::Error::from(ErrorKind::InvalidInput));
     };
@@ -40,23 +51,42 @@ fn write_message<S: Write>(alloc: Global, stream: &mut S, message: &[u8]) -> io:
     stream.flush()
 }
 
+/// The number of two octets, the higher one first.
+fn number_of(high: u8, low: u8) -> u16
+    ensures { to_be_bytes w16 result ≡ high ∷ low ∷ [] }
+{
+    u16::from_be_bytes([high, low])
+}
+
+/// Reads the two octets of a length.
+fn read_length<R: Clock, S: Read + OpenStream>(
+    rt: &R,
+    stream: &mut S,
+    deadline: &Deadline,
+) -> io::Result<u16>
+    ensures { IfOk result (λ length.
+        Consumes (S.remaining stream.old) (S.remaining stream.new) (to_be_bytes w16 length)) }
+{
+    let mut octets = [0; 2];
+    fill(rt, stream, deadline, &mut octets)?;
+    let [high, low] = octets;
+    Ok(number_of(high, low))
+}
+
 /// Reads the message behind the two octets of its length.
 fn read_message<R: Clock, S: Read + OpenStream>(
     rt: &R,
     alloc: Global,
     stream: &mut S,
     deadline: &Deadline,
-) -> io::Result<Vec<u8>> {
-    let mut front = [0; 2];
-    fill(rt, stream, deadline, &mut front)?;
-    let mut message = vec![in alloc; 0u8; usize::from(u16::from_be_bytes(front))]?;
+) -> io::Result<Vec<u8>>
+    ensures { IfOk result (λ message.
+        Consumes (S.remaining stream.old) (S.remaining stream.new) (framed message.items)) }
+{
+    let length = read_length(rt, stream, deadline)?;
+    let mut message = vec![in alloc; 0u8; usize::from(length)]?;
     fill(rt, stream, deadline, message.as_mut_slice())?;
     Ok(message)
-}
-
-/// Whether a message has the id of a query.
-fn has_id_of(message: &[u8], query: &[u8]) -> bool {
-    message.len() >= 2 && query.starts_with(&message[..2])
 }
 
 /// Asks a server over a connection of its own, and gives the message that comes back. It takes two
@@ -72,14 +102,16 @@ pub(crate) fn ask_over_tcp<R: Net + Clock>(
     server: &SocketAddr,
     query: &[u8],
     run: &Deadline,
-) -> io::Result<Vec<u8>> {
+) -> io::Result<Vec<u8>>
+    ensures { IfOk result (λ message. HasSameId query.now message.items) }
+{
     let left = run.left(rt, Duration::from_secs(TCP_LIMIT))?;
     let deadline = Deadline::after(rt, left)?;
     let mut stream = TcpStream::connect_timeout(rt, server, left)?;
     stream.set_write_timeout(Some(deadline.left(rt, left)?))?;
     write_message(alloc, &mut stream, query)?;
     let message = read_message(rt, alloc, &mut stream, &deadline)?;
-    if has_id_of(message.as_slice(), query) {
+    if has_same_id(query, message.as_slice()) {
         Ok(message)
     } else {
         Err(io::Error::from(ErrorKind::InvalidData))

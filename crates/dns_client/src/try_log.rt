@@ -1,7 +1,7 @@
 //! What goes over a wire, as it is noted.
 ghost use Rattle.std.specs.Prelude.{◌≡◌, [], length, IfOk, IfSome, ◌<◌, slice_get};
 ghost use Rattle.std.specs.List.{All, HoldsAt};
-ghost use Rattle.dns_client.specs.WireCounts.{with_query, with_reply};
+ghost use Rattle.dns_client.specs.WireCounts.{none, with_query, with_reply};
 ghost use Rattle.dns_client.specs.WireTries.{Asks, IsTry};
 ghost use Rattle.dns_client.specs.WireTries as spec;
 
@@ -59,7 +59,9 @@ impl Model for TryLog {
 
 impl TryLog {
     /// Nothing went over the wire.
-    pub(crate) fn start<R: Clock>(rt: &R, alloc: Global, is_kept: bool) -> io::Result<TryLog> {
+    pub(crate) fn start<R: Clock>(rt: &R, alloc: Global, is_kept: bool) -> io::Result<TryLog>
+        ensures { IfOk result (λ log. (log.counts ≡ none) × (log.tries ≡ [])) }
+    {
         Ok(TryLog {
             alloc,
             start: Instant::now(rt)?,
@@ -124,8 +126,9 @@ impl TryLog {
         ensures { self.new.counts ≡ self.old.counts }
     {
         let found = message_in(self.alloc, message)?;
+        let rcode = rcode_of(self.alloc, message)?;
         let reply = WireReply {
-            rcode: rcode_of(self.alloc, message),
+            rcode,
             octets: message.len(),
             message: found,
             came_at,

@@ -16,7 +16,7 @@ use std::time::Duration;
 const RECEIVE_WAIT: u64 = 100;
 
 /// Whether the system says that nothing came in the time that a socket waits.
-fn is_wait(kind: ErrorKind) -> bool
+pub(crate) fn is_wait(kind: ErrorKind) -> bool
     ensures { IsTrue result ↔ IsWait kind }
 {
     matches!(kind, ErrorKind::WouldBlock | ErrorKind::TimedOut)

@@ -74,7 +74,7 @@ fn forms(rt: HostRuntime) {
 #[test]
 fn replies(rt: HostRuntime) {
     for (message, rcode, refuses) in &REPLIES {
-        assert_eq!(rt; rcode_of(rt.alloc(), message), *rcode);
+        assert_eq!(rt; rcode_of(rt.alloc(), message).ok(), Some(*rcode));
         assert_eq!(rt; refuses_edns(rt.alloc(), message).ok(), Some(*refuses));
     }
 }

@@ -27,7 +27,7 @@ invariant_of-self c =
     let old : IsTry here = subst IsTry (sym is) (c.self.invariant at here inside) in
     let of-id = ap (λ (one : WireTry). one.id) is ∙ id-is here in
     let reply : WireReply = record {
-      rcode = c.rcode_of.result;
+      rcode = c.in_ok-rcode.rcode;
       octets = length c.args.message.now;
       message = c.in_ok-found.found;
       came_at = c.args.came_at;
@@ -36,7 +36,7 @@ invariant_of-self c =
       came = c.args.message.now;
       is = sym of-id;
       octets = refl;
-      rcode = c.rcode_of.ensures;
+      rcode = c.in_ok-rcode.ensures;
       message = in-front c.args.message.now c.in_ok-found.found c.in_ok-found.ensures.read;
     } in
     All-set IsTry tries at (record here { reply = Some reply }) (replied here reply old back) c.self.invariant
