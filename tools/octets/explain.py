@@ -13,7 +13,7 @@ import sys
 KNOWN = {1: "A", 2: "NS", 5: "CNAME", 6: "SOA", 12: "PTR", 28: "AAAA", 33: "SRV", 35: "NAPTR"}
 
 # What c-ares takes in a label.
-HOST = re.compile(rb"[A-Za-z0-9_./*-]*")
+HOST = re.compile(rb"[A-Za-z0-9_/-]*")
 
 
 class Broken(Exception):
