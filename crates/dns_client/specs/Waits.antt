@@ -1,5 +1,5 @@
 -- How long a receive waits.
-use Rattle.std.specs.Prelude.{ℕ, ◌*◌, nat_lt, if◌then◌else◌}
+use Rattle.std.specs.Prelude.{ℕ, nat_lt, if◌then◌else◌}
 
 -- for each of several servers that were asked a hundredth of a second, else a tenth; in nanoseconds
 abbrev pub wait_for : ℕ → ℕ

@@ -1,4 +1,4 @@
-use Rattle.std.proofs.Common.{◌≡◌, ◌≤◌, ◌++◌, ◌∙◌, rules, arith, length, take, drop, take_all}
+use Rattle.std.proofs.Common.{◌≡◌, ◌++◌, ◌∙◌, rules, arith, length, take, drop, take_all}
 use Rattle.std.proofs.KnownBytes.{Consumes-trans}
 use lib.Seq.{take-append-le}
 use Rattle.dns_client.proofs.tcp.read_message.Goals as goal
