@@ -86,6 +86,3 @@ pub use seat::{
     law_stores_are_of_the_seats,
 };
 pub use shared_cache::SharedCache;
-
-#[cfg(test)]
-mod tests;

@@ -40,6 +40,3 @@ pub use moment::Moment;
 pub use records::Records;
 pub use refusal::ReplyRefusal;
 pub use reply::answer_of;
-
-#[cfg(test)]
-mod tests;

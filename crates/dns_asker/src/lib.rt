@@ -56,6 +56,3 @@ pub use refusal::AskRefusal;
 pub use server::serve;
 pub use wire::{DATAGRAM_LIMIT, PeerWire, Wire, WireFault};
 pub use zone_wire::ZoneWire;
-
-#[cfg(test)]
-mod tests;

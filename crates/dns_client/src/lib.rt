@@ -83,6 +83,3 @@ pub use warning::{LineFault, LineWarning};
 pub use wire_counts::WireCounts;
 pub use wire_origin::WireOrigin;
 pub use wire_try::{Route, Tracer, WireReply, WireTry};
-
-#[cfg(test)]
-mod tests;

@@ -67,6 +67,3 @@ pub use section::Section;
 pub use soa::SoaRecord;
 pub use srv::SrvRecord;
 pub use written::{write_query, write_reply};
-
-#[cfg(test)]
-mod tests;

@@ -30,6 +30,3 @@ pub use laws::{
 pub use message::{read_name, write_name};
 pub use name::Name;
 pub use refusal::{NameReadRefusal, NameRefusal};
-
-#[cfg(test)]
-mod tests;

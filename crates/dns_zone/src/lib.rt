@@ -37,6 +37,3 @@ mod zone;
 pub use laws::{law_zone_follows_cnames, law_zone_names_its_authority};
 pub use refusal::ZoneRefusal;
 pub use zone::{Zone, ZoneEntry};
-
-#[cfg(test)]
-mod tests;

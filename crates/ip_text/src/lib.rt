@@ -34,6 +34,3 @@ pub use address::{Address, address_from_text, address_text, ipv4_octets, ipv6_oc
 pub use laws::law_written_address_is_read;
 pub use numbers::decimal;
 pub use parts::{behind_front, next_part};
-
-#[cfg(test)]
-mod tests;

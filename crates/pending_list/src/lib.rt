@@ -41,6 +41,3 @@ pub use id::PendingId;
 pub use iter::Iter;
 pub use list::PendingList;
 pub use refusal::InsertRefusal;
-
-#[cfg(test)]
-mod tests;

@@ -64,6 +64,3 @@ pub use generation::Generation;
 pub use laws::{law_answers_were_handed_in, law_renewed_answers_as_before, law_threads_may_share};
 pub use rolling::RollingCache;
 pub use seat::RollingSeat;
-
-#[cfg(test)]
-mod tests;

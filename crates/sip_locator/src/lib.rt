@@ -56,6 +56,3 @@ pub use kept::Kept;
 pub use laws::law_messages_decide;
 pub use locator::Locator;
 pub use refusal::LocatorRefusal;
-
-#[cfg(test)]
-mod tests;

@@ -63,6 +63,3 @@ pub use refusal::SubmitRefusal;
 pub use resolver::{Heard, Limits, Resolver};
 pub use rounding::rounded_up;
 pub use transmit::{Over, Transmit};
-
-#[cfg(test)]
-mod tests;

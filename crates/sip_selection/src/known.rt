@@ -121,15 +121,6 @@ impl Known {
         Ok(())
     }
 
-    /// Adds an answer, in the place of one to the same question.
-    #[cfg(test)]
-    pub(crate) fn put(&mut self, question: &Question, answer: &Arc<Answer>) -> Option<()> {
-        let question = question.try_clone().ok()?;
-        let answer = Arc::try_clone(answer).ok()?;
-        self.answers.insert(QuestionKey { question }, answer).ok()?;
-        Some(())
-    }
-
     /// Takes the last one away, and gives its question.
     pub(crate) fn pop(&mut self) -> Question
         requires { 0 < length self.old }

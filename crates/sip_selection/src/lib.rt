@@ -82,6 +82,3 @@ pub use reason::Reason;
 pub use request::Request;
 pub use selection::{GiveRefusal, Next, Selection};
 pub use target::Target;
-
-#[cfg(test)]
-mod tests;

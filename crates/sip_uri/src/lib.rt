@@ -73,6 +73,3 @@ pub use uri::SipUri;
 pub use uri_text::read_uri;
 pub use via::Via;
 pub use via_text::read_via;
-
-#[cfg(test)]
-mod tests;

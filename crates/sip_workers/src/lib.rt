@@ -61,6 +61,3 @@ pub use refusal::RunRefusal;
 pub use run::run_workers;
 pub use sip_resolver::{Outcome, TargetList};
 pub use worker::Worker;
-
-#[cfg(test)]
-mod tests;

@@ -16,8 +16,6 @@ mod requests;
 mod run;
 mod server;
 mod talk;
-#[cfg(test)]
-mod tests;
 
 use arguments::{Command, arguments};
 use input::input_text;

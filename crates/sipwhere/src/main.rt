@@ -27,8 +27,6 @@ mod stats;
 mod submitted_lines;
 mod tell;
 mod terminals;
-#[cfg(test)]
-mod tests;
 mod trace;
 
 use check_line::UNKNOWN_STATUS;

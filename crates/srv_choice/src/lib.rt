@@ -37,6 +37,3 @@ pub use laws::{law_limits, law_order_is_by_priority, law_weights_are_shares};
 pub use next_index::RECORD_LIMIT;
 pub use outcome::SrvOutcome;
 pub use words::{WORD_COUNT, Words};
-
-#[cfg(test)]
-mod tests;

@@ -1,4 +1,0 @@
-use Rattle.answer_cache.proofs.tests.shared.against.Given as goal
-
-abbrev pub ghosts-said_by_two : goal.ghosts-said_by_two
-ghosts-said_by_two g a = record { cache = a.cache.now }

@@ -1,4 +1,0 @@
-//! Addresses and numbers, as tables.
-mod address;
-mod allocations;
-mod page;

@@ -1,7 +1,0 @@
-use Rattle.std.proofs.lemmas.List.Elements.{All-nil}
-use Rattle.sip_resolver.proofs.tests.page.resolver_of.Goals as goal
-
-pub returns : goal.returns
-returns g c = λ seat.
-    c.submit.ensures.stand seat
-    (rw c.in-Ok.ensures (record { ready = All-nil _; held = All-nil _; waiting = All-nil _; ended = All-nil _ }))
