@@ -1,0 +1,75 @@
+//! Public calls of the libraries, tried on rows of text: `try_calls CRATE CALL` reads lines from its
+//! input, hands them to a call, and prints what that gives.
+//!
+//! `tests/rows/CRATE/CALL.txt` has rows for it, with what each has to print, which comes from
+//! standards, from servers, or was worked out by hand; `tools/run-rows` compares. A further row needs
+//! no proof. The comment at the head of a file of rows says how its lines are read and written.
+#![tactic(auto)]
+
+ghost use Rattle.std.specs.Prelude.{◌≤◌};
+
+mod fault;
+mod fields;
+mod names;
+mod shown;
+
+use fault::Fault;
+use std::alloc::Global;
+use std::process::ExitCode;
+use std::rt::Env;
+use std::{env, io};
+
+/// The status where the words name no call.
+const USAGE_STATUS: u8 = 4;
+
+/// The status where a row cannot be tried, or its text not be written.
+const FAULT_STATUS: u8 = 5;
+
+/// What a call of a crate gives for the lines of an input.
+fn told(alloc: Global, crate_name: &str, call: &str, input: &str) -> Result<String, Fault> {
+    match crate_name {
+        "dns_name" => names::told(alloc, call, input),
+        _ => Err(Fault::Call),
+    }
+}
+
+/// What the words and the input of the program ask for.
+fn tried<R: Env + Input + AllocGlobal>(rt: &R) -> Result<String, Fault> {
+    let alloc = rt.alloc();
+    let words = env::args(rt)?.collect::<Vec<String>>(alloc)?;
+    match words.as_slice() {
+        [_, crate_name, call] => {
+            let input = io::read_to_string(alloc, rt.reader())?;
+            told(alloc, crate_name, call, &input)
+        }
+        _ => Err(Fault::Call),
+    }
+}
+
+/// Prints a text, and gives the status.
+fn print_all<R: Print>(rt: &R, text: &str) -> u8
+    ensures { result ≤ 5 }
+{
+    match print!(rt; "{text}") {
+        Ok(()) => 0,
+        Err(_) => FAULT_STATUS,
+    }
+}
+
+/// Says what is wrong with a row, and gives the status.
+fn fault_status<R: Eprint>(rt: &R, fault: Fault) -> u8
+    ensures { result ≤ 5 }
+{
+    let _ = eprintln!(rt; "try_calls: {fault}");
+    match fault {
+        Fault::Call => USAGE_STATUS,
+        _ => FAULT_STATUS,
+    }
+}
+
+fn main(rt: HostRuntime) -> ExitCode {
+    ExitCode::from(match tried(&rt) {
+        Ok(text) => print_all(&rt, &text),
+        Err(fault) => fault_status(&rt, fault),
+    })
+}
