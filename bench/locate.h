@@ -1,4 +1,4 @@
-/* The requests of crates/bench_locator, which each candidate locates over answers that are all there. */
+/* The requests of crates/benchmarks, which each candidate locates over answers that are all there. */
 #ifndef LOCATE_H
 #define LOCATE_H
 

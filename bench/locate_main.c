@@ -1,4 +1,4 @@
-/* Measures how long a candidate takes to locate each request, and prints the lines of crates/bench_locator. With the name
+/* Measures how long a candidate takes to locate each request, and prints the lines of crates/benchmarks. With the name
  * of a request and a number it locates that one so many times, from its text. */
 #include "locate.h"
 

@@ -1,4 +1,4 @@
-//! The look-ups and stores of `bench_cache`, over maps of Rust's crates: the same questions, answers, order, threads and
+//! The look-ups and stores of `benchmarks look_ups`, over maps of Rust's crates: the same questions, answers, order, threads and
 //! rounds. It prints a line for each run: its map, its questions, its threads, how many look-ups come before each store
 //! (0 where nothing is stored), how many look-ups found an answer, and its microseconds.
 use dashmap::DashMap;

@@ -1,4 +1,0 @@
-use Rattle.bench_locator.proofs.books.fill.Given as goal
-
-abbrev pub invariant-known : goal.invariant-known
-invariant-known g l = g.B.AnswerBook.belongs l.book l.seat

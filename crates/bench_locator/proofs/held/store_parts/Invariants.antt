@@ -1,4 +1,0 @@
-use Rattle.bench_locator.proofs.held.store_parts.Given as goal
-
-abbrev pub invariant-domains : goal.invariant-domains
-invariant-domains g l = g.B.AnswerBook.belongs l.book l.seat

@@ -1,4 +1,0 @@
-use Rattle.bench_locator.proofs.slices.Given as goal
-
-abbrev pub invariant-slices : goal.invariant-slices
-invariant-slices g l = g.B.AnswerBook.belongs l.book l.seat

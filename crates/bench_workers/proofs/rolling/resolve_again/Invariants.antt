@@ -1,5 +1,0 @@
-use Rattle.rolling_cache.specs.Rolling.{IsAt}
-use Rattle.bench_workers.proofs.rolling.resolve_again.Given as goal
-
-abbrev pub invariant-lives : goal.invariant-lives
-invariant-lives g l = IsAt l.seat

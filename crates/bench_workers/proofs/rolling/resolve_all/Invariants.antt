@@ -1,5 +1,0 @@
-use Rattle.rolling_cache.specs.Rolling.{IsAt}
-use Rattle.bench_workers.proofs.rolling.resolve_all.Given as goal
-
-abbrev pub invariant-batches : goal.invariant-batches
-invariant-batches g l = IsAt l.seat

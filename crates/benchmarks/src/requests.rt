@@ -1,0 +1,303 @@
+//! How long it takes to locate a request whose answers are all in a book, and to store an answer
+//! that was missing; and what memory both take.
+//!
+//! With the word `times` it prints a line for each request, book and form: the request, the book,
+//! whether it is located from its text or after it was read, how many targets it has, and the
+//! nanoseconds of one time in the fastest slice and in the middle one. With `miss`, a label and the
+//! path of a reply it prints a line for each book: the label, the book, how many records answer,
+//! and the nanoseconds of reading and storing.
+//!
+//! What two runs of other words differ by is what one takes (`bench/run`). `locate`, the name of a
+//! request and a number: locates that one so many times, from its text, over a shared cache.
+//! `misses`, the path of a reply and a number: stores its answer a thousand times in so many shared
+//! caches. `hold`, a word, a book and a number: holds so many of what the word says.
+mod books;
+mod held;
+mod known;
+mod misses;
+mod rows;
+
+use crate::requests::books::{fill, one_seat};
+use crate::requests::rows::{Row, large_row, small_rows};
+use answer_cache::{AnswerBook, ListCache};
+use dns_answers::Moment;
+use sip_locator::Locator;
+use sip_selection::{Caps, Next, Request};
+use sip_uri::Transport::{Sctp, Tcp, Tls, Udp};
+use srv_choice::{WORD_COUNT, Words};
+use std::alloc::Global;
+use std::rt::Files;
+use std::sync::Wait;
+use std::time::{Clock, Instant};
+
+/// How many slices of time are measured.
+const SLICES: usize = 101;
+
+/// How many questions the large requests have about: 9 and 16 for each of these servers.
+const SERVERS: [usize; 4] = [4, 8, 16, 32];
+
+/// How many targets a request has.
+fn targets_of<B: AnswerBook>(
+    alloc: Global,
+    row: &Row,
+    request: Request,
+    book: &B,
+    seat: &mut B::Seat,
+    now: Moment,
+) -> usize
+    requires { B.belongs book.now seat.old }
+    ensures { B.belongs book.now seat.new }
+{
+    let Some(caps) = Caps::new(&[Udp, Tcp, Tls, Sctp], row.families) else {
+        return 0;
+    };
+    let Ok(mut locator) = Locator::<B>::new(alloc, request, caps, Words([7; WORD_COUNT])) else {
+        return 0;
+    };
+    match locator.step(book, seat, now) {
+        Ok(Next::Targets(found)) => found.len(),
+        _ => 0,
+    }
+}
+
+/// Whether a request is read anew each time.
+#[derive(Clone, Copy, PartialEq, Eq)]
+enum Form {
+    Text,
+    Request,
+}
+
+/// What is measured: a request, in a form, at one moment.
+#[derive(Clone, Copy)]
+struct Load<'a> {
+    row: &'a Row,
+    form: Form,
+    read: &'a Request,
+    now: Moment,
+}
+
+/// Locates a request so many times, and gives how many targets it has.
+fn locate<B: AnswerBook>(
+    alloc: Global,
+    load: &Load<'_>,
+    book: &B,
+    seat: &mut B::Seat,
+    rounds: u64,
+) -> Option<usize>
+    requires { B.belongs book.now seat.old }
+    ensures { B.belongs book.now seat.new }
+{
+    let mut found = 0;
+    'rounds: for _round in 0..rounds {
+        let request = match load.form {
+            Form::Text => load.row.request(alloc),
+            Form::Request => load.read.try_clone().ok(),
+        };
+        let Some(request) = request else {
+            return None;
+        };
+        found = targets_of(alloc, load.row, request, book, seat, load.now);
+    }
+    Some(found)
+}
+
+/// How many nanoseconds it takes to locate a request so many times.
+fn slice<R: Clock + AllocGlobal, B: AnswerBook>(
+    rt: &R,
+    load: &Load<'_>,
+    book: &B,
+    seat: &mut B::Seat,
+    rounds: u64,
+) -> Option<u128>
+    requires { B.belongs book.now seat.old }
+    ensures { B.belongs book.now seat.new }
+{
+    let Ok(start) = Instant::now(rt) else {
+        return None;
+    };
+    let _ = locate(rt.alloc(), load, book, seat, rounds);
+    let Ok(time) = start.elapsed(rt) else {
+        return None;
+    };
+    Some(time.as_nanos())
+}
+
+/// The nanoseconds of each slice of so many rounds, the least first.
+fn slices<R: Clock + AllocGlobal, B: AnswerBook>(
+    rt: &R,
+    load: &Load<'_>,
+    book: &B,
+    seat: &mut B::Seat,
+    rounds: u64,
+) -> Option<Vec<u128>>
+    requires { B.belongs book.now seat.old }
+    ensures { B.belongs book.now seat.new }
+{
+    let mut times = Vec::new(rt.alloc());
+    'slices: for _slice in 0..SLICES {
+        let Some(time) = slice(rt, load, book, seat, rounds) else {
+            return None;
+        };
+        if times.push(time).is_err() {
+            return None;
+        }
+    }
+    times.sort().ok()?;
+    Some(times)
+}
+
+/// How many rounds take a tenth of a millisecond at least, where one takes so many nanoseconds.
+fn rounds_of(nanoseconds: u128) -> u64 {
+    let times = 100_000_u128.checked_div(nanoseconds).unwrap_or(1_000);
+    u64::try_from(times).unwrap_or(1_000).clamp(1, 1_000)
+}
+
+/// What was measured.
+#[derive(Clone, Copy)]
+struct Measured {
+    targets: usize,
+    least: u128,
+    middle: u128,
+}
+
+/// Measures a request.
+fn measure<R: Clock + AllocGlobal, B: AnswerBook>(
+    rt: &R,
+    load: &Load<'_>,
+    book: &B,
+    seat: &mut B::Seat,
+) -> Option<Measured>
+    requires { B.belongs book.now seat.old }
+    ensures { B.belongs book.now seat.new }
+{
+    let Some(targets) = locate(rt.alloc(), load, book, seat, 1) else {
+        return None;
+    };
+    let Some(once) = slice(rt, load, book, seat, 1) else {
+        return None;
+    };
+    let rounds = rounds_of(once);
+    let Some(times) = slices(rt, load, book, seat, rounds) else {
+        return None;
+    };
+    let of_one = |time: &u128| time.checked_div(u128::from(rounds)).unwrap_or(0);
+    Some(Measured {
+        targets,
+        least: times.first().map(of_one)?,
+        middle: times.get(SLICES / 2).map(of_one)?,
+    })
+}
+
+/// Measures a request in both forms over a book, and prints it.
+fn print_forms<R: Clock + Print + Wait + AllocGlobal, B: AnswerBook>(
+    rt: &R,
+    name: &str,
+    load: &Load<'_>,
+    book: &B,
+    seat: &mut B::Seat,
+) -> Option<()>
+    requires { B.belongs book.now seat.old }
+{
+    let of_text = measure(rt, load, book, seat)?;
+    println!(rt;
+        "{}\t{name}\ttext\t{}\t{}\t{}",
+        load.row.name, of_text.targets, of_text.least, of_text.middle
+    )
+    .ok()?;
+    let load = Load {
+        form: Form::Request,
+        ..*load
+    };
+    let it = measure(rt, &load, book, seat)?;
+    println!(rt;
+        "{}\t{name}\trequest\t{}\t{}\t{}",
+        load.row.name, it.targets, it.least, it.middle
+    )
+    .ok()
+}
+
+/// Measures a request over books of both kinds, and prints it.
+fn print_row<R: Clock + Print + Wait + AllocGlobal>(rt: &R, row: &Row) -> Option<()> {
+    let alloc = rt.alloc();
+    let now = Moment::new(100)?;
+    let known = row.domain.known(alloc)?;
+    let read = row.request(alloc)?;
+    let load = Load {
+        row,
+        form: Form::Text,
+        read: &read,
+        now,
+    };
+    let (cache, mut seat) = one_seat(alloc)?;
+    fill(rt, &cache, &mut seat, known.as_slice(), now);
+    print_forms(rt, "shared", &load, &cache, &mut seat)?;
+    let (list, mut seat) = ListCache::new(alloc);
+    fill(rt, &list, &mut seat, known.as_slice(), now);
+    print_forms(rt, "list", &load, &list, &mut seat)
+}
+
+/// Measures all requests, and prints them.
+fn print_rows<R: Clock + Print + Wait + AllocGlobal>(rt: &R) -> Option<()> {
+    for row in small_rows() {
+        print_row(rt, &row)?;
+    }
+    for servers in SERVERS {
+        print_row(rt, &large_row(servers))?;
+    }
+    Some(())
+}
+
+/// Locates the request of a name so many times.
+fn locate_named<R: Clock + Wait + AllocGlobal>(rt: &R, name: &str, rounds: u64) -> Option<usize> {
+    let alloc = rt.alloc();
+    let row = small_rows().into_iter().find(|row| row.name == name)?;
+    let now = Moment::new(100)?;
+    let known = row.domain.known(alloc)?;
+    let read = row.request(alloc)?;
+    let (cache, mut seat) = one_seat(alloc)?;
+    fill(rt, &cache, &mut seat, known.as_slice(), now);
+    let load = Load {
+        row: &row,
+        form: Form::Text,
+        read: &read,
+        now,
+    };
+    locate(alloc, &load, &cache, &mut seat, rounds)
+}
+
+/// Does what four words ask for, or three.
+fn run_task<R: Files + Clock + Print + Wait + AllocGlobal>(
+    rt: &R,
+    task: &str,
+    words: &[String],
+) -> Option<()> {
+    let number = words.last()?.as_str();
+    let first = words.first()?.as_str();
+    match task {
+        "miss" => misses::run(rt, first, number, None),
+        "misses" => misses::run(rt, "", first, Some(number.parse::<u64>().ok()?)),
+        "hold" => held::run(
+            rt,
+            first,
+            words.get(1)?.as_str(),
+            number.parse::<u64>().ok()?,
+        ),
+        "locate" => {
+            locate_named(rt, first, number.parse::<u64>().ok()?)?;
+            Some(())
+        }
+        _ => None,
+    }
+}
+
+/// Does what the words ask for.
+pub(crate) fn run_words<R: Files + Clock + Print + Wait + AllocGlobal>(
+    rt: &R,
+    words: &[String],
+) -> Option<()> {
+    match words {
+        [_times] => print_rows(rt),
+        [task, rest @ ..] => run_task(rt, task.as_str(), rest),
+        [] => None,
+    }
+}
