@@ -1,6 +1,6 @@
 //! The example of the page of `sip_locator`.
 use crate::answers::{REPLY, request};
-use answer_cache::ListCache;
+use answer_cache::{AnswerBook, ListCache};
 use dns_answers::Moment;
 use sip_locator::Locator;
 use sip_selection::{Caps, Families, Next, Request};
@@ -22,30 +22,97 @@ fn goes(next: Next<'_>) -> bool {
     matches!(next, Next::Targets([_]))
 }
 
-/// Whether a request asks before a reply came in, and goes to a target after that, where there is
-/// memory for it.
-fn asks_and_goes(
+/// Whether a request asks before a reply came in, and goes to a target after that, over a new book.
+fn over_new_book(
     rt: &impl Wait,
     alloc: Global,
-    request: Request,
-    words: Words,
+    mut locator: Locator<ListCache>,
+    now: Moment,
     octets: &[u8],
 ) -> Option<[bool; 2]> {
-    let now = Moment::new(100)?;
-    let caps = Caps::new(&[Udp], Families::V4)?;
     let (book, mut seat) = ListCache::new(alloc);
+    asks_and_goes(rt, &mut locator, &book, &mut seat, now, octets)
+}
+
+/// A locator of a request.
+fn locator_of(
+    alloc: Global,
+    request: Request,
+    caps: Caps,
+    words: Words,
+) -> Option<Locator<ListCache>> {
     let mut locator = Locator::new(alloc, request, caps, words).ok()?;
+    Some(locator)
+}
+
+/// Whether the first step asks; None where memory is refused.
+fn asks_first<B: AnswerBook>(
+    locator: &mut Locator<B>,
+    book: &B,
+    seat: &mut B::Seat,
+    now: Moment,
+) -> Option<bool>
+    requires { B.belongs book.now seat.old }
+    ensures { B.belongs book.now seat.new }
+{
     // it asks for A of a.example.
-    let asks = asks(locator.step(&book, &mut seat, now).ok()?);
+    let asks = asks(locator.step(book, seat, now).ok()?);
+    Some(asks)
+}
+
+/// Hands a reply in; None where it is not taken.
+fn hear<B: AnswerBook>(
+    rt: &impl Wait,
+    locator: &mut Locator<B>,
+    book: &B,
+    seat: &mut B::Seat,
+    now: Moment,
+    octets: &[u8],
+) -> Option<()>
+    requires { B.belongs book.now seat.old }
+    ensures { B.belongs book.now seat.new }
+{
     // the octets that a name server sent: 192.0.2.7 for 300 seconds
-    locator.reply(rt, &book, &mut seat, now, octets).ok()?;
-    let goes = goes(locator.step(&book, &mut seat, now).ok()?);
+    locator.reply(rt, book, seat, now, octets).ok()?;
+    Some(())
+}
+
+/// Whether the next step gives the target; None where memory is refused.
+fn goes_then<B: AnswerBook>(
+    locator: &mut Locator<B>,
+    book: &B,
+    seat: &mut B::Seat,
+    now: Moment,
+) -> Option<bool>
+    requires { B.belongs book.now seat.old }
+    ensures { B.belongs book.now seat.new }
+{
+    let goes = goes(locator.step(book, seat, now).ok()?);
+    Some(goes)
+}
+
+/// Whether a locator asks before a reply came in, and gives a target after that.
+fn asks_and_goes<B: AnswerBook>(
+    rt: &impl Wait,
+    locator: &mut Locator<B>,
+    book: &B,
+    seat: &mut B::Seat,
+    now: Moment,
+    octets: &[u8],
+) -> Option<[bool; 2]>
+    requires { B.belongs book.now seat.old }
+{
+    let asks = asks_first(locator, book, seat, now)?;
+    hear(rt, locator, book, seat, now, octets)?;
+    let goes = goes_then(locator, book, seat, now)?;
     Some([asks, goes])
 }
 
 /// The same of the request to port 5070 of a.example.
 fn example(rt: &impl Wait, alloc: Global) -> Option<[bool; 2]> {
-    asks_and_goes(rt, alloc, request(alloc)?, WORDS, REPLY)
+    let caps = Caps::new(&[Udp], Families::V4)?;
+    let locator = locator_of(alloc, request(alloc)?, caps, WORDS)?;
+    over_new_book(rt, alloc, locator, Moment::new(100)?, REPLY)
 }
 
 #[test]

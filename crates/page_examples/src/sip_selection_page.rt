@@ -1,6 +1,7 @@
 //! The example of the page of `sip_selection`.
 use crate::answers::{answer, request};
 use dns_answers::Answer;
+use dns_message::Question;
 use sip_selection::{Caps, Families, Next, Request, Selection};
 use sip_uri::Transport::Udp;
 use srv_choice::{WORD_COUNT, Words};
@@ -10,21 +11,37 @@ use std::sync::Arc;
 /// Random words, of which a request to a host with a port uses none.
 const WORDS: Words = Words([0; WORD_COUNT]);
 
-/// The choice of a request over UDP and IPv4 alone.
-fn selection_of(alloc: Global, request: Request, words: Words) -> Option<Selection> {
+/// A caller that sends over UDP and IPv4 alone.
+fn caller() -> Option<Caps> {
     let caps = Caps::new(&[Udp], Families::V4)?;
+    Some(caps)
+}
+
+/// The choice of a request.
+fn selection_of(alloc: Global, request: Request, caps: Caps, words: Words) -> Option<Selection> {
     let mut selection = Selection::new(alloc, request, caps, words).ok()?;
     Some(selection)
 }
 
-/// Gives an answer to the question that is next.
-fn answer_next(alloc: Global, mut selection: Selection, answer: Arc<Answer>) -> Option<Selection> {
+/// The question that is asked next.
+fn asked(selection: &Selection) -> Option<Question> {
     // it asks for A of a.example., and a name server answers 192.0.2.7
     if let Next::Ask(question) = selection.next() {
         let question = question.try_clone().ok()?;
-        selection.give(alloc, &question, answer).ok()?;
+        return Some(question);
     }
-    Some(selection)
+    None
+}
+
+/// Gives the answer to a question.
+fn give(
+    alloc: Global,
+    selection: &mut Selection,
+    question: &Question,
+    answer: Arc<Answer>,
+) -> Option<()> {
+    selection.give(alloc, question, answer).ok()?;
+    Some(())
 }
 
 /// The port of the one target.
@@ -37,8 +54,10 @@ fn port_of(selection: &Selection) -> Option<u16> {
 
 /// That of `sip:a.example:5070`.
 fn port(alloc: Global) -> Option<u16> {
-    let selection = selection_of(alloc, request(alloc)?, WORDS)?;
-    port_of(&answer_next(alloc, selection, answer(alloc, 60)?)?)
+    let mut selection = selection_of(alloc, request(alloc)?, caller()?, WORDS)?;
+    let question = asked(&selection)?;
+    give(alloc, &mut selection, &question, answer(alloc, 60)?)?;
+    port_of(&selection)
 }
 
 #[test]
