@@ -1,4 +1,4 @@
-//! Calls that are made twice, where memory is refused at most once.
+//! What books and locators are asked and given.
 ghost use Rattle.std.specs.Prelude.{◌≡◌, IfSome};
 ghost use Rattle.std.specs.Arc.{arc_value};
 ghost use Rattle.dns_answers.specs.Records.{kind_of};
@@ -12,19 +12,6 @@ use sip_uri::{Transport, read_uri};
 use srv_choice::{WORD_COUNT, Words};
 use std::alloc::Global;
 use std::sync::Arc;
-
-mod caches;
-pub(crate) mod locators;
-
-/// Whether two equal calls, one after the other, have the right answer, of which one at most has
-/// none for want of memory. What a call says is whether its answer is right, and `None` where it
-/// wants memory.
-fn are_right(first: Option<bool>, again: Option<bool>) -> bool {
-    matches!(
-        (first, again),
-        (Some(true), Some(true)) | (Some(true), None) | (None, Some(true))
-    )
-}
 
 /// The question for addresses of proxy-1.west.voice.example.com., a name that is too long to lie in
 /// the value itself.
@@ -48,7 +35,7 @@ pub(crate) fn answer(alloc: Global, life: u32) -> Option<Arc<Answer>>
 }
 
 /// The life of an answer that was found; 0 where none was.
-fn life_of(found: Option<Arc<Answer>>) -> u32 {
+pub(crate) fn life_of(found: Option<Arc<Answer>>) -> u32 {
     match found {
         None => 0,
         Some(answer) => answer.life(),
@@ -61,18 +48,18 @@ pub(crate) fn now() -> Moment {
 }
 
 /// A request to port 5070 of that host.
-fn request(alloc: Global) -> Option<Request> {
+pub(crate) fn request(alloc: Global) -> Option<Request> {
     let uri = "sip:proxy-1.west.voice.example.com:5070";
     Some(Request::Uri(read_uri(alloc, uri).ok()?))
 }
 
 /// A sender over UDP and IPv4.
-fn caps() -> Option<Caps> {
+pub(crate) fn caps() -> Option<Caps> {
     Caps::new(&[Transport::Udp], Families::V4)
 }
 
 /// Random words, of which the request uses none.
-const WORDS: Words = Words([0; WORD_COUNT]);
+pub(crate) const WORDS: Words = Words([0; WORD_COUNT]);
 
 /// The octets of a reply with the address and a TTL of 60, under the id 0 (RFC 1035 4.1).
 pub(crate) const REPLY: [u8; 64] = *b"\x00\x00\x81\x80\x00\x01\x00\x01\x00\x00\x00\x00\

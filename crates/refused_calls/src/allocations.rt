@@ -1,7 +1,15 @@
 //! Calls that are made twice, where memory is refused at most once.
+mod addresses;
+mod answers;
+pub(crate) mod asked;
+mod caches;
 mod choices;
+mod copies;
+pub(crate) mod locators;
 mod messages;
 mod names;
+mod orders;
+mod replies;
 mod uris;
 mod zones;
 

@@ -1,19 +1,19 @@
-//! The order of servers (RFC 2782), lists by deadline, and the choice of targets (RFC 3263 4).
+//! Lists by deadline, requests, and the choice of targets (RFC 3263 4).
 use super::are_right;
 use dns_answers::{Answer, Records};
-use dns_message::{Kind, Question, Section, SrvRecord};
+use dns_message::{Kind, Question, Section};
 use dns_name::Name;
 use pending_list::{InsertRefusal, PendingList};
 use sip_selection::{Caps, Families, GiveRefusal, Next, Request, Selection, Target};
 use sip_uri::{Address, Transport, read_uri};
-use srv_choice::{RECORD_LIMIT, SrvOutcome, WORD_COUNT, Words, order};
+use srv_choice::{WORD_COUNT, Words};
 use std::alloc::Global;
 use std::sync::Arc;
 
 /// The calls.
 #[derive(Clone, Copy, Debug)]
 enum Call {
-    Order,
+    RequestCopy,
     NewList,
     Insert,
     NewSelection,
@@ -21,7 +21,7 @@ enum Call {
 }
 
 const CALLS: [Call; 5] = [
-    Call::Order,
+    Call::RequestCopy,
     Call::NewList,
     Call::Insert,
     Call::NewSelection,
@@ -35,32 +35,6 @@ const HOST: &str = "proxy-1.west.voice.example.com";
 
 /// A URI with that host.
 const URI: &str = "sip:proxy-1.west.voice.example.com:5070";
-
-/// A server of this priority.
-fn server(alloc: Global, priority: u16) -> Option<SrvRecord> {
-    Some(SrvRecord {
-        priority,
-        weight: 0,
-        port: 5060,
-        target: Name::from_text(alloc, HOST).ok()?,
-    })
-}
-
-/// `order`
-fn servers_in_order(alloc: Global) -> Option<bool> {
-    let mut records = Vec::new(alloc);
-    records.push(server(alloc, 20)?).ok()?;
-    records.push(server(alloc, 10)?).ok()?;
-    if records.len() > RECORD_LIMIT {
-        return Some(false);
-    }
-    match order(alloc, &records, &WORDS, 0).ok()? {
-        SrvOutcome::Listed(places, next) => {
-            Some(places.as_slice() == [1, 0].as_slice() && next == 2)
-        }
-        _ => Some(false),
-    }
-}
 
 /// `PendingList::new`
 fn new_list(alloc: Global) -> Option<bool> {
@@ -90,6 +64,12 @@ fn three_inserts(alloc: Global) -> Option<bool> {
         && inserts(&mut list, 3, 'z');
     let popped = list.pop_due(4).map(|it| (it.1, it.2));
     Some(all && list.len() == 2 && popped == Some((3, 'z')))
+}
+
+/// `Request::try_clone`
+fn request_copy(alloc: Global) -> Option<bool> {
+    let request = Request::Uri(read_uri(alloc, URI).ok()?);
+    Some(request.try_clone().ok()? == request)
 }
 
 /// The choice of a request to that URI over UDP and IPv4.
@@ -159,7 +139,7 @@ fn give(alloc: Global) -> Option<bool> {
 /// What a call says.
 fn says(alloc: Global, call: Call) -> Option<bool> {
     match call {
-        Call::Order => servers_in_order(alloc),
+        Call::RequestCopy => request_copy(alloc),
         Call::NewList => new_list(alloc),
         Call::Insert => three_inserts(alloc),
         Call::NewSelection => new_selection(alloc),

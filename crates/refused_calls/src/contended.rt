@@ -2,8 +2,8 @@
 ghost use Rattle.std.specs.Prelude.{◌≡◌, IfSome};
 ghost use Rattle.answer_cache.specs.Shared.{Belongs, CacheView, cache_view};
 
+use crate::allocations::asked::{REPLY, answer, now, question};
 use crate::allocations::locators::{goes, locator};
-use crate::allocations::{REPLY, answer, now, question};
 use answer_cache::{AnswerBook, Rival, Seat, SharedCache, StoreRefusal};
 use dns_answers::{Answer, Moment};
 use dns_message::Question;

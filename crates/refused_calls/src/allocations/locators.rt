@@ -1,7 +1,8 @@
 //! Locators and the questions that are out.
 
+use super::are_right;
+use super::asked::{REPLY, WORDS, answer, caps, now, question, request};
 use super::caches::finds;
-use super::{REPLY, WORDS, answer, are_right, caps, now, question, request};
 use answer_cache::{AnswerBook, ListCache, StoreRefusal};
 use dns_asker::{AskRefusal, Asker, Ending, Incoming};
 use sip_locator::{Kept, Locator, LocatorRefusal};

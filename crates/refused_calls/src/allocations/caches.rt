@@ -5,7 +5,8 @@ ghost use Rattle.dns_answers.specs.Records.{kind_of};
 ghost use Rattle.dns_message.specs.declared.kind.Kind.TheVariants.{A};
 ghost use Rattle.answer_cache.specs.Shared.{Belongs};
 
-use super::{answer, are_right, life_of, now, question};
+use super::are_right;
+use super::asked::{answer, life_of, now, question};
 use answer_cache::{
     AnswerBook, CacheRefusal, Carried, ListCache, Rival, Seat, SharedCache, StoreRefusal,
 };

@@ -12,17 +12,21 @@ enum Call {
     TryClone,
     Parent,
     ReadName,
+    ReadWhole,
     WriteName,
+    WriteAlone,
 }
 
-const CALLS: [Call; 7] = [
+const CALLS: [Call; 9] = [
     Call::FromText,
     Call::Prefixed,
     Call::Text,
     Call::TryClone,
     Call::Parent,
     Call::ReadName,
+    Call::ReadWhole,
     Call::WriteName,
+    Call::WriteAlone,
 ];
 
 /// proxy-1.west.voice.example.com., which is too long to lie in the value itself.
@@ -58,25 +62,30 @@ fn parent(name: &Name) -> Option<bool> {
     Some(parent.is_some_and(|parent| parent.wire() == &WIRE[8..]))
 }
 
-/// `read_name`
-fn read(alloc: Global) -> Option<bool> {
-    match read_name(alloc, POINTED, 13) {
-        Ok((name, end)) => Some(name.wire() == WIRE && end == 34),
+/// `read_name` at an offset, behind which the name ends there.
+fn read(alloc: Global, message: &[u8], offset: usize, end: usize) -> Option<bool> {
+    match read_name(alloc, message, offset) {
+        Ok((name, behind)) => Some(name.wire() == WIRE && behind == end),
         Err(NameReadRefusal::Memory) => None,
         Err(_) => Some(false),
     }
 }
 
-/// `write_name` behind an octet, which is all that there is where memory is refused.
-fn write(alloc: Global, name: &Name) -> Option<bool> {
-    let mut out = Vec::from_slice(alloc, b"\x07").ok()?;
+/// Whether octets are these and the name behind them.
+fn are_written(out: &[u8], front: &[u8]) -> bool {
+    out.len() == front.len() + WIRE.len() && out.starts_with(front) && out.ends_with(WIRE)
+}
+
+/// `write_name` behind these octets, which are all that there is where memory is refused.
+fn write(alloc: Global, name: &Name, front: &[u8]) -> Option<bool> {
+    let mut out = Vec::from_slice(alloc, front).ok()?;
     if write_name(name, &mut out).is_err() {
-        if out.as_slice() != b"\x07".as_slice() {
+        if out.as_slice() != front {
             return Some(false);
         }
         write_name(name, &mut out).ok()?;
     }
-    Some(out.len() == 1 + WIRE.len() && out.ends_with(WIRE))
+    Some(are_written(&out, front))
 }
 
 /// What a call says.
@@ -88,8 +97,10 @@ fn says(alloc: Global, call: Call) -> Option<bool> {
         Call::Text => Some(name.text().ok()?.as_str() == "proxy-1.west.voice.example.com."),
         Call::TryClone => Some(name.try_clone().ok()? == name),
         Call::Parent => parent(&name),
-        Call::ReadName => read(alloc),
-        Call::WriteName => write(alloc, &name),
+        Call::ReadName => read(alloc, POINTED, 13, 34),
+        Call::ReadWhole => read(alloc, WIRE, 0, 32),
+        Call::WriteName => write(alloc, &name, b"\x07"),
+        Call::WriteAlone => write(alloc, &name, b""),
     }
 }
 
