@@ -8,10 +8,15 @@
 
 ghost use Rattle.std.specs.Prelude.{◌≤◌};
 
+mod addresses;
+mod answers;
 mod fault;
 mod fields;
+mod messages;
 mod names;
+mod orders;
 mod shown;
+mod uris;
 
 use fault::Fault;
 use std::alloc::Global;
@@ -29,6 +34,11 @@ const FAULT_STATUS: u8 = 5;
 fn told(alloc: Global, crate_name: &str, call: &str, input: &str) -> Result<String, Fault> {
     match crate_name {
         "dns_name" => names::told(alloc, call, input),
+        "dns_message" => messages::told(alloc, call, input),
+        "dns_answers" => answers::told(alloc, call, input),
+        "ip_text" => addresses::told(alloc, call, input),
+        "sip_uri" => uris::told(alloc, call, input),
+        "srv_choice" => orders::told(alloc, call, input),
         _ => Err(Fault::Call),
     }
 }

@@ -1,0 +1,24 @@
+//! Calls that are made twice, where memory is refused at most once.
+mod addresses;
+mod answers;
+pub(crate) mod asked;
+mod caches;
+mod choices;
+mod copies;
+pub(crate) mod locators;
+mod messages;
+mod names;
+mod orders;
+mod replies;
+mod uris;
+mod zones;
+
+/// Whether two equal calls, one after the other, have the right answer, of which one at most has
+/// none for want of memory. What a call says is whether its answer is right, and `None` where it
+/// wants memory.
+fn are_right(first: Option<bool>, again: Option<bool>) -> bool {
+    matches!(
+        (first, again),
+        (Some(true), Some(true)) | (Some(true), None) | (None, Some(true))
+    )
+}

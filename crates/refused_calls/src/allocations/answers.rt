@@ -1,0 +1,94 @@
+//! The answers of replies (RFC 1034 3.6.2).
+use super::are_right;
+use super::messages::message;
+use super::replies::REPLY;
+use dns_answers::{ReplyRefusal, answer_of};
+use dns_message::{Kind, Message, Question};
+use dns_name::Name;
+use std::alloc::Global;
+
+/// A reply with an alias of 60 seconds and a record of each kind, of which the second octet of the
+/// question's type lacks.
+const EACH: [u8; 206] =
+    *b"\x00\x07\x81\x80\x00\x01\x00\x05\x00\x00\x00\x00\x01w\x07example\x00\x00\x00\x00\x01\
+    \x01w\x07example\x00\x00\x05\x00\x01\x00\x00\x00<\x00\x0b\x01a\x07example\x00\
+    \x01a\x07example\x00\x00\x01\x00\x01\x00\x00\x01-\x00\x04\xc0\x00\x02\x07\
+    \x01a\x07example\x00\x00\x1c\x00\x01\x00\x00\x01.\x00\x10 \x01\x0d\xb8\x00\x00\x00\x00\x00\
+    \x00\x00\x00\x00\x00\x00\x08\
+    \x01a\x07example\x00\x00!\x00\x01\x00\x00\x01/\x00\x11\x00\x01\x00\x02\x13\xc4\x01s\x07exa\
+    mple\x00\
+    \x01a\x07example\x00\x00#\x00\x01\x00\x00\x010\x00\x1a\x00\x0a\x002\x01s\x07SIP+D2U\x00\
+    \x01n\x07example\x00";
+
+/// The index of that octet.
+const TYPE_OFFSET: usize = 24;
+
+/// The calls.
+#[derive(Clone, Copy, Debug)]
+enum Call {
+    /// Of an address, whose name is too long to lie in the value itself.
+    Address,
+    /// Of a record of this kind behind an alias.
+    Each(Kind),
+}
+
+const CALLS: [Call; 5] = [
+    Call::Address,
+    Call::Each(Kind::A),
+    Call::Each(Kind::Aaaa),
+    Call::Each(Kind::Srv),
+    Call::Each(Kind::Naptr),
+];
+
+/// A question.
+fn question(alloc: Global, name: &str, kind: Kind) -> Option<Question> {
+    Some(Question {
+        name: Name::from_text(alloc, name).ok()?,
+        kind,
+    })
+}
+
+/// `answer_of`, which gives one record for so many seconds.
+fn is_answered(alloc: Global, question: &Question, message: &Message, life: u32) -> Option<bool> {
+    match answer_of(alloc, question, message) {
+        Ok(answer) => Some(answer.records().len() == 1 && answer.life() == life),
+        Err(ReplyRefusal::Memory) => None,
+        Err(_) => Some(false),
+    }
+}
+
+/// The same of an address.
+fn address(alloc: Global) -> Option<bool> {
+    let question = question(alloc, "proxy-1.west.voice.example.com", Kind::A)?;
+    is_answered(alloc, &question, &message(alloc, REPLY)?, 300)
+}
+
+/// The octets of a reply to a question of a kind.
+fn each_of(kind: Kind) -> [u8; 206] {
+    let mut octets = EACH;
+    octets[TYPE_OFFSET] = kind.type_number() as u8;
+    octets
+}
+
+/// The same of a record of this kind.
+fn each(alloc: Global, kind: Kind) -> Option<bool> {
+    let question = question(alloc, "w.example", kind)?;
+    is_answered(alloc, &question, &message(alloc, &each_of(kind))?, 60)
+}
+
+/// What a call says.
+fn says(alloc: Global, call: Call) -> Option<bool> {
+    match call {
+        Call::Address => address(alloc),
+        Call::Each(kind) => each(alloc, kind),
+    }
+}
+
+#[test]
+fn answers(rt: HostRuntime) {
+    for call in CALLS {
+        let first = says(rt.alloc(), call);
+        let again = says(rt.alloc(), call);
+        assert!(rt; are_right(first, again), "{call:?} {first:?} {again:?}");
+    }
+}
