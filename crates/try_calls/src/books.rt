@@ -1,6 +1,7 @@
 //! What is stored in a book of either kind, and found there.
 ghost use Rattle.std.specs.Prelude.{◌≡◌, IfSome};
 ghost use Rattle.std.specs.Arc.{arc_value};
+ghost use Rattle.std.specs.List.{All};
 ghost use Rattle.dns_answers.specs.Records.{kind_of};
 ghost use Rattle.answer_cache.specs.Shared.{Belongs};
 
@@ -177,16 +178,33 @@ pub(crate) fn book_line<R: Wait, B: AnswerBook>(
     }
 }
 
+/// The last of the seats of a cache.
+pub(crate) fn last_of(cache: &SharedCache, seats: &mut Vec<Seat>) -> Option<Seat>
+    requires { All (Belongs cache.now) seats.old.items }
+    ensures left { All (Belongs cache.now) seats.new.items }
+    ensures last { IfSome result (Belongs cache.now) }
+{
+    seats.pop()
+}
+
+/// The one seat of a cache.
+fn only_seat(cache: SharedCache, mut seats: Vec<Seat>) -> Option<(SharedCache, Seat)>
+    requires { All (Belongs cache) seats.items }
+    ensures { IfSome result (λ made. Belongs made.0 made.1) }
+{
+    match last_of(&cache, &mut seats) {
+        Some(seat) => Some((cache, seat)),
+        None => None,
+    }
+}
+
 /// A cache with one seat.
 pub(crate) fn one_seat(alloc: Global) -> Option<(SharedCache, Seat)>
     ensures { IfSome result (λ made. Belongs made.0 made.1) }
 {
-    let Ok((cache, mut seats)) = SharedCache::new(alloc, 1) else {
-        return None;
-    };
-    match seats.pop() {
-        Some(seat) => Some((cache, seat)),
-        None => None,
+    match SharedCache::new(alloc, 1) {
+        Ok((cache, seats)) => only_seat(cache, seats),
+        Err(_) => None,
     }
 }
 

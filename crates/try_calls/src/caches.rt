@@ -3,7 +3,7 @@ ghost use Rattle.std.specs.Prelude.{◌≡◌, IfSome};
 ghost use Rattle.std.specs.List.{All};
 ghost use Rattle.answer_cache.specs.Shared.{Belongs};
 
-use crate::books::{book_line, both, one_seat};
+use crate::books::{book_line, both, last_of, one_seat};
 use crate::fault::Fault;
 use crate::fields::fields;
 use crate::replies::{moment, push_answer, push_question};
@@ -99,8 +99,10 @@ fn two_of(cache: SharedCache, mut seats: Vec<Seat>) -> Option<(SharedCache, Seat
     ensures first { IfSome result (λ made. Belongs made.0 made.1) }
     ensures second { IfSome result (λ made. Belongs made.0 made.2) }
 {
-    match (seats.pop(), seats.pop()) {
-        (Some(second), Some(first)) => Some((cache, first, second)),
+    let second = last_of(&cache, &mut seats);
+    let first = last_of(&cache, &mut seats);
+    match (first, second) {
+        (Some(first), Some(second)) => Some((cache, first, second)),
         _ => None,
     }
 }

@@ -4,7 +4,7 @@ ghost use Rattle.answer_cache.specs.Shared.{Belongs};
 use crate::books::{book_line, both, one_seat};
 use crate::fault::Fault;
 use crate::fields::octets;
-use crate::replies::{moment, read_reply};
+use crate::replies::{Reply, moment, read_reply};
 use crate::requests::{push_next, read_sending};
 use answer_cache::{AnswerBook, ListCache};
 use dns_answers::Moment;
@@ -89,8 +89,8 @@ fn give<B: AnswerBook>(
     locator: &mut Locator<B>,
     line: &str,
 ) -> Result<String, Fault> {
-    let reply = read_reply(alloc, line)?;
-    match locator.give(&reply.question, reply.answer) {
+    let Reply { question, answer } = read_reply(alloc, line)?;
+    match locator.give(&question, answer) {
         Ok(()) => Ok(String::from_str(alloc, "taken\n")?),
         Err(refusal) => Ok(format!(in alloc; "{refusal:?}\n")?),
     }

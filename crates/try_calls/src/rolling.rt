@@ -38,17 +38,40 @@ fn counts(alloc: Global, line: &str) -> Result<String, Fault> {
     }
 }
 
+/// The last of the seats of a new cache.
+fn last_of(seats: &mut Vec<RollingSeat>) -> Option<RollingSeat>
+    requires { All IsFirst seats.old.items }
+    ensures left { All IsFirst seats.new.items }
+    ensures last { IfSome result IsFirst }
+{
+    seats.pop()
+}
+
+/// The two seats of a new cache.
+fn two_of(
+    cache: RollingCache,
+    mut seats: Vec<RollingSeat>,
+) -> Option<(RollingCache, RollingSeat, RollingSeat)>
+    requires { All IsFirst seats.items }
+    ensures first { IfSome result (λ made. IsAt made.1) }
+    ensures second { IfSome result (λ made. IsAt made.2) }
+{
+    let second = last_of(&mut seats);
+    let first = last_of(&mut seats);
+    match (first, second) {
+        (Some(first), Some(second)) => Some((cache, first, second)),
+        _ => None,
+    }
+}
+
 /// A cache with two seats, made at a moment.
 fn two_seats(alloc: Global, now: Moment) -> Option<(RollingCache, RollingSeat, RollingSeat)>
     ensures first { IfSome result (λ made. IsAt made.1) }
     ensures second { IfSome result (λ made. IsAt made.2) }
 {
-    let Ok((cache, mut seats)) = RollingCache::new(alloc, 2, now) else {
-        return None;
-    };
-    match (seats.pop(), seats.pop()) {
-        (Some(second), Some(first)) => Some((cache, first, second)),
-        _ => None,
+    match RollingCache::new(alloc, 2, now) {
+        Ok((cache, seats)) => two_of(cache, seats),
+        Err(_) => None,
     }
 }
 

@@ -1,7 +1,7 @@
 //! Calls of `sip_selection`.
 use crate::fault::Fault;
 use crate::fields::fields;
-use crate::replies::{read_reply, short};
+use crate::replies::{Reply, read_reply, short};
 use crate::requests::{caps, push_next, push_target, read_sending, transport, transport_word};
 use ip_text::address_from_text;
 use sip_selection::{Caps, Event, Failover, Failure, Selection, Target};
@@ -31,8 +31,8 @@ fn give(
     selection: &mut Selection,
     line: &str,
 ) -> Result<(), Fault> {
-    let reply = read_reply(alloc, line)?;
-    if let Err(refusal) = selection.give(alloc, &reply.question, reply.answer) {
+    let Reply { question, answer } = read_reply(alloc, line)?;
+    if let Err(refusal) = selection.give(alloc, &question, answer) {
         text.push_str(&format!(in alloc; "{refusal:?}\n")?)?;
     }
     Ok(())
