@@ -5,12 +5,17 @@ pub(crate) mod asked;
 mod caches;
 mod choices;
 mod copies;
+mod generations;
 pub(crate) mod locators;
 mod messages;
 mod names;
 mod orders;
 mod replies;
+mod second_seats;
+mod selections;
+mod two_locators;
 mod uris;
+mod zone_types;
 mod zones;
 
 /// Whether two equal calls, one after the other, have the right answer, of which one at most has

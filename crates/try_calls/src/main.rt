@@ -10,18 +10,28 @@ ghost use Rattle.std.specs.Prelude.{◌≤◌};
 
 mod addresses;
 mod answers;
+mod books;
+mod caches;
 mod fault;
 mod fields;
+mod lists;
+mod locators;
 mod messages;
 mod names;
 mod orders;
+mod replies;
+mod requests;
+mod rolling;
+mod selections;
 mod shown;
 mod uris;
+mod zones;
 
 use fault::Fault;
 use std::alloc::Global;
 use std::process::ExitCode;
 use std::rt::Env;
+use std::sync::Wait;
 use std::{env, io};
 
 /// The status where the words name no call.
@@ -31,12 +41,24 @@ const USAGE_STATUS: u8 = 4;
 const FAULT_STATUS: u8 = 5;
 
 /// What a call of a crate gives for the lines of an input.
-fn told(alloc: Global, crate_name: &str, call: &str, input: &str) -> Result<String, Fault> {
+fn told<R: Wait>(
+    rt: &R,
+    alloc: Global,
+    crate_name: &str,
+    call: &str,
+    input: &str,
+) -> Result<String, Fault> {
     match crate_name {
+        "answer_cache" => caches::told(rt, alloc, call, input),
         "dns_name" => names::told(alloc, call, input),
-        "dns_message" => messages::told(alloc, call, input),
         "dns_answers" => answers::told(alloc, call, input),
+        "dns_message" => messages::told(alloc, call, input),
+        "dns_zone" => zones::told(alloc, call, input),
         "ip_text" => addresses::told(alloc, call, input),
+        "pending_list" => lists::told(alloc, call, input),
+        "rolling_cache" => rolling::told(rt, alloc, call, input),
+        "sip_locator" => locators::told(rt, alloc, call, input),
+        "sip_selection" => selections::told(alloc, call, input),
         "sip_uri" => uris::told(alloc, call, input),
         "srv_choice" => orders::told(alloc, call, input),
         _ => Err(Fault::Call),
@@ -44,13 +66,13 @@ fn told(alloc: Global, crate_name: &str, call: &str, input: &str) -> Result<Stri
 }
 
 /// What the words and the input of the program ask for.
-fn tried<R: Env + Input + AllocGlobal>(rt: &R) -> Result<String, Fault> {
+fn tried<R: Env + Input + Wait + AllocGlobal>(rt: &R) -> Result<String, Fault> {
     let alloc = rt.alloc();
     let words = env::args(rt)?.collect::<Vec<String>>(alloc)?;
     match words.as_slice() {
         [_, crate_name, call] => {
             let input = io::read_to_string(alloc, rt.reader())?;
-            told(alloc, crate_name, call, &input)
+            told(rt, alloc, crate_name, call, &input)
         }
         _ => Err(Fault::Call),
     }

@@ -1,0 +1,5 @@
+use Rattle.rolling_cache.specs.Rolling.{IsAt}
+use Rattle.try_calls.proofs.rolling.ask_all.Given as goal
+
+abbrev pub invariant-times : goal.invariant-times
+invariant-times g l = IsAt l.seat

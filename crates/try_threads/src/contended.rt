@@ -1,0 +1,243 @@
+//! A store against another seat, which stores in its tries.
+ghost use Rattle.std.specs.Prelude.{◌≡◌, IfSome};
+ghost use Rattle.std.specs.Arc.{arc_value};
+ghost use Rattle.std.specs.List.{All};
+ghost use Rattle.dns_answers.specs.Records.{kind_of};
+ghost use Rattle.answer_cache.specs.Shared.{Belongs, CacheView, cache_view};
+
+use crate::seats::{answer, last_of, learn, life, now, question, store};
+use answer_cache::{AnswerBook, Rival, Seat, SharedCache, StoreRefusal};
+use dns_answers::{Answer, Moment};
+use dns_message::{Kind, Question};
+use std::alloc::Global;
+use std::marker::{Brand, Model, PhantomData};
+use std::sync::{Arc, Wait};
+
+/// Which cache the seats of a test are of. Each call of a test picks it.
+trait Naming {
+    ghost cache: { CacheView };
+}
+
+impl Naming for Brand {
+    ghost cache = { cache_view (record { number = 0; log_name = 0; cells_name = 0 }) 0 };
+}
+
+/// Stores through another seat in the tries up to a last one, and counts the tries.
+#[derive(Drop)]
+struct Other<'a, R: Wait, J: Naming> {
+    rt: &'a R,
+    cache: &'a SharedCache,
+    seat: Seat,
+    question: Question,
+    answer: Arc<Answer>,
+    now: Moment,
+    last: u8,
+    tries: u8,
+    of: PhantomData<J>,
+}
+
+impl<'a, R: Wait, J: Naming> Model for Other<'a, R, J> {
+    ghost use Rattle.std.specs.Prelude.{◌≡◌};
+    ghost use Rattle.std.specs.Arc.{arc_value};
+    ghost use Rattle.dns_answers.specs.Records.{kind_of};
+    ghost use Rattle.answer_cache.specs.Shared.{Belongs};
+
+    ghost Value = { Unit {0} };
+
+    ghost view = { λ _. tt };
+
+    ghost invariant = { λ it. (it.cache.now ≡ J.cache) × Belongs J.cache it.seat
+        × (kind_of (arc_value it.answer).records ≡ it.question.kind) };
+}
+
+impl<'a, R: Wait, J: Naming> Rival for Other<'a, R, J> {
+    fn between(&mut self, try_number: u8) {
+        self.tries = try_number;
+        if try_number <= self.last {
+            let (question, answer) = (&self.question, &self.answer);
+            let _ = store(
+                self.rt,
+                self.cache,
+                &mut self.seat,
+                question,
+                answer,
+                self.now,
+            );
+        }
+    }
+}
+
+/// Stores so often.
+fn store_often<R: Wait>(
+    rt: &R,
+    cache: &SharedCache,
+    seat: &mut Seat,
+    question: &Question,
+    answer: &Arc<Answer>,
+    now: Moment,
+    count: u8,
+)
+    requires made_here { Belongs cache.now seat.old }
+    requires kind { kind_of (arc_value answer.now).records ≡ question.now.kind }
+    ensures { Belongs cache.now seat.new }
+{
+    'stores: for _store in 0..count {
+        let _ = store(rt, cache, seat, question, answer, now);
+    }
+}
+
+/// Stores against the other seat.
+fn store_against<R: Wait, J: Naming>(
+    rt: &R,
+    cache: &SharedCache,
+    seat: &mut Seat,
+    question: &Question,
+    answer: &Arc<Answer>,
+    now: Moment,
+    rival: &mut Other<'_, R, J>,
+) -> Result<(), StoreRefusal>
+    requires made_here { Belongs cache.now seat.old }
+    requires kind { kind_of (arc_value answer.now).records ≡ question.now.kind }
+    ensures { Belongs cache.now seat.new }
+{
+    cache.store_against(rt, seat, question, answer, now, rival)
+}
+
+/// What a seat then finds of both questions, once it has learned what the other one has seen.
+fn lives<R: Wait, J: Naming>(
+    cache: &SharedCache,
+    seat: &mut Seat,
+    rival: &Other<'_, R, J>,
+    question: &Question,
+    now: Moment,
+) -> (u32, u32)
+    requires cache { cache.now ≡ J.cache }
+    requires seat { Belongs cache.now seat.old }
+    ensures { Belongs cache.now seat.new }
+{
+    learn(cache, seat, &rival.seat);
+    let own = life(cache, seat, question, now);
+    (own, life(cache, seat, &rival.question, now))
+}
+
+/// What a store says, how many tries there were, and the lives that are found then of its question
+/// and of the other seat's. Before it the seat stores its question so often.
+fn said_against<R: Wait, J: Naming>(
+    rt: &R,
+    alloc: Global,
+    cache: &SharedCache,
+    seat: &mut Seat,
+    rival: &mut Other<'_, R, J>,
+    question: &Question,
+    answer: &Arc<Answer>,
+    before: u8,
+) -> Option<String>
+    requires cache { cache.now ≡ J.cache }
+    requires seat { Belongs cache.now seat.old }
+    requires kind { kind_of (arc_value answer.now).records ≡ question.now.kind }
+{
+    let now = rival.now;
+    store_often(rt, cache, seat, question, answer, now, before);
+    let said = store_against(rt, cache, seat, question, answer, now, rival);
+    let (own, other) = lives(cache, seat, rival, question, now);
+    format!(in alloc; "{said:?} in {}, {own} and {other}", rival.tries).ok()
+}
+
+/// A row: the kind of the question that the other seat stores, in the tries up to which one, and how
+/// many stores there are before.
+#[derive(Clone, Copy)]
+struct Row {
+    kind: Kind,
+    before: u8,
+    last: u8,
+}
+
+/// The same for two seats of this cache: the seat stores the question A, and an answer of life 20;
+/// the other one's answer has the life 10.
+fn said_by_two<R: Wait, J: Naming>(
+    rt: &R,
+    alloc: Global,
+    cache: &SharedCache,
+    seat: Seat,
+    other: Seat,
+    row: Row,
+) -> Option<String>
+    requires cache { cache.now ≡ J.cache }
+    requires seat { Belongs cache.now seat }
+    requires other { Belongs cache.now other }
+{
+    let own = question(alloc, Kind::A, "a.example")?;
+    let own_answer = answer(alloc, Kind::A, 20)?;
+    let mut seat = seat;
+    let mut rival: Other<'_, R, J> = Other {
+        rt,
+        cache,
+        seat: other,
+        question: question(alloc, row.kind, "a.example")?,
+        answer: answer(alloc, row.kind, 10)?,
+        now: now()?,
+        last: row.last,
+        tries: 0,
+        of: PhantomData,
+    };
+    said_against(
+        rt,
+        alloc,
+        cache,
+        &mut seat,
+        &mut rival,
+        &own,
+        &own_answer,
+        row.before,
+    )
+}
+
+/// The same for two of the seats of a cache.
+fn said_by_seats<R: Wait>(
+    rt: &R,
+    alloc: Global,
+    cache: &SharedCache,
+    seats: Vec<Seat>,
+    row: Row,
+) -> Option<String>
+    requires { All (Belongs cache.now) seats.items }
+{
+    let mut seats = seats;
+    let other = last_of(cache, &mut seats);
+    let seat = last_of(cache, &mut seats);
+    match (seat, other) {
+        (Some(seat), Some(other)) => { said_by_two::<R, Brand>(rt, alloc, cache, seat, other, row) }
+        _ => None,
+    }
+}
+
+/// The same for a new cache.
+fn said<R: Wait>(rt: &R, alloc: Global, row: Row) -> Option<String> {
+    match SharedCache::new(alloc, 2) {
+        Ok((cache, seats)) => said_by_seats(rt, alloc, &cache, seats, row),
+        Err(_) => None,
+    }
+}
+
+/// A kind, how many stores are before, the last try with a store of the other seat, and what comes
+/// of it.
+const ROWS: [(Kind, u8, u8, &str); 7] = [
+    (Kind::A, 0, 0, "Ok(()) in 1, 20 and 20"),
+    (Kind::A, 0, 15, "Ok(()) in 16, 20 and 20"),
+    (Kind::A, 0, 16, "Err(Contended) in 16, 10 and 10"),
+    // the history has stores already
+    (Kind::A, 3, 15, "Ok(()) in 16, 20 and 20"),
+    (Kind::A, 3, 16, "Err(Contended) in 16, 10 and 10"),
+    // the group is full after two tries
+    (Kind::A, 126, 16, "Err(GenerationFull) in 2, 10 and 10"),
+    // a question of another group
+    (Kind::Aaaa, 0, 16, "Ok(()) in 1, 20 and 10"),
+];
+
+#[test]
+fn stores_against_another_seat(rt: HostRuntime) {
+    for (kind, before, last, wanted) in ROWS {
+        let text = said(&rt, rt.alloc(), Row { kind, before, last });
+        assert_eq!(rt; text.as_deref(), Some(wanted));
+    }
+}

@@ -1,0 +1,104 @@
+//! Seats of a shared cache, and questions with answers.
+ghost use Rattle.std.specs.Prelude.{◌≡◌, IfSome};
+ghost use Rattle.std.specs.Arc.{arc_value};
+ghost use Rattle.std.specs.List.{All};
+ghost use Rattle.dns_answers.specs.Records.{kind_of};
+ghost use Rattle.answer_cache.specs.Shared.{Belongs};
+
+use answer_cache::{AnswerBook, Seat, SharedCache, StoreRefusal};
+use dns_answers::{Answer, Moment, Records, Section};
+use dns_message::{Kind, Question};
+use dns_name::Name;
+use std::alloc::Global;
+use std::sync::{Arc, Wait};
+
+/// The moment of all calls.
+pub(crate) fn now() -> Option<Moment> {
+    Moment::new(100)
+}
+
+/// The question of a kind for a name.
+pub(crate) fn question(alloc: Global, kind: Kind, name: &str) -> Option<Question>
+    ensures { IfSome result (λ made. made.kind ≡ kind) }
+{
+    match Name::from_text(alloc, name) {
+        Ok(name) => Some(Question { name, kind }),
+        Err(_) => None,
+    }
+}
+
+/// No records of a kind.
+fn none_of(alloc: Global, kind: Kind) -> Records
+    ensures { kind_of result ≡ kind }
+{
+    match kind {
+        Kind::A => Records::V4(Section::from_vec(Vec::new(alloc))),
+        Kind::Aaaa => Records::V6(Section::from_vec(Vec::new(alloc))),
+        Kind::Srv => Records::Srv(Section::from_vec(Vec::new(alloc))),
+        Kind::Naptr => Records::Naptr(Section::from_vec(Vec::new(alloc))),
+    }
+}
+
+/// The answer of a kind that there are no records, with this life.
+pub(crate) fn answer(alloc: Global, kind: Kind, life: u32) -> Option<Arc<Answer>>
+    ensures { IfSome result (λ made. kind_of (arc_value made).records ≡ kind) }
+{
+    match Answer::new(none_of(alloc, kind), life) {
+        Some(answer) => Arc::new(alloc, answer).ok(),
+        None => None,
+    }
+}
+
+/// Stores an answer.
+pub(crate) fn store<R: Wait>(
+    rt: &R,
+    cache: &SharedCache,
+    seat: &mut Seat,
+    question: &Question,
+    answer: &Arc<Answer>,
+    now: Moment,
+) -> Result<(), StoreRefusal>
+    requires made_here { Belongs cache.now seat.old }
+    requires kind { kind_of (arc_value answer.now).records ≡ question.now.kind }
+    ensures { Belongs cache.now seat.new }
+{
+    cache.store(rt, seat, question, answer, now)
+}
+
+/// The life of the answer that a look-up finds, or 0.
+pub(crate) fn life(cache: &SharedCache, seat: &mut Seat, question: &Question, now: Moment) -> u32
+    requires { Belongs cache.now seat.old }
+    ensures { Belongs cache.now seat.new }
+{
+    match cache.lookup(seat, question, now) {
+        Ok(Some(answer)) => answer.life(),
+        _ => 0,
+    }
+}
+
+/// Lets a seat learn what another one has seen.
+pub(crate) fn learn(cache: &SharedCache, seat: &mut Seat, other: &Seat)
+    requires seat { Belongs cache.now seat.old }
+    requires other { Belongs cache.now other.now }
+    ensures { Belongs cache.now seat.new }
+{
+    cache.learn(seat, &other.notice());
+}
+
+/// The last of the seats of a cache.
+pub(crate) fn last_of(cache: &SharedCache, seats: &mut Vec<Seat>) -> Option<Seat>
+    requires { All (Belongs cache.now) seats.old.items }
+    ensures left { All (Belongs cache.now) seats.new.items }
+    ensures last { IfSome result (Belongs cache.now) }
+{
+    seats.pop()
+}
+
+/// Adds a seat to the seats of a cache, where there is memory for that.
+pub(crate) fn keep(cache: &SharedCache, seats: &mut Vec<Seat>, seat: Seat)
+    requires seats { All (Belongs cache.now) seats.old.items }
+    requires seat { Belongs cache.now seat }
+    ensures { All (Belongs cache.now) seats.new.items }
+{
+    let _ = seats.push(seat);
+}
