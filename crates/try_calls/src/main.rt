@@ -8,15 +8,19 @@
 
 ghost use Rattle.std.specs.Prelude.{◌≤◌};
 
+mod askers;
 mod fault;
 mod fields;
+mod lookups;
 mod names;
+mod servers;
 mod shown;
 
 use fault::Fault;
 use std::alloc::Global;
 use std::process::ExitCode;
 use std::rt::Env;
+use std::sync::Wait;
 use std::{env, io};
 
 /// The status where the words name no call.
@@ -26,21 +30,28 @@ const USAGE_STATUS: u8 = 4;
 const FAULT_STATUS: u8 = 5;
 
 /// What a call of a crate gives for the lines of an input.
-fn told(alloc: Global, crate_name: &str, call: &str, input: &str) -> Result<String, Fault> {
+fn told<R: Wait>(
+    rt: &R,
+    alloc: Global,
+    crate_name: &str,
+    call: &str,
+    input: &str,
+) -> Result<String, Fault> {
     match crate_name {
+        "dns_asker" => askers::told(rt, alloc, call, input),
         "dns_name" => names::told(alloc, call, input),
         _ => Err(Fault::Call),
     }
 }
 
 /// What the words and the input of the program ask for.
-fn tried<R: Env + Input + AllocGlobal>(rt: &R) -> Result<String, Fault> {
+fn tried<R: Env + Input + Wait + AllocGlobal>(rt: &R) -> Result<String, Fault> {
     let alloc = rt.alloc();
     let words = env::args(rt)?.collect::<Vec<String>>(alloc)?;
     match words.as_slice() {
         [_, crate_name, call] => {
             let input = io::read_to_string(alloc, rt.reader())?;
-            told(alloc, crate_name, call, &input)
+            told(rt, alloc, crate_name, call, &input)
         }
         _ => Err(Fault::Call),
     }
