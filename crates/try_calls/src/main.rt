@@ -9,10 +9,14 @@
 ghost use Rattle.std.specs.Prelude.{◌≤◌};
 
 mod askers;
+mod clients;
 mod fault;
 mod fields;
 mod lookups;
 mod names;
+mod resolver_lines;
+mod resolver_steps;
+mod resolvers;
 mod servers;
 mod shown;
 
@@ -39,7 +43,9 @@ fn told<R: Wait>(
 ) -> Result<String, Fault> {
     match crate_name {
         "dns_asker" => askers::told(rt, alloc, call, input),
+        "dns_client" => clients::told(alloc, call, input),
         "dns_name" => names::told(alloc, call, input),
+        "sip_resolver" => resolvers::told(rt, alloc, call, input),
         _ => Err(Fault::Call),
     }
 }
