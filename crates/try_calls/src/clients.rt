@@ -3,6 +3,7 @@
 use crate::fault::Fault;
 use crate::fields::{fields, octets, text};
 use crate::lookups::{id_of, number, push_address};
+use crate::resolver_lines::transport_word;
 use crate::resolver_steps::key_of;
 use crate::shown::{octets_line, push_name};
 use dns_client::{QueryForm, ResolverFile, draw_words, random_ids, read_request};
@@ -71,6 +72,14 @@ fn push_host(alloc: Global, told: &mut String, host: &Host) -> Result<(), Fault>
     }
 }
 
+/// The word for the transport that a request names.
+fn spoken_word(spoken: Spoken) -> &'static str {
+    match spoken {
+        Spoken::Known(transport) => transport_word(transport),
+        Spoken::Other => "other",
+    }
+}
+
 /// Writes the port of a request, and its transport, where they are written.
 fn push_ends(
     alloc: Global,
@@ -82,7 +91,8 @@ fn push_ends(
         told.push_str(&format!(in alloc; " {port}")?)?;
     }
     if let Some(spoken) = spoken {
-        told.push_str(&format!(in alloc; " {spoken:?}")?)?;
+        told.push_str(" ")?;
+        told.push_str(spoken_word(spoken))?;
     }
     told.push_str("\n")?;
     Ok(())

@@ -103,7 +103,7 @@ pub(crate) fn exchange_of(
 }
 
 /// The word for a transport.
-fn transport_word(transport: Transport) -> &'static str {
+pub(crate) fn transport_word(transport: Transport) -> &'static str {
     match transport {
         Transport::Udp => "udp",
         Transport::Tcp => "tcp",
