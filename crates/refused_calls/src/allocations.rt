@@ -2,8 +2,10 @@
 mod addresses;
 mod answers;
 pub(crate) mod asked;
+mod askers;
 mod caches;
 mod choices;
+mod clients;
 mod copies;
 mod generations;
 pub(crate) mod locators;
@@ -15,6 +17,7 @@ mod second_seats;
 mod selections;
 mod two_locators;
 mod uris;
+mod workers;
 mod zone_types;
 mod zones;
 

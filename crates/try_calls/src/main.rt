@@ -10,19 +10,26 @@ ghost use Rattle.std.specs.Prelude.{◌≤◌};
 
 mod addresses;
 mod answers;
+mod askers;
 mod books;
 mod caches;
+mod clients;
 mod fault;
 mod fields;
 mod lists;
 mod locators;
+mod lookups;
 mod messages;
 mod names;
 mod orders;
 mod replies;
 mod requests;
+mod resolver_lines;
+mod resolver_steps;
+mod resolvers;
 mod rolling;
 mod selections;
+mod servers;
 mod shown;
 mod uris;
 mod zones;
@@ -50,14 +57,17 @@ fn told<R: Wait>(
 ) -> Result<String, Fault> {
     match crate_name {
         "answer_cache" => caches::told(rt, alloc, call, input),
-        "dns_name" => names::told(alloc, call, input),
         "dns_answers" => answers::told(alloc, call, input),
+        "dns_asker" => askers::told(rt, alloc, call, input),
+        "dns_client" => clients::told(alloc, call, input),
         "dns_message" => messages::told(alloc, call, input),
+        "dns_name" => names::told(alloc, call, input),
         "dns_zone" => zones::told(alloc, call, input),
         "ip_text" => addresses::told(alloc, call, input),
         "pending_list" => lists::told(alloc, call, input),
         "rolling_cache" => rolling::told(rt, alloc, call, input),
         "sip_locator" => locators::told(rt, alloc, call, input),
+        "sip_resolver" => resolvers::told(rt, alloc, call, input),
         "sip_selection" => selections::told(alloc, call, input),
         "sip_uri" => uris::told(alloc, call, input),
         "srv_choice" => orders::told(alloc, call, input),

@@ -1,0 +1,282 @@
+//! Workers: where memory is refused, each call says so, or has its answer all the same, and done
+//! again it has it.
+ghost use Rattle.std.specs.Prelude.{Decides, IfSome};
+ghost use Rattle.sip_workers.specs.Runs.{Rises};
+ghost use Rattle.answer_cache.specs.Shared.{Belongs};
+
+use answer_cache::{Notice, SharedCache};
+use dns_answers::Moment;
+use dns_asker::{Clock, Wire, Zone, ZoneWire};
+use sip_selection::{Caps, Families, Request, Target};
+use sip_uri::Transport::Udp;
+use sip_uri::{Address, read_uri};
+use sip_workers::{
+    GatherRefusal, Job, JobResult, OpenGate, Outcome, RunRefusal, Worker, gather, run_workers,
+};
+use srv_choice::{WORD_COUNT, Words};
+use std::alloc::Global;
+use std::sync::Wait;
+use std::sync::atomic::{AtomicU64, Ordering};
+use std::thread::Threads;
+
+/// A zone with one address.
+const ZONE: &str = "a.example. 300 A 192.0.2.7";
+
+/// A request to the name in it, and one to its address.
+const TO_NAME: &str = "sip:a.example:5070";
+
+const TO_ADDRESS: &str = "sip:192.0.2.7:5070";
+
+/// Where both go.
+const TARGET: Target = Target {
+    transport: Udp,
+    address: Address::V4([192, 0, 2, 7]),
+    port: 5070,
+};
+
+/// Random words, of which a request to a host with a port uses none.
+const WORDS: Words = Words([0; WORD_COUNT]);
+
+/// A job over UDP and IPv4 alone, where there is memory for it.
+fn job_of(alloc: Global, number: u64, text: &str) -> Option<Job> {
+    Some(Job {
+        number,
+        request: Request::Uri(read_uri(alloc, text).ok()?),
+        caps: Caps::new(&[Udp], Families::V4)?,
+        words: WORDS,
+    })
+}
+
+/// Two such jobs.
+fn two_jobs(alloc: Global, first: &str, second: &str) -> Option<Vec<Job>> {
+    let mut jobs = Vec::new(alloc);
+    jobs.push(job_of(alloc, 1, first)?).ok()?;
+    jobs.push(job_of(alloc, 2, second)?).ok()?;
+    Some(jobs)
+}
+
+/// Whether a request goes to the one target.
+fn goes_to_target(outcome: &Outcome) -> bool {
+    matches!(outcome, Outcome::Targets(list) if list.as_slice() == [TARGET].as_slice())
+}
+
+/// Whether the number of each job is below the number of the next.
+fn rises(jobs: &[Job]) -> bool
+    ensures { Decides result (Rises jobs.now) }
+{
+    jobs.is_sorted_by(|first, second| first.number < second.number)
+}
+
+/// A worker over this wire, with its cache.
+fn one_worker<W: Wire + Drop>(alloc: Global, wire: W) -> Option<(SharedCache, Worker<W>)>
+    ensures { IfSome result (λ made. Belongs made.0 made.1) }
+{
+    let Ok((cache, mut seats)) = SharedCache::new(alloc, 1) else {
+        return None;
+    };
+    let worker = Worker::new(alloc, seats.pop()?, wire).ok()?;
+    Some((cache, worker))
+}
+
+/// What a call says.
+#[derive(Clone, Copy, Debug, PartialEq, Eq)]
+enum Said {
+    /// What it says with memory.
+    Right,
+    /// That memory was refused.
+    Memory,
+    Wrong,
+}
+
+/// Whether two calls, one after the other, say what is right, of which memory was refused to one at
+/// most.
+fn are_right(first: Said, second: Said) -> bool {
+    match first {
+        Said::Right => second != Said::Wrong,
+        Said::Memory => second == Said::Right,
+        Said::Wrong => false,
+    }
+}
+
+/// What an outcome says.
+fn said_by(outcome: &Outcome) -> Said {
+    match outcome {
+        Outcome::Memory => Said::Memory,
+        _ if goes_to_target(outcome) => Said::Right,
+        _ => Said::Wrong,
+    }
+}
+
+/// What both of two say.
+fn said_by_both(first: &Outcome, second: &Outcome) -> Said {
+    match (said_by(first), said_by(second)) {
+        (Said::Right, Said::Right) => Said::Right,
+        (Said::Wrong, _) | (_, Said::Wrong) => Said::Wrong,
+        _ => Said::Memory,
+    }
+}
+
+/// A clock that moves on by a second with each 1,000 calls, so that a query is sent again whose
+/// reply is lost for want of memory.
+#[derive(Drop)]
+struct CallClock {
+    calls: AtomicU64,
+}
+
+impl Clock for CallClock {
+    ghost use Rattle.std.specs.Prelude.{⊤};
+
+    ghost shows = { λ _. ⊤ };
+
+    fn now(&self) -> Moment {
+        let calls = self.calls.fetch_add(1, Ordering::SeqCst);
+        match Moment::new(calls / 1_000) {
+            Some(moment) => moment,
+            None => Moment::new(0).unwrap(),
+        }
+    }
+}
+
+/// Such a clock, which begins now.
+fn call_clock() -> CallClock {
+    CallClock {
+        calls: AtomicU64::new(0),
+    }
+}
+
+/// The result of a job.
+type Made<'a, 'b> = JobResult<'a, ZoneWire<'b>, CallClock>;
+
+/// Whether the copy of a result says the same, where there is memory for it.
+fn copy_says_so(alloc: Global, it: &Made<'_, '_>) -> bool {
+    match it.try_clone(alloc) {
+        Ok(copy) => said_by(copy.outcome()) == said_by(it.outcome()),
+        Err(_) => true,
+    }
+}
+
+/// What the results of two jobs say, and their copies.
+fn said_by_results(alloc: Global, made: &[Made<'_, '_>]) -> Said {
+    match made {
+        [first, second] if copy_says_so(alloc, first) && copy_says_so(alloc, second) => {
+            said_by_both(first.outcome(), second.outcome())
+        }
+        _ => Said::Wrong,
+    }
+}
+
+/// What a batch of two jobs says.
+fn batch_says<R: Wait + AllocGlobal>(
+    rt: &R,
+    cache: &SharedCache,
+    worker: &mut Worker<ZoneWire<'_>>,
+    jobs: &[Job],
+) -> Said
+    requires { Belongs cache.now worker.old }
+    ensures { Belongs cache.now worker.new }
+{
+    match worker.batch(rt, cache, jobs, &call_clock(), &OpenGate) {
+        Ok(made) => said_by_results(rt.alloc(), made.as_slice()),
+        Err(_) => Said::Memory,
+    }
+}
+
+/// Whether two batches over this wire, one after the other, say what is right.
+fn two_batches<R: Wait + AllocGlobal>(rt: &R, wire: ZoneWire<'_>, jobs: &[Job]) -> Option<bool> {
+    let (cache, mut worker) = one_worker(rt.alloc(), wire)?;
+    let first = batch_says(rt, &cache, &mut worker, jobs);
+    let second = batch_says(rt, &cache, &mut worker, jobs);
+    Some(are_right(first, second))
+}
+
+/// The same over a wire to the zone, where there is memory for it.
+fn batches_are_right<R: Wait + AllocGlobal>(rt: &R) -> Option<bool> {
+    let alloc = rt.alloc();
+    let zone = Zone::read(alloc, ZONE).ok()?;
+    let sent = AtomicU64::new(0);
+    let wire = ZoneWire::new(alloc, &zone, &sent);
+    two_batches(rt, wire, &two_jobs(alloc, TO_NAME, TO_ADDRESS)?)
+}
+
+#[test]
+fn batch_refused(rt: HostRuntime) {
+    assert!(rt; batches_are_right(&rt) != Some(false));
+}
+
+/// What the parts of the results say that `gather` put in order.
+fn said_by_parts(made: &[(Outcome, Notice)]) -> Said {
+    match made {
+        [first, second] => said_by_both(&first.0, &second.0),
+        _ => Said::Wrong,
+    }
+}
+
+/// What `gather` makes of results.
+fn gather_says(alloc: Global, jobs: &[Job], made: Vec<Made<'_, '_>>) -> Said {
+    if !rises(jobs) {
+        return Said::Wrong;
+    }
+    match gather(alloc, jobs, made) {
+        Ok(made) => said_by_parts(made.as_slice()),
+        Err(GatherRefusal::Memory) => Said::Memory,
+        Err(_) => Said::Wrong,
+    }
+}
+
+/// What `gather` makes of the results of these jobs in one batch over this wire, where there is
+/// memory for them.
+fn gathered_from<R: Wait + AllocGlobal>(rt: &R, wire: ZoneWire<'_>, jobs: &[Job]) -> Option<Said> {
+    let (cache, mut worker) = one_worker(rt.alloc(), wire)?;
+    let clock = call_clock();
+    let made = worker.batch(rt, &cache, jobs, &clock, &OpenGate).ok()?;
+    Some(gather_says(rt.alloc(), jobs, made))
+}
+
+/// The same over a wire to the zone.
+fn gathered<R: Wait + AllocGlobal>(rt: &R) -> Option<Said> {
+    let alloc = rt.alloc();
+    let zone = Zone::read(alloc, ZONE).ok()?;
+    let sent = AtomicU64::new(0);
+    let wire = ZoneWire::new(alloc, &zone, &sent);
+    gathered_from(rt, wire, &two_jobs(alloc, TO_NAME, TO_ADDRESS)?)
+}
+
+#[test]
+fn gather_refused(rt: HostRuntime) {
+    assert!(rt; gathered(&rt) != Some(Said::Wrong));
+}
+
+/// What a run of two jobs by two workers says, where there is memory for its jobs and its cache.
+fn run_says<R: Threads + Wait + AllocGlobal + Sync>(
+    rt: &R,
+    wires: Vec<ZoneWire<'_>>,
+    jobs: Vec<Job>,
+) -> Option<Said> {
+    let alloc = rt.alloc();
+    let Ok((cache, seats)) = SharedCache::new(alloc, 2) else {
+        return None;
+    };
+    let clock = call_clock();
+    let made = run_workers(rt, alloc, &cache, seats, wires, jobs, 1, &clock, &OpenGate);
+    Some(match made {
+        Ok(made) => said_by_parts(made.as_slice()),
+        Err(RunRefusal::Memory | RunRefusal::NoThread) => Said::Memory,
+        Err(_) => Said::Wrong,
+    })
+}
+
+/// The same over wires to the zone.
+fn run_over_zone<R: Threads + Wait + AllocGlobal + Sync>(rt: &R) -> Option<Said> {
+    let alloc = rt.alloc();
+    let zone = Zone::read(alloc, ZONE).ok()?;
+    let sent = AtomicU64::new(0);
+    let wires = ZoneWire::several(alloc, &zone, &sent, 2).ok()?;
+    run_says(rt, wires, two_jobs(alloc, TO_NAME, TO_ADDRESS)?)
+}
+
+#[test]
+fn run_refused(rt: HostRuntime) {
+    let first = run_over_zone(&rt).unwrap_or(Said::Memory);
+    let second = run_over_zone(&rt).unwrap_or(Said::Memory);
+    assert!(rt; are_right(first, second), "{first:?} {second:?}");
+}

@@ -1,0 +1,103 @@
+//! Equal jobs of one batch, which share questions.
+ghost use Rattle.answer_cache.specs.Shared.{Belongs};
+
+use crate::workers::{WORDS, clock_at_100, one_worker};
+use answer_cache::SharedCache;
+use dns_asker::{Zone, ZoneWire};
+use sip_selection::{Caps, Families, Request, Target};
+use sip_uri::Address::{V4, V6};
+use sip_uri::Transport::{Tcp, Tls, Udp};
+use sip_uri::{Address, Transport, read_uri};
+use sip_workers::{Job, OpenGate, Outcome, Worker};
+use std::alloc::Global;
+use std::sync::Wait;
+use std::sync::atomic::{AtomicU64, Ordering};
+
+/// A domain with one question for NAPTR, three for SRV and six for addresses.
+const ZONE: &str = "\
+d.example. 300 NAPTR 10 10 s SIPS+D2T - _sips._tcp.d.example.
+d.example. 300 NAPTR 10 20 s SIP+D2T - _sip._tcp.d.example.
+d.example. 300 NAPTR 10 30 s SIP+D2U - _sip._udp.d.example.
+_sips._tcp.d.example. 300 SRV 10 0 5061 a.d.example.
+_sip._tcp.d.example. 300 SRV 10 0 5060 b.d.example.
+_sip._udp.d.example. 300 SRV 10 0 5060 c.d.example.
+a.d.example. 300 A 192.0.2.1
+a.d.example. 300 AAAA 2001:db8::1
+b.d.example. 300 A 192.0.2.2
+b.d.example. 300 AAAA 2001:db8::2
+c.d.example. 300 A 192.0.2.3
+c.d.example. 300 AAAA 2001:db8::3
+";
+
+/// 2001:db8::1 to 2001:db8::3.
+const fn ipv6(last: u8) -> Address {
+    V6([0x20, 1, 0x0d, 0xb8, 0, 0, 0, 0, 0, 0, 0, 0, 0, 0, 0, last])
+}
+
+/// A target.
+const fn target(transport: Transport, address: Address, port: u16) -> Target {
+    Target {
+        transport,
+        address,
+        port,
+    }
+}
+
+/// Whether a request goes to the domain's six targets, in order.
+fn goes_to_six(outcome: &Outcome) -> bool {
+    let six = [
+        target(Tls, V4([192, 0, 2, 1]), 5061),
+        target(Tls, ipv6(1), 5061),
+        target(Tcp, V4([192, 0, 2, 2]), 5060),
+        target(Tcp, ipv6(2), 5060),
+        target(Udp, V4([192, 0, 2, 3]), 5060),
+        target(Udp, ipv6(3), 5060),
+    ];
+    matches!(outcome, Outcome::Targets(list) if list.as_slice() == six.as_slice())
+}
+
+/// So many jobs to the domain.
+fn jobs_to_domain(alloc: Global, count: u64) -> Option<Vec<Job>> {
+    let mut jobs = Vec::new(alloc);
+    for number in 0..count {
+        let job = Job {
+            number,
+            request: Request::Uri(read_uri(alloc, "sip:d.example").ok()?),
+            caps: Caps::new(&[Udp, Tcp, Tls], Families::V4ThenV6)?,
+            words: WORDS,
+        };
+        jobs.push(job).ok()?;
+    }
+    Some(jobs)
+}
+
+/// How many of these jobs go to the six targets, in one batch.
+fn count_right<R: Wait + AllocGlobal>(
+    rt: &R,
+    cache: &SharedCache,
+    worker: &mut Worker<ZoneWire<'_>>,
+    jobs: &[Job],
+) -> Option<usize>
+    requires { Belongs cache.now worker.old }
+{
+    let clock = clock_at_100();
+    let made = worker.batch(rt, cache, jobs, &clock, &OpenGate).ok()?;
+    Some(made.iter().filter(|it| goes_to_six(it.outcome())).count())
+}
+
+/// Of a batch of so many equal jobs: how many go to the six targets, and how many queries are sent.
+fn equal_jobs<R: Wait + AllocGlobal>(rt: &R, count: u64) -> Option<(usize, u64)> {
+    let alloc = rt.alloc();
+    let zone = Zone::read(alloc, ZONE).ok()?;
+    let sent = AtomicU64::new(0);
+    let jobs = jobs_to_domain(alloc, count)?;
+    let (cache, mut worker) = one_worker(alloc, ZoneWire::new(alloc, &zone, &sent))?;
+    let right = count_right(rt, &cache, &mut worker, jobs.as_slice())?;
+    Some((right, sent.load(Ordering::SeqCst)))
+}
+
+#[test]
+fn equal_jobs_ask_once(rt: HostRuntime) {
+    assert_eq!(rt; equal_jobs(&rt, 8), Some((8, 10)));
+    assert_eq!(rt; equal_jobs(&rt, 1_200), Some((1_200, 10)));
+}

@@ -1,0 +1,153 @@
+//! A question over UDP, to a server on another thread.
+use dns_answers::{Records, answer_of};
+use dns_asker::{DATAGRAM_LIMIT, PeerWire, Wire, Zone, serve};
+use dns_client::{UdpServerWire, UdpWire};
+use dns_message::{Kind, Question, read_message};
+use dns_name::Name;
+use std::alloc::Global;
+use std::net::{Ipv4Addr, Ipv6Addr, Net, SocketAddr};
+use std::sync::Arc;
+use std::sync::atomic::{AtomicBool, Ordering};
+use std::test::Fail;
+use std::{io, thread};
+
+/// The query for the addresses of a.example.
+const QUERY: &[u8; 27] =
+    b"\x12\x34\x01\x00\x00\x01\x00\x00\x00\x00\x00\x00\x01a\x07example\x00\x00\x01\x00\x01";
+
+/// The reply of a zone where that address lives for 300 seconds (RFC 1035 4.1): its owner is
+/// written out.
+const REPLY: &[u8; 52] = b"\x12\x34\x85\x00\x00\x01\x00\x01\x00\x00\x00\x00\
+    \x01a\x07example\x00\x00\x01\x00\x01\
+    \x01a\x07example\x00\x00\x01\x00\x01\x00\x00\x01\x2c\x00\x04\xc0\x00\x02\x07";
+
+/// How often it is sent, at most, until a reply comes.
+const TRIES: u64 = 50;
+
+/// Whether octets are an authoritative reply to the query with the address 192.0.2.7, which lives
+/// for 300 seconds; if there is memory.
+fn is_right(alloc: Global, octets: &[u8]) -> Option<bool> {
+    let name = Name::from_text(alloc, "a.example").ok()?;
+    let question = Question {
+        name,
+        kind: Kind::A,
+    };
+    let message = read_message(alloc, octets).ok()?;
+    let answer = answer_of(alloc, &question, &message).ok()?;
+    let addresses = match answer.records() {
+        Records::V4(addresses) => addresses.as_slice(),
+        _ => return None,
+    };
+    Some(
+        message.header.id == 0x1234
+            && message.header.authoritative
+            && addresses == [[192, 0, 2, 7]].as_slice()
+            && answer.life() == 300,
+    )
+}
+
+/// Asks a server until a reply comes, and gives that; of no reply no octets.
+fn reply_of<R: Net + AllocGlobal>(rt: &R, server: SocketAddr) -> io::Result<Vec<u8>> {
+    let mut wire = UdpWire::connect(rt, server)?;
+    let mut buffer = [0; DATAGRAM_LIMIT];
+    for _ in 0..TRIES {
+        if wire.failures() > TRIES {
+            break;
+        }
+        let _ = wire.send(QUERY);
+        if let Ok(Some(count)) = wire.receive(&mut buffer) {
+            return Ok(Vec::from_slice(rt.alloc(), &buffer[..count])?);
+        }
+    }
+    Ok(Vec::new(rt.alloc()))
+}
+
+#[test]
+fn answer_over_udp(rt: HostRuntime) -> Result<(), Fail> {
+    // A host without IPv6 has no such address.
+    let sixth = UdpServerWire::bind(&rt, SocketAddr::from((Ipv6Addr::LOCALHOST, 0)));
+    let fourth = UdpServerWire::bind(&rt, SocketAddr::from((Ipv4Addr::LOCALHOST, 0)));
+    for wire in [fourth, sixth] {
+        let Ok(mut wire) = wire else {
+            continue;
+        };
+        let Ok(zone) = Zone::read(rt.alloc(), "a.example. 300 A 192.0.2.7") else {
+            return Err(Fail::new(format_args!("the zone was not read")));
+        };
+        let own = wire.address()?;
+        let stop = Arc::new(rt.alloc(), AtomicBool::new(false))?;
+        let seen = Arc::try_clone(&stop)?;
+        let server = thread::spawn(&rt, move || serve(&rt, rt.alloc(), &mut wire, &zone, &seen))?;
+        let reply = reply_of(&rt, own);
+        stop.store(true, Ordering::SeqCst);
+        assert!(rt; server.join(&rt) >= 1);
+        let reply = reply?;
+        assert_eq!(rt; reply.as_slice(), REPLY.as_slice(), "{own}");
+        assert_eq!(rt; is_right(rt.alloc(), &reply), Some(true));
+    }
+    Ok(())
+}
+
+/// What a wire gives of datagrams that a sender repeats until something is given.
+fn first_given(
+    wire: &mut UdpWire,
+    sender: &mut UdpServerWire,
+    octets: &[u8],
+    client: SocketAddr,
+) -> Option<usize> {
+    let mut buffer = [0; DATAGRAM_LIMIT];
+    for _ in 0..3 {
+        if wire.failures() > TRIES || sender.failures() > TRIES {
+            break;
+        }
+        let _ = sender.send(octets, client);
+        if let Ok(Some(count)) = wire.receive(&mut buffer) {
+            return Some(count);
+        }
+    }
+    None
+}
+
+/// The address of a wire, from which its server receives what it sends until something comes.
+fn address_of(wire: &mut UdpWire, server: &mut UdpServerWire) -> Option<SocketAddr> {
+    let mut buffer = [0; DATAGRAM_LIMIT];
+    for _ in 0..TRIES {
+        if wire.failures() > TRIES || server.failures() > TRIES {
+            break;
+        }
+        let _ = wire.send(QUERY);
+        if let Ok(Some((_, client))) = server.receive(&mut buffer) {
+            return Some(client);
+        }
+    }
+    None
+}
+
+#[test]
+fn datagrams_of_the_server_alone(rt: HostRuntime) -> Result<(), Fail> {
+    let local = SocketAddr::from((Ipv4Addr::LOCALHOST, 0));
+    let mut server = UdpServerWire::bind(&rt, local)?;
+    let mut other = UdpServerWire::bind(&rt, local)?;
+    let mut wire = UdpWire::connect(&rt, server.address()?)?;
+    let Some(client) = address_of(&mut wire, &mut server) else {
+        return Err(Fail::new(format_args!("nothing came from the wire")));
+    };
+    let given = first_given(&mut wire, &mut other, b"other", client);
+    assert_eq!(rt; given, None);
+    let long = [7; 5000];
+    for (octets, count) in [(b"".as_slice(), 0), (b"server", 6), (&long, DATAGRAM_LIMIT)] {
+        let given = first_given(&mut wire, &mut server, octets, client);
+        assert_eq!(rt; given, Some(count));
+    }
+    Ok(())
+}
+
+/// Two servers of this host can run at once.
+#[test]
+fn ports_of_two_servers(rt: HostRuntime) -> Result<(), Fail> {
+    let local = SocketAddr::from((Ipv4Addr::LOCALHOST, 0));
+    let one = UdpServerWire::bind(&rt, local)?;
+    let other = UdpServerWire::bind(&rt, local)?;
+    assert!(rt; one.address()? != other.address()?);
+    Ok(())
+}

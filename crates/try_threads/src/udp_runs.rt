@@ -1,0 +1,154 @@
+//! Runs over UDP to the server that the environment names, and to one to which the first query is
+//! lost.
+use crate::worker_jobs::{ZONE, goes_to, jobs_to};
+use answer_cache::{Notice, SharedCache};
+use dns_asker::{DATAGRAM_LIMIT, PeerWire, Zone, serve};
+use dns_client::{SystemClock, UdpServerWire, UdpWire};
+use sip_selection::Reason;
+use sip_workers::{OpenGate, Outcome, run_workers};
+use std::alloc::Global;
+use std::env::{self, VarError};
+use std::net::{Ipv4Addr, Ipv6Addr, Net, SocketAddr};
+use std::rt::Env;
+use std::sync::atomic::{AtomicBool, Ordering};
+use std::sync::{Arc, Wait};
+use std::test::Fail;
+use std::thread::{self, Threads};
+use std::time::Clock;
+
+/// Requests to the name in the zone, to an address, and to another name.
+const REQUESTS: [&str; 3] = [
+    "sip:a.example:5070",
+    "sip:192.0.2.7",
+    "sip:nowhere.example:5060",
+];
+
+/// Whether they end as they should.
+fn are_right(made: &[(Outcome, Notice)]) -> bool {
+    match made {
+        [name, address, nowhere] => {
+            goes_to(&name.0, 5070)
+                && goes_to(&address.0, 5060)
+                && matches!(nowhere.0, Outcome::Refused(Reason::NoAddress))
+        }
+        _ => false,
+    }
+}
+
+/// So many wires to a server.
+fn wires_to<R: Net + AllocGlobal>(
+    rt: &R,
+    server: SocketAddr,
+    count: usize,
+) -> Option<Vec<UdpWire>> {
+    let mut wires = Vec::new(rt.alloc());
+    for _ in 0..count {
+        wires.push(UdpWire::connect(rt, server).ok()?).ok()?;
+    }
+    Some(wires)
+}
+
+/// Whether the requests end as they should, by so many workers that ask a server.
+fn run_is_right<R: Net + Threads + Wait + Clock + AllocGlobal + Sync>(
+    rt: &R,
+    server: SocketAddr,
+    workers: usize,
+) -> Option<bool> {
+    let alloc = rt.alloc();
+    let wires = wires_to(rt, server, workers)?;
+    let jobs = jobs_to(alloc, &REQUESTS)?;
+    let Ok((cache, seats)) = SharedCache::new(alloc, workers) else {
+        return None;
+    };
+    let clock = SystemClock::new(rt);
+    let made = run_workers(rt, alloc, &cache, seats, wires, jobs, 8, &clock, &OpenGate).ok()?;
+    Some(are_right(made.as_slice()))
+}
+
+/// Names a DNS server that answers from the same zone, by its address and port.
+const SERVER: &str = "TRY_THREADS_SERVER";
+
+/// The server that the environment names, if it does.
+fn named_server<R: Env + AllocGlobal>(rt: &R) -> Result<Option<SocketAddr>, Fail> {
+    match env::var(rt, SERVER) {
+        Ok(text) => match text.as_str().parse::<SocketAddr>() {
+            Ok(server) => Ok(Some(server)),
+            Err(_) => Err(Fail::new(format_args!("{text} is no address and port"))),
+        },
+        Err(VarError::NotPresent) => Ok(None),
+        Err(_) => Err(Fail::new(format_args!("{SERVER} could not be read"))),
+    }
+}
+
+#[test]
+fn requests_to_a_named_server(rt: HostRuntime) -> Result<(), Fail> {
+    if let Some(server) = named_server(&rt)? {
+        let right = run_is_right(&rt, server, 2) == Some(true);
+        assert!(rt; right, "{server}");
+    }
+    Ok(())
+}
+
+/// How often a server waits for the datagram that it loses, at most.
+const WAITS: u64 = 100;
+
+/// Receives one datagram and loses it; whether one came.
+fn loses_one(wire: &mut UdpServerWire) -> bool {
+    let mut buffer = [0; DATAGRAM_LIMIT];
+    for _ in 0..WAITS {
+        if wire.failures() > WAITS {
+            break;
+        }
+        if let Ok(Some(_)) = wire.receive(&mut buffer) {
+            return true;
+        }
+    }
+    false
+}
+
+/// Loses the first datagram, and answers the others from a zone; how many it answered, if one was
+/// lost.
+fn serve_from_the_second<R: Wait>(
+    rt: &R,
+    alloc: Global,
+    wire: &mut UdpServerWire,
+    zone: &Zone,
+    stop: &AtomicBool,
+) -> Option<u64> {
+    if loses_one(wire) {
+        Some(serve(rt, alloc, wire, zone, stop))
+    } else {
+        None
+    }
+}
+
+/// What is lost is sent again, and answered then, by a server over each family of addresses.
+#[test]
+fn first_query_lost(rt: HostRuntime) -> Result<(), Fail> {
+    // A host without IPv6 has no such address.
+    let sixth = UdpServerWire::bind(&rt, SocketAddr::from((Ipv6Addr::LOCALHOST, 0)));
+    let fourth = UdpServerWire::bind(&rt, SocketAddr::from((Ipv4Addr::LOCALHOST, 0)))?;
+    for wire in [Ok(fourth), sixth] {
+        let Ok(mut wire) = wire else {
+            continue;
+        };
+        let Ok(zone) = Zone::read(rt.alloc(), ZONE) else {
+            return Err(Fail::new(format_args!("the zone was not read")));
+        };
+        let address = wire.address()?;
+        let stop = Arc::new(rt.alloc(), AtomicBool::new(false))?;
+        let seen = Arc::try_clone(&stop)?;
+        let server = thread::spawn(&rt, move || {
+            serve_from_the_second(&rt, rt.alloc(), &mut wire, &zone, &seen)
+        })?;
+        let right = run_is_right(&rt, address, 1);
+        stop.store(true, Ordering::SeqCst);
+        // two names are asked for, of which one was asked for twice
+        assert!(rt;
+            server.join(&rt).is_some_and(|count| count >= 2),
+            "{address}"
+        );
+        assert_eq!(rt; right, Some(true), "{address}");
+    }
+    Ok(())
+}

@@ -1,0 +1,61 @@
+//! Jobs of workers, and where they go.
+use dns_answers::Moment;
+use dns_asker::StandingClock;
+use sip_selection::{Caps, Families, Request, Target};
+use sip_uri::Transport::Udp;
+use sip_uri::{Address, read_uri};
+use sip_workers::{Job, Outcome};
+use srv_choice::{WORD_COUNT, Words};
+use std::alloc::Global;
+
+/// A zone with one address.
+pub(crate) const ZONE: &str = "a.example. 300 A 192.0.2.7";
+
+/// A request to the name in it, and one to its address.
+pub(crate) const TO_NAME: &str = "sip:a.example:5070";
+
+pub(crate) const TO_ADDRESS: &str = "sip:192.0.2.7:5070";
+
+/// Random words, of which a request to a host with a port uses none.
+const WORDS: Words = Words([0; WORD_COUNT]);
+
+/// Where these go, at this port.
+fn target_at(port: u16) -> Target {
+    Target {
+        transport: Udp,
+        address: Address::V4([192, 0, 2, 7]),
+        port,
+    }
+}
+
+/// Whether a request goes to the one target, at this port.
+pub(crate) fn goes_to(outcome: &Outcome, port: u16) -> bool {
+    matches!(outcome, Outcome::Targets(list) if list.as_slice() == [target_at(port)].as_slice())
+}
+
+/// A job over UDP and IPv4 alone, where there is memory for it.
+pub(crate) fn job_of(alloc: Global, number: u64, text: &str) -> Option<Job> {
+    Some(Job {
+        number,
+        request: Request::Uri(read_uri(alloc, text).ok()?),
+        caps: Caps::new(&[Udp], Families::V4)?,
+        words: WORDS,
+    })
+}
+
+/// Such a job for each of these texts, numbered from 0.
+pub(crate) fn jobs_to(alloc: Global, texts: &[&str]) -> Option<Vec<Job>> {
+    let mut jobs = Vec::new(alloc);
+    for text in texts {
+        let number = jobs.len() as u64;
+        jobs.push(job_of(alloc, number, text)?).ok()?;
+    }
+    Some(jobs)
+}
+
+/// A clock that stands at the moment 100.
+pub(crate) fn clock_at_100() -> StandingClock {
+    StandingClock {
+        moment: Moment::new(100).unwrap(),
+    }
+}

@@ -1,0 +1,128 @@
+//! Many jobs in batches of one, by one worker and by more.
+use crate::worker_jobs::{ZONE, clock_at_100, goes_to, job_of};
+use answer_cache::{Notice, SharedCache};
+use dns_asker::{Wire, Zone, ZoneWire};
+use sip_workers::{Gate, Job, OpenGate, Outcome, RunRefusal, run_workers};
+use std::alloc::Global;
+use std::sync::Wait;
+use std::sync::atomic::{AtomicU64, Ordering};
+use std::thread::Threads;
+
+/// A gate that counts the calls for the numbers 0 to 7, in four bits for each number.
+#[derive(Drop)]
+struct Counts {
+    begun: AtomicU64,
+    answered: AtomicU64,
+    /// How many were answered before they had begun.
+    early: AtomicU64,
+}
+
+/// A gate that has counted nothing.
+fn counting_gate() -> Counts {
+    Counts {
+        begun: AtomicU64::new(0),
+        answered: AtomicU64::new(0),
+        early: AtomicU64::new(0),
+    }
+}
+
+/// One, in the four bits of a number.
+fn unit(number: u64) -> u64 {
+    1u64.wrapping_shl(4 * (number % 8) as u32)
+}
+
+impl Gate for Counts {
+    fn begun(&self, number: u64) {
+        self.begun.fetch_add(unit(number), Ordering::SeqCst);
+    }
+
+    fn answered(&self, number: u64) {
+        if self.begun.load(Ordering::SeqCst) & unit(number) == 0 {
+            self.early.fetch_add(1, Ordering::SeqCst);
+        }
+        self.answered.fetch_add(unit(number), Ordering::SeqCst);
+    }
+}
+
+/// The port of the request at this place.
+fn port_at(place: usize) -> u16 {
+    5060 + (place % 100) as u16
+}
+
+/// So many requests to the name in the zone, each to a port of its own.
+fn jobs_to_ports(alloc: Global, count: usize) -> Option<Vec<Job>> {
+    let mut jobs = Vec::new(alloc);
+    for place in 0..count {
+        let port = port_at(place);
+        let text = format!(in alloc; "sip:a.example:{port}").ok()?;
+        jobs.push(job_of(alloc, place as u64, text.as_str())?).ok()?;
+    }
+    Some(jobs)
+}
+
+/// Whether these are so many, and each goes to its own port.
+fn each_goes(made: &[(Outcome, Notice)], count: usize) -> bool {
+    made.len() == count
+        && made
+            .iter()
+            .enumerate()
+            .all(|(place, it)| goes_to(&it.0, port_at(place)))
+}
+
+/// What a run of so many requests, in batches of this size, gives by a worker for each wire; none
+/// without memory for it.
+fn run_over<R: Threads + Wait + AllocGlobal + Sync, W: Wire + Drop + Send, G: Gate + Sync>(
+    rt: &R,
+    wires: Vec<W>,
+    count: usize,
+    batch: usize,
+    gate: &G,
+) -> Option<Result<Vec<(Outcome, Notice)>, RunRefusal>> {
+    let alloc = rt.alloc();
+    let Ok((cache, seats)) = SharedCache::new(alloc, wires.len()) else {
+        return None;
+    };
+    let jobs = jobs_to_ports(alloc, count)?;
+    let clock = clock_at_100();
+    Some(run_workers(rt, alloc, &cache, seats, wires, jobs, batch, &clock, gate))
+}
+
+/// Whether so many requests each go to their own ports in such a run.
+pub(crate) fn all_go_over<
+    R: Threads + Wait + AllocGlobal + Sync,
+    W: Wire + Drop + Send,
+    G: Gate + Sync,
+>(rt: &R, wires: Vec<W>, count: usize, batch: usize, gate: &G) -> Option<bool> {
+    let made = run_over(rt, wires, count, batch, gate)?.ok()?;
+    Some(each_goes(made.as_slice(), count))
+}
+
+/// Whether so many requests each go to their own ports, in batches of one, by so many workers.
+fn all_go_by<R: Threads + Wait + AllocGlobal + Sync, G: Gate + Sync>(
+    rt: &R,
+    workers: usize,
+    count: usize,
+    gate: &G,
+) -> Option<bool> {
+    let alloc = rt.alloc();
+    let zone = Zone::read(alloc, ZONE).ok()?;
+    let sent = AtomicU64::new(0);
+    let wires = ZoneWire::several(alloc, &zone, &sent, workers).ok()?;
+    all_go_over(rt, wires, count, 1, gate)
+}
+
+#[test]
+fn forty_jobs_by_any_workers(rt: HostRuntime) {
+    assert_eq!(rt; all_go_by(&rt, 1, 40, &OpenGate), Some(true));
+    assert_eq!(rt; all_go_by(&rt, 2, 40, &OpenGate), Some(true));
+    assert_eq!(rt; all_go_by(&rt, 4, 40, &OpenGate), Some(true));
+}
+
+#[test]
+fn each_begins_and_is_answered_once(rt: HostRuntime) {
+    let gate = counting_gate();
+    assert_eq!(rt; all_go_by(&rt, 2, 8, &gate), Some(true));
+    assert_eq!(rt; gate.begun.load(Ordering::SeqCst), 0x1111_1111);
+    assert_eq!(rt; gate.answered.load(Ordering::SeqCst), 0x1111_1111);
+    assert_eq!(rt; gate.early.load(Ordering::SeqCst), 0);
+}

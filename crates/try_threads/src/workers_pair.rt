@@ -1,0 +1,86 @@
+//! Two jobs by one worker, and by two at once, over wires in memory to one zone.
+use crate::worker_jobs::{TO_ADDRESS, TO_NAME, ZONE, clock_at_100, goes_to, jobs_to};
+use answer_cache::SharedCache;
+use dns_asker::{Zone, ZoneWire};
+use sip_workers::{Gate, Job, run_workers};
+use std::sync::Wait;
+use std::sync::atomic::{AtomicU64, Ordering};
+use std::thread::Threads;
+
+/// How many turns a request waits for another one.
+const TURNS: u32 = 100_000_000;
+
+/// A gate that holds each request until so many have begun, and counts those that saw it.
+#[derive(Drop)]
+struct Meeting {
+    wanted: u64,
+    begun: AtomicU64,
+    met: AtomicU64,
+}
+
+impl Gate for Meeting {
+    fn begun(&self, _number: u64) {
+        self.begun.fetch_add(1, Ordering::SeqCst);
+        for _ in 0..TURNS {
+            if self.begun.load(Ordering::SeqCst) >= self.wanted {
+                self.met.fetch_add(1, Ordering::SeqCst);
+                return;
+            }
+        }
+    }
+
+    fn answered(&self, _number: u64) {}
+}
+
+/// A gate that holds each request until so many have begun.
+fn gate_for(wanted: u64) -> Meeting {
+    Meeting {
+        wanted,
+        begun: AtomicU64::new(0),
+        met: AtomicU64::new(0),
+    }
+}
+
+/// Whether these jobs, in batches of one, all go to the target.
+fn all_go<R: Threads + Wait + AllocGlobal + Sync>(
+    rt: &R,
+    wires: Vec<ZoneWire<'_>>,
+    jobs: Vec<Job>,
+    gate: &Meeting,
+) -> Option<bool> {
+    let alloc = rt.alloc();
+    let Ok((cache, seats)) = SharedCache::new(alloc, wires.len()) else {
+        return None;
+    };
+    let clock = clock_at_100();
+    let made = run_workers(rt, alloc, &cache, seats, wires, jobs, 1, &clock, gate).ok()?;
+    Some(made.iter().all(|it| goes_to(&it.0, 5070)))
+}
+
+/// Whether two jobs, in batches of one, go to the target, and how many datagrams were sent.
+fn run_two<R: Threads + Wait + AllocGlobal + Sync>(
+    rt: &R,
+    workers: usize,
+    second: &str,
+    gate: &Meeting,
+) -> Option<(bool, u64)> {
+    let alloc = rt.alloc();
+    let zone = Zone::read(alloc, ZONE).ok()?;
+    let sent = AtomicU64::new(0);
+    let wires = ZoneWire::several(alloc, &zone, &sent, workers).ok()?;
+    let jobs = jobs_to(alloc, &[TO_NAME, second])?;
+    let all = all_go(rt, wires, jobs, gate)?;
+    Some((all, sent.load(Ordering::SeqCst)))
+}
+
+#[test]
+fn what_one_job_learns_serves_the_next(rt: HostRuntime) {
+    assert_eq!(rt; run_two(&rt, 1, TO_NAME, &gate_for(1)), Some((true, 1)));
+}
+
+#[test]
+fn workers_run_at_once(rt: HostRuntime) {
+    let gate = gate_for(2);
+    assert_eq!(rt; run_two(&rt, 2, TO_ADDRESS, &gate), Some((true, 1)));
+    assert_eq!(rt; gate.met.load(Ordering::SeqCst), 2);
+}
