@@ -7,21 +7,17 @@ use dns_message::{Kind, Message, Question};
 use dns_name::Name;
 use std::alloc::Global;
 
-/// A reply with an alias of 60 seconds and a record of each kind, of which the second octet of the
-/// question's type lacks.
-const EACH: [u8; 206] =
-    *b"\x00\x07\x81\x80\x00\x01\x00\x05\x00\x00\x00\x00\x01w\x07example\x00\x00\x00\x00\x01\
-    \x01w\x07example\x00\x00\x05\x00\x01\x00\x00\x00<\x00\x0b\x01a\x07example\x00\
-    \x01a\x07example\x00\x00\x01\x00\x01\x00\x00\x01-\x00\x04\xc0\x00\x02\x07\
-    \x01a\x07example\x00\x00\x1c\x00\x01\x00\x00\x01.\x00\x10 \x01\x0d\xb8\x00\x00\x00\x00\x00\
-    \x00\x00\x00\x00\x00\x00\x08\
-    \x01a\x07example\x00\x00!\x00\x01\x00\x00\x01/\x00\x11\x00\x01\x00\x02\x13\xc4\x01s\x07exa\
-    mple\x00\
-    \x01a\x07example\x00\x00#\x00\x01\x00\x00\x010\x00\x1a\x00\x0a\x002\x01s\x07SIP+D2U\x00\
-    \x01n\x07example\x00";
+/// A reply with an alias of 60 seconds and a record of each kind, up to the question's type.
+const FRONT: &[u8] = b"\x00\x07\x81\x80\x00\x01\x00\x05\x00\x00\x00\x00\x01w\x07example\x00";
 
-/// The index of that octet.
-const TYPE_OFFSET: usize = 24;
+/// What stands behind that type.
+const BEHIND: &[u8] =
+    b"\x00\x01\x01w\x07example\x00\x00\x05\x00\x01\x00\x00\x00<\x00\x0b\x01a\x07example\x00\x01a\
+    \x07example\x00\x00\x01\x00\x01\x00\x00\x01-\x00\x04\xc0\x00\x02\x07\x01a\x07example\x00\
+    \x00\x1c\x00\x01\x00\x00\x01.\x00\x10 \x01\x0d\xb8\x00\x00\x00\x00\x00\x00\x00\x00\x00\x00\
+    \x00\x08\x01a\x07example\x00\x00!\x00\x01\x00\x00\x01/\x00\x11\x00\x01\x00\x02\x13\xc4\x01\
+    s\x07example\x00\x01a\x07example\x00\x00#\x00\x01\x00\x00\x010\x00\x1a\x00\x0a\x002\x01s\
+    \x07SIP+D2U\x00\x01n\x07example\x00";
 
 /// The calls.
 #[derive(Clone, Copy, Debug)]
@@ -64,16 +60,24 @@ fn address(alloc: Global) -> Option<bool> {
 }
 
 /// The octets of a reply to a question of a kind.
-fn each_of(kind: Kind) -> [u8; 206] {
-    let mut octets = EACH;
-    octets[TYPE_OFFSET] = kind.type_number() as u8;
+fn each_of(alloc: Global, kind: Kind) -> Option<Vec<u8>> {
+    let mut octets = Vec::from_slice(alloc, FRONT).ok()?;
     octets
+        .extend_from_slice(&kind.type_number().to_be_bytes())
+        .ok()?;
+    octets.extend_from_slice(BEHIND).ok()?;
+    Some(octets)
 }
 
 /// The same of a record of this kind.
 fn each(alloc: Global, kind: Kind) -> Option<bool> {
     let question = question(alloc, "w.example", kind)?;
-    is_answered(alloc, &question, &message(alloc, &each_of(kind))?, 60)
+    is_answered(
+        alloc,
+        &question,
+        &message(alloc, &each_of(alloc, kind)?)?,
+        60,
+    )
 }
 
 /// What a call says.
