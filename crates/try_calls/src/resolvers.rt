@@ -1,5 +1,5 @@
 //! Calls of `sip_resolver`: what happens to a resolver, and what it gives.
-ghost use Rattle.std.specs.Prelude.{◌≤◌, ℕ, List};
+ghost use Rattle.std.specs.Prelude.{◌≤◌, ℕ, IfSome, IsTrue, List};
 ghost use Rattle.answer_cache.specs.Seats.{SeatView};
 ghost use Rattle.sip_resolver.specs.Requests.{Stand};
 
@@ -55,11 +55,31 @@ fn script<R: Wait>(rt: &R, alloc: Global, input: &str) -> Result<String, Fault> 
 }
 
 /// Whether a resolver can have these limits.
-fn are_limits(limits: Limits) -> bool {
+fn are_limits(limits: Limits) -> bool
+    ensures requests { IsTrue result → (1 ≤ limits.requests) × (limits.requests ≤ 1024) }
+    ensures questions { IsTrue result → (1 ≤ limits.questions) × (limits.questions ≤ 256) }
+{
     limits.requests >= 1
         && limits.requests <= 1024
         && limits.questions >= 1
         && limits.questions <= 256
+}
+
+/// A resolver in which no request is, where there is memory for it.
+fn empty<B: AnswerBook, F: Origin>(
+    alloc: Global,
+    limits: Limits,
+    ids: LineIds,
+) -> Option<Resolver<B, F, LineIds>>
+    requires requests { (1 ≤ limits.requests) × (limits.requests ≤ 1024) }
+    requires questions { (1 ≤ limits.questions) × (limits.questions ≤ 256) }
+    ensures { (seat : SeatView) → IfSome result
+        (λ made. Stand F.gives F.shows seat made.requests) }
+{
+    let Ok(resolver) = Resolver::new(alloc, limits, ids) else {
+        return None;
+    };
+    Some(resolver)
 }
 
 /// Plays steps to a new resolver.
@@ -69,28 +89,26 @@ fn play_new<R: Wait>(
     setting: Setting,
     zone: &Zone,
     steps: Vec<Step>,
-) -> Result<String, Fault> {
+) -> Result<String, Fault>
+    requires requests { (1 ≤ setting.limits.requests) × (setting.limits.requests ≤ 1024) }
+    requires questions { (1 ≤ setting.limits.questions) × (setting.limits.questions ≤ 256) }
+{
     let Setting { limits, ids } = setting;
-    if !are_limits(limits) {
-        return Err(Fault::Form);
-    }
     let mut told = Ok(String::new(alloc));
-    match Resolver::<ListCache, Anything, LineIds>::new(alloc, limits, ids) {
-        Ok(mut resolver) => {
-            let (book, mut seat) = ListCache::new(alloc);
-            play(
-                rt,
-                alloc,
-                &mut resolver,
-                &book,
-                &mut seat,
-                zone,
-                steps,
-                &mut told,
-            );
-        }
-        Err(_) => told = Err(Fault::Memory),
-    }
+    let Some(mut resolver) = empty::<ListCache, Anything>(alloc, limits, ids) else {
+        return Err(Fault::Memory);
+    };
+    let (book, mut seat) = ListCache::new(alloc);
+    play(
+        rt,
+        alloc,
+        &mut resolver,
+        &book,
+        &mut seat,
+        zone,
+        steps,
+        &mut told,
+    );
     told
 }
 

@@ -1,0 +1,7 @@
+use Rattle.try_calls.proofs.resolvers.does.Goals as goal
+
+pub returns-in-Submit-clause-stand : goal.returns-in-Submit-clause-stand
+returns-in-Submit-clause-stand g c = c.submit.ensures (g.B.AnswerBook.shown c.args.seat.now) c.requires.stand
+
+pub returns-in-PollOutcome-clause-stand : goal.returns-in-PollOutcome-clause-stand
+returns-in-PollOutcome-clause-stand g c = c.outcome.ensures (g.B.AnswerBook.shown c.args.seat.now) c.requires.stand
