@@ -119,21 +119,47 @@ fn answer(alloc: Global) -> Option<Arc<Answer>> {
     Arc::new(alloc, answer).ok()
 }
 
-/// `give`, after which the question is open where memory is refused, and given again it has the
-/// target.
-fn give(alloc: Global) -> Option<bool> {
-    let mut selection = selection(alloc)?;
-    let question = question(alloc)?;
-    let (answer, again) = (answer(alloc)?, answer(alloc)?);
-    match selection.give(alloc, &question, answer) {
-        Ok(()) => Some(goes(&selection)),
-        Err(GiveRefusal::Memory) => Some(
-            asks(&selection, &question)
-                && selection.give(alloc, &question, again).is_ok()
-                && goes(&selection),
-        ),
-        Err(_) => Some(false),
+/// `give`
+fn given(
+    alloc: Global,
+    selection: &mut Selection,
+    question: &Question,
+    answer: Arc<Answer>,
+) -> Result<(), GiveRefusal> {
+    selection.give(alloc, question, answer)
+}
+
+/// Whether one of two equal answers is taken, after which the target is next: if memory is refused
+/// at first, then the second one, until which the question is open.
+fn takes(
+    alloc: Global,
+    selection: &mut Selection,
+    question: &Question,
+    answers: (Arc<Answer>, Arc<Answer>),
+) -> bool {
+    let (first, again) = answers;
+    match given(alloc, selection, question, first) {
+        Ok(()) => goes(selection),
+        Err(GiveRefusal::Memory) => {
+            asks(selection, question)
+                && given(alloc, selection, question, again).is_ok()
+                && goes(selection)
+        }
+        Err(_) => false,
     }
+}
+
+/// Two equal answers.
+fn two_answers(alloc: Global) -> Option<(Arc<Answer>, Arc<Answer>)> {
+    Some((answer(alloc)?, answer(alloc)?))
+}
+
+/// The same of the answer to the question of a selection.
+fn give(alloc: Global) -> Option<bool> {
+    let question = question(alloc)?;
+    let answers = two_answers(alloc)?;
+    let mut selection = selection(alloc)?;
+    Some(takes(alloc, &mut selection, &question, answers))
 }
 
 /// What a call says.

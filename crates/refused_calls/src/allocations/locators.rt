@@ -1,14 +1,19 @@
 //! Locators and the questions that are out.
+ghost use Rattle.std.specs.Prelude.{◌≡◌};
+ghost use Rattle.std.specs.Arc.{arc_value};
+ghost use Rattle.dns_answers.specs.Records.{kind_of};
 
 use super::are_right;
 use super::asked::{REPLY, WORDS, answer, caps, now, question, request};
 use super::caches::finds;
 use answer_cache::{AnswerBook, ListCache, StoreRefusal};
+use dns_answers::Answer;
 use dns_asker::{AskRefusal, Asker, Ending, Incoming};
+use dns_message::Question;
 use sip_locator::{Kept, Locator, LocatorRefusal};
 use sip_selection::{GiveRefusal, Next};
 use std::alloc::Global;
-use std::sync::Wait;
+use std::sync::{Arc, Wait};
 
 /// The calls.
 #[derive(Clone, Copy, Debug)]
@@ -51,13 +56,31 @@ fn steps<B: AnswerBook>(locator: &mut Locator<B>, book: &B, seat: &mut B::Seat) 
     first || locator.step(book, seat, now()).is_ok_and(goes)
 }
 
+/// The same where the answer is stored before; `None` where memory is refused for that.
+fn stores_and_steps<B: AnswerBook, R: Wait>(
+    rt: &R,
+    locator: &mut Locator<B>,
+    book: &B,
+    seat: &mut B::Seat,
+    question: &Question,
+    answer: &Arc<Answer>,
+) -> Option<bool>
+    requires made_here { B.belongs book.now seat.old }
+    requires kind { kind_of (arc_value answer.now).records ≡ question.now.kind }
+{
+    match book.store(rt, seat, question, answer, now()) {
+        Ok(()) => Some(steps(locator, book, seat)),
+        Err(_) => None,
+    }
+}
+
 /// `step`, over a book that has the answer.
 fn step<R: Wait>(rt: &R, alloc: Global) -> Option<bool> {
+    let question = question(alloc)?;
+    let answer = answer(alloc, 60)?;
     let mut locator = locator(alloc)?;
     let (book, mut seat) = ListCache::new(alloc);
-    let (question, answer) = (question(alloc)?, answer(alloc, 60)?);
-    book.store(rt, &mut seat, &question, &answer, now()).ok()?;
-    Some(steps(&mut locator, &book, &mut seat))
+    stores_and_steps(rt, &mut locator, &book, &mut seat, &question, &answer)
 }
 
 /// What becomes of a reply, if memory is refused at first, then the second time.
@@ -88,32 +111,69 @@ fn life_kept(kept: Option<Kept>) -> Option<u32> {
     }
 }
 
-/// `reply`, after which there is the target, whether its answer was stored or memory was refused
+/// Whether after a reply there is the target, whether its answer was stored or memory was refused
 /// for that.
-fn reply<R: Wait>(rt: &R, alloc: Global) -> Option<bool> {
-    let mut locator = locator(alloc)?;
-    let (book, mut seat) = ListCache::new(alloc);
-    let question = question(alloc)?;
-    let kept = replies(rt, &mut locator, &book, &mut seat);
-    let Some(life) = life_kept(kept) else {
-        return Some(false);
-    };
-    Some(goes(locator.next()) && finds(&book, &mut seat, &question, life))
+fn goes_by_reply<B: AnswerBook, R: Wait>(
+    rt: &R,
+    locator: &mut Locator<B>,
+    book: &B,
+    seat: &mut B::Seat,
+    question: &Question,
+) -> bool
+    requires { B.belongs book.now seat.old }
+{
+    let kept = replies(rt, locator, book, seat);
+    match life_kept(kept) {
+        Some(life) => goes(locator.next()) && finds(book, seat, question, life),
+        None => false,
+    }
 }
 
-/// `Locator::give`, after which the question is open where memory is refused, and given again it
-/// has the target.
-fn give(alloc: Global) -> Option<bool> {
-    let mut locator = locator::<ListCache>(alloc)?;
+/// `reply`
+fn reply<R: Wait>(rt: &R, alloc: Global) -> Option<bool> {
     let question = question(alloc)?;
-    let (answer, again) = (answer(alloc, 60)?, answer(alloc, 60)?);
-    match locator.give(&question, answer) {
-        Ok(()) => Some(goes(locator.next())),
-        Err(GiveRefusal::Memory) => Some(
-            asks(locator.next()) && locator.give(&question, again).is_ok() && goes(locator.next()),
-        ),
-        Err(_) => Some(false),
+    let mut locator = locator(alloc)?;
+    let (book, mut seat) = ListCache::new(alloc);
+    Some(goes_by_reply(rt, &mut locator, &book, &mut seat, &question))
+}
+
+/// `give`
+fn given<B: AnswerBook>(
+    locator: &mut Locator<B>,
+    question: &Question,
+    answer: Arc<Answer>,
+) -> Result<(), GiveRefusal> {
+    locator.give(question, answer)
+}
+
+/// Whether one of two equal answers is taken, after which there is the target: if memory is refused
+/// at first, then the second one, until which the question is open.
+fn takes<B: AnswerBook>(
+    locator: &mut Locator<B>,
+    question: &Question,
+    answers: (Arc<Answer>, Arc<Answer>),
+) -> bool {
+    let (first, again) = answers;
+    match given(locator, question, first) {
+        Ok(()) => goes(locator.next()),
+        Err(GiveRefusal::Memory) => {
+            asks(locator.next()) && given(locator, question, again).is_ok() && goes(locator.next())
+        }
+        Err(_) => false,
     }
+}
+
+/// Two equal answers.
+fn two_answers(alloc: Global) -> Option<(Arc<Answer>, Arc<Answer>)> {
+    Some((answer(alloc, 60)?, answer(alloc, 60)?))
+}
+
+/// The same of the answer to the question of a locator.
+fn give(alloc: Global) -> Option<bool> {
+    let question = question(alloc)?;
+    let answers = two_answers(alloc)?;
+    let mut locator = locator::<ListCache>(alloc)?;
+    Some(takes(&mut locator, &question, answers))
 }
 
 /// Whether the question is out under the id 0, if not at once, then the second time.
