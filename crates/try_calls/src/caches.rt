@@ -71,8 +71,9 @@ fn count_line(
 
 /// What a new cache hands on in which nothing is stored.
 fn nothing_carried(alloc: Global) -> Result<Carried, Fault> {
+    let now = moment("0")?;
     match one_seat(alloc) {
-        Some((cache, mut seat)) => Ok(cache.carry(alloc, &mut seat, moment("0")?)?),
+        Some((cache, mut seat)) => carry(alloc, &cache, &mut seat, now),
         None => Err(Fault::Memory),
     }
 }
@@ -193,9 +194,9 @@ fn seat_line<R: Wait>(
         ["number"] => Ok(format!(in alloc; "{}\n", seat.number())?),
         ["carry", now] => {
             let found = carry(alloc, cache, seat, moment(now)?)?;
-            let line = size_line(alloc, &found)?;
+            let line = size_line(alloc, &found);
             *carried = Some(found);
-            Ok(line)
+            line
         }
         ["carried", place] => match carried {
             Some(carried) => carried_line(alloc, carried, place),

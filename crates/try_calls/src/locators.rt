@@ -1,11 +1,9 @@
 //! Calls of `sip_locator`.
-ghost use Rattle.answer_cache.specs.Shared.{Belongs};
-
 use crate::books::{book_line, both, one_seat};
 use crate::fault::Fault;
 use crate::fields::octets;
 use crate::replies::{Reply, moment, read_reply};
-use crate::requests::{push_next, read_sending};
+use crate::requests::{Sending, push_next, read_sending};
 use answer_cache::{AnswerBook, ListCache};
 use dns_answers::Moment;
 use sip_locator::{Kept, Locator, LocatorRefusal};
@@ -25,10 +23,25 @@ pub(crate) fn told<R: Wait>(
     }
 }
 
+/// A locator of a request.
+fn locator_of<B: AnswerBook>(alloc: Global, sending: Sending) -> Result<Locator<B>, Fault> {
+    let Sending {
+        request,
+        caps,
+        words,
+    } = sending;
+    match Locator::new(alloc, request, caps, words) {
+        Ok(locator) => Ok(locator),
+        Err(_) => Err(Fault::Memory),
+    }
+}
+
 /// A locator of the request of a line.
 fn locator<B: AnswerBook>(alloc: Global, line: &str) -> Result<Locator<B>, Fault> {
-    let sending = read_sending(alloc, line)?;
-    Ok(Locator::new(alloc, sending.request, sending.caps, sending.words)?)
+    match read_sending(alloc, line) {
+        Ok(sending) => locator_of(alloc, sending),
+        Err(fault) => Err(fault),
+    }
 }
 
 /// What is next for a locator, as lines: nothing is looked up.
@@ -135,16 +148,29 @@ fn locator_line<R: Wait, B: AnswerBook>(
     }
 }
 
-/// Adds the locator of a request, and gives what is next for it.
+/// Adds a locator, and gives what is next for it.
+fn add<B: AnswerBook>(
+    alloc: Global,
+    locators: &mut Vec<Locator<B>>,
+    locator: Locator<B>,
+) -> Result<String, Fault> {
+    let text = next_lines(alloc, &locator);
+    match locators.push(locator) {
+        Ok(()) => text,
+        Err(_) => Err(Fault::Memory),
+    }
+}
+
+/// Adds the locator of the request of a line, and gives what is next for it.
 fn locate<B: AnswerBook>(
     alloc: Global,
     locators: &mut Vec<Locator<B>>,
     line: &str,
 ) -> Result<String, Fault> {
-    let locator = locator(alloc, line)?;
-    let text = next_lines(alloc, &locator)?;
-    locators.push(locator).map_err(|_| Fault::Memory)?;
-    Ok(text)
+    match locator(alloc, line) {
+        Ok(locator) => add(alloc, locators, locator),
+        Err(fault) => Err(fault),
+    }
 }
 
 /// What the locator of a number gives for a line.

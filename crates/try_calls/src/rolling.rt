@@ -122,7 +122,17 @@ fn apart(
     requires { IsAt seat }
 {
     let (generation, mut seat) = seat.into_parts();
-    answer_line(alloc, found(generation.cache(), &mut seat, question, now)?)
+    match found(generation.cache(), &mut seat, question, now) {
+        Ok(answer) => answer_line(alloc, answer),
+        Err(_) => Err(Fault::Memory),
+    }
+}
+
+/// Two lines, where both are there.
+fn joined(first: Result<String, Fault>, second: Result<String, Fault>) -> Result<String, Fault> {
+    let mut text = first?;
+    text.push_str(&second?)?;
+    Ok(text)
 }
 
 /// The number of the generation after that of a seat, and what a seat there finds, as lines, or
@@ -136,9 +146,8 @@ fn after(
 ) -> Result<String, Fault> {
     match cache.seat_after(seat.generation()) {
         Some(seat) => {
-            let mut text = generation_line(alloc, &seat)?;
-            text.push_str(&apart(alloc, seat, question, now)?)?;
-            Ok(text)
+            let generation = generation_line(alloc, &seat);
+            joined(generation, apart(alloc, seat, question, now))
         }
         None => Ok(String::from_str(alloc, "none\n")?),
     }
@@ -313,13 +322,13 @@ fn ask_all<R: Wait>(
 
 /// How often an answer is found and not found, and how often its store is refused and a generation
 /// is begun, as a line.
-fn counts_line(alloc: Global, counts: Tally) -> Result<String, Fault> {
+fn counts_line(alloc: Global, counts: Result<Tally, Fault>) -> Result<String, Fault> {
     let Tally {
         found,
         missed,
         refused,
         renewed,
-    } = counts;
+    } = counts?;
     Ok(format!(in alloc; "found {found}, missed {missed}, refused {refused}, renewed {renewed}\n")?)
 }
 
@@ -333,7 +342,7 @@ fn asked<R: Wait>(rt: &R, alloc: Global, line: &str) -> Result<String, Fault> {
     let reply = read_reply(alloc, line)?;
     match two_seats(alloc, moment("100")?) {
         Some((cache, mut seat, _)) => {
-            let counts = ask_all(rt, &cache, &mut seat, &reply, times, a_second)?;
+            let counts = ask_all(rt, &cache, &mut seat, &reply, times, a_second);
             counts_line(alloc, counts)
         }
         None => Err(Fault::Memory),

@@ -2,9 +2,11 @@
 use crate::fault::Fault;
 use crate::fields::fields;
 use crate::replies::{Reply, read_reply, short};
-use crate::requests::{caps, push_next, push_target, read_sending, transport, transport_word};
+use crate::requests::{
+    Sending, caps, push_next, push_target, read_sending, transport, transport_word,
+};
 use ip_text::address_from_text;
-use sip_selection::{Caps, Event, Failover, Failure, Selection, Target};
+use sip_selection::{Caps, Event, Failover, Failure, GiveRefusal, Selection, Target};
 use sip_uri::Transport;
 use std::alloc::Global;
 
@@ -18,37 +20,70 @@ pub(crate) fn told(alloc: Global, call: &str, input: &str) -> Result<String, Fau
     }
 }
 
-/// The choice of the request of a line.
-fn selection(alloc: Global, line: &str) -> Result<Selection, Fault> {
-    let sending = read_sending(alloc, line)?;
-    Ok(Selection::new(alloc, sending.request, sending.caps, sending.words)?)
+/// The choice of a request.
+fn selection_of(alloc: Global, sending: Sending) -> Result<Selection, Fault> {
+    let Sending {
+        request,
+        caps,
+        words,
+    } = sending;
+    match Selection::new(alloc, request, caps, words) {
+        Ok(selection) => Ok(selection),
+        Err(_) => Err(Fault::Memory),
+    }
 }
 
-/// Hands the question and the answer of a line to a choice, and writes why they are not taken.
-fn give(
-    text: &mut String,
-    alloc: Global,
-    selection: &mut Selection,
-    line: &str,
-) -> Result<(), Fault> {
-    let Reply { question, answer } = read_reply(alloc, line)?;
-    if let Err(refusal) = selection.give(alloc, &question, answer) {
-        text.push_str(&format!(in alloc; "{refusal:?}\n")?)?;
+/// The choice of the request of a line.
+fn selection(alloc: Global, line: &str) -> Result<Selection, Fault> {
+    match read_sending(alloc, line) {
+        Ok(sending) => selection_of(alloc, sending),
+        Err(fault) => Err(fault),
     }
-    Ok(())
+}
+
+/// What is next for a choice, as lines.
+fn next_lines(alloc: Global, selection: &Selection) -> Result<String, Fault> {
+    let mut text = String::new(alloc);
+    push_next(&mut text, alloc, selection.next())?;
+    Ok(text)
+}
+
+/// Hands a question and its answer to a choice.
+fn given(alloc: Global, selection: &mut Selection, reply: Reply) -> Result<(), GiveRefusal> {
+    let Reply { question, answer } = reply;
+    selection.give(alloc, &question, answer)
+}
+
+/// Hands the question and the answer of a line to a choice. Gives why they are not taken, and what is
+/// next.
+fn give(alloc: Global, selection: &mut Selection, line: &str) -> Result<String, Fault> {
+    let reply = read_reply(alloc, line)?;
+    match given(alloc, selection, reply) {
+        Ok(()) => next_lines(alloc, selection),
+        Err(refusal) => {
+            let mut text = format!(in alloc; "{refusal:?}\n")?;
+            text.push_str(&next_lines(alloc, selection)?)?;
+            Ok(text)
+        }
+    }
+}
+
+/// What is next for a choice, before lines with questions and their answers, and after each of them.
+fn talk(alloc: Global, selection: &mut Selection, answers: &str) -> Result<String, Fault> {
+    let mut text = next_lines(alloc, selection)?;
+    for line in answers.lines() {
+        text.push_str(&give(alloc, selection, line)?)?;
+    }
+    Ok(text)
 }
 
 /// A line with a request, and lines with questions and their answers, give what is next after each.
 fn conversation(alloc: Global, input: &str) -> Result<String, Fault> {
     let (first, answers) = input.split_once('\n').ok_or(Fault::Form)?;
-    let mut selection = selection(alloc, first)?;
-    let mut text = String::new(alloc);
-    push_next(&mut text, alloc, selection.next())?;
-    for line in answers.lines() {
-        give(&mut text, alloc, &mut selection, line)?;
-        push_next(&mut text, alloc, selection.next())?;
+    match selection(alloc, first) {
+        Ok(mut selection) => talk(alloc, &mut selection, answers),
+        Err(fault) => Err(fault),
     }
-    Ok(text)
 }
 
 /// Writes which transports a caller has, and its families of addresses.
