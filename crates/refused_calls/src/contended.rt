@@ -122,29 +122,26 @@ fn is_used<R: Wait, B: AnswerBook>(
     is_contended(&kept) && locator.step(book, seat, now()).is_ok_and(goes)
 }
 
-/// A seat, and another one that stores this answer.
-fn pair_of<'a, R: Wait, J: Naming>(
+/// The other seat, which stores this answer.
+fn other_of<'a, R: Wait, J: Naming>(
     rt: &'a R,
     cache: &'a SharedCache,
-    seats: (Seat, Seat),
-    asked: (Question, Arc<Answer>),
-) -> Pair<'a, R, J>
+    seat: Seat,
+    question: Question,
+    answer: Arc<Answer>,
+) -> Other<'a, R, J>
     requires cache { cache.now ≡ J.cache }
-    requires other { Belongs J.cache seats.1 }
-    requires kind { kind_of (arc_value asked.1).records ≡ asked.0.kind }
-    ensures { result.seat ≡ seats.0 }
+    requires seat { Belongs J.cache seat }
+    requires kind { kind_of (arc_value answer).records ≡ question.kind }
 {
-    let (seat, other_seat) = seats;
-    let (question, answer) = asked;
-    let other = Other {
+    Other {
         rt,
         cache,
-        seat: other_seat,
+        seat,
         question,
         answer,
         of: PhantomData,
-    };
-    Pair { seat, other }
+    }
 }
 
 /// The same over this cache.
@@ -177,7 +174,11 @@ fn is_used_by_two<J: Naming, R: Wait>(
     requires kind { kind_of (arc_value asked.1).records ≡ asked.0.kind }
 {
     let mut locator = locator(alloc)?;
-    let mut pair: Pair<'_, R, J> = pair_of(rt, cache, seats, asked);
+    let other = other_of::<R, J>(rt, cache, seats.1, asked.0, asked.1);
+    let mut pair = Pair {
+        seat: seats.0,
+        other,
+    };
     Some(is_used_over(rt, cache, &mut pair, &mut locator))
 }
 
