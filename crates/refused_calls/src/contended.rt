@@ -1,5 +1,7 @@
 //! A locator over a book in which another seat stores in each try of a store.
 ghost use Rattle.std.specs.Prelude.{◌≡◌, IfSome};
+ghost use Rattle.std.specs.Arc.{arc_value};
+ghost use Rattle.dns_answers.specs.Records.{kind_of};
 ghost use Rattle.answer_cache.specs.Shared.{Belongs, CacheView, cache_view};
 
 use crate::allocations::asked::{REPLY, answer, now, question};
@@ -102,28 +104,6 @@ impl<'a, R: Wait + 'a, J: Naming> AnswerBook for Contended<'a, R, J> {
     }
 }
 
-/// The other seat, with its answer.
-fn other_of<'a, R: Wait, J: Naming>(
-    rt: &'a R,
-    alloc: Global,
-    cache: &'a SharedCache,
-    seat: Seat,
-) -> Option<Other<'a, R, J>>
-    requires cache { cache.now ≡ J.cache }
-    requires seat { Belongs J.cache seat }
-{
-    let question = question(alloc)?;
-    let answer = answer(alloc, 10)?;
-    Some(Other {
-        rt,
-        cache,
-        seat,
-        question,
-        answer,
-        of: PhantomData,
-    })
-}
-
 /// Whether an answer was used and lost each try of its store.
 fn is_contended(kept: &Result<Kept, LocatorRefusal>) -> bool {
     matches!(kept, Ok(Kept::No(StoreRefusal::Contended)))
@@ -142,26 +122,64 @@ fn is_used<R: Wait, B: AnswerBook>(
     is_contended(&kept) && locator.step(book, seat, now()).is_ok_and(goes)
 }
 
-/// The same over the two seats of this cache.
-fn is_used_by_two<J: Naming, R: Wait>(
-    rt: &R,
-    alloc: Global,
-    cache: &SharedCache,
+/// The other seat, which stores this answer.
+fn other_of<'a, R: Wait, J: Naming>(
+    rt: &'a R,
+    cache: &'a SharedCache,
     seat: Seat,
-    other: Seat,
-) -> Option<bool>
+    question: Question,
+    answer: Arc<Answer>,
+) -> Other<'a, R, J>
     requires cache { cache.now ≡ J.cache }
     requires seat { Belongs J.cache seat }
-    requires other { Belongs J.cache other }
+    requires kind { kind_of (arc_value answer).records ≡ question.kind }
 {
-    let other: Other<'_, R, J> = other_of(rt, alloc, cache, other)?;
-    let mut pair = Pair { seat, other };
+    Other {
+        rt,
+        cache,
+        seat,
+        question,
+        answer,
+        of: PhantomData,
+    }
+}
+
+/// The same over this cache.
+fn is_used_over<'a, R: Wait, J: Naming>(
+    rt: &'a R,
+    cache: &'a SharedCache,
+    pair: &mut Pair<'a, R, J>,
+    locator: &mut Locator<Contended<'a, R, J>>,
+) -> bool
+    requires { Belongs cache.now pair.old.seat }
+{
     let book = Contended {
         cache,
         of: PhantomData,
     };
+    is_used(rt, locator, &book, pair)
+}
+
+/// The same over the two seats of this cache, of which the other stores this answer.
+fn is_used_by_two<J: Naming, R: Wait>(
+    rt: &R,
+    alloc: Global,
+    cache: &SharedCache,
+    seats: (Seat, Seat),
+    asked: (Question, Arc<Answer>),
+) -> Option<bool>
+    requires cache { cache.now ≡ J.cache }
+    requires seat { Belongs J.cache seats.0 }
+    requires other { Belongs J.cache seats.1 }
+    requires kind { kind_of (arc_value asked.1).records ≡ asked.0.kind }
+{
     let mut locator = locator(alloc)?;
-    Some(is_used(rt, &mut locator, &book, &mut pair))
+    let other = other_of::<R, J>(rt, cache, seats.1, asked.0, asked.1);
+    let mut pair = Pair {
+        seat: seats.0,
+        other,
+    };
+    Some(is_used_over(rt, cache, &mut pair, &mut locator))
 }
 
 /// A cache with two seats.
@@ -179,8 +197,9 @@ fn two_seats(alloc: Global) -> Option<(SharedCache, Seat, Seat)>
 
 /// The same over a new cache.
 fn over_two_seats(rt: &(impl Wait + AllocGlobal)) -> Option<bool> {
+    let asked = (question(rt.alloc())?, answer(rt.alloc(), 10)?);
     let (cache, seat, other) = two_seats(rt.alloc())?;
-    is_used_by_two::<Brand, _>(rt, rt.alloc(), &cache, seat, other)
+    is_used_by_two::<Brand, _>(rt, rt.alloc(), &cache, (seat, other), asked)
 }
 
 #[test]

@@ -2,9 +2,10 @@
 //! what a locator does where another seat keeps its answer from being stored. This crate has tests
 //! alone.
 //!
-//! Each test of `allocations` makes each of its calls twice. `tools/refuse-allocations` runs it once
-//! for each allocation that it makes, which is then refused: the call says so and leaves what it was
-//! lent, and made again it has its answer. `tools/check-refusals` tells which call is in which test.
+//! Each test of `allocations` makes each of its calls twice. `tools/refuse-allocations` runs it
+//! once for each allocation that it makes, which is then refused: the call says so and leaves what
+//! it was lent, and made again it has its answer. `tools/check-refusals` tells which call is in
+//! which test.
 #![tactic(auto)]
 
 #[cfg(test)]

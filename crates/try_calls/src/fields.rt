@@ -1,7 +1,7 @@
 //! Fields of a line: texts, octets, numbers and what is asked.
 //!
-//! A space parts two fields. In a field `\x2e` is the octet 46, with two hexadecimal digits, `\\` is
-//! a backslash, and any other character stands for itself; `""` is a field without octets. Where
+//! A space parts two fields. In a field `\x2e` is the octet 46, with two hexadecimal digits, `\\`
+//! is a backslash, and any other character stands for itself; `""` is a field without octets. Where
 //! octets are joined of all fields of all lines, `20*FIELD` is a field twenty times.
 use crate::fault::Fault;
 use dns_message::{Kind, Question};

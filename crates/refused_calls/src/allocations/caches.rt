@@ -178,14 +178,28 @@ fn stores_against<R: Wait>(
     }
 }
 
-/// `store_against`, which is tried once, and where it is refused once more.
+/// Whether a store is tried once, and where it is refused once more, and its answer found.
+fn is_tried_once<R: Wait>(
+    rt: &R,
+    cache: &SharedCache,
+    seat: &mut Seat,
+    question: &Question,
+    answer: &Arc<Answer>,
+) -> bool
+    requires made_here { Belongs cache.now seat.old }
+    requires kind { kind_of (arc_value answer.now).records ≡ question.now.kind }
+{
+    let mut tries = Tries { count: 0 };
+    let stored = stores_against(rt, cache, seat, question, answer, &mut tries);
+    stored && tries.count == 1 && finds(cache, seat, question, 10)
+}
+
+/// `store_against`
 fn store_against<R: Wait>(rt: &R, alloc: Global) -> Option<bool> {
-    let (cache, mut seat) = one_seat(alloc)?;
     let question = question(alloc)?;
     let answer = answer(alloc, 10)?;
-    let mut tries = Tries { count: 0 };
-    let stored = stores_against(rt, &cache, &mut seat, &question, &answer, &mut tries);
-    Some(stored && tries.count == 1 && finds(&cache, &mut seat, &question, 10))
+    let (cache, mut seat) = one_seat(alloc)?;
+    Some(is_tried_once(rt, &cache, &mut seat, &question, &answer))
 }
 
 /// What `carry` hands on, if not at once, then the second time. Between the two the answer is
@@ -207,14 +221,32 @@ fn carries(
     cache.carry(alloc, seat, now()).ok()
 }
 
+/// Whether an answer is stored.
+fn is_stored<R: Wait>(
+    rt: &R,
+    cache: &SharedCache,
+    seat: &mut Seat,
+    question: &Question,
+    answer: &Arc<Answer>,
+) -> bool
+    requires made_here { Belongs cache.now seat.old }
+    requires kind { kind_of (arc_value answer.now).records ≡ question.now.kind }
+    ensures { Belongs cache.now seat.new }
+{
+    cache.store(rt, seat, question, answer, now()).is_ok()
+}
+
 /// What a cache with one store hands on, where `carry` is done again where memory is refused.
 fn carried<R: Wait>(rt: &R, alloc: Global, question: &Question) -> Option<Carried>
     requires { question.now.kind ≡ A }
 {
-    let (cache, mut seat) = one_seat(alloc)?;
     let answer = answer(alloc, 10)?;
-    cache.store(rt, &mut seat, question, &answer, now()).ok()?;
-    carries(alloc, &cache, &mut seat, question)
+    let (cache, mut seat) = one_seat(alloc)?;
+    if is_stored(rt, &cache, &mut seat, question, &answer) {
+        carries(alloc, &cache, &mut seat, question)
+    } else {
+        None
+    }
 }
 
 /// `carry`

@@ -56,7 +56,23 @@ fn steps<B: AnswerBook>(locator: &mut Locator<B>, book: &B, seat: &mut B::Seat) 
     first || locator.step(book, seat, now()).is_ok_and(goes)
 }
 
-/// The same where the answer is stored before; `None` where memory is refused for that.
+/// Whether an answer is stored.
+fn is_stored<B: AnswerBook, R: Wait>(
+    rt: &R,
+    book: &B,
+    seat: &mut B::Seat,
+    question: &Question,
+    answer: &Arc<Answer>,
+) -> bool
+    requires made_here { B.belongs book.now seat.old }
+    requires kind { kind_of (arc_value answer.now).records ≡ question.now.kind }
+    ensures { B.belongs book.now seat.new }
+{
+    book.store(rt, seat, question, answer, now()).is_ok()
+}
+
+/// Whether a step has the target where the answer is stored before; `None` where memory is refused
+/// for that.
 fn stores_and_steps<B: AnswerBook, R: Wait>(
     rt: &R,
     locator: &mut Locator<B>,
@@ -68,9 +84,10 @@ fn stores_and_steps<B: AnswerBook, R: Wait>(
     requires made_here { B.belongs book.now seat.old }
     requires kind { kind_of (arc_value answer.now).records ≡ question.now.kind }
 {
-    match book.store(rt, seat, question, answer, now()) {
-        Ok(()) => Some(steps(locator, book, seat)),
-        Err(_) => None,
+    if is_stored(rt, book, seat, question, answer) {
+        Some(steps(locator, book, seat))
+    } else {
+        None
     }
 }
 

@@ -56,6 +56,18 @@ fn prefixed(name: &Name) -> Option<bool> {
     }
 }
 
+/// `text`
+fn text(name: &Name) -> Option<bool> {
+    let text = name.text().ok()?;
+    Some(text.as_str() == "proxy-1.west.voice.example.com.")
+}
+
+/// `try_clone`
+fn copy(name: &Name) -> Option<bool> {
+    let copy = name.try_clone().ok()?;
+    Some(copy == *name)
+}
+
 /// `parent`
 fn parent(name: &Name) -> Option<bool> {
     let parent = name.parent().ok()?;
@@ -88,20 +100,25 @@ fn write(alloc: Global, name: &Name, front: &[u8]) -> Option<bool> {
     Some(are_written(&out, front))
 }
 
+/// What a call of a name says.
+fn says_of(alloc: Global, name: &Name, call: Call) -> Option<bool> {
+    match call {
+        Call::FromText => from_text(alloc),
+        Call::Prefixed => prefixed(name),
+        Call::Text => text(name),
+        Call::TryClone => copy(name),
+        Call::Parent => parent(name),
+        Call::ReadName => read(alloc, POINTED, 13, 34),
+        Call::ReadWhole => read(alloc, WIRE, 0, 32),
+        Call::WriteName => write(alloc, name, b"\x07"),
+        Call::WriteAlone => write(alloc, name, b""),
+    }
+}
+
 /// What a call says.
 fn says(alloc: Global, call: Call) -> Option<bool> {
     let name = Name::from_text(alloc, "proxy-1.west.voice.example.com").ok()?;
-    match call {
-        Call::FromText => from_text(alloc),
-        Call::Prefixed => prefixed(&name),
-        Call::Text => Some(name.text().ok()?.as_str() == "proxy-1.west.voice.example.com."),
-        Call::TryClone => Some(name.try_clone().ok()? == name),
-        Call::Parent => parent(&name),
-        Call::ReadName => read(alloc, POINTED, 13, 34),
-        Call::ReadWhole => read(alloc, WIRE, 0, 32),
-        Call::WriteName => write(alloc, &name, b"\x07"),
-        Call::WriteAlone => write(alloc, &name, b""),
-    }
+    says_of(alloc, &name, call)
 }
 
 #[test]
