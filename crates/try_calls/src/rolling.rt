@@ -292,8 +292,10 @@ fn ask<R: Wait>(
 
 /// The moment of a time, by a clock that goes on from 100 by a second each so many times.
 fn moment_of(time: u64, a_second: u64) -> Result<Moment, Fault> {
-    let seconds = time.checked_div(a_second).ok_or(Fault::Form)?;
-    Moment::new(seconds.wrapping_add(100)).ok_or(Fault::Form)
+    if a_second == 0 {
+        return Err(Fault::Form);
+    }
+    Moment::new((time / a_second).saturating_add(100)).ok_or(Fault::Form)
 }
 
 /// Asks so many times for one answer.
