@@ -14,6 +14,7 @@ mod fault;
 mod fields;
 mod lookups;
 mod names;
+mod resolver_calls;
 mod resolver_lines;
 mod resolver_steps;
 mod resolvers;
