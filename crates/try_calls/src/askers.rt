@@ -1,12 +1,12 @@
 //! Calls of `dns_asker`: what happens to an asker, and what it gives.
 use crate::fault::Fault;
-use crate::fields::fields;
+use crate::fields::{fields, octets};
 use crate::lookups::{
-    answer_line, id_of, message_of, moment_of, number, number_line, push_answer, push_question,
-    question_of, split_word,
+    answer_line, id_of, moment_of, number, number_line, push_answer, push_question, question_of,
+    split_word,
 };
 use crate::servers;
-use crate::shown::push_octets;
+use crate::shown::{octets_line, push_octets};
 use dns_answers::{Answer, Moment, ReplyRefusal};
 use dns_asker::{Asker, Due, Ending, Incoming};
 use dns_message::Question;
@@ -101,14 +101,6 @@ fn seen(alloc: Global, asker: &Asker, word: &str, rest: &str) -> Result<String, 
     }
 }
 
-/// A line with octets.
-fn octets_line(alloc: Global, octets: &[u8]) -> Result<String, Fault> {
-    let mut line = String::new(alloc);
-    push_octets(&mut line, octets)?;
-    line.push_str("\n")?;
-    Ok(line)
-}
-
 /// A question that is asked.
 #[derive(Drop)]
 struct Asking {
@@ -159,7 +151,7 @@ fn ask_range(alloc: Global, asker: &mut Asker, rest: &str) -> Result<String, Fau
 
 /// Hands octets in, and gives the line of what they mean.
 fn hear(alloc: Global, asker: &mut Asker, rest: &str) -> Result<String, Fault> {
-    let octets = message_of(alloc, rest)?;
+    let octets = octets(alloc, rest)?;
     match asker.incoming(&octets) {
         Ok(Incoming::Ended(id, question, ending)) => ended(alloc, id, &question, &ending),
         Ok(Incoming::Ignored(why)) => Ok(format!(in alloc; "ignored {why:?}\n")?),

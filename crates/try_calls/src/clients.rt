@@ -2,9 +2,8 @@
 //! a key.
 use crate::fault::Fault;
 use crate::fields::{fields, octets, text};
-use crate::lookups::{id_of, number, push_address};
+use crate::lookups::{id_of, key_of, number, push_address};
 use crate::resolver_lines::transport_word;
-use crate::resolver_steps::key_of;
 use crate::shown::{octets_line, push_name};
 use dns_client::{QueryForm, ResolverFile, draw_words, random_ids, read_request};
 use sip_resolver::Ids;
@@ -26,8 +25,8 @@ pub(crate) fn told(alloc: Global, call: &str, input: &str) -> Result<String, Fau
     }
 }
 
-/// Lines of a resolver file, in the form of fields, give what it says. Where `\c` ends the last line
-/// it has no line end.
+/// Lines of a resolver file, in the form of fields, give what it says. Where `\c` ends the last
+/// line it has no line end.
 fn resolver_file(alloc: Global, input: &str) -> Result<String, Fault> {
     let field = input.strip_suffix("\\c\n").unwrap_or(input);
     let octets = octets(alloc, field)?;

@@ -24,6 +24,17 @@ pub(crate) fn id_of(field: &str) -> Result<u16, Fault> {
     field.parse::<u16>().map_err(|_| Fault::Form)
 }
 
+/// The key of 32 octets that a field spells.
+pub(crate) fn key_of(alloc: Global, field: &str) -> Result<[u8; 32], Fault> {
+    let octets = octets(alloc, field)?;
+    if octets.len() != 32 {
+        return Err(Fault::Form);
+    }
+    let mut key = [0; 32];
+    key.copy_from_slice(&octets);
+    Ok(key)
+}
+
 /// The moment that a field spells.
 pub(crate) fn moment_of(field: &str) -> Result<Moment, Fault> {
     match Moment::new(number(field)?) {
@@ -171,9 +182,4 @@ pub(crate) fn push_line(text: &mut String, line: &str) -> Result<(), Fault> {
     text.push_str(line)?;
     text.push_str("\n")?;
     Ok(())
-}
-
-/// The octets of a message, which may be made of several fields.
-pub(crate) fn message_of(alloc: Global, field: &str) -> Result<Vec<u8>, Fault> {
-    octets(alloc, field)
 }

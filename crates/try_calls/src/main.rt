@@ -24,6 +24,7 @@ mod names;
 mod orders;
 mod replies;
 mod requests;
+mod resolver_calls;
 mod resolver_lines;
 mod resolver_steps;
 mod resolvers;

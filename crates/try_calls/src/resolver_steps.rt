@@ -1,7 +1,7 @@
 //! Lines that tell what happens to a resolver.
 use crate::fault::Fault;
 use crate::fields::{fields, octets};
-use crate::lookups::{moment_of, number, push_line, split_word};
+use crate::lookups::{id_of, key_of, moment_of, number, push_line, split_word};
 use dns_answers::Moment;
 use rand_chacha::ChaCha20Rng;
 use rand_core::SeedableRng;
@@ -87,11 +87,6 @@ pub(crate) enum Step {
     Zone,
 }
 
-/// A number below 65,536.
-fn id_of(field: &str) -> Result<u16, Fault> {
-    field.parse::<u16>().map_err(|_| Fault::Form)
-}
-
 /// The ids that a field has between commas.
 fn listed_ids(alloc: Global, field: &str) -> Result<Vec<u16>, Fault> {
     let mut ids = Vec::new(alloc);
@@ -108,17 +103,6 @@ fn counting_from(first: u16) -> CountingIds {
         ids.draw();
     }
     ids
-}
-
-/// The key of 32 octets that a field spells.
-pub(crate) fn key_of(alloc: Global, field: &str) -> Result<[u8; 32], Fault> {
-    let octets = octets(alloc, field)?;
-    if octets.len() != 32 {
-        return Err(Fault::Form);
-    }
-    let mut key = [0; 32];
-    key.copy_from_slice(&octets);
-    Ok(key)
 }
 
 /// The ids of a field: `counting FIRST`, `random KEY` or `listed ID,ID..`

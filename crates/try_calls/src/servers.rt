@@ -2,7 +2,8 @@
 ghost use Rattle.std.specs.Prelude.{◌≡◌, ◌+◌, ◌-◌, ◌^◌, ◌<◌, ◌≤◌};
 
 use crate::fault::Fault;
-use crate::lookups::{message_of, number, push_line, split_word, zone_of};
+use crate::fields::octets;
+use crate::lookups::{number, push_line, split_word, zone_of};
 use crate::shown::push_octets;
 use dns_asker::{DATAGRAM_LIMIT, PeerWire, WireFault, Zone, serve};
 use std::alloc::Global;
@@ -136,8 +137,8 @@ fn peer_of(field: &str) -> Result<u8, Fault> {
 
 /// The receipt of a datagram: its peer, and its octets.
 fn datagram(alloc: Global, rest: &str) -> Result<Receipt, Fault> {
-    let (peer, octets) = split_word(rest);
-    Ok(Receipt::Datagram(peer_of(peer)?, message_of(alloc, octets)?))
+    let (peer, field) = split_word(rest);
+    Ok(Receipt::Datagram(peer_of(peer)?, octets(alloc, field)?))
 }
 
 impl Setting {

@@ -131,11 +131,11 @@ fn dues(asker: &mut Asker, now: u64) -> Option<Said> {
 }
 
 /// What octets mean; nothing where memory is refused.
-fn heard(incoming: Result<Incoming, AllocError>) -> Option<Said> {
+fn heard(incoming: &Result<Incoming, AllocError>) -> Option<Said> {
     match incoming {
         Ok(Incoming::Ended(_, _, Ending::Answered(answer))) => Some(Said::Answered(answer.life())),
         Ok(Incoming::Ended(_, _, Ending::Faulty(_))) => Some(Said::Faulty),
-        Ok(Incoming::Ignored(why)) => Some(Said::Ignored(why)),
+        Ok(Incoming::Ignored(why)) => Some(Said::Ignored(*why)),
         Err(_) => None,
     }
 }
@@ -145,7 +145,7 @@ fn says(alloc: Global, asker: &mut Asker, step: Step) -> Option<Said> {
     match step {
         Step::Ask(id, name, now) => asks(alloc, asker, id, name, now),
         Step::Due(now) => dues(asker, now),
-        Step::Hear(octets) => heard(asker.incoming(octets)),
+        Step::Hear(octets) => heard(&asker.incoming(octets)),
     }
 }
 
