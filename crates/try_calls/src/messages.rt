@@ -101,9 +101,15 @@ fn count_answers(alloc: Global, input: &str) -> Result<String, Fault> {
     }
 }
 
+/// The message in front of octets.
+fn message_of(alloc: Global, octets: &[u8]) -> Result<Option<Message>, Fault> {
+    message_in(alloc, octets).map_err(|_| Fault::Memory)
+}
+
 /// Octets give the message in front of them, or `none`.
 fn read_in(alloc: Global, input: &str) -> Result<String, Fault> {
-    match message_in(alloc, &joined(alloc, input)?)? {
+    let octets = joined(alloc, input)?;
+    match message_of(alloc, &octets)? {
         Some(message) => message_lines(alloc, &message),
         None => Ok(String::from_str(alloc, "none\n")?),
     }

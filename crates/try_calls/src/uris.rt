@@ -1,6 +1,6 @@
 //! Calls of `sip_uri`.
 use crate::fault::Fault;
-use crate::fields::{fields, only_line, text};
+use crate::fields::{only_line, text};
 use crate::shown::{push_address, push_name};
 use sip_uri::{Address, Host, SipUri, Spoken, Transport, UriRefusal, Via, read_uri, read_via};
 use std::alloc::Global;
@@ -127,11 +127,7 @@ fn uri_of(alloc: Global, field: &str) -> Result<SipUri, Fault> {
 
 /// Fields with two URIs give whether they say the same of where a request goes.
 fn same_uri(alloc: Global, line: &str) -> Result<String, Fault> {
-    match fields(alloc, line)?.as_slice() {
-        [first, second] => {
-            let same = uri_of(alloc, first)? == uri_of(alloc, second)?;
-            Ok(format!(in alloc; "{same}\n")?)
-        }
-        _ => Err(Fault::Form),
-    }
+    let (first, second) = line.split_once(' ').ok_or(Fault::Form)?;
+    let same = uri_of(alloc, first)? == uri_of(alloc, second)?;
+    Ok(format!(in alloc; "{same}\n")?)
 }
