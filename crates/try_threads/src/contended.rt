@@ -157,7 +157,7 @@ struct Stores {
 
 /// The seat stores the question A, and an answer of life 20, and the other one a question of a kind,
 /// and an answer of life 10.
-fn stores(alloc: Global, kind: Kind, before: u8, last: u8) -> Option<Stores>
+fn stores_of(alloc: Global, kind: Kind, before: u8, last: u8) -> Option<Stores>
     ensures own { IfSome result
         (λ made. kind_of (arc_value made.own_answer).records ≡ made.own.kind) }
     ensures other { IfSome result
@@ -239,7 +239,7 @@ fn said_by_seats<R: Wait>(
 
 /// The same for a new cache.
 fn said<R: Wait>(rt: &R, alloc: Global, kind: Kind, before: u8, last: u8) -> Option<String> {
-    let stores = stores(alloc, kind, before, last)?;
+    let stores = stores_of(alloc, kind, before, last)?;
     match SharedCache::new(alloc, 2) {
         Ok((cache, seats)) => said_by_seats(rt, alloc, &cache, seats, stores),
         Err(_) => None,
