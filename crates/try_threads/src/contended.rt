@@ -143,52 +143,74 @@ fn said_against<R: Wait, J: Naming>(
     format!(in alloc; "{said:?} in {}, {own} and {other}", rival.tries).ok()
 }
 
-/// A row: the kind of the question that the other seat stores, in the tries up to which one, and how
-/// many stores there are before.
-#[derive(Clone, Copy)]
-struct Row {
-    kind: Kind,
+/// What both seats store, the seat so often before, and the other one in the tries up to a last one.
+#[derive(Drop)]
+struct Stores {
+    own: Question,
+    own_answer: Arc<Answer>,
+    other: Question,
+    other_answer: Arc<Answer>,
+    now: Moment,
     before: u8,
     last: u8,
 }
 
-/// The same for two seats of this cache: the seat stores the question A, and an answer of life 20;
-/// the other one's answer has the life 10.
+/// The seat stores the question A, and an answer of life 20, and the other one a question of a kind,
+/// and an answer of life 10.
+fn stores_of(alloc: Global, kind: Kind, before: u8, last: u8) -> Option<Stores>
+    ensures own { IfSome result
+        (λ made. kind_of (arc_value made.own_answer).records ≡ made.own.kind) }
+    ensures other { IfSome result
+        (λ made. kind_of (arc_value made.other_answer).records ≡ made.other.kind) }
+{
+    Some(Stores {
+        own: question(alloc, Kind::A, "a.example")?,
+        own_answer: answer(alloc, Kind::A, 20)?,
+        other: question(alloc, kind, "a.example")?,
+        other_answer: answer(alloc, kind, 10)?,
+        now: now()?,
+        before,
+        last,
+    })
+}
+
+/// What comes of these stores by two seats of this cache.
 fn said_by_two<R: Wait, J: Naming>(
     rt: &R,
     alloc: Global,
     cache: &SharedCache,
     seat: Seat,
     other: Seat,
-    row: Row,
+    stores: Stores,
 ) -> Option<String>
     requires cache { cache.now ≡ J.cache }
     requires seat { Belongs cache.now seat }
     requires other { Belongs cache.now other }
+    requires own { kind_of (arc_value stores.own_answer).records ≡ stores.own.kind }
+    requires kind { kind_of (arc_value stores.other_answer).records ≡ stores.other.kind }
 {
-    let own = question(alloc, Kind::A, "a.example")?;
-    let own_answer = answer(alloc, Kind::A, 20)?;
     let mut seat = seat;
     let mut rival: Other<'_, R, J> = Other {
         rt,
         cache,
         seat: other,
-        question: question(alloc, row.kind, "a.example")?,
-        answer: answer(alloc, row.kind, 10)?,
-        now: now()?,
-        last: row.last,
+        question: stores.other,
+        answer: stores.other_answer,
+        now: stores.now,
+        last: stores.last,
         tries: 0,
         of: PhantomData,
     };
+    let (question, answer) = (&stores.own, &stores.own_answer);
     said_against(
         rt,
         alloc,
         cache,
         &mut seat,
         &mut rival,
-        &own,
-        &own_answer,
-        row.before,
+        question,
+        answer,
+        stores.before,
     )
 }
 
@@ -198,23 +220,28 @@ fn said_by_seats<R: Wait>(
     alloc: Global,
     cache: &SharedCache,
     seats: Vec<Seat>,
-    row: Row,
+    stores: Stores,
 ) -> Option<String>
-    requires { All (Belongs cache.now) seats.items }
+    requires seats { All (Belongs cache.now) seats.items }
+    requires own { kind_of (arc_value stores.own_answer).records ≡ stores.own.kind }
+    requires other { kind_of (arc_value stores.other_answer).records ≡ stores.other.kind }
 {
     let mut seats = seats;
     let other = last_of(cache, &mut seats);
     let seat = last_of(cache, &mut seats);
     match (seat, other) {
-        (Some(seat), Some(other)) => { said_by_two::<R, Brand>(rt, alloc, cache, seat, other, row) }
+        (Some(seat), Some(other)) => {
+            said_by_two::<R, Brand>(rt, alloc, cache, seat, other, stores)
+        }
         _ => None,
     }
 }
 
 /// The same for a new cache.
-fn said<R: Wait>(rt: &R, alloc: Global, row: Row) -> Option<String> {
+fn said<R: Wait>(rt: &R, alloc: Global, kind: Kind, before: u8, last: u8) -> Option<String> {
+    let stores = stores_of(alloc, kind, before, last)?;
     match SharedCache::new(alloc, 2) {
-        Ok((cache, seats)) => said_by_seats(rt, alloc, &cache, seats, row),
+        Ok((cache, seats)) => said_by_seats(rt, alloc, &cache, seats, stores),
         Err(_) => None,
     }
 }
@@ -237,7 +264,7 @@ const ROWS: [(Kind, u8, u8, &str); 7] = [
 #[test]
 fn stores_against_another_seat(rt: HostRuntime) {
     for (kind, before, last, wanted) in ROWS {
-        let text = said(&rt, rt.alloc(), Row { kind, before, last });
+        let text = said(&rt, rt.alloc(), kind, before, last);
         assert_eq!(rt; text.as_deref(), Some(wanted));
     }
 }

@@ -69,7 +69,7 @@ fn store_in_turn<R: Wait>(
     ensures { Belongs cache.now seat.new }
 {
     let mut lasts = [0; QUESTIONS];
-    let first = seat.number() as u32 % 4 * 1000 + 1;
+    let first = (seat.number() % 4) as u32 * 1000 + 1;
     'rounds: for round in 0..ROUNDS {
         let question = round as usize % QUESTIONS;
         let said = store_at(rt, alloc, cache, seat, question, first + round);
