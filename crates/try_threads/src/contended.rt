@@ -5,7 +5,7 @@ ghost use Rattle.std.specs.List.{All};
 ghost use Rattle.dns_answers.specs.Records.{kind_of};
 ghost use Rattle.answer_cache.specs.Shared.{Belongs, CacheView, cache_view};
 
-use crate::seats::{answer, last_of, learn, life, now, question, store};
+use crate::seats::{Pair, last_of, learn, life, now, pair_of, store};
 use answer_cache::{AnswerBook, Rival, Seat, SharedCache, StoreRefusal};
 use dns_answers::{Answer, Moment};
 use dns_message::{Kind, Question};
@@ -143,74 +143,46 @@ fn said_against<R: Wait, J: Naming>(
     format!(in alloc; "{said:?} in {}, {own} and {other}", rival.tries).ok()
 }
 
-/// What both seats store, the seat so often before, and the other one in the tries up to a last one.
-#[derive(Drop)]
-struct Stores {
-    own: Question,
-    own_answer: Arc<Answer>,
-    other: Question,
-    other_answer: Arc<Answer>,
-    now: Moment,
+/// How many stores the seat makes before, and the last try in which the other one stores.
+#[derive(Clone, Copy)]
+struct Row {
     before: u8,
     last: u8,
 }
 
-/// The seat stores the question A, and an answer of life 20, and the other one a question of a kind,
-/// and an answer of life 10.
-fn stores_of(alloc: Global, kind: Kind, before: u8, last: u8) -> Option<Stores>
-    ensures own { IfSome result
-        (λ made. kind_of (arc_value made.own_answer).records ≡ made.own.kind) }
-    ensures other { IfSome result
-        (λ made. kind_of (arc_value made.other_answer).records ≡ made.other.kind) }
-{
-    Some(Stores {
-        own: question(alloc, Kind::A, "a.example")?,
-        own_answer: answer(alloc, Kind::A, 20)?,
-        other: question(alloc, kind, "a.example")?,
-        other_answer: answer(alloc, kind, 10)?,
-        now: now()?,
-        before,
-        last,
-    })
-}
-
-/// What comes of these stores by two seats of this cache.
+/// What comes of it where the seat stores the one pair, and the other seat the other one.
 fn said_by_two<R: Wait, J: Naming>(
     rt: &R,
     alloc: Global,
     cache: &SharedCache,
     seat: Seat,
     other: Seat,
-    stores: Stores,
+    own: &Pair,
+    others: Pair,
+    now: Moment,
+    row: Row,
 ) -> Option<String>
     requires cache { cache.now ≡ J.cache }
     requires seat { Belongs cache.now seat }
     requires other { Belongs cache.now other }
-    requires own { kind_of (arc_value stores.own_answer).records ≡ stores.own.kind }
-    requires kind { kind_of (arc_value stores.other_answer).records ≡ stores.other.kind }
+    requires own { kind_of (arc_value own.now.answer).records ≡ own.now.question.kind }
+    requires others { kind_of (arc_value others.answer).records ≡ others.question.kind }
 {
     let mut seat = seat;
     let mut rival: Other<'_, R, J> = Other {
         rt,
         cache,
         seat: other,
-        question: stores.other,
-        answer: stores.other_answer,
-        now: stores.now,
-        last: stores.last,
+        question: others.question,
+        answer: others.answer,
+        now,
+        last: row.last,
         tries: 0,
         of: PhantomData,
     };
-    let (question, answer) = (&stores.own, &stores.own_answer);
+    let (question, answer) = (&own.question, &own.answer);
     said_against(
-        rt,
-        alloc,
-        cache,
-        &mut seat,
-        &mut rival,
-        question,
-        answer,
-        stores.before,
+        rt, alloc, cache, &mut seat, &mut rival, question, answer, row.before,
     )
 }
 
@@ -220,28 +192,34 @@ fn said_by_seats<R: Wait>(
     alloc: Global,
     cache: &SharedCache,
     seats: Vec<Seat>,
-    stores: Stores,
+    own: &Pair,
+    others: Pair,
+    now: Moment,
+    row: Row,
 ) -> Option<String>
     requires seats { All (Belongs cache.now) seats.items }
-    requires own { kind_of (arc_value stores.own_answer).records ≡ stores.own.kind }
-    requires other { kind_of (arc_value stores.other_answer).records ≡ stores.other.kind }
+    requires own { kind_of (arc_value own.now.answer).records ≡ own.now.question.kind }
+    requires others { kind_of (arc_value others.answer).records ≡ others.question.kind }
 {
     let mut seats = seats;
     let other = last_of(cache, &mut seats);
     let seat = last_of(cache, &mut seats);
     match (seat, other) {
-        (Some(seat), Some(other)) => {
-            said_by_two::<R, Brand>(rt, alloc, cache, seat, other, stores)
-        }
+        (Some(seat), Some(other)) => said_by_two::<R, Brand>(
+            rt, alloc, cache, seat, other, own, others, now, row,
+        ),
         _ => None,
     }
 }
 
-/// The same for a new cache.
-fn said<R: Wait>(rt: &R, alloc: Global, kind: Kind, before: u8, last: u8) -> Option<String> {
-    let stores = stores_of(alloc, kind, before, last)?;
+/// The same for a new cache: the seat stores the question A and an answer of life 20, and the other
+/// one a question of a kind and an answer of life 10.
+fn said<R: Wait>(rt: &R, alloc: Global, kind: Kind, row: Row) -> Option<String> {
+    let now = now()?;
+    let own = pair_of(alloc, Kind::A, "a.example", 20)?;
+    let others = pair_of(alloc, kind, "a.example", 10)?;
     match SharedCache::new(alloc, 2) {
-        Ok((cache, seats)) => said_by_seats(rt, alloc, &cache, seats, stores),
+        Ok((cache, seats)) => said_by_seats(rt, alloc, &cache, seats, &own, others, now, row),
         Err(_) => None,
     }
 }
@@ -264,7 +242,7 @@ const ROWS: [(Kind, u8, u8, &str); 7] = [
 #[test]
 fn stores_against_another_seat(rt: HostRuntime) {
     for (kind, before, last, wanted) in ROWS {
-        let text = said(&rt, rt.alloc(), kind, before, last);
+        let text = said(&rt, rt.alloc(), kind, Row { before, last });
         assert_eq!(rt; text.as_deref(), Some(wanted));
     }
 }

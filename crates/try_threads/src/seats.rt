@@ -40,12 +40,29 @@ fn none_of(alloc: Global, kind: Kind) -> Records
 }
 
 /// The answer of a kind that there are no records, with this life.
-pub(crate) fn answer(alloc: Global, kind: Kind, life: u32) -> Option<Arc<Answer>>
+fn answer(alloc: Global, kind: Kind, life: u32) -> Option<Arc<Answer>>
     ensures { IfSome result (λ made. kind_of (arc_value made).records ≡ kind) }
 {
     match Answer::new(none_of(alloc, kind), life) {
         Some(answer) => Arc::new(alloc, answer).ok(),
         None => None,
+    }
+}
+
+/// A question, and an answer to it.
+#[derive(Drop)]
+pub(crate) struct Pair {
+    pub(crate) question: Question,
+    pub(crate) answer: Arc<Answer>,
+}
+
+/// The question of a kind for a name, and the answer that there are no records, with this life.
+pub(crate) fn pair_of(alloc: Global, kind: Kind, name: &str, life: u32) -> Option<Pair>
+    ensures { IfSome result (λ made. kind_of (arc_value made.answer).records ≡ made.question.kind) }
+{
+    match (question(alloc, kind, name), answer(alloc, kind, life)) {
+        (Some(question), Some(answer)) => Some(Pair { question, answer }),
+        _ => None,
     }
 }
 

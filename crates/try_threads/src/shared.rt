@@ -2,7 +2,7 @@
 ghost use Rattle.std.specs.List.{All};
 ghost use Rattle.answer_cache.specs.Shared.{Belongs};
 
-use crate::seats::{answer, keep, last_of, learn, life, now, question, store};
+use crate::seats::{keep, last_of, learn, life, now, pair_of, question, store};
 use answer_cache::{Seat, SharedCache, StoreRefusal};
 use dns_message::{Kind, Question};
 use std::alloc::Global;
@@ -19,19 +19,22 @@ const NAMES: &[&str] = &[
     "a", "b", "c", "d", "e", "f", "g", "h", "i", "j", "k", "l", "m", "n", "o", "p",
 ];
 
-/// One of 64 questions, of four kinds for each name.
-fn question_at(alloc: Global, number: usize) -> Option<Question> {
-    let kind = match number % 4 {
+/// The kind of one of 64 questions, of four kinds for each name.
+fn kind_at(number: usize) -> Kind {
+    match number % 4 {
         0 => Kind::A,
         1 => Kind::Aaaa,
         2 => Kind::Srv,
         _ => Kind::Naptr,
-    };
-    question(alloc, kind, NAMES.get(number / 4)?)
+    }
 }
 
-/// Stores one of the questions with a life. Says whether the store was taken, or refused for want of
-/// memory or room or time.
+/// One of 64 questions.
+fn question_at(alloc: Global, number: usize) -> Option<Question> {
+    question(alloc, kind_at(number), NAMES.get(number / 4)?)
+}
+
+/// What the store of one of the questions with a life says.
 fn store_at<R: Wait>(
     rt: &R,
     alloc: Global,
@@ -43,9 +46,12 @@ fn store_at<R: Wait>(
     requires { Belongs cache.now seat.old }
     ensures { Belongs cache.now seat.new }
 {
-    let question = question_at(alloc, number)?;
-    let answer = answer(alloc, question.kind, life)?;
-    Some(store(rt, cache, seat, &question, &answer, now()?))
+    let now = now()?;
+    let name = NAMES.get(number / 4)?;
+    match pair_of(alloc, kind_at(number), name, life) {
+        Some(pair) => Some(store(rt, cache, seat, &pair.question, &pair.answer, now)),
+        None => None,
+    }
 }
 
 /// Whether a store was taken, or refused since its group is full or since other seats were faster.
@@ -151,50 +157,69 @@ fn work_by_four<R: Threads + Wait + AllocGlobal + Sync>(
     )
 }
 
+/// What four seats say of each question: the life of the last store of each, 0 where there was none.
+type Lasts = [Option<[u32; QUESTIONS]>; 4];
+
+/// Whether this is the life of the last store of some seat.
+fn is_last(lasts: &Lasts, question: usize, life: u32) -> bool {
+    let of_seat = |lasts: &Option<[u32; QUESTIONS]>| match lasts {
+        Some(lasts) => lasts.get(question) == Some(&life),
+        None => false,
+    };
+    lasts.iter().any(of_seat)
+}
+
 /// Whether the last store of some seat is found for each question.
-fn are_found(
-    alloc: Global,
-    cache: &SharedCache,
-    seat: &mut Seat,
-    lasts: [Option<[u32; QUESTIONS]>; 4],
-) -> Option<bool>
+fn are_found(alloc: Global, cache: &SharedCache, seat: &mut Seat, lasts: &Lasts) -> Option<bool>
     requires { Belongs cache.now seat.old }
     ensures { Belongs cache.now seat.new }
 {
     'questions: for number in 0..QUESTIONS {
         let question = question_at(alloc, number)?;
         let life = life(cache, seat, &question, now()?);
-        if !lasts
-            .iter()
-            .any(|lasts| lasts.is_some_and(|lasts| lasts[number] == life))
-        {
+        if !is_last(lasts, number, life) {
             return Some(false);
         }
     }
     Some(true)
 }
 
-/// The same for a seat that has learned what all have seen.
+/// Lets a seat learn what the three others have seen.
+fn learn_all(cache: &SharedCache, seat: &mut Seat, second: &Seat, third: &Seat, fourth: &Seat)
+    requires seat { Belongs cache.now seat.old }
+    requires second { Belongs cache.now second.now }
+    requires third { Belongs cache.now third.now }
+    requires fourth { Belongs cache.now fourth.now }
+    ensures { Belongs cache.now seat.new }
+{
+    learn(cache, seat, second);
+    learn(cache, seat, third);
+    learn(cache, seat, fourth);
+}
+
+/// The same for the first seat, once it has learned what the others have seen. Nothing where one of
+/// them gave up.
 fn are_found_by_one(
     alloc: Global,
     cache: &SharedCache,
-    left: (Done, Done),
-    right: (Done, Done),
+    first: Done,
+    second: &Done,
+    third: &Done,
+    fourth: &Done,
 ) -> Option<bool>
-    requires first { Belongs cache.now left.0.seat }
-    requires second { Belongs cache.now left.1.seat }
-    requires third { Belongs cache.now right.0.seat }
-    requires fourth { Belongs cache.now right.1.seat }
+    requires first { Belongs cache.now first.seat }
+    requires second { Belongs cache.now second.now.seat }
+    requires third { Belongs cache.now third.now.seat }
+    requires fourth { Belongs cache.now fourth.now.seat }
 {
-    let lasts = [left.0.lasts, left.1.lasts, right.0.lasts, right.1.lasts];
+    let lasts = [first.lasts, second.lasts, third.lasts, fourth.lasts];
+    let mut seat = first.seat;
+    learn_all(cache, &mut seat, &second.seat, &third.seat, &fourth.seat);
+    let are_found = are_found(alloc, cache, &mut seat, &lasts);
     if lasts.iter().any(|lasts| lasts.is_none()) {
         return None;
     }
-    let mut seat = left.0.seat;
-    learn(cache, &mut seat, &left.1.seat);
-    learn(cache, &mut seat, &right.0.seat);
-    learn(cache, &mut seat, &right.1.seat);
-    are_found(alloc, cache, &mut seat, lasts)
+    are_found
 }
 
 /// The same of the four seats of a cache.
@@ -213,7 +238,9 @@ fn four_work<R: Threads + Wait + AllocGlobal + Sync>(
     match (first, second, third, fourth) {
         (Some(first), Some(second), Some(third), Some(fourth)) => {
             let (left, right) = work_by_four(rt, cache, (first, second), (third, fourth));
-            are_found_by_one(rt.alloc(), cache, left, right)
+            let (first, second) = left;
+            let (third, fourth) = right;
+            are_found_by_one(rt.alloc(), cache, first, &second, &third, &fourth)
         }
         _ => None,
     }
