@@ -88,16 +88,24 @@ fn seen(alloc: Global, asker: &Asker, word: &str, rest: &str) -> Result<String, 
         "next_due" => number_line(alloc, asker.next_due()),
         "is_open" => answer_line(alloc, asker.is_open(id_of(rest)?)),
         "is_full" => answer_line(alloc, asker.is_full()),
-        "id_of" => {
-            let (kind, name) = split_word(rest);
-            let question = question_of(alloc, kind, name)?;
-            number_line(alloc, asker.id_of(&question).map(u64::from))
-        }
-        "octets_of" => match asker.octets_of(id_of(rest)?) {
-            Some(octets) => octets_line(alloc, octets),
-            None => Ok(String::from_str(alloc, "none\n")?),
-        },
+        "id_of" => id_line(alloc, asker, rest),
+        "octets_of" => open_octets_line(alloc, asker, id_of(rest)?),
         _ => Err(Fault::Form),
+    }
+}
+
+/// The line of the id under which a question waits.
+fn id_line(alloc: Global, asker: &Asker, rest: &str) -> Result<String, Fault> {
+    let (kind, name) = split_word(rest);
+    let question = question_of(alloc, kind, name)?;
+    number_line(alloc, asker.id_of(&question).map(u64::from))
+}
+
+/// The line of the octets of the question that waits under an id.
+fn open_octets_line(alloc: Global, asker: &Asker, id: u16) -> Result<String, Fault> {
+    match asker.octets_of(id) {
+        Some(octets) => octets_line(alloc, octets),
+        None => Ok(String::from_str(alloc, "none\n")?),
     }
 }
 
@@ -112,40 +120,51 @@ struct Asking {
 /// The question of a line: its id, its type, its name and the moment.
 fn asking_of(alloc: Global, rest: &str) -> Result<Asking, Fault> {
     match fields(alloc, rest)?.as_slice() {
-        [id, kind, name, now] => Ok(Asking {
-            question: question_of(alloc, kind, name)?,
-            id: id_of(id)?,
-            now: moment_of(now)?,
-        }),
+        [id, kind, name, now] => {
+            let (id, now) = (id_of(id)?, moment_of(now)?);
+            question_of(alloc, kind, name).map(|question| Asking { question, id, now })
+        }
         _ => Err(Fault::Form),
     }
 }
 
 /// Asks a question, and gives the line of the octets to send, or of the refusal.
-fn ask(alloc: Global, asker: &mut Asker, rest: &str) -> Result<String, Fault> {
-    let Asking { question, id, now } = asking_of(alloc, rest)?;
-    match asker.ask(question, id, now) {
+fn ask_line(alloc: Global, asker: &mut Asker, asking: Asking) -> Result<String, Fault> {
+    match asker.ask(asking.question, asking.id, asking.now) {
         Ok(octets) => octets_line(alloc, octets),
         Err(refusal) => Ok(format!(in alloc; "{refusal:?}\n")?),
     }
 }
 
-/// Whether a question is taken.
-fn is_asked(asker: &mut Asker, question: Question, id: u16, now: Moment) -> bool {
-    asker.ask(question, id, now).is_ok()
+/// Asks the question of a line.
+fn ask(alloc: Global, asker: &mut Asker, rest: &str) -> Result<String, Fault> {
+    let asking = asking_of(alloc, rest)?;
+    ask_line(alloc, asker, asking)
 }
 
-/// Asks one question under each id from one to another one, and gives the line of how many of them
-/// are taken.
+/// Whether a copy of a question is taken.
+fn is_asked(asker: &mut Asker, asking: &Asking, id: u16) -> Result<bool, Fault> {
+    let question = asking.question.try_clone()?;
+    Ok(asker.ask(question, id, asking.now).is_ok())
+}
+
+/// How many times one question is taken, under each id from its own to another one.
+fn count_asked(asker: &mut Asker, asking: &Asking, last: u16) -> Result<u32, Fault> {
+    let mut count = 0u32;
+    for id in asking.id..=last {
+        let taken = is_asked(asker, asking, id)?;
+        count = count.saturating_add(u32::from(taken));
+    }
+    Ok(count)
+}
+
+/// Asks the question of a line under each id from its own to the one in front of it, and gives the
+/// line of how many of them are taken.
 fn ask_range(alloc: Global, asker: &mut Asker, rest: &str) -> Result<String, Fault> {
     let (last, rest) = split_word(rest);
     let last = id_of(last)?;
-    let Asking { question, id, now } = asking_of(alloc, rest)?;
-    let mut count = 0u32;
-    for id in id..=last {
-        let taken = is_asked(asker, question.try_clone()?, id, now);
-        count = count.saturating_add(u32::from(taken));
-    }
+    let asking = asking_of(alloc, rest)?;
+    let count = count_asked(asker, &asking, last)?;
     Ok(format!(in alloc; "{count}\n")?)
 }
 

@@ -137,29 +137,36 @@ fn form_of(recursion: &str, edns: &str) -> Result<QueryForm, Fault> {
 /// Fields with a form and the octets of a query give the octets that go out.
 fn query_form(alloc: Global, line: &str) -> Result<String, Fault> {
     match fields(alloc, line)?.as_slice() {
-        [recursion, edns, query] => {
-            let form = form_of(recursion, edns)?;
-            let query = octets(alloc, query)?;
-            octets_line(alloc, &form.octets(alloc, &query)?)
-        }
+        [recursion, edns, query] => form_line(alloc, recursion, edns, query),
         _ => Err(Fault::Form),
     }
+}
+
+/// The line of the octets that go out for a query in a form.
+fn form_line(alloc: Global, recursion: &str, edns: &str, query: &str) -> Result<String, Fault> {
+    let form = form_of(recursion, edns)?;
+    let query = octets(alloc, query)?;
+    octets_line(alloc, &form.octets(alloc, &query)?)
 }
 
 /// A key, a number and a count give so many ids.
 fn ids(alloc: Global, line: &str) -> Result<String, Fault> {
     match fields(alloc, line)?.as_slice() {
-        [key, stream, count] => {
-            let mut ids = random_ids(key_of(alloc, key)?, number(stream)?);
-            let mut told = String::new(alloc);
-            for _ in 0..id_of(count)? {
-                let id = ids.draw();
-                told.push_str(&format!(in alloc; "{id}\n")?)?;
-            }
-            Ok(told)
-        }
+        [key, stream, count] => id_lines(alloc, key, stream, count),
         _ => Err(Fault::Form),
     }
+}
+
+/// The lines of so many ids.
+fn id_lines(alloc: Global, key: &str, stream: &str, count: &str) -> Result<String, Fault> {
+    let (stream, count) = (number(stream)?, id_of(count)?);
+    let mut ids = random_ids(key_of(alloc, key)?, stream);
+    let mut told = String::new(alloc);
+    for _ in 0..count {
+        let id = ids.draw();
+        told.push_str(&format!(in alloc; "{id}\n")?)?;
+    }
+    Ok(told)
 }
 
 /// Words as a line of numbers.
@@ -179,12 +186,18 @@ fn drawn(alloc: Global, words: &Words, place: usize, count: usize) -> Result<Str
     }
 }
 
+/// The draw of a number with a key.
+fn draw_of(alloc: Global, key: &str, draw: &str) -> Result<Words, Fault> {
+    let draw = number(draw)?;
+    Ok(draw_words(key_of(alloc, key)?, draw))
+}
+
 /// A key, the number of a draw, a place and a count give so many of its words from that place on.
 fn words(alloc: Global, line: &str) -> Result<String, Fault> {
     match fields(alloc, line)?.as_slice() {
         [key, draw, place, count] => {
-            let words = draw_words(key_of(alloc, key)?, number(draw)?);
             let (place, count) = (id_of(place)?, id_of(count)?);
+            let words = draw_of(alloc, key, draw)?;
             drawn(alloc, &words, usize::from(place), usize::from(count))
         }
         _ => Err(Fault::Form),

@@ -111,16 +111,20 @@ fn push_server(alloc: Global, text: &mut String, server: &SrvRecord) -> Result<(
     push_name(text, &server.target)
 }
 
+/// Writes octets as a field, and a blank.
+fn push_field(text: &mut String, octets: &[u8]) -> Result<(), Fault> {
+    push_octets(text, octets)?;
+    text.push_str(" ")?;
+    Ok(())
+}
+
 /// Writes the data of a rule, as a zone file has them.
 fn push_rule(alloc: Global, text: &mut String, rule: &NaptrRecord) -> Result<(), Fault> {
     let (order, preference) = (rule.order, rule.preference);
     text.push_str(&format!(in alloc; "{order} {preference} ")?)?;
-    push_octets(text, rule.flags.octets())?;
-    text.push_str(" ")?;
-    push_octets(text, rule.services.octets())?;
-    text.push_str(" ")?;
-    push_octets(text, rule.regexp.octets())?;
-    text.push_str(" ")?;
+    push_field(text, rule.flags.octets())?;
+    push_field(text, rule.services.octets())?;
+    push_field(text, rule.regexp.octets())?;
     push_name(text, &rule.replacement)
 }
 

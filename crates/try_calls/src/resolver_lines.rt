@@ -1,13 +1,13 @@
 //! What a resolver gives, as lines.
 use crate::fault::Fault;
-use crate::lookups::{kind_word, push_address, push_question};
+use crate::lookups::{kind_word, push_question};
 use crate::shown::{push_name, push_octets};
 use dns_answers::ReplyRefusal;
 use dns_asker::Zone;
-use dns_message::{Asked, Kind, Question, read_message};
+use dns_message::{Asked, Kind, Message, Question, read_message};
 use sip_resolver::{Heard, Outcome, Over, SubmitRefusal};
 use sip_selection::Target;
-use sip_uri::Transport;
+use sip_uri::{Transport, address_text};
 use std::alloc::{AllocError, Global};
 
 /// What is sent, with the reply to it.
@@ -75,19 +75,30 @@ fn push_asked(line: &mut String, asked: &Asked) -> Result<(), Fault> {
     push_name(line, &asked.name)
 }
 
-/// The line of a query: what it goes over, its id, and its question.
-pub(crate) fn transmit_line(alloc: Global, octets: &[u8], over: Over) -> Result<String, Fault> {
-    let Ok(message) = read_message(alloc, octets) else {
-        return Err(Fault::Form);
-    };
+/// The one question of a message.
+fn asked_of(message: &Message) -> Result<&Asked, Fault> {
+    match message.questions.as_slice() {
+        [asked] => Ok(asked),
+        _ => Err(Fault::Form),
+    }
+}
+
+/// The line of a message: what it goes over, its id, and its question.
+fn message_line(alloc: Global, message: &Message, over: Over) -> Result<String, Fault> {
+    let asked = asked_of(message)?;
     let (over, id) = (over_word(over), message.header.id);
     let mut line = format!(in alloc; "{over} {id} ")?;
-    match message.questions.as_slice() {
-        [asked] => push_asked(&mut line, asked)?,
-        _ => return Err(Fault::Form),
-    }
+    push_asked(&mut line, asked)?;
     line.push_str("\n")?;
     Ok(line)
+}
+
+/// The line of the octets of a message.
+pub(crate) fn transmit_line(alloc: Global, octets: &[u8], over: Over) -> Result<String, Fault> {
+    match read_message(alloc, octets) {
+        Ok(message) => message_line(alloc, &message, over),
+        Err(_) => Err(Fault::Form),
+    }
 }
 
 /// A query with the zone's reply to it.
@@ -114,12 +125,9 @@ pub(crate) fn transport_word(transport: Transport) -> &'static str {
 
 /// Writes a target, behind a comma.
 fn push_target(alloc: Global, line: &mut String, target: &Target) -> Result<(), Fault> {
-    line.push_str(", ")?;
-    line.push_str(transport_word(target.transport))?;
-    line.push_str(" ")?;
-    push_address(alloc, line, target.address)?;
-    let port = target.port;
-    line.push_str(&format!(in alloc; " {port}")?)?;
+    let (transport, port) = (transport_word(target.transport), target.port);
+    let address = address_text(alloc, target.address)?;
+    line.push_str(&format!(in alloc; ", {transport} {address} {port}")?)?;
     Ok(())
 }
 

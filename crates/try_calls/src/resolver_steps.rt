@@ -130,10 +130,11 @@ fn limits_of(requests: &str, questions: &str, over: &str) -> Result<Limits, Faul
 /// What the first line says.
 pub(crate) fn setting_of(alloc: Global, line: &str) -> Result<Setting, Fault> {
     match fields(alloc, line)?.as_slice() {
-        [requests, questions, over, kind, ids] => Ok(Setting {
-            limits: limits_of(requests, questions, over)?,
-            ids: ids_of(alloc, kind, ids)?,
-        }),
+        [requests, questions, over, kind, ids] => {
+            let limits = limits_of(requests, questions, over)?;
+            let ids = ids_of(alloc, kind, ids)?;
+            Ok(Setting { limits, ids })
+        }
         _ => Err(Fault::Form),
     }
 }
@@ -215,11 +216,15 @@ fn submitted_of(alloc: Global, rest: &str) -> Result<Submitted, Fault> {
     let (transports, rest) = split_word(rest);
     let (families, rest) = split_word(rest);
     let (words, text) = split_word(rest);
+    let number = number(number_field)?;
+    let caps = caps_of(alloc, transports, families)?;
+    let words = words_of(words)?;
+    let request = request_of(alloc, text)?;
     Ok(Submitted {
-        number: number(number_field)?,
-        request: request_of(alloc, text)?,
-        caps: caps_of(alloc, transports, families)?,
-        words: words_of(words)?,
+        number,
+        request,
+        caps,
+        words,
     })
 }
 
@@ -236,13 +241,16 @@ fn moments_of(rest: &str) -> Result<(Moment, Moment), Fault> {
 /// The octets that come in by a line: the moment, over what, and the octets.
 fn heard_of(alloc: Global, rest: &str) -> Result<Step, Fault> {
     match fields(alloc, rest)?.as_slice() {
-        [now, over, field] => Ok(Step::Hear(
-            moment_of(now)?,
-            over_of(over)?,
-            octets(alloc, field)?,
-        )),
+        [now, over, field] => hear_step(alloc, now, over, field),
         _ => Err(Fault::Form),
     }
+}
+
+/// The step of octets that come in.
+fn hear_step(alloc: Global, now: &str, over: &str, field: &str) -> Result<Step, Fault> {
+    let now = moment_of(now)?;
+    let over = over_of(over)?;
+    Ok(Step::Hear(now, over, octets(alloc, field)?))
 }
 
 /// The step of a line.

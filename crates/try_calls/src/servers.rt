@@ -138,7 +138,8 @@ fn peer_of(field: &str) -> Result<u8, Fault> {
 /// The receipt of a datagram: its peer, and its octets.
 fn datagram(alloc: Global, rest: &str) -> Result<Receipt, Fault> {
     let (peer, field) = split_word(rest);
-    Ok(Receipt::Datagram(peer_of(peer)?, octets(alloc, field)?))
+    let peer = peer_of(peer)?;
+    Ok(Receipt::Datagram(peer, octets(alloc, field)?))
 }
 
 impl Setting {
