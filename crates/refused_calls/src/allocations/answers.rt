@@ -78,12 +78,8 @@ fn each_of(alloc: Global, kind: Kind) -> Option<Vec<u8>> {
 /// The same of a record of this kind.
 fn each(alloc: Global, kind: Kind) -> Option<bool> {
     let question = question(alloc, "w.example", kind)?;
-    is_answered(
-        alloc,
-        &question,
-        &message(alloc, &each_of(alloc, kind)?)?,
-        60,
-    )
+    let octets = each_of(alloc, kind)?;
+    is_answered_by(alloc, &question, &octets, 60)
 }
 
 /// What a call says.
