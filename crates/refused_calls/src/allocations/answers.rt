@@ -53,10 +53,16 @@ fn is_answered(alloc: Global, question: &Question, message: &Message, life: u32)
     }
 }
 
+/// The same of the message of these octets.
+fn is_answered_by(alloc: Global, question: &Question, octets: &[u8], life: u32) -> Option<bool> {
+    let message = message(alloc, octets)?;
+    is_answered(alloc, question, &message, life)
+}
+
 /// The same of an address.
 fn address(alloc: Global) -> Option<bool> {
     let question = question(alloc, "proxy-1.west.voice.example.com", Kind::A)?;
-    is_answered(alloc, &question, &message(alloc, REPLY)?, 300)
+    is_answered_by(alloc, &question, REPLY, 300)
 }
 
 /// The octets of a reply to a question of a kind.
@@ -72,12 +78,8 @@ fn each_of(alloc: Global, kind: Kind) -> Option<Vec<u8>> {
 /// The same of a record of this kind.
 fn each(alloc: Global, kind: Kind) -> Option<bool> {
     let question = question(alloc, "w.example", kind)?;
-    is_answered(
-        alloc,
-        &question,
-        &message(alloc, &each_of(alloc, kind)?)?,
-        60,
-    )
+    let octets = each_of(alloc, kind)?;
+    is_answered_by(alloc, &question, &octets, 60)
 }
 
 /// What a call says.
