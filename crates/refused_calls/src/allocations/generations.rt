@@ -183,10 +183,28 @@ fn begins<R: Wait>(
 /// The last of the seats of a new cache.
 fn last_of(seats: Vec<RollingSeat>) -> Option<RollingSeat>
     requires { All IsFirst seats.items }
-    ensures { IfSome result IsAt }
+    ensures { IfSome result IsFirst }
 {
     let mut seats = seats;
     seats.pop()
+}
+
+/// The same of the last of the seats of a cache.
+fn last_begins<R: Wait>(
+    rt: &R,
+    cache: &RollingCache,
+    seats: Vec<RollingSeat>,
+    question: &Question,
+    answer: &Arc<Answer>,
+    call: Call,
+) -> Option<bool>
+    requires seats { All IsFirst seats.items }
+    requires kind { kind_of (arc_value answer.now).records ≡ question.now.kind }
+{
+    match last_of(seats) {
+        Some(mut seat) => Some(begins(rt, cache, &mut seat, question, answer, call)),
+        None => None,
+    }
 }
 
 /// The same of a new cache of two seats.
@@ -194,10 +212,7 @@ fn changes<R: Wait>(rt: &R, alloc: Global, call: Call) -> Option<bool> {
     let question = question(alloc)?;
     let answer = answer(alloc)?;
     match RollingCache::new(alloc, 2, now()) {
-        Ok((cache, seats)) => match last_of(seats) {
-            Some(mut seat) => Some(begins(rt, &cache, &mut seat, &question, &answer, call)),
-            None => None,
-        },
+        Ok((cache, seats)) => last_begins(rt, &cache, seats, &question, &answer, call),
         Err(_) => None,
     }
 }

@@ -119,17 +119,32 @@ fn last_of(cache: &SharedCache, seats: Vec<Seat>) -> Option<Seat>
     seats.pop()
 }
 
+/// The same of the last of the seats of a cache.
+fn last_has_two_stores<R: Wait>(
+    rt: &R,
+    cache: &SharedCache,
+    seats: Vec<Seat>,
+    question: &Question,
+    first: &Arc<Answer>,
+    second: &Arc<Answer>,
+) -> Option<bool>
+    requires seats { All (Belongs cache.now) seats.items }
+    requires first { kind_of (arc_value first.now).records ≡ question.now.kind }
+    requires second { kind_of (arc_value second.now).records ≡ question.now.kind }
+{
+    match last_of(cache, seats) {
+        Some(mut seat) => Some(has_two_stores(rt, cache, &mut seat, question, first, second)),
+        None => None,
+    }
+}
+
 /// The same of the second seat of a new cache, where there is memory for both.
 fn second_seat_has_two_stores<R: Wait>(rt: &R, alloc: Global) -> Option<bool> {
     let question = question(alloc)?;
-    let (first, second) = (answer(alloc, 10)?, answer(alloc, 20)?);
+    let first = answer(alloc, 10)?;
+    let second = answer(alloc, 20)?;
     match SharedCache::new(alloc, 2) {
-        Ok((cache, seats)) => match last_of(&cache, seats) {
-            Some(mut seat) => Some(has_two_stores(
-                rt, &cache, &mut seat, &question, &first, &second,
-            )),
-            None => None,
-        },
+        Ok((cache, seats)) => last_has_two_stores(rt, &cache, seats, &question, &first, &second),
         Err(_) => None,
     }
 }
