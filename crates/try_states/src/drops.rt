@@ -22,6 +22,18 @@ fn count_of(all: &[AtomicUsize], number: usize) -> usize {
     all.iter().filter(with).count()
 }
 
+/// Inserts an item, and gives its id.
+fn insert<'a>(
+    list: &mut PendingList<Counted<'a>>,
+    deadline: u64,
+    drops: &'a AtomicUsize,
+) -> Option<PendingId> {
+    match list.insert(deadline, Counted { drops }) {
+        Ok(id) => Some(id),
+        Err(_) => None,
+    }
+}
+
 /// Inserts an item for each count, and keeps the ids.
 fn insert_all<'a>(
     list: &mut PendingList<Counted<'a>>,
@@ -29,7 +41,7 @@ fn insert_all<'a>(
     all: &'a [AtomicUsize],
 ) -> Result<(), AllocError> {
     for (at, drops) in all.iter().enumerate() {
-        if let Ok(id) = list.insert(1 + at as u64 % 7, Counted { drops }) {
+        if let Some(id) = insert(list, 1 + at as u64 % 7, drops) {
             ids.push(id).map_err(|_| AllocError)?;
         }
     }
