@@ -87,18 +87,30 @@ fn has_no_answer<R: Wait + AllocGlobal, C: Clock, G: Gate>(
         .all(|it| matches!(it.outcome(), Outcome::NoAnswer(_)))
 }
 
+/// Whether these jobs have no answer over such a wire; false where there is no memory for a worker.
+fn have_no_answer<R: Wait + AllocGlobal, C: Clock, G: Gate>(
+    rt: &R,
+    wire: DeafWire<'_>,
+    jobs: &[Job],
+    clock: &C,
+    gate: &G,
+) -> bool {
+    match one_worker(rt.alloc(), wire) {
+        Some((cache, mut worker)) => has_no_answer(rt, &cache, &mut worker, jobs, clock, gate),
+        None => false,
+    }
+}
+
 /// Whether job 1 over such a wire has no answer, and how often something was to be received.
 fn deaf_run<R: Wait + AllocGlobal + time::Clock, G: Gate>(rt: &R, gate: &G) -> Option<(bool, u64)> {
-    let alloc = rt.alloc();
+    let clock = RunClock::start(rt).ok()?;
+    let jobs = one_job(rt.alloc(), "sip:a.example:5070")?;
     let receives = AtomicU64::new(0);
     let wire = DeafWire {
         failures: 0,
         receives: &receives,
     };
-    let clock = RunClock::start(rt).ok()?;
-    let (cache, mut worker) = one_worker(alloc, wire)?;
-    let jobs = one_job(alloc, "sip:a.example:5070")?;
-    let ended = has_no_answer(rt, &cache, &mut worker, jobs.as_slice(), &clock, gate);
+    let ended = have_no_answer(rt, wire, &jobs, &clock, gate);
     Some((ended, receives.load(Ordering::SeqCst)))
 }
 

@@ -77,23 +77,37 @@ fn count_right<R: Wait + AllocGlobal>(
     cache: &SharedCache,
     worker: &mut Worker<ZoneWire<'_>>,
     jobs: &[Job],
-) -> Option<usize>
+) -> usize
     requires { Belongs cache.now worker.old }
 {
     let clock = clock_at_100();
-    let made = worker.batch(rt, cache, jobs, &clock, &OpenGate).ok()?;
-    Some(made.iter().filter(|it| goes_to_six(it.outcome())).count())
+    match worker.batch(rt, cache, jobs, &clock, &OpenGate) {
+        Ok(made) => made.iter().filter(|it| goes_to_six(it.outcome())).count(),
+        Err(_) => 0,
+    }
 }
 
-/// Of a batch of so many equal jobs: how many go to the six targets, and how many queries are sent.
+/// The same by a worker over this wire; 0 where there is no memory for one.
+fn count_over<R: Wait + AllocGlobal>(rt: &R, wire: ZoneWire<'_>, jobs: &[Job]) -> usize {
+    match one_worker(rt.alloc(), wire) {
+        Some((cache, mut worker)) => count_right(rt, &cache, &mut worker, jobs),
+        None => 0,
+    }
+}
+
+/// Of a batch of these jobs: how many go to the six targets, and how many queries are sent.
+fn counts<R: Wait + AllocGlobal>(rt: &R, zone: &Zone, jobs: &[Job]) -> (usize, u64) {
+    let sent = AtomicU64::new(0);
+    let right = count_over(rt, ZoneWire::new(rt.alloc(), zone, &sent), jobs);
+    (right, sent.load(Ordering::SeqCst))
+}
+
+/// The same of so many equal jobs.
 fn equal_jobs<R: Wait + AllocGlobal>(rt: &R, count: u64) -> Option<(usize, u64)> {
     let alloc = rt.alloc();
     let zone = Zone::read(alloc, ZONE).ok()?;
-    let sent = AtomicU64::new(0);
     let jobs = jobs_to_domain(alloc, count)?;
-    let (cache, mut worker) = one_worker(alloc, ZoneWire::new(alloc, &zone, &sent))?;
-    let right = count_right(rt, &cache, &mut worker, jobs.as_slice())?;
-    Some((right, sent.load(Ordering::SeqCst)))
+    Some(counts(rt, &zone, jobs.as_slice()))
 }
 
 #[test]

@@ -342,18 +342,53 @@ fn batch_ends<R: Wait + AllocGlobal>(
     }
 }
 
-/// Whether these jobs and then the others end so, in two batches of a worker over this wire.
+/// Whether the first jobs end so in one batch, and the later ones in the next.
 fn both_end<R: Wait + AllocGlobal>(
     rt: &R,
-    wire: FaultyWire<'_>,
-    (jobs, ends): (&[Job], &[End]),
-    (later_jobs, later_ends): (&[Job], &[End]),
-) -> Option<bool> {
-    let (cache, mut worker) = one_worker(rt.alloc(), wire)?;
+    cache: &SharedCache,
+    worker: &mut Worker<FaultyWire<'_>>,
+    first: &[Job],
+    later: &[Job],
+) -> bool
+    requires { Belongs cache.now worker.old }
+{
     let clock = call_clock();
-    let first = batch_ends(rt, &cache, &mut worker, jobs, &clock, ends);
-    let later = batch_ends(rt, &cache, &mut worker, later_jobs, &clock, later_ends);
-    Some(first && later)
+    batch_ends(rt, cache, worker, first, &clock, &FIRST_ENDS)
+        && batch_ends(rt, cache, worker, later, &clock, &LATER_ENDS)
+}
+
+/// Whether this job ends so in a batch of its own.
+fn one_ends<R: Wait + AllocGlobal>(
+    rt: &R,
+    cache: &SharedCache,
+    worker: &mut Worker<FaultyWire<'_>>,
+    jobs: &[Job],
+    end: End,
+) -> bool
+    requires { Belongs cache.now worker.old }
+{
+    batch_ends(rt, cache, worker, jobs, &call_clock(), &[end])
+}
+
+/// Whether the job ends so over this wire, where there is memory for a worker.
+fn ends_over<R: Wait + AllocGlobal>(rt: &R, wire: FaultyWire<'_>, jobs: &[Job], end: End) -> bool {
+    match one_worker(rt.alloc(), wire) {
+        Some((cache, mut worker)) => one_ends(rt, &cache, &mut worker, jobs, end),
+        None => false,
+    }
+}
+
+/// Whether the first jobs and then the later ones end so over this wire.
+fn both_over<R: Wait + AllocGlobal>(
+    rt: &R,
+    wire: FaultyWire<'_>,
+    first: &[Job],
+    later: &[Job],
+) -> bool {
+    match one_worker(rt.alloc(), wire) {
+        Some((cache, mut worker)) => both_end(rt, &cache, &mut worker, first, later),
+        None => false,
+    }
 }
 
 /// Whether a request ends so over such a wire to this zone.
@@ -367,12 +402,7 @@ fn ends<R: Wait + AllocGlobal>(
     let alloc = rt.alloc();
     let zone = Zone::read(alloc, zone).ok()?;
     let jobs = jobs_to(alloc, &[request])?;
-    both_end(
-        rt,
-        wire_to(alloc, &zone, fault),
-        (&jobs, &[end]),
-        (&[], &[]),
-    )
+    Some(ends_over(rt, wire_to(alloc, &zone, fault), &jobs, end))
 }
 
 /// A zone with the name that is asked for, and another one for forged replies.
@@ -473,35 +503,42 @@ fn reply_that_is_cut(rt: HostRuntime) {
 }
 
 /// A request that is given up, and seven without a question.
-const FIRST: [(&str, End); 8] = [
-    ("sip:a.example:5070", End::GaveUp),
-    ("sip:192.0.2.1:5070", End::Goes(1)),
-    ("sip:192.0.2.2:5070", End::Goes(2)),
-    ("sip:192.0.2.3:5070", End::Goes(3)),
-    ("sip:192.0.2.4:5070", End::Goes(4)),
-    ("sip:192.0.2.5:5070", End::Goes(5)),
-    ("sip:192.0.2.6:5070", End::Goes(6)),
-    ("sip:192.0.2.9:5070", End::Goes(9)),
+const FIRST: [&str; 8] = [
+    "sip:a.example:5070",
+    "sip:192.0.2.1:5070",
+    "sip:192.0.2.2:5070",
+    "sip:192.0.2.3:5070",
+    "sip:192.0.2.4:5070",
+    "sip:192.0.2.5:5070",
+    "sip:192.0.2.6:5070",
+    "sip:192.0.2.9:5070",
+];
+
+/// What becomes of them.
+const FIRST_ENDS: [End; 8] = [
+    End::GaveUp,
+    End::Goes(1),
+    End::Goes(2),
+    End::Goes(3),
+    End::Goes(4),
+    End::Goes(5),
+    End::Goes(6),
+    End::Goes(9),
 ];
 
 /// Two whose questions are out when the replies to its queries come.
-const LATER: [(&str, End); 2] = [
-    ("sip:b.example:5070", End::Goes(8)),
-    ("sip:a.example:5070", End::Goes(7)),
-];
+const LATER: [&str; 2] = ["sip:b.example:5070", "sip:a.example:5070"];
+
+/// What becomes of them.
+const LATER_ENDS: [End; 2] = [End::Goes(8), End::Goes(7)];
 
 /// Whether the first requests and then the later ones end so.
 fn late_ends<R: Wait + AllocGlobal>(rt: &R) -> Option<bool> {
     let alloc = rt.alloc();
+    let first = jobs_to(alloc, &FIRST)?;
+    let later = jobs_to(alloc, &LATER)?;
     let zone = Zone::read(alloc, ZONE).ok()?;
-    let first = jobs_to(alloc, &FIRST.map(|row| row.0))?;
-    let later = jobs_to(alloc, &LATER.map(|row| row.0))?;
-    both_end(
-        rt,
-        wire_to(alloc, &zone, Fault::Holds),
-        (&first, &FIRST.map(|row| row.1)),
-        (&later, &LATER.map(|row| row.1)),
-    )
+    Some(both_over(rt, wire_to(alloc, &zone, Fault::Holds), &first, &later))
 }
 
 #[test]

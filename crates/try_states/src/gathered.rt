@@ -1,11 +1,12 @@
 //! Results that are put in the order of their jobs: those of two jobs, over a wire in memory.
 ghost use Rattle.std.specs.Prelude.{Decides};
+ghost use Rattle.answer_cache.specs.Shared.{Belongs};
 ghost use Rattle.sip_workers.specs.Runs.{Rises};
 
 use crate::workers::{ZONE, clock_at_100, goes_to, job_of, one_worker};
-use answer_cache::Notice;
+use answer_cache::{Notice, SharedCache};
 use dns_asker::{StandingClock, Zone, ZoneWire};
-use sip_workers::{GatherRefusal, Job, JobResult, OpenGate, Outcome, gather};
+use sip_workers::{GatherRefusal, Job, JobResult, OpenGate, Outcome, Worker, gather};
 use std::alloc::Global;
 use std::sync::Wait;
 use std::sync::atomic::AtomicU64;
@@ -28,6 +29,14 @@ fn two_jobs(alloc: Global, first: &str, second: &str) -> Option<Vec<Job>> {
     Some(jobs)
 }
 
+/// A copy of the result at a place.
+fn copy_at<'a, 'b>(alloc: Global, made: &[Made<'a, 'b>], at: usize) -> Option<Made<'a, 'b>> {
+    match made.get(at) {
+        Some(it) => it.try_clone(alloc).ok(),
+        None => None,
+    }
+}
+
 /// Copies of the results at these places.
 fn picked<'a, 'b>(
     alloc: Global,
@@ -36,7 +45,7 @@ fn picked<'a, 'b>(
 ) -> Option<Vec<Made<'a, 'b>>> {
     let mut all = Vec::new(alloc);
     for at in places {
-        all.push(made.get(*at)?.try_clone(alloc).ok()?).ok()?;
+        all.push(copy_at(alloc, made, *at)?).ok()?;
     }
     Some(all)
 }
@@ -49,6 +58,14 @@ fn is_in_order(made: &[(Outcome, Notice)]) -> bool {
     }
 }
 
+/// Whether what was gathered is in order.
+fn is_gathered(all: Result<Vec<(Outcome, Notice)>, GatherRefusal>) -> Result<bool, GatherRefusal> {
+    match all {
+        Ok(all) => Ok(is_in_order(all.as_slice())),
+        Err(refusal) => Err(refusal),
+    }
+}
+
 /// What `gather` makes of copies of the results at these places, for these jobs.
 fn gather_picked(
     alloc: Global,
@@ -56,11 +73,26 @@ fn gather_picked(
     made: &[Made<'_, '_>],
     places: &[usize],
 ) -> Option<Result<bool, GatherRefusal>> {
-    let results = picked(alloc, made, places)?;
     if !rises(wanted) {
         return None;
     }
-    Some(gather(alloc, wanted, results).map(|all| is_in_order(all.as_slice())))
+    match picked(alloc, made, places) {
+        Some(results) => Some(is_gathered(gather(alloc, wanted, results))),
+        None => None,
+    }
+}
+
+/// The results of these jobs in one batch of a worker.
+fn results_of<'a, 'b, R: Wait + AllocGlobal>(
+    rt: &R,
+    cache: &SharedCache,
+    worker: &mut Worker<ZoneWire<'b>>,
+    jobs: &'a [Job],
+) -> Option<Vec<Made<'a, 'b>>>
+    requires { Belongs cache.now worker.old }
+{
+    let clock = clock_at_100();
+    worker.batch(rt, cache, jobs, &clock, &OpenGate).ok()
 }
 
 /// The results of these jobs in one batch over this wire.
@@ -69,9 +101,10 @@ fn results_over<'a, 'b, R: Wait + AllocGlobal>(
     wire: ZoneWire<'b>,
     jobs: &'a [Job],
 ) -> Option<Vec<Made<'a, 'b>>> {
-    let (cache, mut worker) = one_worker(rt.alloc(), wire)?;
-    let clock = clock_at_100();
-    worker.batch(rt, &cache, jobs, &clock, &OpenGate).ok()
+    match one_worker(rt.alloc(), wire) {
+        Some((cache, mut worker)) => results_of(rt, &cache, &mut worker, jobs),
+        None => None,
+    }
 }
 
 /// What `gather` makes of some of the results of these jobs, for the first so many of them.
@@ -82,8 +115,11 @@ fn gathered_over<R: Wait + AllocGlobal>(
     count: usize,
     places: &[usize],
 ) -> Option<Result<bool, GatherRefusal>> {
-    let made = results_over(rt, wire, jobs)?;
-    gather_picked(rt.alloc(), jobs.get(..count)?, made.as_slice(), places)
+    let wanted = jobs.get(..count)?;
+    match results_over(rt, wire, jobs) {
+        Some(made) => gather_picked(rt.alloc(), wanted, made.as_slice(), places),
+        None => None,
+    }
 }
 
 /// What `gather` makes of some of the results of two jobs, for the first so many of the jobs.
@@ -93,11 +129,10 @@ fn gathered<R: Wait + AllocGlobal>(
     places: &[usize],
 ) -> Option<Result<bool, GatherRefusal>> {
     let alloc = rt.alloc();
+    let jobs = two_jobs(alloc, "sip:a.example:5070", "sip:192.0.2.7:5080")?;
     let zone = Zone::read(alloc, ZONE).ok()?;
     let sent = AtomicU64::new(0);
-    let wire = ZoneWire::new(alloc, &zone, &sent);
-    let jobs = two_jobs(alloc, "sip:a.example:5070", "sip:192.0.2.7:5080")?;
-    gathered_over(rt, wire, &jobs, count, places)
+    gathered_over(rt, ZoneWire::new(alloc, &zone, &sent), &jobs, count, places)
 }
 
 #[test]

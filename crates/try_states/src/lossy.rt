@@ -47,14 +47,26 @@ struct Counts {
     wrong: u64,
 }
 
-/// The zone: domain k has the address 192.0.2.k.
-fn zone(alloc: Global) -> Result<Option<Zone>, AllocError> {
+/// The line of a domain: it has the address 192.0.2 and its number.
+fn zone_line(alloc: Global, domain: u64) -> Result<String, AllocError> {
+    format!(in alloc; "d{domain}.example. 300 A 192.0.2.{domain}\n")
+}
+
+/// The lines of all domains.
+fn zone_text(alloc: Global) -> Result<String, AllocError> {
     let mut text = String::new(alloc);
     for domain in 0..DOMAINS {
-        let line = format!(in alloc; "d{domain}.example. 300 A 192.0.2.{domain}\n")?;
-        text.push_str(line.as_str())?;
+        text.push_str(&zone_line(alloc, domain)?)?;
     }
-    Ok(Zone::read(alloc, text.as_str()).ok())
+    Ok(text)
+}
+
+/// The zone, where there is memory for it.
+fn zone(alloc: Global) -> Option<Zone> {
+    match zone_text(alloc) {
+        Ok(text) => Zone::read(alloc, &text).ok(),
+        Err(_) => None,
+    }
 }
 
 impl Wire {
@@ -222,7 +234,7 @@ fn outcomes(rt: &impl Wait, alloc: Global, wire: &mut Wire) -> Option<Counts> {
 
 /// The same over a wire that loses by the key stream of this byte.
 fn with_seed(rt: &impl Wait, alloc: Global, seed: u8) -> Option<Counts> {
-    let zone = zone(alloc).ok()??;
+    let zone = zone(alloc)?;
     let chance = ChaCha20Rng::from_seed([seed; 32]);
     outcomes(rt, alloc, &mut Wire { zone, chance })
 }
