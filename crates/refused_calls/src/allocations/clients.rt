@@ -60,7 +60,7 @@ const ROWS: [(&[u8], Counts); 12] = [
 ];
 
 /// How much a file says, where there is memory for it.
-fn counts(alloc: Global, text: &[u8]) -> Option<Counts> {
+fn counts_of(alloc: Global, text: &[u8]) -> Option<Counts> {
     let file = ResolverFile::read(alloc, text).ok()?;
     Some(Counts(
         file.servers().len(),
@@ -73,9 +73,9 @@ fn counts(alloc: Global, text: &[u8]) -> Option<Counts> {
 
 /// Whether this is said, if not at once, then the second time: only one allocation is refused.
 fn says(alloc: Global, text: &[u8], said: Counts) -> bool {
-    match counts(alloc, text) {
+    match counts_of(alloc, text) {
         Some(found) => found == said,
-        None => counts(alloc, text) == Some(said),
+        None => counts_of(alloc, text) == Some(said),
     }
 }
 
