@@ -1,4 +1,5 @@
-//! The examples of the crates' pages, line by line: of each crate in the file with its name in front.
+//! The examples of the crates' pages, line by line: that of a crate is in the file with its name in
+//! front.
 //!
 //! A line of an example stands in its file as it stands on the page, in the same order
 //! (`tools/check-pages`). Where a whole example would take long to prove, its lines are in several

@@ -1,9 +1,10 @@
-//! Public calls of the libraries, tried on rows of text: `try_calls CRATE CALL` reads lines from its
-//! input, hands them to a call, and prints what that gives.
+//! Public calls of the libraries, tried on rows of text: `try_calls CRATE CALL` reads lines from
+//! its input, hands them to a call, and prints what that gives.
 //!
 //! `tests/rows/CRATE/CALL.txt` has rows for it, with what each has to print, which comes from
-//! standards, from servers, or was worked out by hand; `tools/run-rows` compares. A further row needs
-//! no proof. The comment at the head of a file of rows says how its lines are read and written.
+//! standards, from servers, or was worked out by hand; `tools/run-rows` compares. A further row
+//! needs no proof. The comment at the head of a file of rows says how its lines are read and
+//! written.
 #![tactic(auto)]
 
 ghost use Rattle.std.specs.Prelude.{◌≤◌};

@@ -2,8 +2,8 @@
 //!
 //! `A b.example. 60 | 192.0.2.5 | 192.0.2.6` is the question for addresses of b.example. and an
 //! answer of two records, which lives for 60 seconds. The fields of a record are those of a line of
-//! a zone (RFC 2782, RFC 3403 4.1); `none` after the life says that there is no record, and `of SRV`
-//! that the records are of that kind.
+//! a zone (RFC 2782, RFC 3403 4.1); `none` after the life says that there is no record, and `of
+//! SRV` that the records are of that kind.
 use crate::fault::Fault;
 use crate::fields::{fields, octets, text};
 use crate::shown::{push_name, push_octets};

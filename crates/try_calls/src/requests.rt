@@ -120,7 +120,8 @@ fn push_targets(text: &mut String, alloc: Global, targets: &[Target]) -> Result<
     Ok(())
 }
 
-/// Writes what is next: `ask` with a question, a line for each target, or `refused` with the reason.
+/// Writes what is next: `ask` with a question, a line for each target, or `refused` with the
+/// reason.
 pub(crate) fn push_next(text: &mut String, alloc: Global, next: Next<'_>) -> Result<(), Fault> {
     match next {
         Next::Ask(question) => {

@@ -334,8 +334,8 @@ fn counts_line(alloc: Global, counts: Result<Tally, Fault>) -> Result<String, Fa
     Ok(format!(in alloc; "found {found}, missed {missed}, refused {refused}, renewed {renewed}\n")?)
 }
 
-/// How many times is asked, how many times a second, and a question with its answer, which is stored
-/// where it is not found, give how often that is.
+/// How many times is asked, how many times a second, and a question with its answer, which is
+/// stored where it is not found, give how often that is.
 fn asked<R: Wait>(rt: &R, alloc: Global, line: &str) -> Result<String, Fault> {
     let (times, line) = line.split_once(' ').ok_or(Fault::Form)?;
     let (a_second, line) = line.split_once(' ').ok_or(Fault::Form)?;

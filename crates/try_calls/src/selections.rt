@@ -54,8 +54,8 @@ fn given(alloc: Global, selection: &mut Selection, reply: Reply) -> Result<(), G
     selection.give(alloc, &question, answer)
 }
 
-/// Hands the question and the answer of a line to a choice. Gives why they are not taken, and what is
-/// next.
+/// Hands the question and the answer of a line to a choice. Gives why they are not taken, and what
+/// is next.
 fn give(alloc: Global, selection: &mut Selection, line: &str) -> Result<String, Fault> {
     let reply = read_reply(alloc, line)?;
     match given(alloc, selection, reply) {
@@ -68,7 +68,8 @@ fn give(alloc: Global, selection: &mut Selection, line: &str) -> Result<String, 
     }
 }
 
-/// What is next for a choice, before lines with questions and their answers, and after each of them.
+/// What is next for a choice, before lines with questions and their answers, and after each of
+/// them.
 fn talk(alloc: Global, selection: &mut Selection, answers: &str) -> Result<String, Fault> {
     let mut text = next_lines(alloc, selection)?;
     for line in answers.lines() {

@@ -1,6 +1,6 @@
 //! Tests of public calls whose states no line of text reaches: wires of a test's own, which lose,
-//! double, forge and fail, items that count their drops, and counts that no caller prints. This crate
-//! has tests alone.
+//! double, forge and fail, items that count their drops, and counts that no caller prints. This
+//! crate has tests alone.
 #![tactic(auto)]
 
 #[cfg(test)]

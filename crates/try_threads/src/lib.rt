@@ -1,6 +1,6 @@
 //! Tests of public calls that need threads, wires or sockets: seats that several threads use, or
-//! another seat that stores while a store is tried; workers; and wires over UDP. This crate has tests
-//! alone.
+//! another seat that stores while a store is tried; workers; and wires over UDP. This crate has
+//! tests alone.
 #![tactic(auto)]
 
 #[cfg(test)]

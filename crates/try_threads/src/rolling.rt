@@ -92,8 +92,8 @@ fn found<R: Wait>(
     }
 }
 
-/// Stores the address of a name. What is refused, as where another thread changes the generation just
-/// now, is asked again.
+/// Stores the address of a name. What is refused, as where another thread changes the generation
+/// just now, is asked again.
 fn store<R: Wait>(
     rt: &R,
     cache: &RollingCache,

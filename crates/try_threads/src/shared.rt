@@ -148,16 +148,19 @@ fn work_by_four<R: Threads + Wait + AllocGlobal + Sync>(
         rt,
         || -> (Done, Done)
             requires { Belongs cache.now first × Belongs cache.now second }
-            ensures { Belongs cache.entry.now result.0.seat × Belongs cache.entry.now result.1.seat }
+            ensures { Belongs cache.entry.now result.0.seat
+                × Belongs cache.entry.now result.1.seat }
         { work_by_two(rt, cache, first, second) },
         || -> (Done, Done)
             requires { Belongs cache.now third × Belongs cache.now fourth }
-            ensures { Belongs cache.entry.now result.0.seat × Belongs cache.entry.now result.1.seat }
+            ensures { Belongs cache.entry.now result.0.seat
+                × Belongs cache.entry.now result.1.seat }
         { work_by_two(rt, cache, third, fourth) },
     )
 }
 
-/// What four seats say of each question: the life of the last store of each, 0 where there was none.
+/// What four seats say of each question: the life of the last store of each, 0 where there was
+/// none.
 type Lasts = [Option<[u32; QUESTIONS]>; 4];
 
 /// Whether this is the life of the last store of some seat.

@@ -37,7 +37,8 @@ impl<'a> Wire for LostWire<'a> {
     }
 }
 
-/// Whether a job to the name in the zone goes to the target in a run with this seat and wire, at this moment.
+/// Whether a job to the name in the zone goes to the target in a run with this seat and wire, at
+/// this moment.
 fn goes<R: Threads + Wait + AllocGlobal + Sync, W: Wire + Drop + Send>(
     rt: &R,
     cache: &SharedCache,

@@ -1,5 +1,5 @@
-//! Generations of a rolling cache, where memory is refused: the call says so, the seat stays as it was,
-//! and the call made again does what it does with memory.
+//! Generations of a rolling cache, where memory is refused: the call says so, the seat stays as it
+//! was, and the call made again does what it does with memory.
 ghost use Rattle.std.specs.Prelude.{◌≡◌, IfSome};
 ghost use Rattle.std.specs.Arc.{arc_value};
 ghost use Rattle.std.specs.List.{All};
@@ -161,8 +161,8 @@ fn renews<R: Wait>(
     is_renewed(change(rt, cache, seat, call)) && is_found
 }
 
-/// Whether `catch_up` or `renew` begins the next generation, after which the answer of the one before
-/// is found.
+/// Whether `catch_up` or `renew` begins the next generation, after which the answer of the one
+/// before is found.
 fn begins<R: Wait>(
     rt: &R,
     cache: &RollingCache,
