@@ -6,6 +6,8 @@
 #[cfg(test)]
 mod contended;
 #[cfg(test)]
+mod counted;
+#[cfg(test)]
 mod rolling;
 #[cfg(test)]
 mod seats;
