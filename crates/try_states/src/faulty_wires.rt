@@ -269,14 +269,23 @@ enum End {
 /// The name a.example. (RFC 1035 3.1)
 const NAME: &[u8] = b"\x01a\x07example\x00";
 
-/// What becomes of a request with these targets, whose port is 5070.
+/// What becomes of a request that goes to this address, at this port.
+fn end_at(octets: [u8; 4], port: u16) -> End {
+    if octets.starts_with(&[192, 0, 2]) && port == 5070 {
+        End::Goes(octets[3])
+    } else {
+        End::Other
+    }
+}
+
+/// What becomes of a request with these targets.
 fn target_end(targets: &[Target]) -> End {
     let [target] = targets else {
         return End::Other;
     };
     match target.address {
-        Address::V4([192, 0, 2, last]) if target.port == 5070 => End::Goes(last),
-        _ => End::Other,
+        Address::V4(octets) => end_at(octets, target.port),
+        Address::V6(_) => End::Other,
     }
 }
 

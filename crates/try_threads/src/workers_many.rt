@@ -79,10 +79,10 @@ fn run_over<R: Threads + Wait + AllocGlobal + Sync, W: Wire + Drop + Send, G: Ga
     gate: &G,
 ) -> Option<Result<Vec<(Outcome, Notice)>, RunRefusal>> {
     let alloc = rt.alloc();
+    let jobs = jobs_to_ports(alloc, count)?;
     let Ok((cache, seats)) = SharedCache::new(alloc, wires.len()) else {
         return None;
     };
-    let jobs = jobs_to_ports(alloc, count)?;
     let clock = clock_at_100();
     Some(run_workers(rt, alloc, &cache, seats, wires, jobs, batch, &clock, gate))
 }

@@ -65,10 +65,10 @@ fn run_two<R: Threads + Wait + AllocGlobal + Sync>(
     gate: &Meeting,
 ) -> Option<(bool, u64)> {
     let alloc = rt.alloc();
+    let jobs = jobs_to(alloc, &[TO_NAME, second])?;
     let zone = Zone::read(alloc, ZONE).ok()?;
     let sent = AtomicU64::new(0);
     let wires = ZoneWire::several(alloc, &zone, &sent, workers).ok()?;
-    let jobs = jobs_to(alloc, &[TO_NAME, second])?;
     let all = all_go(rt, wires, jobs, gate)?;
     Some((all, sent.load(Ordering::SeqCst)))
 }

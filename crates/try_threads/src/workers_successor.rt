@@ -4,10 +4,11 @@ ghost use Rattle.std.specs.List.{All};
 ghost use Rattle.answer_cache.specs.Shared.{Belongs};
 
 use crate::worker_jobs::{TO_NAME, ZONE, clock_at_100, goes_to, jobs_to};
-use answer_cache::{Seat, SharedCache};
+use answer_cache::{Carried, Seat, SharedCache};
 use dns_answers::Moment;
 use dns_asker::{DATAGRAM_LIMIT, StandingClock, Wire, WireFault, Zone, ZoneWire};
 use sip_workers::{OpenGate, run_workers};
+use std::alloc::Global;
 use std::sync::Wait;
 use std::sync::atomic::{AtomicU64, Ordering};
 use std::thread::Threads;
@@ -37,8 +38,26 @@ impl<'a> Wire for LostWire<'a> {
     }
 }
 
-/// Whether a job to the name in the zone goes to the target in a run with this seat and wire, at
+/// Whether a job to the name in the zone goes to the target in a run with these seats and wires, at
 /// this moment.
+fn run_goes<R: Threads + Wait + AllocGlobal + Sync, W: Wire + Drop + Send>(
+    rt: &R,
+    cache: &SharedCache,
+    seats: Vec<Seat>,
+    wires: Vec<W>,
+    clock: &StandingClock,
+) -> Option<bool>
+    requires { All (Belongs cache.now) seats.items }
+{
+    let alloc = rt.alloc();
+    let jobs = jobs_to(alloc, &[TO_NAME])?;
+    match run_workers(rt, alloc, cache, seats, wires, jobs, 1, clock, &OpenGate) {
+        Ok(made) => Some(made.iter().all(|it| goes_to(&it.0, 5070))),
+        Err(_) => None,
+    }
+}
+
+/// The same with this seat and wire.
 fn goes<R: Threads + Wait + AllocGlobal + Sync, W: Wire + Drop + Send>(
     rt: &R,
     cache: &SharedCache,
@@ -48,46 +67,90 @@ fn goes<R: Threads + Wait + AllocGlobal + Sync, W: Wire + Drop + Send>(
 ) -> Option<bool>
     requires { Belongs cache.now seat }
 {
-    let alloc = rt.alloc();
-    let mut seats = Vec::new(alloc);
-    seats.push(seat).ok()?;
-    let mut wires = Vec::new(alloc);
+    let mut wires = Vec::new(rt.alloc());
     wires.push(wire).ok()?;
-    let jobs = jobs_to(alloc, &[TO_NAME])?;
-    let made = run_workers(rt, alloc, cache, seats, wires, jobs, 1, clock, &OpenGate).ok()?;
-    Some(made.iter().all(|it| goes_to(&it.0, 5070)))
+    let mut seats = Vec::new(rt.alloc());
+    seats.push(seat).ok()?;
+    run_goes(rt, cache, seats, wires, clock)
 }
 
-/// A cache that begins with what a run over the zone stored at the moment 100, carried at 107.
-fn after_a_run<R: Threads + Wait + AllocGlobal + Sync>(rt: &R) -> Option<(SharedCache, Seat)>
-    ensures { IfSome result (λ made. Belongs made.0 made.1) }
+/// A cache and its two seats.
+fn two_seats(alloc: Global) -> Option<(SharedCache, Seat, Seat)>
+    ensures first { IfSome result (λ made. Belongs made.0 made.1) }
+    ensures second { IfSome result (λ made. Belongs made.0 made.2) }
 {
-    let alloc = rt.alloc();
-    let zone = Zone::read(alloc, ZONE).ok()?;
-    let sent = AtomicU64::new(0);
     let Ok((cache, mut seats)) = SharedCache::new(alloc, 2) else {
         return None;
     };
-    let mut second = seats.pop()?;
+    let second = seats.pop()?;
     let first = seats.pop()?;
-    let wire = ZoneWire::new(alloc, &zone, &sent);
-    goes(rt, &cache, first, wire, &clock_at_100())?;
-    let carried = cache.carry(alloc, &mut second, Moment::new(107)?).ok()?;
-    let Ok((next, mut seats)) = SharedCache::successor(rt, alloc, &carried, 1) else {
+    Some((cache, first, second))
+}
+
+/// Whether a job goes to the target in a run over the zone with this seat, at the moment 100.
+fn goes_over_zone<R: Threads + Wait + AllocGlobal + Sync>(
+    rt: &R,
+    cache: &SharedCache,
+    seat: Seat,
+) -> bool
+    requires { Belongs cache.now seat }
+{
+    let Ok(zone) = Zone::read(rt.alloc(), ZONE) else {
+        return false;
+    };
+    let sent = AtomicU64::new(0);
+    let wire = ZoneWire::new(rt.alloc(), &zone, &sent);
+    goes(rt, cache, seat, wire, &clock_at_100()) == Some(true)
+}
+
+/// What a seat hands on at 107.
+fn carried_by(alloc: Global, cache: &SharedCache, seat: &mut Seat) -> Option<Carried>
+    requires { Belongs cache.now seat.old }
+{
+    cache.carry(alloc, seat, Moment::new(107)?).ok()
+}
+
+/// What a cache hands on after a run over the zone.
+fn carried_after_a_run<R: Threads + Wait + AllocGlobal + Sync>(rt: &R) -> Option<Carried> {
+    let (cache, first, mut second) = two_seats(rt.alloc())?;
+    if goes_over_zone(rt, &cache, first) {
+        carried_by(rt.alloc(), &cache, &mut second)
+    } else {
+        None
+    }
+}
+
+/// A cache that begins with what was carried.
+fn successor<R: Wait + AllocGlobal>(rt: &R, carried: &Carried) -> Option<(SharedCache, Seat)>
+    ensures { IfSome result (λ made. Belongs made.0 made.1) }
+{
+    let Ok((cache, mut seats)) = SharedCache::successor(rt, rt.alloc(), carried, 1) else {
         return None;
     };
     let seat = seats.pop()?;
-    Some((next, seat))
+    Some((cache, seat))
 }
 
-/// Whether the job goes to the target at 110 over that cache, and how many datagrams were lost.
-fn run_after<R: Threads + Wait + AllocGlobal + Sync>(rt: &R) -> Option<(bool, u64)> {
-    let (cache, seat) = after_a_run(rt)?;
-    let sent = AtomicU64::new(0);
+/// Whether the job goes to the target at 110 over that cache and this wire.
+fn goes_after<R: Threads + Wait + AllocGlobal + Sync>(
+    rt: &R,
+    carried: &Carried,
+    wire: LostWire<'_>,
+) -> Option<bool> {
     let clock = StandingClock {
         moment: Moment::new(110)?,
     };
-    let all = goes(rt, &cache, seat, LostWire { sent: &sent }, &clock)?;
+    match successor(rt, carried) {
+        Some((cache, seat)) => goes(rt, &cache, seat, wire, &clock),
+        None => None,
+    }
+}
+
+/// The same, and how many datagrams were lost.
+fn run_after<R: Threads + Wait + AllocGlobal + Sync>(rt: &R) -> Option<(bool, u64)> {
+    let carried = carried_after_a_run(rt)?;
+    let sent = AtomicU64::new(0);
+    let all = goes_after(rt, &carried, LostWire { sent: &sent })?;
     Some((all, sent.load(Ordering::SeqCst)))
 }
 
