@@ -149,6 +149,8 @@ step-in-order old new (runs.hear octets) it (runs.heard (Ended id question endin
     rw left (fewer-in-order old it (λ ticket. not (has_id id ticket)))
 step-in-order old new (runs.hear octets) it (runs.heard (Ignored why) means left) = rw left it
 step-in-order old new (runs.hear octets) it (runs.unheard left) = rw left it
+step-in-order old new (runs.cancel id) it (runs.cancelled left) =
+    rw left (fewer-in-order old it (λ ticket. not (has_id id ticket)))
 step-in-order old new (runs.wait now) it (runs.waited None dues) = rw dues.0 it
 step-in-order old new (runs.wait now) it (runs.waited (Some (Resend id octets)) dues) =
     rw dues.left (resent-in-order old it dues.ticket dues.others dues.first now dues.more)

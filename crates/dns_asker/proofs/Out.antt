@@ -7,11 +7,11 @@ use Rattle.std.specs.List.{All, filter, find}
 use Rattle.pending_list.specs.Pending.{Pending}
 use Rattle.pending_list.specs.declared.entry.Entry.{Entry}
 use Rattle.dns_message.specs.declared.question.Question.{Question}
-use Rattle.dns_asker.proofs.Listing.{first-counted, found-has, taken}
-use Rattle.dns_asker.specs.Events.{sent_octets}
+use Rattle.dns_asker.proofs.Listing.{all-stay, first-counted, found-has, none-found, taken}
+use Rattle.dns_asker.specs.Events.{closed, sent_octets}
 use Rattle.dns_asker.specs.Listed.{asking_of, is_of, ticket_in}
 use Rattle.dns_asker.specs.Out.{HasQuestion, IsOctetsOf, LacksQuestion}
-use Rattle.dns_asker.specs.Tickets.{IsAsking, Sent, Ticket, has_id, ticket_of}
+use Rattle.dns_asker.specs.Tickets.{Asking, IsAsking, Sent, Ticket, has_id, ticket_of}
 
 same-id : (a b : ℕ) → nat_eq a b ≡ true → a ≡ b
 same-id a b is = search rules
@@ -25,6 +25,21 @@ pub octets-are : (list : Pending Sent) (id : ℕ) (entry : Entry Sent) (octets :
 octets-are list id entry octets first are =
     let its = same-id entry.item.id id (found-passes (is_of id) list.entries entry first) in
     record { ticket = ticket_in entry; there = taken list id entry first; are = are ∙ ap (λ i. sent_octets i entry.item.question) its }
+
+-- the entry of an id has that id
+pub id-is : (list : Pending Sent) (id : ℕ) (entry : Entry Sent) → find (is_of id) list.entries ≡ Some entry → entry.item.id ≡ id
+id-is list id entry first = same-id entry.item.id id (found-passes (is_of id) list.entries entry first)
+
+-- the question of the ticket of an id
+pub question-is : (list : Pending Sent) (id : ℕ) (entry : Entry Sent) (question : Question) → find (is_of id) list.entries ≡ Some entry
+    → question ≡ entry.item.question → HasQuestion question id (asking_of list).tickets
+question-is list id entry question first is = record { ticket = ticket_in entry; there = taken list id entry first; of_it = sym is }
+
+-- where an id has no ticket, all stay
+pub closed-none : (id : ℕ) (asking : Asking) → ticket_of id asking.tickets ≡ None → asking ≡ closed id asking
+closed-none id asking none =
+    ap (λ l. record asking { tickets = l })
+    (sym (all-stay (has_id id) asking.tickets (none-found (has_id id) asking.tickets none)))
 
 -- ---- a search along the tickets
 

@@ -1,9 +1,9 @@
 //! The questions that were sent, from the first time until the wait for a reply ends.
-ghost use Rattle.std.specs.Prelude.{◌≡◌, ◌≤◌, ◌↔◌, [], None, slice_get, IfErr, IfOk, IfSome, IsSome, IsTrue, MatchOption, OnErr, length};
+ghost use Rattle.std.specs.Prelude.{◌≡◌, ◌≤◌, ◌↔◌, [], None, slice_get, IfErr, IfNone, IfOk, IfSome, IsSome, IsTrue, MatchOption, OnErr, length};
 ghost use Rattle.std.specs.List.{All};
 ghost use Rattle.std.specs.Option.{option_map};
 ghost use Rattle.dns_answers.specs.Replies.{reply_refusal};
-ghost use Rattle.dns_asker.specs.Events.{Asks, Dues, EndsBy, IsNoReply, MayWant, Means, left_by};
+ghost use Rattle.dns_asker.specs.Events.{Asks, Dues, EndsBy, IsNoReply, MayWant, Means, closed, left_by};
 ghost use Rattle.dns_asker.specs.Out.{HasQuestion, IsOctetsOf, LacksQuestion};
 ghost use Rattle.dns_asker.specs.Tickets.{IsAsking, ticket_of};
 
@@ -136,6 +136,24 @@ impl Asker {
         };
         let (id, question) = self.tickets.close(at);
         Ok(Incoming::Ended(id, question, ending))
+    }
+
+    /// Ends the wait for the reply to the question that waits under this id, and gives the
+    /// question. None where no question waits under it: then all stays as it was. A reply that
+    /// comes later is ignored. Takes no memory.
+    pub fn cancel(&mut self, id: u16) -> Option<Question>
+        ensures given { MatchOption result (ticket_of id self.old.tickets ≡ None)
+            (λ question. HasQuestion question id self.old.tickets) }
+        ensures left { self.new ≡ closed id self.old }
+        ensures unchanged { IfNone result (self.new ≡ self.old) }
+    {
+        match self.tickets.place_of(id) {
+            Some(at) => {
+                let (_, question) = self.tickets.close(at);
+                Some(question)
+            }
+            None => None,
+        }
     }
 
     /// What is to be done at a moment about the first question whose reply did not come in time.

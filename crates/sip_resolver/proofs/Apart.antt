@@ -12,7 +12,7 @@ use Rattle.dns_asker.specs.declared.incoming.Due.TheVariants.{Resend, GaveUp}
 use Rattle.dns_asker.specs.declared.incoming.Incoming.{Incoming}
 use Rattle.dns_asker.specs.declared.incoming.Incoming.TheVariants.{Ended, Ignored}
 use Rattle.dns_message.specs.declared.question.Question.{Question}
-use Rattle.sip_resolver.specs.Questions.{AreDistinct, Differ, Fewer, Lacks, QuestionsView, asked_over, closed_over, left_over}
+use Rattle.sip_resolver.specs.Questions.{AreBounded, AreDistinct, Differ, Fewer, Lacks, QuestionsView, asked_over, closed_both, closed_over, left_over}
 use Rattle.sip_resolver.specs.declared.transmit.Over.{Over}
 use Rattle.sip_resolver.specs.declared.transmit.Over.TheVariants.{Datagram, Stream}
 
@@ -139,6 +139,15 @@ distinct-left Stream (Ended id question ending) old it =
     (fewer-kept (λ ticket. not (has_id id ticket)) old.streams.tickets) it
 distinct-left Datagram (Ignored why) old it = it
 distinct-left Stream (Ignored why) old it = it
+
+-- one is closed over both
+pub closed-bounded : (id : ℕ) (it : QuestionsView) → AreBounded it → AreBounded (closed_both id it)
+closed-bounded id it bounded = record {
+  distinct = distinct-fewer it (closed_both id it) (fewer-kept (λ ticket. not (has_id id ticket)) it.datagrams.tickets)
+      (fewer-kept (λ ticket. not (has_id id ticket)) it.streams.tickets) bounded.distinct;
+  few_datagrams = bounded.few_datagrams;
+  few_streams = bounded.few_streams;
+}
 
 -- ---- a question is asked
 

@@ -14,3 +14,6 @@ pub mod Sending
 pub mod Idling
 pub mod Awaiting
 pub mod Dealing
+pub mod Circling
+pub mod Abandoned
+pub mod Cancelling

@@ -5,6 +5,7 @@ pub mod Tasks
 pub mod Sends
 pub mod Queues
 pub mod Requests
+pub mod Cancels
 pub mod Idle
 pub mod Settles
 pub mod Works

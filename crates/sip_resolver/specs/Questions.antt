@@ -39,6 +39,10 @@ abbrev pub closed_over : Over → ℕ → QuestionsView → QuestionsView
 closed_over Datagram id it = record it { datagrams = closed id it.datagrams }
 closed_over Stream id it = record it { streams = closed id it.streams }
 
+-- the questions that are out without the one of this id, over datagrams or over streams
+abbrev pub closed_both : ℕ → QuestionsView → QuestionsView
+closed_both id it = record { datagrams = closed id it.datagrams; streams = closed id it.streams }
+
 -- what is left after octets that came in over this
 abbrev pub left_over : Over → Incoming → QuestionsView → QuestionsView
 left_over over (Ended id question ending) it = closed_over over id it

@@ -1,18 +1,20 @@
 -- What becomes of the requests, along any calls.
 use Rattle.std.specs.Prelude.{◌≡◌, ℕ, ◌+◌, List, [], ◌∷◌, ◌++◌, Option, Some, None}
-use Rattle.std.specs.List.{filter_map, sum_by}
+use Rattle.std.specs.List.{filter_map, flat_map, sum_by}
 use Rattle.sip_selection.specs.declared.caps.Caps.{Caps}
 use Rattle.sip_selection.specs.declared.request.Request.{Request}
+use Rattle.sip_resolver.specs.Cancels.{questions_left, requests_with, requests_without}
 use Rattle.sip_resolver.specs.Idle.{AreAwaited}
 use Rattle.sip_resolver.specs.Outcomes.{Ended, Sought}
 use Rattle.sip_resolver.specs.Requests.{AreSame, weight}
 use Rattle.sip_resolver.specs.Resolvers.{IsTaken, ResolverView, with_request}
 
--- What happens to a resolver: a request is submitted, an outcome is taken, or it is polled or hears
--- octets.
+-- What happens to a resolver: a request is submitted, an outcome is taken, the requests of a number
+-- are cancelled, or it is polled or hears octets.
 pub data Event : Type 0 where
   submits : Sought → Event
   takes : Ended → Event
+  cancels : List Sought → Event
   goes : Event
 
 -- what an event leaves
@@ -22,6 +24,9 @@ pub data Step (old new : ResolverView) : Event → Type 0 where
       → Step old new
       (submits (record { number = number; request = request; caps = caps; words = words }))
   taken : (ended : Ended) → IsTaken ended old new → Step old new (takes ended)
+  cancelled : (number : ℕ) → new.requests ≡ requests_without number old.requests
+      → new.questions ≡ questions_left old.requests.waiting new.requests.waiting old.questions
+      → Step old new (cancels (requests_with number old.requests))
   gone : AreSame old.requests new.requests
       → (AreAwaited old.requests old.questions → AreAwaited new.requests new.questions)
       → Step old new goes
@@ -36,19 +41,29 @@ pub data Runs (first : ResolverView) : List Event → ResolverView → Type 0 wh
 abbrev pub submitted_by : Event → Option Sought
 submitted_by (submits sought) = Some sought
 submitted_by (takes ended) = None
+submitted_by (cancels requests) = None
 submitted_by goes = None
 
 -- the request whose outcome an event takes, if it takes one
 abbrev pub ended_by : Event → Option Sought
 ended_by (submits sought) = None
 ended_by (takes ended) = Some ended.sought
+ended_by (cancels requests) = None
 ended_by goes = None
 
+-- the requests that an event cancels
+abbrev pub cancelled_by : Event → List Sought
+cancelled_by (submits sought) = []
+cancelled_by (takes ended) = []
+cancelled_by (cancels requests) = requests
+cancelled_by goes = []
+
 -- The requests that were inside at first, with those that were submitted, are those that are inside
--- at last, with those whose outcomes were taken, each as often: by any weight of each they weigh
--- the same.
+-- at last, with those whose outcomes were taken and those that were cancelled, each as often: by
+-- any weight of each they weigh the same.
 abbrev pub AreKept : ResolverView → List Event → ResolverView → Type 0
 AreKept first events last =
     (h : Sought → ℕ)
     → weight h first.requests + sum_by h (filter_map submitted_by events)
     ≡ weight h last.requests + sum_by h (filter_map ended_by events)
+    + sum_by h (flat_map cancelled_by events)

@@ -10,8 +10,8 @@ use crate::ids::Ids;
 use crate::origin::Origin;
 
 /// Along any calls no request is lost, and none ends twice: the requests that are inside at last,
-/// with those whose outcomes were taken, are those that were inside at first and those that were
-/// submitted, each as often.
+/// with those whose outcomes were taken and those that were cancelled, are those that were inside
+/// at first and those that were submitted, each as often.
 pub fn law_requests_are_kept()
     ensures { (first last : ResolverView) (events : List Event) → Runs first events last
         → AreKept first events last }

@@ -30,6 +30,8 @@
 //! nothing, and send what it gives; take what `poll_outcome` gives; wait for a datagram until the
 //! moment that `next_timeout` names, and hand it to `handle`.
 //!
+//! `cancel` takes a request out that is no longer wanted, by its number: no outcome comes of it.
+//!
 //! Where the caller can ask over streams (`Limits`), the question of a reply that was cut goes on
 //! over one: `poll_transmit` says over what it goes, and the caller says over what octets came.
 //!
@@ -37,10 +39,12 @@
 //! and all that wait for it get its answer, in the order in which they came to wait.
 //!
 //! Read `specs/Outcomes.antt` first: what an outcome says. Then `specs/Resolvers.antt`: what a
-//! resolver holds, and `specs/Works.antt`: what it does at a seat.
+//! resolver holds, `specs/Works.antt`: what it does at a seat, and `specs/Cancels.antt`: what is
+//! left after a request was cancelled.
 #![tactic(auto)]
 
 mod asks;
+mod cancels;
 mod ids;
 mod laws;
 mod origin;

@@ -7,7 +7,7 @@ ghost use Rattle.dns_asker.specs.Tickets.{ticket_of};
 ghost use Rattle.sip_resolver.specs.Ends.{EndsMore};
 ghost use Rattle.dns_asker.specs.declared.refusal.AskRefusal.TheVariants as refusals;
 ghost use Rattle.sip_resolver.specs.Idle.{AreAwaited, AreTaken, HasNoRoom, IsFull, IsInWait, IsOut, MayRefuse};
-ghost use Rattle.sip_resolver.specs.Questions.{AreDistinct, IsLeast, IsSent, Lacks, asked_over, asking_over, deadlines_of, left_over, none_out};
+ghost use Rattle.sip_resolver.specs.Questions.{AreDistinct, IsLeast, IsSent, Lacks, asked_over, asking_over, closed_both, deadlines_of, left_over, none_out};
 ghost use Rattle.sip_resolver.specs.Requests.{AreSame, Stand};
 ghost use Rattle.sip_resolver.specs.Sends.{GivesUpBoth, IsInTime, SendsAfter, tickets_of};
 
@@ -162,6 +162,14 @@ impl Questions {
             Over::Datagram => self.datagrams.incoming(octets),
             Over::Stream => self.streams.incoming(octets),
         }
+    }
+
+    /// Closes the question of this id, over what it is out.
+    pub(crate) fn close(&mut self, id: u16)
+        ensures { self.new ≡ closed_both id self.old }
+    {
+        let _over_datagrams = self.datagrams.cancel(id);
+        let _over_streams = self.streams.cancel(id);
     }
 
     /// Gives up the questions that were sent three times and whose replies did not come in time,

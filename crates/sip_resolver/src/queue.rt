@@ -1,6 +1,7 @@
 //! A queue whose room is taken once.
-ghost use Rattle.std.specs.Prelude.{◌≡◌, ◌↔◌, ◌<◌, ◌≤◌, ℕ, [], ◌∷◌, ◌++◌, IfOk, IsTrue, MatchOption, length, map};
+ghost use Rattle.std.specs.Prelude.{◌≡◌, ◌↔◌, ◌<◌, ◌≤◌, ℕ, [], ◌∷◌, ◌++◌, Some, IfOk, IsTrue, MatchOption, length, map, slice_get};
 ghost use Rattle.std.specs.List.{Contains};
+ghost use Rattle.sip_resolver.specs.Cancels.{others_by};
 
 use std::alloc::{AllocError, Global};
 use std::collections::VecDeque;
@@ -36,6 +37,14 @@ impl<T> Queue<T> {
         ensures { result ≡ length self.now.items }
     {
         self.items.len()
+    }
+
+    /// The one at a place.
+    pub(crate) fn at(&self, place: usize) -> &T
+        requires { place < length self.now.items }
+        ensures { slice_get self.now.items place ≡ Some result.now }
+    {
+        &self.items[place]
     }
 
     /// One more, which comes last.
@@ -78,5 +87,33 @@ impl<T: Numbered> Queue<T> {
             }
         }
         false
+    }
+}
+
+impl<T: Numbered + Drop> Queue<T> {
+    /// Takes all out that have this number.
+    pub(crate) fn remove_all(&mut self, number: u64)
+        requires { length self.old.items ≤ self.old.room }
+        ensures { self.new
+            ≡ record self.old { items = others_by T.numbered number self.old.items } }
+    {
+        'items: for _item in 0..self.len() {
+            match self.pop() {
+                None => return,
+                Some(item) => self.push_other(item, number),
+            }
+        }
+    }
+
+    /// One more, which comes last, unless it has this number.
+    fn push_other(&mut self, item: T, number: u64)
+        requires { length self.old.items < self.old.room }
+        ensures { self.new ≡ record self.old {
+          items = self.old.items ++ others_by T.numbered number (item ∷ []);
+        } }
+    {
+        if item.its_number() != number {
+            self.push(item);
+        }
     }
 }

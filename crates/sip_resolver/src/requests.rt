@@ -1,8 +1,9 @@
 //! The requests inside a resolver, by how far they are.
 ghost use Rattle.std.specs.Prelude.{◌≡◌, ◌↔◌, ◌<◌, ◌≤◌, [], ◌∷◌, ◌++◌, IfOk, IfSome, IsTrue, MatchOption, length, map};
 ghost use Rattle.std.specs.List.{Contains};
+ghost use Rattle.sip_resolver.specs.Cancels.{is_awaited, others_by};
 ghost use Rattle.sip_resolver.specs.Outcomes.{Ended};
-ghost use Rattle.sip_resolver.specs.Requests.{IsWithoutEnded, IsWithoutHeld, IsWithoutReady, IsWithoutWaiting, count_of, numbers_of, requests_of};
+ghost use Rattle.sip_resolver.specs.Requests.{IsWithoutEnded, IsWithoutHeld, IsWithoutReady, IsWithoutWaiting, count_of, number_of_ended, numbers_of, requests_of};
 ghost use Rattle.sip_resolver.specs.Tasks.{sought_of};
 
 use crate::outcome::{Outcome, Resolved};
@@ -108,6 +109,18 @@ impl<B> Requests<B> {
         self.ended.has(number)
     }
 
+    /// Whether one of them waits for the reply to the message of this id.
+    pub(crate) fn is_awaited(&self, id: u16) -> bool
+        ensures { result ≡ is_awaited self.now.waiting id }
+    {
+        'waits: for at in 0..self.waiting.len() {
+            if self.waiting.at(at).id == id {
+                return true;
+            }
+        }
+        false
+    }
+
     /// How many are held.
     pub(crate) fn held_len(&self) -> usize
         ensures { result ≡ length self.now.held }
@@ -188,5 +201,18 @@ impl<B> Requests<B> {
             (λ ended. IsWithoutEnded ended self.old self.new) }
     {
         self.ended.pop()
+    }
+
+    /// Takes all out that have this number and do not wait.
+    pub(crate) fn remove_not_waiting(&mut self, number: u64)
+        ensures { self.new ≡ record self.old {
+          ready = others_by (λ task. task.number) number self.old.ready;
+          held = others_by (λ task. task.number) number self.old.held;
+          ended = others_by number_of_ended number self.old.ended;
+        } }
+    {
+        self.ready.remove_all(number);
+        self.held.remove_all(number);
+        self.ended.remove_all(number);
     }
 }

@@ -1,15 +1,18 @@
 //! The machine: what comes in, and what it leads to.
-ghost use Rattle.std.specs.Prelude.{◌≡◌, ◌↔◌, ◌<◌, ◌≤◌, ◌⊎◌, [], IfErr, IfNone, IfOk, IfSome, IsTrue, MatchOption, OnErr, OnOk};
+ghost use Rattle.std.specs.Prelude.{◌≡◌, ◌↔◌, ◌+◌, ◌<◌, ℕ, ◌≤◌, ◌⊎◌, [], IfErr, IfNone, IfOk, IfSome, IsTrue, MatchOption, OnErr, OnOk};
+ghost use Rattle.std.specs.Bool.{OnFalse};
+ghost use Rattle.std.specs.List.{Contains, sum_by};
 ghost use Rattle.answer_cache.specs.Seats.{GoesOn, SeatView, StoresNothing};
 ghost use Rattle.dns_answers.specs.Records.{kind_of};
 ghost use Rattle.dns_answers.specs.declared.refusal.ReplyRefusal.TheVariants as refusals;
 ghost use Rattle.dns_asker.specs.declared.incoming.Ending.TheVariants as endings;
 ghost use Rattle.sip_locator.specs.Replies.{Answers};
+ghost use Rattle.sip_resolver.specs.Cancels.{questions_left, requests_with, requests_without};
 ghost use Rattle.sip_resolver.specs.Ends.{EndsMore, IsByChoice, IsByReply, IsMemory};
 ghost use Rattle.sip_resolver.specs.Idle.{AreAwaited, CannotAsk, IsIdle};
-ghost use Rattle.sip_resolver.specs.Outcomes.{IsOutcome};
+ghost use Rattle.sip_resolver.specs.Outcomes.{IsOutcome, Sought};
 ghost use Rattle.sip_resolver.specs.Questions.{IsLeast, deadlines_of};
-ghost use Rattle.sip_resolver.specs.Requests.{AreSame, IsBack, Stand, count_of};
+ghost use Rattle.sip_resolver.specs.Requests.{AreSame, IsBack, Stand, count_of, numbers_of, weight};
 ghost use Rattle.sip_resolver.specs.Resolvers.{HasRoomFor, Hears, IsCut, IsEnded, IsTaken, Polls, RefusesSubmit, begun_of, with_request};
 ghost use Rattle.sip_resolver.specs.Sends.{GivesUpBoth, IsInTime, SendsAfter, SendsFirst, tickets_of};
 ghost use Rattle.sip_resolver.specs.Settles.{GetsAnswer, GoesByReply, SettlesAll};
@@ -17,6 +20,7 @@ ghost use Rattle.sip_resolver.specs.Tasks.{IsCounted, sought_of};
 ghost use Rattle.sip_resolver.specs.Works.{IsAtMostOne, Works};
 
 use crate::asks::wait_for_answer;
+use crate::cancels::remove_waiting;
 use crate::ids::Ids;
 use crate::origin::Origin;
 use crate::outcome::Resolved;
@@ -238,6 +242,35 @@ impl<B: AnswerBook, F: Origin, I: Ids + Drop> Resolver<B, F, I> {
             → Stand F.gives F.shows seat self.new.requests }
     {
         self.requests.next_ended()
+    }
+
+    /// Cancels the request of this number, wherever it is inside, and says whether there was one.
+    /// No outcome comes of it, also where it has ended and its outcome was not taken. All other
+    /// requests stay, in their order.
+    ///
+    /// The question that it waited for is closed, and not sent again, where no other request waits
+    /// for it. A reply that comes later is ignored, and stores nothing. Takes no memory.
+    pub fn cancel(&mut self, number: u64) -> bool
+        ensures found { IsTrue result ↔ Contains (numbers_of self.old.requests) number }
+        ensures requests { self.new.requests ≡ requests_without number self.old.requests }
+        ensures questions { self.new.questions ≡ questions_left self.old.requests.waiting
+            self.new.requests.waiting self.old.questions }
+        ensures streams { self.new.streams ≡ self.old.streams }
+        ensures gone { Contains (numbers_of self.new.requests) number → ⊥ }
+        ensures kept { (h : Sought → ℕ) → weight h self.old.requests
+            ≡ weight h self.new.requests + sum_by h (requests_with number self.old.requests) }
+        ensures unchanged { OnFalse result (self.new ≡ self.old) }
+        ensures stand { (seat : SeatView) → Stand F.gives F.shows seat self.old.requests
+            → Stand F.gives F.shows seat self.new.requests }
+        ensures awaited { AreAwaited self.old.requests self.old.questions
+            → AreAwaited self.new.requests self.new.questions }
+    {
+        if !self.requests.has(number) {
+            return false;
+        }
+        remove_waiting(&mut self.requests, &mut self.questions, number);
+        self.requests.remove_not_waiting(number);
+        true
     }
 
     /// The second at which `poll_transmit` next has something to send or to give up, if nothing

@@ -1,0 +1,205 @@
+-- What is left of the requests and the questions after a request was cancelled.
+use Rattle.std.proofs.Common.{false, ◌+◌, ◌<◌, ◌∷◌, ◌++◌, [], ap, ◌∙◌, ◌≡◌, inl, inr, ℕ, ◌≤◌, Bool, true, not, nat_eq, List, get_or, length, map, Option, refl, sym, subst, arith}
+use Rattle.std.specs.List.{All, Contains, filter, find}
+use Rattle.std.specs.Option.{IsSome}
+use Rattle.std.proofs.lemmas.List.{append-nil}
+use Rattle.std.proofs.lemmas.List.Elements.{All-filter}
+use Rattle.std.proofs.lemmas.List.Filters.{length-filter_both}
+use Rattle.answer_cache.specs.Seats.{SeatView}
+use Rattle.dns_asker.specs.Tickets.{Asking, Ticket, has_id}
+use Rattle.sip_resolver.proofs.Abandoned.{awaited-behind, awaited-left, awaited-self, awaited-turned, questions-not, questions-through}
+use Rattle.sip_resolver.proofs.Circling.{Circled, circled-not, circled-on, circled-over, others-all, others-lack}
+use Rattle.sip_resolver.proofs.Queues.{in-first, in-last, in-second, in-third, only-last}
+use Rattle.sip_resolver.specs.Cancels.{is_awaited, others_by, questions_left, requests_without, without_abandoned}
+use Rattle.sip_resolver.specs.Idle.{AreAwaited, IsIn}
+use Rattle.sip_resolver.specs.Outcomes.{Ended, IsOutcome}
+use Rattle.sip_resolver.specs.Questions.{QuestionsView}
+use Rattle.sip_resolver.specs.Queues.{Queued}
+use Rattle.sip_resolver.specs.Requests.{HaveRoom, IsWithoutWaiting, RequestsView, Stand, number_of_ended, number_of_waiting, numbers_of, requests_of}
+use Rattle.sip_resolver.specs.Tasks.{IsCounted, Lacks, TaskView, WaitingView}
+
+-- they are no more than before
+pub others-few : {X : Type 0} (numbered : X → ℕ) (number : ℕ) (items : List X)
+    → length (others_by numbered number items) ≤ length items
+others-few numbered number items =
+    let all = length-filter_both (λ it. not (nat_eq (numbered it) number)) (λ it. not (not (nat_eq (numbered it) number)))
+    (λ _. refl) items in
+    omega (arith, all)
+
+module _ (number : ℕ) (it : RequestsView) where
+  abbrev readies : List ℕ
+  readies = map (λ (task : TaskView). task.number) it.ready
+
+  abbrev helds : List ℕ
+  helds = map (λ (task : TaskView). task.number) it.held
+
+  abbrev waitings : List ℕ
+  waitings = map number_of_waiting it.waiting
+
+  abbrev endeds : List ℕ
+  endeds = map number_of_ended it.ended
+
+  -- where none has the number, all stay
+  pub without-none : (Contains (numbers_of it) number → ⊥) → requests_without number it ≡ it
+  without-none none =
+      rw (
+        others-all (λ (task : TaskView). task.number) number it.ready
+            (λ there. none (in-first readies helds waitings endeds number there)),
+        others-all (λ (task : TaskView). task.number) number it.held
+            (λ there. none (in-second readies helds waitings endeds number there)),
+        others-all number_of_waiting number it.waiting (λ there. none (in-third readies helds waitings endeds number there)),
+        others-all number_of_ended number it.ended (λ there. none (in-last readies helds waitings endeds number there)),
+      ) refl
+
+  -- none of those that are left has it
+  pub without-lacks : Contains (numbers_of (requests_without number it)) number → ⊥
+  without-lacks there =
+      let left = requests_without number it in
+      others-lack number_of_ended number it.ended
+      (only-last (map (λ (task : TaskView). task.number) left.ready) (map (λ (task : TaskView). task.number) left.held)
+      (map number_of_waiting left.waiting) (map number_of_ended left.ended) number
+      (others-lack (λ (task : TaskView). task.number) number it.ready)
+      (others-lack (λ (task : TaskView). task.number) number it.held)
+      (others-lack number_of_waiting number it.waiting) there)
+
+  -- what holds of all holds of those that are left
+  pub without-stands : (gives : List ℕ → Type 0) (shows : ℕ → Type 0) (seat : SeatView) → Stand gives shows seat it
+      → Stand gives shows seat (requests_without number it)
+  without-stands gives shows seat stand = record {
+    ready = All-filter (λ (task : TaskView). not (nat_eq task.number number)) (IsCounted gives shows seat) it.ready stand.ready;
+    held = All-filter (λ (task : TaskView). not (nat_eq task.number number)) (IsCounted gives shows seat) it.held stand.held;
+    waiting = All-filter (λ (waiting : WaitingView). not (nat_eq (number_of_waiting waiting) number))
+        (λ (waiting : WaitingView). IsCounted gives shows seat waiting.task × Lacks shows seat waiting.task) it.waiting stand.waiting;
+    ended = All-filter (λ (ended : Ended). not (nat_eq (number_of_ended ended) number))
+        (λ (ended : Ended). IsOutcome gives shows seat ended.sought ended.outcome) it.ended stand.ended;
+  }
+
+-- ---- those that wait on
+
+module _ (old new : List WaitingView) (questions : QuestionsView) where
+  ticket-left : (asking : Asking) (id : ℕ) → is_awaited new id ≡ true → IsSome (find (has_id id) asking.tickets)
+      → IsSome (find (has_id id) (without_abandoned old new asking).tickets)
+  ticket-left asking id is some =
+      subst (λ (found : Option Ticket). IsSome found) (sym (awaited-left old new asking id is)) some
+
+  abbrev left : QuestionsView
+  left = questions_left old new questions
+
+  one-left : (it : WaitingView) → is_awaited new it.id ≡ true → IsIn questions.datagrams.tickets questions.streams.tickets it
+      → IsIn left.datagrams.tickets left.streams.tickets it
+  one-left it is (inl some) = inl (ticket-left questions.datagrams it.id is some)
+  one-left it is (inr some) = inr (ticket-left questions.streams it.id is some)
+
+  pub all-left : All (IsIn questions.datagrams.tickets questions.streams.tickets) new
+      → All (IsIn left.datagrams.tickets left.streams.tickets) new
+  all-left all k d small = one-left (get_or new k d) (awaited-self new k d small) (all k d small)
+
+-- each waits for a question that is out still
+pub without-awaits : (number : ℕ) (it : RequestsView) (questions : QuestionsView) → AreAwaited it questions
+    → AreAwaited (requests_without number it) (questions_left it.waiting (requests_without number it).waiting questions)
+without-awaits number it questions all =
+    let new = (requests_without number it).waiting in
+    all-left it.waiting new questions
+    (All-filter (λ (waiting : WaitingView). not (nat_eq (number_of_waiting waiting) number))
+    (IsIn questions.datagrams.tickets questions.streams.tickets) it.waiting all)
+
+-- ---- a turn of those that wait
+
+-- who waits after a turn of one waited before
+module _ (number : ℕ) (it : WaitingView) (others : List WaitingView) (id : ℕ) where
+  abbrev is-other : WaitingView → Bool
+  is-other waiting = not (nat_eq (number_of_waiting waiting) number)
+
+  back-by : (is : Bool) → is-other it ≡ is → is_awaited (others ++ filter is-other (it ∷ [])) id ≡ true
+      → is_awaited (it ∷ others) id ≡ true
+  back-by true is waits = awaited-turned it others id (rw is at waits)
+  back-by false is waits =
+      let waits-too : is_awaited (others ++ []) id ≡ true = rw is at waits in
+      awaited-behind it others id (rw (append-nil others) at waits-too)
+
+  awaited-back : is_awaited (others ++ filter is-other (it ∷ [])) id ≡ true → is_awaited (it ∷ others) id ≡ true
+  awaited-back waits = back-by (is-other it) refl waits
+
+-- so many that waited were taken from the front, and put back but for those of the number
+pub record Turned (number : ℕ) (old now : RequestsView) (asked asks : QuestionsView) (count : ℕ) : Type 0 where
+  pub circled : Circled (λ it. not (nat_eq (number_of_waiting it) number)) old.waiting now.waiting count
+  pub others : now ≡ record old { waiting = now.waiting }
+  pub fewer : (id : ℕ) → is_awaited now.waiting id ≡ true → is_awaited old.waiting id ≡ true
+  pub questions : asks ≡ questions_left old.waiting now.waiting asked
+
+pub turned-not : (number : ℕ) (old : RequestsView) (asked : QuestionsView) → Turned number old old asked asked 0
+turned-not number old asked = record {
+  circled = circled-not (λ it. not (nat_eq (number_of_waiting it) number)) old.waiting;
+  others = refl;
+  fewer = λ id waits. waits;
+  questions = questions-not asked old.waiting;
+}
+
+module _ (number : ℕ) (old now middle new : RequestsView) (asked asks then : QuestionsView) (it : WaitingView) (count : ℕ)
+    (so : Turned number old now asked asks count) (out : IsWithoutWaiting it now middle) (less : count < length old.waiting)
+    (back : new ≡ record middle { waiting = middle.waiting ++ others_by number_of_waiting number (it ∷ []) })
+    (left : then ≡ questions_left (it ∷ middle.waiting) new.waiting asks) where
+  abbrev test : WaitingView → Bool
+  test waiting = not (nat_eq (number_of_waiting waiting) number)
+
+  abbrev last : List WaitingView
+  last = others_by number_of_waiting number (it ∷ [])
+
+  waiting-is : new.waiting ≡ middle.waiting ++ last
+  waiting-is = ap (λ (v : RequestsView). v.waiting) back
+
+  others-are : new ≡ record old { waiting = new.waiting }
+  others-are =
+      back
+      ∙ ap (λ (v : RequestsView). record v { waiting = middle.waiting ++ last }) out.others
+      ∙ ap (λ (v : RequestsView). record v { waiting = middle.waiting ++ last }) so.others
+      ∙ ap (λ l. requests_of old.ready old.held l old.ended old.limit) (sym waiting-is)
+
+  one-fewer : (id : ℕ) → is_awaited new.waiting id ≡ true → is_awaited now.waiting id ≡ true
+  one-fewer id waits =
+      let waits-too : is_awaited (middle.waiting ++ last) id ≡ true = rw waiting-is at waits in
+      rw out.first (awaited-back number it middle.waiting id waits-too)
+
+  questions-are : then ≡ questions_left old.waiting new.waiting asked
+  questions-are =
+      left
+      ∙ ap (λ l. questions_left l new.waiting asks) (sym out.first)
+      ∙ ap (λ q. questions_left now.waiting new.waiting q) so.questions
+      ∙ questions-through asked old.waiting now.waiting new.waiting so.fewer one-fewer
+
+  pub turned-on : Turned number old new asked then (count + 1)
+  turned-on = record {
+    circled = circled-on test old.waiting now.waiting middle.waiting new.waiting it count so.circled out.first less waiting-is;
+    others = others-are;
+    fewer = λ id waits. so.fewer id (one-fewer id waits);
+    questions = questions-are;
+  }
+
+-- the turn is over
+pub turned-over : (number : ℕ) (old now : RequestsView) (asked asks : QuestionsView) (count : ℕ)
+    → Turned number old now asked asks count
+    → length old.waiting ≤ count → now ≡ record old { waiting = others_by number_of_waiting number old.waiting }
+turned-over number old now asked asks count so all =
+    so.others
+    ∙ ap (λ l. requests_of old.ready old.held l old.ended old.limit)
+    (circled-over (λ it. not (nat_eq (number_of_waiting it) number)) old.waiting now.waiting count so.circled all)
+
+-- ---- room
+
+pub room-left : (first second third : ℕ) (ready held : Queued TaskView) (waiting : Queued WaitingView) (ended : Queued Ended) (limit : ℕ)
+    → HaveRoom ready held waiting ended limit
+    → HaveRoom (record ready { items = others_by (λ task. task.number) first ready.items })
+    (record held { items = others_by (λ task. task.number) second held.items }) waiting
+    (record ended { items = others_by number_of_ended third ended.items }) limit
+room-left first second third ready held waiting ended limit it = record {
+  ready_room = it.ready_room;
+  held_room = it.held_room;
+  waiting_room = it.waiting_room;
+  ended_room = it.ended_room;
+  few =
+      let few = it.few in
+      let one = others-few (λ (task : TaskView). task.number) first ready.items in
+      let two = others-few (λ (task : TaskView). task.number) second held.items in
+      let three = others-few number_of_ended third ended.items in
+      omega (arith, few, one, two, three);
+}

@@ -1,0 +1,157 @@
+-- A turn of a queue: each item is taken from the front, and what passes a test is put back behind.
+use Rattle.std.proofs.Common.{◌≡◌, ◌≢◌, ℕ, suc, ◌+◌, ◌<◌, ◌≤◌, Bool, true, false, not, nat_eq, List, [], ◌∷◌, ◌++◌, length, map, refl, sym, ap, ◌∙◌, append_assoc, arith, rules}
+use Rattle.std.specs.List.{Contains, filter}
+use Rattle.std.proofs.lemmas.List.{append-nil, length-append}
+use Rattle.std.proofs.lemmas.List.Elements.{All-contains, All-map, All-weaker, Contains-append_right, filter-append, filter_passes}
+use Rattle.sip_resolver.specs.Cancels.{others_by}
+use Rattle.sip_resolver.specs.Queues.{Queued}
+
+module _ {X : Type 0} (p : X → Bool) where
+  -- so many of the items were taken, and those that pass stand behind the others
+  pub record Circled (old now : List X) (count : ℕ) : Type 0 where
+    pub front : List X
+    pub done : List X
+    pub whole : old ≡ done ++ front
+    pub counted : length done ≡ count
+    pub now_is : now ≡ front ++ filter p done
+
+  pub circled-not : (old : List X) → Circled old old 0
+  circled-not old =
+      record { front = old; done = []; whole = refl; counted = refl; now_is = sym (append-nil old) }
+
+  on-by : (old now middle : List X) (x : X) (front done : List X) → old ≡ done ++ front → now ≡ front ++ filter p done
+      → now ≡ x ∷ middle → length done < length old → (new : List X) → new ≡ middle ++ filter p (x ∷ [])
+      → Circled old new (length done + 1)
+  on-by old now middle x [] done whole is first less new back =
+      absurd (let all = ap length (whole ∙ append-nil done) in omega (arith, all, less))
+  on-by old now middle x (y ∷ front) done whole is first less new back =
+      let both : x ∷ middle ≡ y ∷ front ++ filter p done = sym first ∙ is in
+      let same : x ≡ y = cc in
+      let rest : middle ≡ front ++ filter p done = cc in
+      record {
+        front = front;
+        done = done ++ x ∷ [];
+        whole = rw same (whole ∙ sym (append_assoc done (y ∷ []) front));
+        counted = length-append done (x ∷ []);
+        now_is = back ∙ ap (λ l. l ++ filter p (x ∷ [])) rest ∙ append_assoc front (filter p done) (filter p (x ∷ []))
+            ∙ ap (λ l. front ++ l) (sym (filter-append p done (x ∷ [])));
+      }
+
+  pub circled-on : (old now middle new : List X) (x : X) (count : ℕ) → Circled old now count → now ≡ x ∷ middle
+      → count < length old → new ≡ middle ++ filter p (x ∷ []) → Circled old new (count + 1)
+  circled-on old now middle new x count it first less back =
+      rw (sym it.counted) (on-by old now middle x it.front it.done it.whole it.now_is first (rw it.counted less) new back)
+
+  over-by : (old now front done : List X) → old ≡ done ++ front → now ≡ front ++ filter p done → length old ≤ length done
+      → now ≡ filter p old
+  over-by old now [] done whole is all = is ∙ ap (filter p) (sym (whole ∙ append-nil done))
+  over-by old now (x ∷ front) done whole is all =
+      absurd (let parts = ap length whole ∙ length-append done (x ∷ front) in omega (arith, parts, all))
+
+  -- the turn is over
+  pub circled-over : (old now : List X) (count : ℕ) → Circled old now count → length old ≤ count → now ≡ filter p old
+  circled-over old now count it all = over-by old now it.front it.done it.whole it.now_is (rw it.counted all)
+
+  early-by : (old now front done : List X) → old ≡ done ++ front → now ≡ front ++ filter p done → now ≡ []
+      → length done < length old → ⊥
+  early-by old now [] done whole is none less =
+      let all = ap length (whole ∙ append-nil done) in omega (arith, all, less)
+  early-by old now (x ∷ front) done whole is none less = absurd cc
+
+  -- the queue isn't empty before that
+  pub circled-early : (old now : List X) (count : ℕ) → Circled old now count → now ≡ [] → count < length old → ⊥
+  circled-early old now count it none less =
+      early-by old now it.front it.done it.whole it.now_is none (rw it.counted less)
+
+  kept-by : (x : X) (xs : List X) (is : Bool) → p x ≡ is → p x ≡ true → filter p xs ≡ xs → filter p (x ∷ xs) ≡ x ∷ xs
+  kept-by x xs true is passes rest = rw (is, rest) refl
+  kept-by x xs false is passes rest = absurd cc
+
+-- ---- those of another number
+
+differs : (a b : ℕ) → a ≢ b → not (nat_eq a b) ≡ true
+differs a b other = search rules
+
+unlike : (a b : ℕ) → a ≢ b → nat_eq a b ≡ false
+unlike a b other = search rules
+
+alike : (a b : ℕ) → a ≡ b → nat_eq a b ≡ true
+alike a b same = search rules
+
+other-than : (a b : ℕ) → not (nat_eq a b) ≡ true → a ≢ b
+other-than a b e = search rules
+
+module _ {X : Type 0} (numbered : X → ℕ) (number : ℕ) where
+  abbrev is-other : X → Bool
+  is-other it = not (nat_eq (numbered it) number)
+
+  -- where none has the number, all stay
+  pub others-all : (xs : List X) → (Contains (map numbered xs) number → ⊥) → others_by numbered number xs ≡ xs
+  others-all [] none = refl
+  others-all (x ∷ xs) none =
+      kept-by is-other x xs (is-other x) refl
+      (differs (numbered x) number (λ same. none (0, omega arith, same)))
+      (others-all xs (λ there. none (Contains-append_right (numbered x ∷ []) (map numbered xs) number there)))
+
+  one-by : (x : X) (is : Bool) → nat_eq (numbered x) number ≡ is → is ≡ false → others_by numbered number (x ∷ []) ≡ x ∷ []
+  one-by x true same other = absurd cc
+  one-by x false same other = rw same refl
+
+  none-by : (x : X) (is : Bool) → nat_eq (numbered x) number ≡ is → is ≡ true → others_by numbered number (x ∷ []) ≡ []
+  none-by x true same its = rw same refl
+  none-by x false same its = absurd cc
+
+  pub other-stays : (x : X) → numbered x ≢ number → others_by numbered number (x ∷ []) ≡ x ∷ []
+  other-stays x other = one-by x (nat_eq (numbered x) number) refl (unlike (numbered x) number other)
+
+  pub this-goes : (x : X) → numbered x ≡ number → others_by numbered number (x ∷ []) ≡ []
+  this-goes x same = none-by x (nat_eq (numbered x) number) refl (alike (numbered x) number same)
+
+  -- none of those that stay has it
+  pub others-lack : (xs : List X) → Contains (map numbered (others_by numbered number xs)) number → ⊥
+  others-lack xs there =
+      All-contains (λ n. n ≢ number) (map numbered (others_by numbered number xs)) number
+      (All-map (λ n. n ≢ number) numbered (others_by numbered number xs)
+      (All-weaker (λ it. is-other it ≡ true) (λ it. numbered it ≢ number) (λ it e. other-than (numbered it) number e)
+      (others_by numbered number xs) (filter_passes is-other xs))) there refl
+
+-- ---- a queue
+
+module _ {X : Type 0} (p : X → Bool) where
+  -- and there is room for all
+  pub record Circling (old now : Queued X) (count : ℕ) : Type 0 where
+    pub circled : Circled p old.items now.items count
+    pub room : now.room ≡ old.room
+    pub fits : length now.items ≤ now.room
+
+  pub circling-not : (old : Queued X) → length old.items ≤ old.room → Circling old old 0
+  circling-not old fits = record { circled = circled-not p old.items; room = refl; fits = fits }
+
+  few-by : (x : X) (is : Bool) → p x ≡ is → length (filter p (x ∷ [])) ≤ 1
+  few-by x true is = rw is omega arith
+  few-by x false is = rw is omega arith
+
+  pub circling-on : (old now middle new : Queued X) (x : X) (count : ℕ) → Circling old now count → now.items ≡ x ∷ middle.items
+      → middle.room ≡ now.room → count < length old.items
+      → new ≡ record middle { items = middle.items ++ filter p (x ∷ []) } → Circling old new (count + 1)
+  circling-on old now middle new x count it first room less back =
+      let items : new.items ≡ middle.items ++ filter p (x ∷ []) = ap (λ (q : Queued X). q.items) back in
+      let same : new.room ≡ middle.room = ap (λ (q : Queued X). q.room) back in
+      let one = few-by x (p x) refl in
+      let long = ap length items ∙ length-append middle.items (filter p (x ∷ [])) in
+      let before : length now.items ≡ suc (length middle.items) = ap length first in
+      let fits = it.fits in
+      record {
+        circled = circled-on p old.items now.items middle.items new.items x count it.circled first less items;
+        room = same ∙ room ∙ it.room;
+        fits = omega (arith, one, long, before, fits, room, same);
+      }
+
+  abbrev queued : List X → ℕ → Queued X
+  queued items room = record { items = items; room = room }
+
+  pub circling-over : (old now : Queued X) (count : ℕ) → Circling old now count → length old.items ≤ count
+      → now ≡ record old { items = filter p old.items }
+  circling-over old now count it all =
+      ap (λ i. queued i now.room) (circled-over p old.items now.items count it.circled all)
+      ∙ ap (λ r. queued (filter p old.items) r) it.room
