@@ -6,7 +6,7 @@ use Rattle.sip_resolver.specs.Sends.{Sends}
 use Rattle.sip_resolver.specs.Tasks.{WaitingView}
 use Rattle.sip_resolver.specs.declared.transmit.Transmit.{Transmit}
 use Rattle.dns_client.specs.Driven.{Drives, Gives, IsQuery, SendsNext, begun, receives, sends, waits}
-use Rattle.dns_client.specs.WireEvents.{Event}
+use Rattle.dns_transport.specs.WireEvents.{Event}
 
 is-query : (now asked : ℕ) (waiting : List WaitingView) (old new : QuestionsView) (transmit : Transmit)
     → Sends now asked waiting old new (Some transmit) → IsQuery transmit.octets.now

@@ -7,7 +7,7 @@ use Rattle.sip_resolver.specs.Outcomes.{Ended}
 use Rattle.sip_resolver.specs.Requests.{AreSame, IsBack, RequestsView}
 use Rattle.sip_resolver.specs.Resolvers.{Polls, ResolverView}
 use Rattle.sip_resolver.specs.declared.transmit.Transmit.{Transmit}
-use Rattle.dns_client.specs.WireEvents.{Event, nothing, received, sent}
+use Rattle.dns_transport.specs.WireEvents.{Event, nothing, received, sent}
 
 -- The same requests are inside as before, without the one that came out, if one did.
 abbrev pub GivesOut : Option Ended → RequestsView → RequestsView → Type 0

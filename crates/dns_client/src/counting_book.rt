@@ -1,6 +1,6 @@
 //! A book that counts the answers that are found in it.
 ghost use Rattle.std.specs.Prelude.{◌≡◌};
-ghost use Rattle.dns_client.specs.WireCounts.{more, one_if};
+ghost use Rattle.dns_transport.specs.WireCounts.{more, one_if};
 
 use answer_cache::{AnswerBook, StoreRefusal};
 use dns_answers::{Answer, Moment};

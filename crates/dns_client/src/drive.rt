@@ -6,10 +6,10 @@ ghost use Rattle.sip_resolver.specs.Questions.{deadlines_of};
 ghost use Rattle.sip_resolver.specs.Requests.{AreSame, Stand};
 ghost use Rattle.sip_resolver.specs.Works.{Works};
 
-use crate::message_wire::MessageWire;
 use crate::wire_origin::WireOrigin;
 use answer_cache::AnswerBook;
 use dns_asker::Clock;
+use dns_transport::MessageWire;
 use sip_resolver::{Ids, Over, Resolved, Resolver, rounded_up};
 use std::sync::Wait;
 

@@ -20,6 +20,28 @@ pub fn random_ids(key: [u8; 32], number: u64) -> RandomIds<ChaCha20Rng>
     RandomIds(stream)
 }
 
+/// The stream of what a transport draws: no number below 2^63 - 2 has it for its ids.
+const DRAW_STREAM: u64 = u64::MAX;
+
+/// The stream of the ports of a transport.
+const PORT_STREAM: u64 = u64::MAX - 1;
+
+/// Numbers that ChaCha20 (RFC 8439 2.3) makes of a key, for the ids of what a transport sends.
+#[must_use]
+pub fn random_draws(key: [u8; 32]) -> ChaCha20Rng {
+    let mut stream = ChaCha20Rng::from_seed(key);
+    stream.set_stream(DRAW_STREAM);
+    stream
+}
+
+/// The same for the ports that a transport sends from.
+#[must_use]
+pub fn random_ports(key: [u8; 32]) -> ChaCha20Rng {
+    let mut stream = ChaCha20Rng::from_seed(key);
+    stream.set_stream(PORT_STREAM);
+    stream
+}
+
 /// Ids of two numbers below 2^63 come of two streams, and neither is the stream of the words of
 /// such a number. A call does nothing; its contract states the law.
 pub fn law_id_streams_are_apart()

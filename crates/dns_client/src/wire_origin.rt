@@ -1,6 +1,6 @@
 //! What may be known of what comes over a wire.
-use crate::message_wire::MessageWire;
 use dns_asker::Clock;
+use dns_transport::MessageWire;
 use sip_resolver::Origin;
 use std::marker::PhantomData;
 

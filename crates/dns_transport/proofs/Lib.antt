@@ -1,0 +1,5 @@
+pub mod Others
+pub mod Flows
+mod CnameLinks
+mod SameQueries
+mod Rounds

@@ -1,0 +1,13 @@
+pub mod Replies
+pub mod Ends
+pub mod Frames
+pub mod ServerOrders
+pub mod QueryForms
+pub mod Sends
+pub mod ReplyBits
+pub mod Wires
+pub mod WireEvents
+pub mod WireCounts
+pub mod WireTries
+pub mod CnameChains
+pub mod Steps

@@ -1,0 +1,48 @@
+-- What goes out for a query.
+use Rattle.std.specs.Prelude.{◌≡◌, ◌⊎◌, ℕ, Bool, true, List, ◌++◌, drop, length, nat_le, Option, Some, None, if◌then◌else◌}
+use Rattle.std.specs.Int.{to_be_bytes, w16}
+use Rattle.dns_transport.specs.CnameChains.{OpenValue}
+use Rattle.dns_transport.specs.Ends.{IsAnyOf, IsOf, TransportView}
+use Rattle.dns_transport.specs.QueryForms.{form_for, form_octets}
+use Rattle.dns_transport.specs.declared.lookup.Lookup.{Lookup}
+use Rattle.dns_transport.specs.declared.route.Route.{Route}
+use Rattle.dns_transport.specs.declared.server.Server.{Server}
+use Rattle.dns_transport.specs.declared.query_form.QueryForm.{QueryForm}
+
+-- a message with another id in its first two octets (RFC 1035 4.1.1); what has fewer stays
+abbrev pub with_id : ℕ → List ℕ → List ℕ
+with_id id message =
+    if nat_le 2 (length message) then to_be_bytes w16 id ++ drop 2 message else message
+
+-- the octets that go out for what is asked, in a form and with an id of their own
+abbrev pub sent_octets : QueryForm → ℕ → List ℕ → List ℕ
+sent_octets form id asked = with_id id (form_octets form asked)
+
+-- what is asked where a chain is open, if one is
+abbrev pub asked_along : List ℕ → Option OpenValue → List ℕ
+asked_along query None = query
+asked_along query (Some chain) = chain.further_query
+
+-- what is asked for a query of the caller: what asks its chain on, or the query itself
+abbrev pub asked_by : Lookup → List ℕ
+asked_by lookup = asked_along lookup.query.items lookup.chain
+
+-- the way to a server
+abbrev pub way_to : Server → Bool → Route
+way_to server over_tcp = record { server = server.address; over_tcp = over_tcp }
+
+-- A server is asked: what is asked goes to it over TCP, or else over UDP, in the form for it, with
+-- an id of its own.
+pub record Asks {S : Type 0} (sends : S → List ℕ → Route → S → Type 0) (lookup : Lookup)
+    (over_tcp : Bool) (form : QueryForm) (server : Server) (old new : S) : Type 0 where
+  pub id : ℕ
+  pub sent : sends old (sent_octets (form_for form (Some server)) id (asked_by lookup))
+      (way_to server over_tcp) new
+
+-- A server was asked, or what is asked is out over TCP to it already.
+abbrev pub HasAsked : {S : Type 0} → (S → List ℕ → Route → S → Type 0) → Lookup → Bool → QueryForm
+    → Option Server → TransportView S → TransportView S → Type 0
+HasAsked sends lookup over_tcp form None old new = ⊥
+HasAsked sends lookup over_tcp form (Some server) old new =
+    Asks sends lookup over_tcp form server old.system new.system
+    ⊎ ((over_tcp ≡ true) × IsAnyOf (IsOf lookup.number (way_to server true)) old.exchanges true)

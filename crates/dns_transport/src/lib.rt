@@ -1,0 +1,54 @@
+//! DNS queries over sockets that don't block: one loop, in which no server holds another one up.
+//!
+//! `ServerWire` is a wire to DNS servers: it takes queries, asks the servers in turn, and gives
+//! replies. It retries over TCP what was cut (RFC 1035 4.2.1, RFC 7766), goes on to the next server
+//! where one fails, asks without EDNS where a server refuses that (RFC 6891), and asks CNAME chains
+//! on that a server cut short. `WireOptions` and `QueryForm` say how it asks; `WireCounts` and
+//! `WireTry` say what went over it. Any wire is a `MessageWire`, which gives whole messages.
+//!
+//! Below it `Transport` has queries out side by side, and gives for each at most one end: a reply,
+//! silence until its deadline, or that it failed. A query in a datagram has a socket of its own,
+//! whose port is drawn, and queries to one server over TCP share a connection. `Transport` stands
+//! over two traits: `System`, which opens sockets, waits for them and knows the time, and `Link`, a
+//! socket. `SystemSockets` is the system of this host.
+//!
+//! Read `specs/Replies.antt` first: which octets are a reply to a query (RFC 5452 9.1).
+//! `specs/Ends.antt` says what the end of a query says, `specs/Sends.antt` what goes out, and
+//! `specs/Frames.antt` what goes over a connection (RFC 1035 4.2.2).
+#![tactic(auto)]
+
+mod cname_chain;
+mod exchange;
+mod exchanges;
+mod framing;
+mod link;
+mod links;
+mod lookup;
+mod lookups;
+mod message_octets;
+mod message_wire;
+mod open_chain;
+mod query;
+mod query_form;
+mod reply;
+mod reply_bits;
+mod route;
+mod server;
+mod server_order;
+mod server_wire;
+mod system;
+mod transport;
+mod try_log;
+mod wire_counts;
+mod wire_try;
+
+pub use link::{Link, Step, System};
+pub use message_wire::MessageWire;
+pub use query::{End, Outcome, Query};
+pub use query_form::QueryForm;
+pub use route::Route;
+pub use server_wire::{ServerWire, WireOptions};
+pub use system::{SystemLink, SystemSockets};
+pub use transport::{LINK_LIMIT, QUERY_LIMIT, Transport};
+pub use wire_counts::WireCounts;
+pub use wire_try::{Tracer, TryRoute, WireReply, WireTry};

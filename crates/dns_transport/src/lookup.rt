@@ -1,0 +1,75 @@
+//! A query of the caller that is open.
+ghost use Rattle.std.specs.Prelude.{◌≡◌};
+ghost use Rattle.dns_transport.specs.Sends.{asked_by};
+
+use crate::open_chain::OpenChain;
+use crate::server_order::server_at;
+use std::alloc::{AllocError, Global};
+
+/// A query of the caller, under a number of its own: to which server it goes first, how often it
+/// was sent, a reply that is handed on where no better one comes, and the chain of CNAME records
+/// that is asked on for it.
+#[derive(Debug, Drop)]
+pub(crate) struct Lookup {
+    pub(crate) number: u64,
+    pub(crate) query: Vec<u8>,
+    pub(crate) first: usize,
+    pub(crate) sends: usize,
+    pub(crate) went_out: bool,
+    /// The millisecond at which it was sent to the last server, if it was.
+    pub(crate) asked_at: Option<u64>,
+    pub(crate) kept: Option<Vec<u8>>,
+    pub(crate) chain: Option<OpenChain>,
+}
+
+impl Lookup {
+    /// A query that was not sent yet, and goes to this server first.
+    pub(crate) fn new(
+        alloc: Global,
+        number: u64,
+        query: &[u8],
+        first: usize,
+    ) -> Result<Lookup, AllocError> {
+        Ok(Lookup {
+            number,
+            query: Vec::from_slice(alloc, query)?,
+            first,
+            sends: 0,
+            went_out: false,
+            asked_at: None,
+            kept: None,
+            chain: None,
+        })
+    }
+
+    /// The octets of what is asked now: what asks its chain on, or the query itself.
+    pub(crate) fn asked(&self) -> &[u8]
+        ensures { result.now ≡ asked_by self.now }
+    {
+        match &self.chain {
+            Some(chain) => chain.further_octets(),
+            None => self.query.as_slice(),
+        }
+    }
+
+    /// The one of so many servers that it was sent to last, if it was.
+    pub(crate) fn last_server(&self, servers: usize) -> Option<usize> {
+        if servers == 0 || self.sends == 0 {
+            return None;
+        }
+        Some(server_at(self.first, self.sends - 1, servers))
+    }
+
+    /// Whether it was sent to the last server after this millisecond.
+    pub(crate) fn was_asked_after(&self, time: u64) -> bool {
+        self.asked_at.is_some_and(|asked_at| asked_at > time)
+    }
+
+    /// Begins with what asks a chain on, which goes to this server first.
+    pub(crate) fn go_on(&mut self, chain: OpenChain, first: usize) {
+        self.chain = Some(chain);
+        self.first = first;
+        self.sends = 0;
+        self.kept = None;
+    }
+}

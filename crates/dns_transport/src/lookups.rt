@@ -1,0 +1,54 @@
+//! The queries of the caller that are open.
+
+use crate::lookup::Lookup;
+use std::alloc::Global;
+
+/// How many are open at most: the last ones that something became of.
+pub const LOOKUP_LIMIT: usize = 512;
+
+/// The queries of the caller that are open, in the order in which something became of them.
+#[derive(Drop)]
+pub(crate) struct Lookups {
+    items: Vec<Lookup>,
+}
+
+impl Lookups {
+    /// None is open.
+    pub(crate) fn new(alloc: Global) -> Lookups {
+        Lookups {
+            items: Vec::new(alloc),
+        }
+    }
+
+    /// Takes the one out that has these octets, if one has.
+    pub(crate) fn take(&mut self, query: &[u8]) -> Option<Lookup> {
+        let at = self
+            .items
+            .iter()
+            .position(|it| it.query.as_slice() == query)?;
+        Some(self.items.remove(at))
+    }
+
+    /// Takes the one of a number out, if there is one.
+    pub(crate) fn take_number(&mut self, number: u64) -> Option<Lookup> {
+        let at = self.items.iter().position(|it| it.number == number)?;
+        Some(self.items.remove(at))
+    }
+
+    /// Puts one behind the others. Where as many are open as can be, the first one leaves, and its
+    /// number is given; so does this one where memory is refused.
+    pub(crate) fn put(&mut self, lookup: Lookup) -> Option<u64> {
+        let number = lookup.number;
+        if self.items.len() >= LOOKUP_LIMIT {
+            let left = self.items.remove(0);
+            return match self.items.push(lookup) {
+                Ok(_) => Some(left.number),
+                Err(_) => Some(number),
+            };
+        }
+        match self.items.push(lookup) {
+            Ok(_) => None,
+            Err(_) => Some(number),
+        }
+    }
+}

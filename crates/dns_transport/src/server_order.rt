@@ -1,0 +1,33 @@
+//! The order in which a query goes to servers.
+ghost use Rattle.std.specs.Prelude.{◌≡◌, ◌<◌};
+ghost use Rattle.dns_transport.specs.ServerOrders.{IsPlace};
+ghost use Rattle.dns_transport.specs.ServerOrders as spec;
+
+/// The server that a query goes to after so many sends, where the first one goes to this server.
+pub(crate) fn server_at(first: usize, sends: usize, servers: usize) -> usize
+    requires { 0 < servers }
+    ensures is { result ≡ spec.server_at first sends servers }
+    ensures inside { result < servers }
+{
+    let start = first % servers;
+    let place = sends % servers;
+    let behind = servers - start;
+    if place < behind {
+        start + place
+    } else {
+        place - behind
+    }
+}
+
+/// How many servers come before this one, where a query goes to that one first.
+pub(crate) fn place_of(first: usize, server: usize, servers: usize) -> usize
+    requires { server < servers }
+    ensures { IsPlace first server servers result }
+{
+    let start = first % servers;
+    if server < start {
+        server + (servers - start)
+    } else {
+        server - start
+    }
+}

@@ -1,0 +1,575 @@
+//! A wire to DNS servers over sockets.
+ghost use Rattle.std.specs.Prelude.{◌≡◌, IfOk, IfSome, IsFalse, IsTrue, slice_get};
+ghost use Rattle.dns_transport.specs.CnameChains.{IsHandedOn};
+ghost use Rattle.dns_transport.specs.QueryForms.{form_for};
+ghost use Rattle.dns_transport.specs.Steps.{IfReplied};
+ghost use Rattle.dns_transport.specs.Sends.{HasAsked, asked_by, sent_octets, with_id};
+ghost use Rattle.dns_transport.specs.Wires.{HandsOn};
+
+use crate::link::System;
+use crate::lookup::Lookup;
+use crate::lookups::Lookups;
+use crate::message_wire::MessageWire;
+use crate::open_chain::{OpenChain, Step};
+use crate::query::{End, Outcome, Query};
+use crate::query_form::QueryForm;
+use crate::reply_bits::{is_cut, refuses_edns, tells_failure};
+use crate::route::Route;
+use crate::server::Server;
+use crate::server_order::server_at;
+use crate::transport::Transport;
+use crate::try_log::TryLog;
+use crate::wire_counts::WireCounts;
+use crate::wire_try::{Tracer, TryRoute, WireTry, id_of};
+use rand_core::Rng;
+use std::alloc::{AllocError, Global};
+use std::net::SocketAddr;
+use std::time::Duration;
+
+/// How long the reply to a query in a datagram is waited for, in milliseconds.
+const DATAGRAM_TIME: u64 = 6_000;
+
+/// How long the reply to a query over TCP is waited for, in milliseconds.
+const TCP_TIME: u64 = 2_000;
+
+/// How long a receive waits at most, in milliseconds.
+const RECEIVE_TIME: u64 = 100;
+
+/// How long after a query went to a server the caller's resend is none, in milliseconds: the query
+/// went on to that server meanwhile.
+const RESEND_TIME: u64 = 500;
+
+/// How many queries may end at one receive.
+const END_LIMIT: usize = 1_024;
+
+/// The most octets of a reply that asks a chain on, or is put behind others of one.
+const CHAIN_REPLY_LIMIT: usize = 4_096;
+
+/// How many ids are drawn at most for a query.
+const DRAW_LIMIT: usize = 64;
+
+/// How a wire asks.
+#[derive(Clone, Copy, Debug)]
+pub struct WireOptions {
+    /// Whether all goes over TCP.
+    pub over_tcp: bool,
+    /// The form in which queries go out.
+    pub form: QueryForm,
+    /// Whether each query that goes out is kept for `take_tries`.
+    pub keeps_tries: bool,
+    /// After how long the time of the wire is over.
+    pub total: Duration,
+}
+
+/// What becomes of a query of the caller.
+#[derive(Debug, Drop)]
+enum Course {
+    /// It is open.
+    Open,
+    /// It is over, and these octets are the reply to it.
+    Replied(Vec<u8>),
+    /// It is over without a reply.
+    Over,
+}
+
+/// A wire to DNS servers over sockets.
+///
+/// The first send of a query goes to the first server, the second to the second, and so on round. A
+/// server that comes first and does not reply in time, or can't be reached, comes last from then
+/// on: the queries that follow go round from the one after it. Each send in a datagram has a socket
+/// and an id of its own (RFC 5452 9.2), and a message counts only where it comes from the server
+/// that was asked, over that socket or connection, with the id and the question that went out.
+/// What is sent to one server over TCP shares a connection (RFC 7766 6.2.1).
+///
+/// A reply that was cut is asked for again over TCP, from the same server, and the whole one is
+/// given; where that fails the next server is asked, and where none is left the cut one is given.
+///
+/// Where a send or a receive fails, as at a closed port, or where a reply has the RCODE FORMERR,
+/// SERVFAIL, NOTIMP or REFUSED (RFC 1035 4.1.1), the query goes to the next server at once, as long
+/// as there is one that was not asked (RFC 1035 7.2). Where there is none, a send or a receive that
+/// fails counts as lost, and the reply is given.
+///
+/// Where queries have an OPT record and a server refuses that, by FORMERR, NOTIMP or an RCODE
+/// greater than 15, it is asked the same once more without one, and from then on so (RFC 6891
+/// 6.2.2, 7). Such a reply is never given: where it comes again, it is as if the send had failed.
+///
+/// Where a reply without a fault has CNAME records that lead from the name that is asked to one
+/// about which it says nothing, the server cut a chain short (RFC 1034 5.2.2, RFC 2308 2.2). The
+/// same is then asked of that name, of the same servers and by the same rules, and what is given is
+/// one reply to the first question, put together from all replies: up to eight CNAME records, and
+/// no reply of more than 4,096 octets.
+/// Where memory is refused for it, the first reply is given as it came, and a further one is lost.
+#[derive(Drop)]
+pub struct ServerWire<S: System, G> {
+    alloc: Global,
+    transport: Transport<S>,
+    draws: G,
+    servers: Vec<Server>,
+    /// The server that a query goes to first.
+    first: usize,
+    options: WireOptions,
+    lookups: Lookups,
+    next_number: u64,
+    log: TryLog,
+    /// The millisecond at which the time of the wire is over.
+    until: u64,
+}
+
+/// The milliseconds of a time.
+fn milliseconds(time: Duration) -> u64 {
+    u64::try_from(time.as_millis()).unwrap_or(u64::MAX)
+}
+
+/// Gives a message this id.
+fn set_id(id: u16, message: &mut [u8])
+    ensures { message.new ≡ with_id id message.old }
+{
+    if message.len() >= 2 {
+        let [high, low] = id.to_be_bytes();
+        message[0] = high;
+        message[1] = low;
+    }
+}
+
+/// Whether a query has an additional record: its OPT record.
+fn has_opt(query: &[u8]) -> bool {
+    query.len() > 11 && query[11] != 0
+}
+
+impl<S: System + Drop, G: Rng + Drop> ServerWire<S, G> {
+    /// A wire to these servers, with a source of ids.
+    pub fn new(
+        alloc: Global,
+        system: S,
+        draws: G,
+        addresses: &[SocketAddr],
+        options: WireOptions,
+    ) -> Result<ServerWire<S, G>, AllocError> {
+        let mut servers = Vec::with_capacity(alloc, addresses.len())?;
+        'addresses: for address in addresses {
+            servers.push(Server::new(*address))?;
+        }
+        let transport = Transport::new(alloc, system);
+        let until = transport.now().saturating_add(milliseconds(options.total));
+        Ok(ServerWire {
+            alloc,
+            transport,
+            draws,
+            servers,
+            first: 0,
+            options,
+            lookups: Lookups::new(alloc),
+            next_number: 0,
+            log: TryLog::new(alloc, options.keeps_tries),
+            until,
+        })
+    }
+
+    /// How much went over the wire.
+    #[must_use]
+    pub fn counts(&self) -> WireCounts {
+        self.log.counts()
+    }
+
+    /// The time since the system was made.
+    fn time(&self) -> Duration {
+        Duration::from_millis(self.transport.now())
+    }
+
+    /// The form in which a query goes to a server.
+    fn form_for(&self, server: usize) -> QueryForm
+        ensures { result
+            ≡ form_for self.now.options.form (slice_get self.now.servers.items server) }
+    {
+        match self.servers.get(server) {
+            Some(server) if server.refused_edns => self.options.form.without_edns(),
+            _ => self.options.form,
+        }
+    }
+
+    /// Whether a message refuses the EDNS that is asked for, or memory is refused to look.
+    fn refuses(&self, message: &[u8]) -> bool
+        ensures { IsFalse result → HandsOn self.now.options.form message.now }
+    {
+        self.options.form.edns.is_some() && refuses_edns(self.alloc, message).unwrap_or(true)
+    }
+
+    /// An id that no query has which is out over the same route (RFC 7766 6.2.1), as far as draws
+    /// find one.
+    fn fresh_id(&mut self, route: Route) -> u16
+        ensures transport { self.new.transport ≡ self.old.transport }
+        ensures options { self.new.options ≡ self.old.options }
+        ensures servers { self.new.servers ≡ self.old.servers }
+    {
+        let mut id = 0;
+        'draws: for _draw in 0..DRAW_LIMIT {
+            id = (self.draws.next_u32() % 65_536) as u16;
+            if !self.transport.has_id(route, id) {
+                break;
+            }
+        }
+        id
+    }
+
+    /// When a query is waited for no more that is sent now.
+    fn deadline(&self, over_tcp: bool) -> u64 {
+        let time = if over_tcp { TCP_TIME } else { DATAGRAM_TIME };
+        self.transport.now().saturating_add(time).min(self.until)
+    }
+
+    /// The octets that go out for what is asked, in this form and with this id.
+    fn octets_of(&self, form: QueryForm, id: u16, asked: &[u8]) -> Result<Vec<u8>, AllocError>
+        ensures { IfOk result (λ octets. octets.items ≡ sent_octets form id asked.now) }
+    {
+        let mut octets = form.octets(self.alloc, asked)?;
+        set_id(id, octets.as_mut_slice());
+        Ok(octets)
+    }
+
+    /// Notes that a query goes out.
+    fn note_sent(&mut self, lookup: &mut Lookup, route: TryRoute, octets: &[u8])
+        ensures same { self.new.transport ≡ self.old.transport }
+        ensures asks { asked_by lookup.new ≡ asked_by lookup.old }
+    {
+        let now = self.time();
+        self.log.sent(now, route, octets, !lookup.went_out);
+        lookup.went_out = true;
+    }
+
+    /// Asks a server, and tells whether its reply may come. What is out over TCP to a server is not
+    /// sent there once more.
+    fn ask(&mut self, lookup: &mut Lookup, server: usize, over_tcp: bool) -> bool
+        ensures { IsTrue result → HasAsked S.sends lookup.old over_tcp self.old.options.form
+            (slice_get self.old.servers.items server) self.old.transport self.new.transport }
+    {
+        let Some(to) = self.servers.get(server).copied() else {
+            return false;
+        };
+        let route = Route {
+            server: to.address,
+            over_tcp,
+        };
+        if over_tcp && self.transport.has_number_over(lookup.number, route) {
+            return true;
+        }
+        let form = self.form_for(server);
+        let id = self.fresh_id(route);
+        let Ok(octets) = self.octets_of(form, id, lookup.asked()) else {
+            return false;
+        };
+        let try_route = TryRoute {
+            server: route.server,
+            over_tcp,
+            has_edns: form.edns.is_some(),
+        };
+        self.note_sent(lookup, try_route, octets.as_slice());
+        let query = Query {
+            number: lookup.number,
+            route,
+            octets,
+            front: lookup.asked().len(),
+            shares: to.shares,
+            deadline: self.deadline(over_tcp),
+        };
+        self.transport.send(query).is_ok()
+    }
+
+    /// Asks the next server, or one behind it that can be asked, and tells whether one was asked.
+    fn ask_next(&mut self, lookup: &mut Lookup) -> bool {
+        let servers = self.servers.len();
+        'servers: for _server in 0..servers {
+            let server = server_at(lookup.first, lookup.sends, servers);
+            lookup.sends = lookup.sends.saturating_add(1);
+            if self.ask(lookup, server, self.options.over_tcp) {
+                lookup.asked_at = Some(self.transport.now());
+                return true;
+            }
+            if lookup.sends >= servers {
+                return false;
+            }
+        }
+        false
+    }
+
+    /// The server of an address.
+    fn server_of(&self, address: SocketAddr) -> Option<usize> {
+        self.servers.iter().position(|it| it.address == address)
+    }
+
+    /// Lets a server that comes first come last: it did not reply in time, or can't be reached.
+    fn put_last(&mut self, server: usize) {
+        let servers = self.servers.len();
+        if servers > 0 && server == self.first {
+            self.first = server_at(server, 1, servers);
+        }
+    }
+
+    /// Keeps a query open.
+    fn put(&mut self, lookup: Lookup) {
+        if let Some(left) = self.lookups.put(lookup) {
+            self.transport.leave(left);
+        }
+    }
+
+    /// What becomes of a query that this server failed to answer, with this reply, if with one: it
+    /// is with another server that was asked since, or with the next one, which is asked now, or
+    /// none is left.
+    fn go_on(&mut self, lookup: &mut Lookup, server: usize, reply: Option<Vec<u8>>) -> Course {
+        let servers = self.servers.len();
+        if lookup.last_server(servers) != Some(server) && self.transport.has_number(lookup.number) {
+            return Course::Open;
+        }
+        if lookup.sends < servers && self.ask_next(lookup) {
+            return Course::Open;
+        }
+        match reply.or(lookup.kept.take()) {
+            Some(reply) => self.hand_on(lookup, reply),
+            None => Course::Open,
+        }
+    }
+
+    /// What becomes of a query that could not be sent to a server, or to which that gave nothing.
+    fn fail(&mut self, lookup: &mut Lookup, server: usize) -> Course {
+        self.put_last(server);
+        self.go_on(lookup, server, None)
+    }
+
+    /// What becomes of a query over a connection that was open before and failed: the server may
+    /// have closed it, so that from now on each query to it has a connection of its own.
+    fn ask_alone(&mut self, lookup: &mut Lookup, server: usize) -> Course {
+        if let Some(server) = self.servers.get_mut(server) {
+            server.shares = false;
+        }
+        if self.ask(lookup, server, true) {
+            return Course::Open;
+        }
+        self.fail(lookup, server)
+    }
+
+    /// Asks for a reply over TCP that was cut.
+    fn ask_whole(&mut self, lookup: &mut Lookup, server: usize, reply: Vec<u8>) -> Course {
+        lookup.kept = Some(reply);
+        if self.ask(lookup, server, true) {
+            return Course::Open;
+        }
+        self.go_on(lookup, server, None)
+    }
+
+    /// Asks a server that refused EDNS the same without it, where it was asked with it.
+    fn ask_plainly(&mut self, lookup: &mut Lookup, server: usize, query: &Query) -> Course {
+        if let Some(server) = self.servers.get_mut(server) {
+            server.refused_edns = true;
+        }
+        if has_opt(query.octets.as_slice()) && self.ask(lookup, server, query.route.over_tcp) {
+            return Course::Open;
+        }
+        self.go_on(lookup, server, None)
+    }
+
+    /// Asks a chain on.
+    fn ask_on(&mut self, lookup: &mut Lookup, chain: OpenChain) {
+        self.transport.leave(lookup.number);
+        lookup.go_on(chain, self.first);
+        let _is_asked = self.ask_next(lookup);
+    }
+
+    /// What becomes of a query to which this is the reply: nothing is handed on yet where a chain
+    /// is asked on.
+    fn hand_on(&mut self, lookup: &mut Lookup, reply: Vec<u8>) -> Course
+        ensures { IfReplied result (IsHandedOn lookup.old.chain reply.items) }
+    {
+        if reply.len() > CHAIN_REPLY_LIMIT {
+            return match lookup.chain.take() {
+                Some(_) => Course::Over,
+                None => Course::Replied(reply),
+            };
+        }
+        let Some(chain) = lookup.chain.take() else {
+            let begun = OpenChain::begin(self.alloc, lookup.query.as_slice(), reply.as_slice());
+            return match begun {
+                Ok(Some(chain)) => {
+                    self.ask_on(lookup, chain);
+                    Course::Open
+                }
+                Ok(None) | Err(_) => Course::Replied(reply),
+            };
+        };
+        match chain.step(self.alloc, reply.as_slice()) {
+            Ok(Step::Ended(octets)) => Course::Replied(octets),
+            Ok(Step::Further(chain)) => {
+                self.ask_on(lookup, chain);
+                Course::Open
+            }
+            Ok(Step::Stray(_)) | Err(_) => Course::Over,
+        }
+    }
+
+    /// What becomes of a query to which a server gave this reply.
+    fn hear(
+        &mut self,
+        lookup: &mut Lookup,
+        server: usize,
+        query: &Query,
+        mut reply: Vec<u8>,
+    ) -> Course {
+        let now = self.time();
+        self.log.came(
+            now,
+            query.route.server,
+            query.route.over_tcp,
+            reply.as_slice(),
+        );
+        set_id(id_of(lookup.asked()), reply.as_mut_slice());
+        if is_cut(reply.as_slice()) && !query.route.over_tcp {
+            return self.ask_whole(lookup, server, reply);
+        }
+        if self.refuses(reply.as_slice()) {
+            return self.ask_plainly(lookup, server, query);
+        }
+        if tells_failure(reply.as_slice()) {
+            return self.go_on(lookup, server, Some(reply));
+        }
+        self.hand_on(lookup, reply)
+    }
+
+    /// What becomes of a query to which nothing came until its deadline.
+    fn miss(&mut self, lookup: &mut Lookup, server: usize, query: &Query) -> Course {
+        if query.route.over_tcp {
+            return self.fail(lookup, server);
+        }
+        if self.transport.has_number(lookup.number) {
+            Course::Open
+        } else {
+            Course::Over
+        }
+    }
+
+    /// What becomes of a query of the caller by the end of one that was sent for it.
+    fn settle(&mut self, lookup: &mut Lookup, end: End) -> Course {
+        let End {
+            query,
+            shared,
+            outcome,
+        } = end;
+        let Some(server) = self.server_of(query.route.server) else {
+            return Course::Open;
+        };
+        match outcome {
+            Outcome::Reply(reply) => self.hear(lookup, server, &query, reply),
+            Outcome::Failed if shared => self.ask_alone(lookup, server),
+            Outcome::Failed => self.fail(lookup, server),
+            Outcome::Silent => self.miss(lookup, server, &query),
+        }
+    }
+
+    /// Takes the end of a query, and gives what is to be handed on.
+    fn take(&mut self, end: End) -> Option<Vec<u8>>
+        ensures { IfSome result (λ reply. HandsOn self.new.options.form reply.items) }
+    {
+        let Some(mut lookup) = self.lookups.take_number(end.query.number) else {
+            return None;
+        };
+        match self.settle(&mut lookup, end) {
+            Course::Open => {
+                self.put(lookup);
+                None
+            }
+            Course::Replied(reply) => {
+                self.transport.leave(lookup.number);
+                if self.refuses(reply.as_slice()) {
+                    return None;
+                }
+                Some(reply)
+            }
+            Course::Over => {
+                self.transport.leave(lookup.number);
+                None
+            }
+        }
+    }
+
+    /// Takes the ends that are known, until one gives something to hand on.
+    fn take_all(&mut self) -> Option<Vec<u8>>
+        ensures { IfSome result (λ reply. HandsOn self.new.options.form reply.items) }
+    {
+        'ends: for _end in 0..END_LIMIT {
+            let Some(end) = self.transport.poll_end() else {
+                return None;
+            };
+            if let Some(reply) = self.take(end) {
+                return Some(reply);
+            }
+        }
+        None
+    }
+
+    /// A query of the caller that was not open.
+    fn begin_lookup(&mut self, query: &[u8]) -> Result<Lookup, AllocError> {
+        let number = self.next_number;
+        self.next_number = number.wrapping_add(1);
+        Lookup::new(self.alloc, number, query, self.first)
+    }
+}
+
+impl<S: System + Drop, G: Rng + Drop> ServerWire<S, G> {
+    /// Sends a query of the caller for the first time.
+    fn send_first(&mut self, query: &[u8]) {
+        let Ok(mut lookup) = self.begin_lookup(query) else {
+            return;
+        };
+        let _is_asked = self.ask_next(&mut lookup);
+        self.put(lookup);
+    }
+
+    /// Sends a query of the caller once more, unless it has just been sent.
+    fn send_again(&mut self, mut lookup: Lookup) {
+        if !lookup.was_asked_after(self.transport.now().saturating_sub(RESEND_TIME)) {
+            if let Some(server) = lookup.last_server(self.servers.len()) {
+                self.put_last(server);
+            }
+            let _is_asked = self.ask_next(&mut lookup);
+        }
+        self.put(lookup);
+    }
+}
+
+impl<S: System + Drop, G: Rng + Drop> Tracer for ServerWire<S, G> {
+    fn take_tries(&mut self) -> Vec<WireTry> {
+        self.log.take()
+    }
+}
+
+impl<S: System + Drop, G: Rng + Drop> MessageWire for ServerWire<S, G> {
+    ghost use Rattle.std.specs.Prelude.{⊤};
+
+    // Nothing is known of what servers send.
+    ghost gives = { λ _. ⊤ };
+
+    // Nor of time.
+    ghost over = { λ _. ⊤ };
+
+    fn begin(&mut self) {
+        let total = milliseconds(self.options.total);
+        self.until = self.transport.now().saturating_add(total);
+    }
+
+    /// Where a query is open already, the server that it was sent to last did not reply in time.
+    fn send(&mut self, query: &[u8]) {
+        match self.lookups.take(query) {
+            Some(lookup) => self.send_again(lookup),
+            None => self.send_first(query),
+        }
+    }
+
+    fn receive(&mut self) -> Option<Vec<u8>> {
+        if let Some(reply) = self.take_all() {
+            return Some(reply);
+        }
+        self.transport.wait(RECEIVE_TIME);
+        self.take_all()
+    }
+
+    fn is_over(&self) -> bool {
+        self.until <= self.transport.now()
+    }
+}

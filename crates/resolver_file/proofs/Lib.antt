@@ -1,0 +1,2 @@
+pub mod WordParts
+pub mod Taken

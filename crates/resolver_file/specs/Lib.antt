@@ -1,0 +1,3 @@
+pub mod ResolverLines
+pub mod ResolverFiles
+pub mod Views
