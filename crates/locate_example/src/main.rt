@@ -8,9 +8,9 @@
 use answer_cache::{AnswerBook, ListCache};
 use dns_asker as asker;
 use dns_client::{
-    MessageWire, QueryForm, RunClock, ServerWire, WireOptions, WireOrigin, draw_words,
-    next_outcome, random_ids, random_key,
+    RunClock, WireOrigin, draw_words, next_outcome, open_wire, random_ids, random_key,
 };
+use dns_transport::{MessageWire, QueryForm, WireOptions};
 use sip_resolver::{Limits, Outcome, Resolver};
 use sip_selection::{Caps, Families, Request};
 use sip_uri::Transport::{Tcp, Tls, Udp};
@@ -66,13 +66,12 @@ fn resolve_at<R: Wait + Net + Clock + RandomSource + AllocGlobal>(
     let alloc = rt.alloc();
     let options = WireOptions {
         over_tcp: false,
-        local: None,
         form: QueryForm::PLAIN,
         keeps_tries: false,
         total: Duration::from_secs(5),
     };
     let key = random_key(rt)?;
-    let mut wire = ServerWire::open(rt, alloc, &[server], options)?;
+    let mut wire = open_wire(rt, alloc, &[server], None, options, key)?;
     let clock = RunClock::start(rt)?;
     let (book, mut seat) = ListCache::new(alloc);
     Ok(resolve(rt, alloc, request, key, &book, &mut seat, &mut wire, &clock))

@@ -15,8 +15,6 @@ mod dns_answers_page;
 #[cfg(test)]
 mod dns_asker_page;
 #[cfg(test)]
-mod dns_client_page;
-#[cfg(test)]
 mod dns_message_page;
 #[cfg(test)]
 mod dns_name_page;
@@ -26,6 +24,8 @@ mod dns_zone_page;
 mod ip_text_page;
 #[cfg(test)]
 mod pending_list_page;
+#[cfg(test)]
+mod resolver_file_page;
 #[cfg(test)]
 mod rolling_cache_page;
 #[cfg(test)]

@@ -1,6 +1,6 @@
 -- Whose requests are inside a resolver, and what became of lines.
 use Rattle.std.proofs.Common.{◌≡◌, ℕ, zero, suc, false, ◌+◌, ◌-◌, ◌<◌, List, [], ◌∷◌, Option, Some, None, get_or, length, set, refl, sym, ap, subst, ◌∙◌, arith}
-use Rattle.std.specs.List.{AllZip}
+use Rattle.std.specs.List.{AllZip, sum_by}
 use Rattle.std.specs.Prelude.{IfSome}
 use Rattle.std.proofs.lemmas.List.Elements.{at_read}
 use Rattle.std.proofs.lemmas.List.Sums.{sum_by_push}
@@ -16,7 +16,7 @@ use Rattle.sip_selection.specs.declared.caps.Caps.{Caps}
 use Rattle.sip_selection.specs.declared.request.Request.{Request}
 use Rattle.sipwhere.specs.LineOutcomes.{AreAlike, EndsAs, IsLineOutcome, IsOfLine, IsOnly, NeedsNoReply}
 use Rattle.sipwhere.proofs.Later.{zip-set}
-use Rattle.sipwhere.specs.OpenLines.{AreMeant, IsLineOutcomeOf, IsMeant, IsOwn, OpenView, TellsFirst}
+use Rattle.sipwhere.specs.OpenLines.{AreMeant, IsLineOutcomeOf, IsMeant, IsOwn}
 use Rattle.sipwhere.specs.declared.line_outcome.LineOutcome.{LineOutcome}
 use Rattle.sipwhere.specs.declared.line_outcome.LineOutcome.TheVariants.{Became, TimeOver, Bad, Memory}
 use Rattle.sipwhere.specs.declared.line.Line.{Line}
@@ -88,6 +88,14 @@ module _ (sender : Sender) (lines : List Line) where
         of = λ d. subst (λ n. IsOfLine sender (get_or lines n d) it) (sym number)
             (at_read lines (λ l. IsOfLine sender l it) place line inside at of d);
       })) ∙ own h none
+
+  pub meant-left : (old new : RequestsView) (gone : List Sought)
+      → ((h : Sought → ℕ) → weight h old ≡ weight h new + sum_by h gone) → AreMeant sender lines old
+      → AreMeant sender lines new
+  meant-left old new gone kept own h none =
+      let all = own h none in
+      let weighs = kept h in
+      omega (arith, all, weighs)
 
   pub meant-next : (place : ℕ) (d : Line) → place < length lines → (old new : RequestsView)
       → ((h : Sought → ℕ) → ((it : Sought) → it.number ≡ place → IsOfLine sender (get_or lines place d) it → h it ≡ 0)
@@ -189,12 +197,3 @@ module _ (gives : List ℕ → Type 0) (shows : ℕ → Type 0) (seat : SeatView
       let so : EndsAs line.text.now outcome line_outcome = subst (λ o. EndsAs line.text.now o line_outcome) same ends in
       line_outcomes-set lines line_outcomes place line (Some line_outcome) inside at all
       (line_outcome-ended lines line ended outcome line_outcome here meant so is)
-
--- what is told of the first line is told of that of lines as before
-pub tells-same : (gives : List ℕ → Type 0) (shows : ℕ → Type 0) (seat : SeatView) (style : Style) (old new : OpenView)
-    (written printed : Option (List ℕ)) (status : ℕ) → new.told ≡ old.told → new.lines ≡ old.lines → new.sender ≡ old.sender
-    → TellsFirst gives shows seat style new written printed status → TellsFirst gives shows seat style old written printed status
-tells-same gives shows seat style old new written printed status told lines sender it = record {
-  inside = rw (← told, ← lines) it.inside;
-  tells = λ line. rw (← told, ← lines, ← sender) (it.tells line);
-}

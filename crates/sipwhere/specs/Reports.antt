@@ -1,7 +1,7 @@
 -- What is printed of a text.
 use Rattle.std.specs.Prelude.{ℕ, Bool, true, false, List, [], ◌∷◌, ◌++◌}
 use Rattle.std.specs.List.{flat_map}
-use Rattle.dns_client.specs.declared.wire_try.WireTry.{WireTry}
+use Rattle.dns_transport.specs.declared.wire_try.WireTry.{WireTry}
 use Rattle.sipwhere.specs.Checks.{check_line, check_status}
 use Rattle.sipwhere.specs.Jsons.{json_line}
 use Rattle.sipwhere.specs.Lines.{lines_of, status_of}

@@ -2,7 +2,7 @@
 use Rattle.std.specs.Prelude.{◌≡◌, ◌⊎◌, ℕ, List, Option}
 use Rattle.std.specs.Io.KnownBytes.{Appends}
 use Rattle.answer_cache.specs.Seats.{SeatView}
-use Rattle.dns_client.specs.declared.wire_try.WireTry.{WireTry}
+use Rattle.dns_transport.specs.declared.wire_try.WireTry.{WireTry}
 use Rattle.sipwhere.specs.LineOutcomes.{IsLineOutcome}
 use Rattle.sipwhere.specs.Reports.{status_in, traced_report}
 use Rattle.sipwhere.specs.declared.line_outcome.LineOutcome.{LineOutcome}

@@ -7,9 +7,9 @@ use Rattle.std.specs.declared.time.Duration.{Duration}
 use Rattle.dns_name.specs.Texts.{text_of}
 use Rattle.dns_message.specs.declared.message.Message.{Message}
 use Rattle.dns_message.specs.declared.question.Asked.{Asked}
-use Rattle.dns_client.specs.declared.wire_try.Route.{Route}
-use Rattle.dns_client.specs.declared.wire_try.WireReply.{WireReply}
-use Rattle.dns_client.specs.declared.wire_try.WireTry.{WireTry}
+use Rattle.dns_transport.specs.declared.wire_try.TryRoute.{TryRoute}
+use Rattle.dns_transport.specs.declared.wire_try.WireReply.{WireReply}
+use Rattle.dns_transport.specs.declared.wire_try.WireTry.{WireTry}
 use Rattle.sipwhere.specs.RecordLines.{message_lines}
 use Rattle.sipwhere.specs.Rules.{rule_of}
 use Rattle.sipwhere.specs.declared.address.AddressForm.{AddressForm}
@@ -34,7 +34,7 @@ words_if true words others = words
 words_if false words others = others
 
 -- the words of the way of a query: the server, over what, and whether with EDNS (RFC 6891)
-abbrev pub route_words : Route → List ℕ
+abbrev pub route_words : TryRoute → List ℕ
 route_words route =
     socket_text route.server ++ words_if route.over_tcp (codes " tcp") (codes " udp")
     ++ words_if route.has_edns (codes " edns") []

@@ -12,7 +12,8 @@ use crate::submitted_lines::{line_outcome_in_vain, line_outcome_of, submit};
 use crate::tell::tell;
 use answer_cache::AnswerBook;
 use dns_asker::Clock;
-use dns_client::{MessageWire, Tracer, WireOrigin, poll_over, random_ids};
+use dns_client::{WireOrigin, poll_over, random_ids};
+use dns_transport::{MessageWire, Tracer};
 use rand_chacha::ChaCha20Rng;
 use sip_resolver::{Limits, RandomIds, Resolved, Resolver};
 use std::alloc::{AllocError, Global};
@@ -60,6 +61,8 @@ pub struct OpenLines<'a, B, W, C> {
     lines: &'a [Line<'a>],
     /// When the time of each line is over that was begun.
     ends: Vec<Duration>,
+    /// How many of the lines were looked at whose time is over.
+    late: usize,
     /// How many of the lines were reported.
     told: usize,
     resolver: Resolver<B, WireOrigin<W, C>, RandomIds<ChaCha20Rng>>,
@@ -103,6 +106,7 @@ impl<'a, B: AnswerBook + Drop, W: MessageWire, C: Clock> OpenLines<'a, B, W, C> 
             sender,
             lines,
             ends: Vec::with_capacity(alloc, lines.len())?,
+            late: 0,
             told: 0,
             resolver: Resolver::new(alloc, limits_for(lines.len()), ids)?,
             line_outcomes: unknown(alloc, lines.len())?,
@@ -190,37 +194,58 @@ impl<'a, B: AnswerBook + Drop, W: MessageWire, C: Clock> OpenLines<'a, B, W, C> 
         }
     }
 
-    /// Gives the first line up of which it is not known what became of it, where its time is over
-    /// by now.
-    fn give_up(&mut self, now: Duration)
+    /// Gives the line at a place up, whose time is over: its request is cancelled, and so has no
+    /// room any more.
+    fn give_up(&mut self, place: usize)
+        requires inside { place < length self.old.lines }
         ensures same { (self.new.told ≡ self.old.told) × (self.new.lines ≡ self.old.lines)
             × (self.new.sender ≡ self.old.sender) }
         ensures stands { (seat : SeatView) → Stands W.gives C.shows seat self.old
             → Stands W.gives C.shows seat self.new }
     {
-        let place = self.told;
-        if place < self.ends.len()
-            && self.ends[place] <= now
-            && self.line_outcomes[place].is_none()
-        {
-            self.line_outcomes[place] = Some(line_outcome_in_vain(
-                self.alloc,
-                self.lines[place].text,
-            ));
+        let _was_inside = self.resolver.cancel(place as u64);
+        self.line_outcomes[place] = Some(line_outcome_in_vain(self.alloc, self.lines[place].text));
+    }
+
+    /// Looks at the next line, if its time is over by now, and tells whether it was. It is given up
+    /// where it is not known what became of it.
+    fn give_next_up(&mut self, now: Duration) -> bool
+        ensures same { (self.new.told ≡ self.old.told) × (self.new.lines ≡ self.old.lines)
+            × (self.new.sender ≡ self.old.sender) }
+        ensures stands { (seat : SeatView) → Stands W.gives C.shows seat self.old
+            → Stands W.gives C.shows seat self.new }
+    {
+        let place = self.late;
+        if place >= self.ends.len() || self.ends[place] > now {
+            return false;
+        }
+        self.late = place + 1;
+        if self.line_outcomes[place].is_none() {
+            self.give_up(place);
+        }
+        true
+    }
+
+    /// Gives the lines up whose time is over by now and of which it is not known what became of
+    /// them. The time of a line that was begun later is over later.
+    pub fn give_late_up(&mut self, now: Duration)
+        ensures same { (self.new.told ≡ self.old.told) × (self.new.lines ≡ self.old.lines)
+            × (self.new.sender ≡ self.old.sender) }
+        ensures stands { (seat : SeatView) → Stands W.gives C.shows seat self.old
+            → Stands W.gives C.shows seat self.new }
+    {
+        'lines: for _line in 0..self.lines.len() {
+            if !self.give_next_up(now) {
+                break;
+            }
         }
     }
 }
 
 impl<'a, B: AnswerBook + Drop, W: MessageWire + Tracer, C: Clock> OpenLines<'a, B, W, C> {
-    /// Prints what became of the first line that was not reported, if it is known or the time of
-    /// the line is over by now, and gives the status.
-    fn tell_first<O: Write>(
-        &mut self,
-        now: Duration,
-        style: Style,
-        wire: &mut W,
-        output: &mut O,
-    ) -> Option<u8>
+    /// Prints what became of the first line that was not reported, if it is known, and gives the
+    /// status.
+    fn tell_first<O: Write>(&mut self, style: Style, wire: &mut W, output: &mut O) -> Option<u8>
         ensures stands { (seat : SeatView) → Stands W.gives C.shows seat self.old
             → Stands W.gives C.shows seat self.new }
         ensures tells { (seat : SeatView) → Stands W.gives C.shows seat self.old
@@ -230,7 +255,6 @@ impl<'a, B: AnswerBook + Drop, W: MessageWire + Tracer, C: Clock> OpenLines<'a, 
         ensures none { result ≡ None → O.contents output.new ≡ O.contents output.old }
         ensures range { IfSome result (λ status. status ≤ 5) }
     {
-        self.give_up(now);
         let place = self.told;
         let line = self.lines.get(place)?;
         let line_outcome = self.line_outcomes[place].as_ref()?;
@@ -249,20 +273,14 @@ impl<'a, B: AnswerBook + Drop, W: MessageWire + Tracer, C: Clock> OpenLines<'a, 
 
     /// Reports what became of lines in their order, as far as it is known, and gives the greatest
     /// exit status.
-    pub fn tell_all<O: Write>(
-        &mut self,
-        now: Duration,
-        style: Style,
-        wire: &mut W,
-        output: &mut O,
-    ) -> u8
+    pub fn tell_all<O: Write>(&mut self, style: Style, wire: &mut W, output: &mut O) -> u8
         ensures stands { (seat : SeatView) → Stands W.gives C.shows seat self.old
             → Stands W.gives C.shows seat self.new }
         ensures range { result ≤ 5 }
     {
         let mut status = 0;
         'lines: for _line in 0..self.lines.len() {
-            match self.tell_first(now, style, wire, output) {
+            match self.tell_first(style, wire, output) {
                 Some(told) => status = status.max(told),
                 None => break,
             }

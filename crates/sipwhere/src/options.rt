@@ -7,7 +7,7 @@ use crate::seed::key_from_text;
 use crate::server_text::{local_from_text, server_from_text};
 use crate::terminals::{Terminals, form_for, shows_progress};
 use clap::{Arg, ArgAction, ArgMatches, Command, value_parser};
-use dns_client::QueryForm;
+use dns_transport::QueryForm;
 use sip_selection::{Caps, Families};
 use sip_uri::Transport;
 use std::alloc::{AllocError, AllocFailed, Global};

@@ -4,7 +4,7 @@ ghost use Rattle.sipwhere.specs.Servers as spec;
 
 use crate::options::Options;
 use crate::run_fault::RunFault;
-use dns_client::{ResolverFile, SERVER_PORT};
+use resolver_file::{ResolverFile, SERVER_PORT};
 use sip_uri::Address;
 use std::alloc::{AllocError, Global};
 use std::fs;

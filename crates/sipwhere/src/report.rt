@@ -10,7 +10,7 @@ use crate::line_outcome::{LineOutcome, status_of};
 use crate::output::lines_of;
 use crate::rule::is_via;
 use crate::trace::trace_lines;
-use dns_client::WireTry;
+use dns_transport::WireTry;
 use std::alloc::{AllocError, Global};
 
 /// The form of report of a text.

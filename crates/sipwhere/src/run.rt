@@ -14,9 +14,8 @@ use crate::stats::tell_stats;
 use crate::tell::FAULT_STATUS;
 use answer_cache::{AnswerBook, ListCache};
 use dns_asker::Clock;
-use dns_client::{
-    CountingBook, MessageWire, RunClock, ServerWire, Timer, Tracer, WireOptions, random_key,
-};
+use dns_client::{CountingBook, RunClock, Timer, open_wire, random_key};
+use dns_transport::{MessageWire, Tracer, WireOptions};
 use std::alloc::Global;
 use std::io::{self, Write};
 use std::net::Net;
@@ -64,13 +63,14 @@ fn locate_side_by_side<
     let mut status = 0;
     'rounds: for _ in rt.forever() {
         let now = clock.elapsed();
+        open.give_late_up(now);
         if open
             .begin_all(wire, now.saturating_add(sender.total))
             .is_err()
         {
             return FAULT_STATUS;
         }
-        status = greater_of(status, open.tell_all(now, style, wire, output));
+        status = greater_of(status, open.tell_all(style, wire, output));
         progress.tell(rt, now, open.told());
         if open.is_done() {
             return status;
@@ -178,7 +178,6 @@ fn total_of(options: &Options<'_>) -> Duration {
 fn wire_options(options: &Options<'_>, plan: &Plan) -> WireOptions {
     WireOptions {
         over_tcp: plan.over_tcp,
-        local: options.local,
         form: options.query_form,
         keeps_tries: options.traced,
         total: total_of(options),
@@ -249,7 +248,8 @@ fn run_over<R: Wait + Input + Print + Eprint + Net + time::Clock>(
         total: total_of(options),
     };
     let servers = plan.servers.as_slice();
-    let mut wire = ServerWire::open(rt, alloc, servers, wire_options(options, plan))?;
+    let asks = wire_options(options, plan);
+    let mut wire = open_wire(rt, alloc, servers, options.local, asks, key)?;
     let clock = RunClock::start(rt)?;
     let (book, seat) = ListCache::new(alloc);
     let (book, mut seat) = CountingBook::new(book, seat);

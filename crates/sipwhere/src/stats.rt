@@ -1,5 +1,5 @@
 //! How much was asked.
-use dns_client::WireCounts;
+use dns_transport::WireCounts;
 use std::time::Duration;
 
 /// Reports on standard error how much was asked, how much was found in the cache, and how long it

@@ -5,7 +5,7 @@ ghost use Rattle.sipwhere.specs.Runs.{IsTold};
 
 use crate::line_outcome::LineOutcome;
 use crate::report::{Style, status_in, traced_report};
-use dns_client::WireTry;
+use dns_transport::WireTry;
 use std::alloc::Global;
 use std::io::{self, Write};
 

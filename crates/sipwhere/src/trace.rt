@@ -7,8 +7,8 @@ ghost use Rattle.sipwhere.specs.Traces as spec;
 use crate::address::AddressForm;
 use crate::record_lines::push_message;
 use crate::rule::rule_of;
-use dns_client::{Route, WireReply, WireTry};
 use dns_message::{Asked, Message};
+use dns_transport::{TryRoute, WireReply, WireTry};
 use std::alloc::{AllocError, Global};
 use std::time::Duration;
 
@@ -41,7 +41,7 @@ fn asked_words(alloc: Global, via: bool, asked: &Asked) -> Result<String, AllocE
 }
 
 /// How a query went.
-fn route_words(alloc: Global, route: Route) -> Result<String, AllocError>
+fn route_words(alloc: Global, route: TryRoute) -> Result<String, AllocError>
     ensures { IfOk result (λ words. string_bytes words ≡ spec.route_words route) }
 {
     let server = route.server;

@@ -77,6 +77,7 @@ fn step(alloc: Global, asker: &mut Asker, line: &str) -> Result<String, Fault> {
         "ask" => ask(alloc, asker, rest),
         "asks" => ask_range(alloc, asker, rest),
         "hear" => hear(alloc, asker, rest),
+        "cancel" => cancel(alloc, asker, rest),
         "due" => due(alloc, asker, rest),
         _ => seen(alloc, asker, word, rest),
     }
@@ -206,6 +207,22 @@ fn faulty(
     let mut line = format!(in alloc; "faulty {id} ")?;
     push_question(&mut line, question)?;
     line.push_str(&format!(in alloc; ": {fault:?}\n")?)?;
+    Ok(line)
+}
+
+/// Cancels the question of an id, and gives its line.
+fn cancel(alloc: Global, asker: &mut Asker, rest: &str) -> Result<String, Fault> {
+    match asker.cancel(id_of(rest)?) {
+        Some(question) => cancelled(alloc, &question),
+        None => Ok(String::from_str(alloc, "none\n")?),
+    }
+}
+
+/// The line of a question that was cancelled.
+fn cancelled(alloc: Global, question: &Question) -> Result<String, Fault> {
+    let mut line = String::from_str(alloc, "cancelled ")?;
+    push_question(&mut line, question)?;
+    line.push_str("\n")?;
     Ok(line)
 }
 

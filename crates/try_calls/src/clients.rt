@@ -1,11 +1,13 @@
-//! Calls of `dns_client`: resolver files, lines of requests, forms of queries, and what is drawn of
-//! a key.
+//! Calls of `resolver_file`, `dns_transport` and `dns_client`: resolver files, forms of queries,
+//! lines of requests, and what is drawn of a key.
 use crate::fault::Fault;
 use crate::fields::{fields, octets, text};
 use crate::lookups::{id_of, key_of, number, push_address};
 use crate::resolver_lines::transport_word;
 use crate::shown::{octets_line, push_name};
-use dns_client::{QueryForm, ResolverFile, draw_words, random_ids, read_request};
+use dns_client::{draw_words, random_ids, read_request};
+use dns_transport::QueryForm;
+use resolver_file::ResolverFile;
 use sip_resolver::Ids;
 use sip_selection::Request;
 use sip_uri::{Address, Host, Spoken};

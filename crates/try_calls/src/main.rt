@@ -61,7 +61,7 @@ fn told<R: Wait>(
         "answer_cache" => caches::told(rt, alloc, call, input),
         "dns_answers" => answers::told(alloc, call, input),
         "dns_asker" => askers::told(rt, alloc, call, input),
-        "dns_client" => clients::told(alloc, call, input),
+        "dns_client" | "dns_transport" | "resolver_file" => clients::told(alloc, call, input),
         "dns_message" => messages::told(alloc, call, input),
         "dns_name" => names::told(alloc, call, input),
         "dns_zone" => zones::told(alloc, call, input),

@@ -4,6 +4,7 @@ ghost use Rattle.answer_cache.specs.Seats.{SeatView};
 ghost use Rattle.sip_resolver.specs.Requests.{Stand};
 
 use crate::fault::Fault;
+use crate::lookups::answer_line;
 use crate::resolver_lines::{
     Exchange, exchange_of, heard_line, octets_line, outcome_line, refusal_line, transmit_line,
     word_line,
@@ -121,6 +122,18 @@ pub(crate) fn hear<B: AnswerBook, F: Origin, R: Wait>(
 {
     let heard = resolver.handle(rt, book, seat, now, over, octets);
     heard_line(alloc, heard)
+}
+
+/// Cancels the request of a number.
+pub(crate) fn cancel<B: AnswerBook, F: Origin>(
+    alloc: Global,
+    resolver: &mut Resolver<B, F, LineIds>,
+    number: u64,
+) -> Result<String, Fault>
+    ensures { (seat : SeatView) → Stand F.gives F.shows seat resolver.old.requests
+        → Stand F.gives F.shows seat resolver.new.requests }
+{
+    answer_line(alloc, resolver.cancel(number))
 }
 
 /// Polls an outcome.

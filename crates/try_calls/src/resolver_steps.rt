@@ -75,6 +75,8 @@ pub(crate) enum Step {
     Hear(Moment, Over, Vec<u8>),
     /// Everything that is to be sent is answered by the zone.
     Serve(Moment),
+    /// The request of a number is cancelled.
+    Cancel(u64),
     /// An outcome is polled.
     PollOutcome,
     /// The resolver is asked when to come again.
@@ -268,6 +270,7 @@ fn step_of(alloc: Global, line: &str) -> Result<Step, Fault> {
         }
         "hear" => heard_of(alloc, rest),
         "serve" => Ok(Step::Serve(moment_of(rest)?)),
+        "cancel" => Ok(Step::Cancel(number(rest)?)),
         "outcome" => Ok(Step::PollOutcome),
         "timeout" => Ok(Step::NextTimeout),
         "has_room" => Ok(Step::HasRoom),

@@ -5,7 +5,7 @@ ghost use Rattle.sip_resolver.specs.Requests.{Stand};
 
 use crate::fault::Fault;
 use crate::lookups::{answer_line, moment_of, number_line, zone_of};
-use crate::resolver_calls::{hear, outcome, poll, poll_octets, push_said, serve, submit};
+use crate::resolver_calls::{cancel, hear, outcome, poll, poll_octets, push_said, serve, submit};
 use crate::resolver_steps::{LineIds, Setting, Step, setting_of, steps_of, zone_text};
 use answer_cache::{AnswerBook, ListCache};
 use dns_asker::Zone;
@@ -152,6 +152,7 @@ fn does<B: AnswerBook, F: Origin, R: Wait>(
             hear(rt, alloc, resolver, book, seat, now, over, &octets)
         }
         Step::Serve(now) => serve(rt, alloc, resolver, book, seat, zone, now),
+        Step::Cancel(number) => cancel(alloc, resolver, number),
         Step::PollOutcome => outcome(alloc, resolver),
         Step::NextTimeout => number_line(alloc, resolver.next_timeout()),
         Step::HasRoom => answer_line(alloc, resolver.has_room()),

@@ -1,5 +1,5 @@
 //! Resolver files: where memory is refused, the file is not read.
-use dns_client::ResolverFile;
+use resolver_file::ResolverFile;
 use std::alloc::Global;
 
 /// How much a file says: the number of its servers, the seconds, how often it asks, whether over

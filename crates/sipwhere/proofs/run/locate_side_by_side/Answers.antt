@@ -14,7 +14,7 @@ returns-then-is_done-clause-range g c = c.greater_of-status.ensures c.rounds.inv
 pub advance-requires-clause-stands : goal.advance-requires-clause-stands
 advance-requires-clause-stands g c =
     let seat = g.B.AnswerBook.shown c.rounds.seat in
-    c.tell_all.ensures.stands seat (c.begin_all.ensures.stands seat c.rounds.invariant.stands)
+    c.tell_all.ensures.stands seat (c.begin_all.ensures.stands seat (c.give_late_up.ensures.stands seat c.rounds.invariant.stands))
 
 pub rounds-preserved : goal.rounds-preserved
 rounds-preserved g c = record {

@@ -5,3 +5,6 @@ returns-in-Submit-clause-stand g c = c.submit.ensures (g.B.AnswerBook.shown c.ar
 
 pub returns-in-PollOutcome-clause-stand : goal.returns-in-PollOutcome-clause-stand
 returns-in-PollOutcome-clause-stand g c = c.outcome.ensures (g.B.AnswerBook.shown c.args.seat.now) c.requires.stand
+
+pub returns-in-Cancel-clause-stand : goal.returns-in-Cancel-clause-stand
+returns-in-Cancel-clause-stand g c = c.cancel.ensures (g.B.AnswerBook.shown c.args.seat.now) c.requires.stand

@@ -1,15 +1,27 @@
-use Rattle.std.proofs.Common.{◌<◌, length, arith, Some}
-use Rattle.sipwhere.proofs.Meant.{line_outcomes-submitted}
+use Rattle.std.proofs.Common.{◌<◌, ◌∙◌, length, arith, Some}
+use Rattle.std.proofs.Math.ListN.{length-set}
+use Rattle.sip_resolver.specs.Cancels.{requests_with}
+use Rattle.sipwhere.proofs.Meant.{line_outcomes-submitted, meant-left}
 use Rattle.sipwhere.proofs.open_lines.OpenLines.give_up.Goals as goal
 
-pub returns-then-is_none-clause-stands : goal.returns-then-is_none-clause-stands
-returns-then-is_none-clause-stands g c = λ seat was.
+pub invariant_of-self : goal.invariant_of-self
+invariant_of-self g c = record {
+  few = c.self.invariant.few;
+  own = meant-left c.self.inside.sender c.self.inside.lines.now c.self.inside.resolver.requests
+      c.cancel-was_inside.new.self.requests (requests_with c.args.place c.self.inside.resolver.requests)
+      c.cancel-was_inside.ensures.kept c.self.invariant.own;
+  as_many = length-set _ _ _ ∙ c.self.invariant.as_many;
+}
+
+pub returns-clause-stands : goal.returns-clause-stands
+returns-clause-stands g c = λ seat was.
     let before = rw (← c.self.view_is) at was in
     let lines = c.self.inside.lines.now in
     let needless = c.line_outcome_in_vain.ensures in
-    let inside : c.self.inside.told < length lines = omega arith in
+    let within = rw (← c.self.view_is) at c.requires.inside in
+    let inside : c.args.place < length lines = omega (arith, within) in
     record {
-      requests = before.requests;
+      requests = c.cancel-was_inside.ensures.stand seat before.requests;
       line_outcomes = line_outcomes-submitted _ _ seat c.self.inside.sender lines _ _ _ (Some c.line_outcome_in_vain.result) inside
           before.line_outcomes needless;
     }

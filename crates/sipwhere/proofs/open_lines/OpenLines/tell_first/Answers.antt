@@ -1,14 +1,12 @@
 use Rattle.std.proofs.Common.{◌≡◌, ◌<◌, length, Some, get_or, sym, subst}
 use Rattle.sipwhere.proofs.Later.{zip-at}
-use Rattle.sipwhere.proofs.Meant.{tells-same}
-use Rattle.sipwhere.specs.OpenLines.{IsLineOutcomeOf, OpenView}
+use Rattle.sipwhere.specs.OpenLines.{IsLineOutcomeOf}
 use Rattle.sipwhere.specs.declared.line.Line.{Line}
 use Rattle.sipwhere.proofs.open_lines.OpenLines.tell_first.Goals as goal
 
 pub returns-clause-tells : goal.returns-clause-tells
 returns-clause-tells g c = λ seat was.
-    let before = rw (← c.self.view_is) at (c.give_up.ensures.stands seat was) in
-    let same = rw (← c.self.view_is) at c.give_up.ensures.same in
+    let before = rw (← c.self.view_is) at was in
     let lines = c.self.inside.lines.now in
     let line_outcomes = c.self.inside.line_outcomes.items in
     let told = c.self.inside.told in
@@ -18,14 +16,7 @@ returns-clause-tells g c = λ seat was.
     let inside : told < length lines = looked.3.0 in
     let line-is : (d : Line) → get_or lines told d ≡ line = λ d. sym (looked.3.1 d) in
     let found : c.index.result.now ≡ Some line_outcome = sym c.in_ok-line_outcome.ensures.value in
-    let view : OpenView = record {
-      sender = c.self.inside.sender;
-      lines = lines;
-      told = told;
-      requests = c.self.inside.resolver.requests;
-      line_outcomes = line_outcomes;
-    } in
-    tells-same g.W.MessageWire.gives g.C.Clock.shows seat c.args.style c.args.self.now view _ _ _ same.0 same.1 same.2 (record {
+    rw (← c.self.view_is) (record {
       inside = inside;
       tells = λ d. record {
         tries = c.as_slice.result.now;

@@ -1,5 +1,5 @@
-//! The example of the page of `dns_client`.
-use dns_client::{ResolverFile, SERVER_PORT};
+//! The example of the page of `resolver_file`.
+use resolver_file::{ResolverFile, SERVER_PORT};
 use sip_uri::Address;
 use std::alloc::Global;
 
