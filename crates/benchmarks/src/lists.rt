@@ -47,24 +47,41 @@ fn fill(list: &mut PendingList<u64>, ids: &mut Vec<PendingId>) -> Option<()> {
     Some(())
 }
 
+/// The entry that is taken at a turn.
+fn id_at(ids: &[PendingId], turn: usize) -> Option<PendingId> {
+    ids.get(turn.wrapping_mul(STRIDE) % ENTRIES).copied()
+}
+
+/// Moves the entry of a turn to the end. Answers whether it was there.
+fn move_one(list: &mut PendingList<u64>, ids: &[PendingId], turn: usize) -> bool {
+    match id_at(ids, turn) {
+        Some(id) => list.move_to(id, ENTRIES.wrapping_add(turn) as u64),
+        None => true,
+    }
+}
+
 /// Moves each entry to the end. Answers whether all were there.
 fn move_all(list: &mut PendingList<u64>, ids: &[PendingId]) -> bool {
     let mut all = true;
-    for at in 0..ENTRIES {
-        if let Some(id) = ids.get(at * STRIDE % ENTRIES) {
-            all &= list.move_to(*id, (ENTRIES + at) as u64);
-        }
+    for turn in 0..ENTRIES {
+        all &= move_one(list, ids, turn);
     }
     all
+}
+
+/// Removes the entry of a turn. Answers whether it was there.
+fn remove_one(list: &mut PendingList<u64>, ids: &[PendingId], turn: usize) -> bool {
+    match id_at(ids, turn) {
+        Some(id) => list.remove(id).is_some(),
+        None => true,
+    }
 }
 
 /// Removes each entry. Answers whether all were there.
 fn remove_all(list: &mut PendingList<u64>, ids: &[PendingId]) -> bool {
     let mut all = true;
-    for at in 0..ENTRIES {
-        if let Some(id) = ids.get(at * STRIDE % ENTRIES) {
-            all &= list.remove(*id).is_some();
-        }
+    for turn in 0..ENTRIES {
+        all &= remove_one(list, ids, turn);
     }
     all
 }

@@ -18,6 +18,7 @@ mod misses;
 mod rows;
 
 use crate::requests::books::{fill, one_seat};
+use crate::requests::known::Known;
 use crate::requests::rows::{Row, large_row, small_rows};
 use answer_cache::{AnswerBook, ListCache};
 use dns_answers::Moment;
@@ -216,24 +217,65 @@ fn print_forms<R: Clock + Print + Wait + AllocGlobal, B: AnswerBook>(
     .ok()
 }
 
+/// Fills a book, measures a request in both forms over it, and prints it.
+fn print_filled<R: Clock + Print + Wait + AllocGlobal, B: AnswerBook>(
+    rt: &R,
+    name: &str,
+    load: &Load<'_>,
+    known: &[Known],
+    book: &B,
+    seat: &mut B::Seat,
+) -> Option<()>
+    requires { B.belongs book.now seat.old }
+{
+    fill(rt, book, seat, known, load.now);
+    print_forms(rt, name, load, book, seat)
+}
+
+/// Measures a request over a book that threads can share, and prints it.
+fn print_shared<R: Clock + Print + Wait + AllocGlobal>(
+    rt: &R,
+    load: &Load<'_>,
+    known: &[Known],
+) -> Option<()> {
+    match one_seat(rt.alloc()) {
+        Some((cache, mut seat)) => print_filled(rt, "shared", load, known, &cache, &mut seat),
+        None => None,
+    }
+}
+
+/// Measures a request over a book of one thread, and prints it.
+fn print_list<R: Clock + Print + Wait + AllocGlobal>(
+    rt: &R,
+    load: &Load<'_>,
+    known: &[Known],
+) -> Option<()> {
+    let (list, mut seat) = ListCache::new(rt.alloc());
+    print_filled(rt, "list", load, known, &list, &mut seat)
+}
+
 /// Measures a request over books of both kinds, and prints it.
-fn print_row<R: Clock + Print + Wait + AllocGlobal>(rt: &R, row: &Row) -> Option<()> {
-    let alloc = rt.alloc();
-    let now = Moment::new(100)?;
-    let known = row.domain.known(alloc)?;
-    let read = row.request(alloc)?;
+fn print_books<R: Clock + Print + Wait + AllocGlobal>(
+    rt: &R,
+    row: &Row,
+    read: &Request,
+    known: &[Known],
+) -> Option<()> {
     let load = Load {
         row,
         form: Form::Text,
-        read: &read,
-        now,
+        read,
+        now: Moment::new(100)?,
     };
-    let (cache, mut seat) = one_seat(alloc)?;
-    fill(rt, &cache, &mut seat, known.as_slice(), now);
-    print_forms(rt, "shared", &load, &cache, &mut seat)?;
-    let (list, mut seat) = ListCache::new(alloc);
-    fill(rt, &list, &mut seat, known.as_slice(), now);
-    print_forms(rt, "list", &load, &list, &mut seat)
+    print_shared(rt, &load, known)?;
+    print_list(rt, &load, known)
+}
+
+/// The same of a row.
+fn print_row<R: Clock + Print + Wait + AllocGlobal>(rt: &R, row: &Row) -> Option<()> {
+    let read = row.request(rt.alloc())?;
+    let known = row.domain.known(rt.alloc())?;
+    print_books(rt, row, &read, known.as_slice())
 }
 
 /// Measures all requests, and prints them.
@@ -247,22 +289,44 @@ fn print_rows<R: Clock + Print + Wait + AllocGlobal>(rt: &R) -> Option<()> {
     Some(())
 }
 
-/// Locates the request of a name so many times.
-fn locate_named<R: Clock + Wait + AllocGlobal>(rt: &R, name: &str, rounds: u64) -> Option<usize> {
-    let alloc = rt.alloc();
-    let row = small_rows().into_iter().find(|row| row.name == name)?;
+/// Locates a request so many times, over a filled book that threads can share.
+fn locate_shared<R: Wait + AllocGlobal>(
+    rt: &R,
+    load: &Load<'_>,
+    known: &[Known],
+    rounds: u64,
+) -> Option<usize> {
+    match one_seat(rt.alloc()) {
+        Some((cache, mut seat)) => {
+            fill(rt, &cache, &mut seat, known, load.now);
+            locate(rt.alloc(), load, &cache, &mut seat, rounds)
+        }
+        None => None,
+    }
+}
+
+/// Locates the request of a row so many times.
+fn locate_row<R: Wait + AllocGlobal>(rt: &R, row: &Row, rounds: u64) -> Option<usize> {
     let now = Moment::new(100)?;
-    let known = row.domain.known(alloc)?;
-    let read = row.request(alloc)?;
-    let (cache, mut seat) = one_seat(alloc)?;
-    fill(rt, &cache, &mut seat, known.as_slice(), now);
+    let read = row.request(rt.alloc())?;
+    let known = row.domain.known(rt.alloc())?;
     let load = Load {
-        row: &row,
+        row,
         form: Form::Text,
         read: &read,
         now,
     };
-    locate(alloc, &load, &cache, &mut seat, rounds)
+    locate_shared(rt, &load, known.as_slice(), rounds)
+}
+
+/// Locates the request of a name so many times.
+fn locate_named<R: Wait + AllocGlobal>(rt: &R, name: &str, rounds: u64) -> Option<usize> {
+    for row in small_rows() {
+        if row.name == name {
+            return locate_row(rt, &row, rounds);
+        }
+    }
+    None
 }
 
 /// Does what four words ask for, or three.

@@ -38,11 +38,20 @@ const RUNS: [(u64, usize); 6] = [
 /// How many jobs are in a batch.
 const BATCH: usize = 8;
 
+/// Whether an outcome has targets.
+fn has_targets(outcome: &Outcome) -> bool {
+    matches!(outcome, Outcome::Targets(_))
+}
+
 /// How many of these have targets.
 fn with_targets(made: &[(Outcome, Notice)]) -> usize {
-    made.iter()
-        .filter(|it| matches!(it.0, Outcome::Targets(_)))
-        .count()
+    let mut count = 0_usize;
+    for (outcome, _) in made {
+        if has_targets(outcome) {
+            count = count.wrapping_add(1);
+        }
+    }
+    count
 }
 
 /// What was measured of a run.

@@ -6,3 +6,4 @@ pub mod Records
 pub mod Values
 pub mod Answers
 pub mod Views
+pub mod CutChains

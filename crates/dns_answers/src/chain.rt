@@ -1,5 +1,5 @@
 //! Aliases, followed inside a section (RFC 1034 3.6.2, 5.2.2).
-ghost use Rattle.std.specs.Prelude.{◌≡◌, List, Some, None, MatchOption, min};
+ghost use Rattle.std.specs.Prelude.{◌≡◌, List, length, Some, None, MatchOption, min};
 ghost use Rattle.std.specs.Option.{option_map};
 ghost use Rattle.dns_message.specs.declared.resource.Record as resource;
 ghost use Rattle.dns_answers.specs.Chains as spec;
@@ -12,7 +12,7 @@ use dns_message::{Rdata, Record};
 use dns_name::Name;
 
 /// The most links that are followed.
-const LINK_LIMIT: u8 = 8;
+const LINK_LIMIT: usize = 8;
 
 /// A CNAME record, and the canonical name that it gives its owner.
 #[derive(Clone, Copy)]
@@ -21,10 +21,11 @@ struct CnameRecord<'a> {
     target: &'a Name,
 }
 
-/// Where a chain of aliases ends, and the life of its records together.
+/// Where a chain of aliases ends, how many these are, and the life of their records together.
 #[derive(Clone, Copy)]
 pub(crate) struct ChainEnd<'a> {
     pub(crate) name: &'a Name,
+    pub(crate) links: usize,
     pub(crate) life: u32,
 }
 
@@ -70,13 +71,14 @@ pub(crate) fn chain_end<'a>(section: &'a [Record], start: &'a Name) -> Option<Ch
     ensures { MatchOption result (spec.chain section.now start.now ≡ None)
         (λ end. (links : List resource.Record)
         × (spec.chain section.now start.now ≡ Some (record { links = links; last = end.name.now }))
-        × (end.life ≡ least_from 2147483647 (ttls links))) }
+        × (end.life ≡ least_from 2147483647 (ttls links))
+        × (end.links ≡ length links)) }
 {
     let mut name = start;
     let mut life = LIFE_LIMIT;
-    for _ in 0..=LINK_LIMIT {
+    for links in 0..=LINK_LIMIT {
         match first_cname(name, section) {
-            None => return Some(ChainEnd { name, life }),
+            None => return Some(ChainEnd { name, links, life }),
             Some(cname) => {
                 name = cname.target;
                 life = life_with(life, cname.entry.ttl);

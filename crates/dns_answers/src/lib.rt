@@ -5,6 +5,9 @@
 //! eight. No records means that there are none: an answer too, kept for as long as an SOA record in
 //! the reply says (RFC 2308 5).
 //!
+//! A server may cut a chain of aliases short. `follow_up` gives the question that goes on then, and
+//! `join_replies` the reply that both together are.
+//!
 //! ```
 //! let name = Name::from_text(alloc, "a.example")?;
 //! let question = Question {
@@ -23,6 +26,7 @@
 mod absence;
 mod answer;
 mod chain;
+mod cut_chain;
 mod kept;
 mod laws;
 mod moment;
@@ -31,6 +35,7 @@ mod refusal;
 mod reply;
 
 pub use answer::Answer;
+pub use cut_chain::{FollowUp, follow_up, is_reply_to, join_replies};
 pub use dns_message::Section;
 pub use laws::{
     law_absence_is_limited, law_answers_are_bounded, law_chain_follows_cnames,

@@ -47,7 +47,7 @@ fn is_asked(question: &Question, asked: &Asked) -> bool
 }
 
 /// Whether the questions of a message are this one alone.
-fn asks_this_alone(question: &Question, questions: &[Asked]) -> bool
+pub(crate) fn asks_this_alone(question: &Question, questions: &[Asked]) -> bool
     ensures { result ≡ spec.asks_this_alone question.now questions.now }
 {
     match questions {

@@ -7,5 +7,6 @@ pub mod TicketLists
 pub mod IdTables
 pub mod Listed
 pub mod Wires
+pub mod MessageWires
 pub mod Servers
 pub mod ZoneWires

@@ -24,7 +24,8 @@
 //! ```
 //!
 //! `Wire` and `PeerWire` say what may be known of a wire that carries datagrams, to one server or
-//! to many peers, and `Clock` what may be known of a clock. `serve` replies from a zone
+//! to many peers, `MessageWire` of one that gives whole messages of many servers, and `Clock` what
+//! may be known of a clock. `serve` replies from a zone
 //! (`dns_zone`) over a `PeerWire`, until it is told to stop, and gives the count of replies. For
 //! tests and measurements there are a wire in memory to a zone's server (`ZoneWire`) and a clock
 //! that stands (`StandingClock`).
@@ -38,6 +39,7 @@ mod asker_laws;
 mod clock;
 mod id_table;
 mod incoming;
+mod message_wire;
 mod refusal;
 mod server;
 mod ticket;
@@ -52,6 +54,7 @@ pub use dns_zone::{
     Zone, ZoneEntry, ZoneRefusal, law_zone_follows_cnames, law_zone_names_its_authority,
 };
 pub use incoming::{Due, Ending, Incoming, Why};
+pub use message_wire::{MessageWire, Received};
 pub use refusal::AskRefusal;
 pub use server::serve;
 pub use wire::{DATAGRAM_LIMIT, PeerWire, Wire, WireFault};

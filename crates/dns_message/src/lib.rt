@@ -8,7 +8,8 @@
 //! message, or nothing, for a caller that need not know why there is none.
 //!
 //! Queries and replies are written without pointers, and what is written is read again as the same
-//! message. A reply that does not fit into a datagram of 512 octets is cut to its question.
+//! message. A reply that does not fit into a datagram of 512 octets is cut to its question;
+//! `write_message` writes messages of up to 65,535 octets.
 //!
 //! ```
 //! let name = Name::from_text(alloc, "a.example")?;
@@ -35,6 +36,7 @@ mod header;
 mod kind;
 mod laws;
 mod message;
+mod message_writer;
 mod name;
 mod naptr;
 mod number;
@@ -57,6 +59,7 @@ pub use laws::{
     law_one_message_in_front, law_same_questions_are_equal, law_written_message_is_read,
 };
 pub use message::{Message, message_in, read_message};
+pub use message_writer::{WriteRefusal, write_message};
 pub use naptr::NaptrRecord;
 pub use other_data::OtherData;
 pub use question::{Asked, Question};

@@ -1,5 +1,4 @@
 pub mod Others
 pub mod Flows
-mod CnameLinks
 mod SameQueries
 mod Rounds

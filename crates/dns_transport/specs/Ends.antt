@@ -1,14 +1,14 @@
 -- What the end of a query says.
 use Rattle.std.specs.Prelude.{◌≡◌, ℕ, ◌≤◌, ◌<◌, ◌==◌, ⊤, Bool, true, false, not, List, length, take}
 use Rattle.std.specs.List.{All, HoldsAt, filter, remove}
-use Rattle.dns_transport.specs.Replies.{IsReplyTo}
+use Rattle.dns_transport.specs.Replies.{IsReplyInOtherLetters, IsReplyTo}
 use Rattle.dns_transport.specs.WireTries.{id_of}
 use Rattle.dns_transport.specs.declared.route.Route.{Route}
 use Rattle.dns_transport.specs.declared.exchange.Exchange.{Exchange}
 use Rattle.dns_transport.specs.declared.query.Query.{Query}
 use Rattle.dns_transport.specs.declared.query.End.{End}
 use Rattle.dns_transport.specs.declared.query.Outcome.{Outcome}
-use Rattle.dns_transport.specs.declared.query.Outcome.TheVariants.{Reply, Silent, Failed}
+use Rattle.dns_transport.specs.declared.query.Outcome.TheVariants.{Reply, OtherLetters, Silent, Failed}
 use Rattle.dns_transport.specs.declared.link.Step.{Step}
 use Rattle.dns_transport.specs.declared.link.Step.TheVariants as step
 
@@ -58,6 +58,23 @@ pub record IsAnswered (key : ℕ) (route : Route) (message : List ℕ) (exchange
     pub goes : exchange.query.route ≡ route
     pub replies : IsReplyTo (front_of exchange.query) message
 
+-- A message that came so would be a reply to a query, but for the letters that were drawn for its
+-- name: its server may change letters.
+pub record IsAnsweredInOtherLetters (key : ℕ) (route : Route) (message : List ℕ)
+    (exchange : Exchange) : Type 0
+  where
+    pub over : exchange.key ≡ key
+    pub goes : exchange.query.route ≡ route
+    pub drawn : exchange.query.has_drawn_letters ≡ true
+    pub replies : IsReplyInOtherLetters (front_of exchange.query) message
+
+-- a message came from where a query went, which would be a reply to it but for its letters
+pub record HeardOtherLetters (hears : Route → List ℕ → Type 0) (query : Query) : Type 0 where
+  pub drawn : query.has_drawn_letters ≡ true
+  pub message : List ℕ
+  pub heard : hears query.route message
+  pub replies : IsReplyInOtherLetters (front_of query) message
+
 -- what a transport has: the system, and the queries that are out
 pub record TransportView (S : Type 0) : Type 0 where
   pub system : S
@@ -75,6 +92,7 @@ pub record EndsAt (old new : List Exchange) (end : End) (at : ℕ) : Type 0 wher
 abbrev pub IsToldOf : (Route → List ℕ → Type 0) → (ℕ → Type 0) → End → Outcome → Type 0
 IsToldOf hears shows end (Reply message) =
     hears end.query.route message.items × IsReplyTo (front_of end.query) message.items
+IsToldOf hears shows end OtherLetters = HeardOtherLetters hears end.query
 IsToldOf hears shows end Silent = (now : ℕ) × shows now × end.query.deadline ≤ now
 IsToldOf hears shows end Failed = ⊤
 

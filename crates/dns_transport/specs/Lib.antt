@@ -3,11 +3,13 @@ pub mod Ends
 pub mod Frames
 pub mod ServerOrders
 pub mod QueryForms
+pub mod Letters
 pub mod Sends
 pub mod ReplyBits
 pub mod Wires
-pub mod WireEvents
 pub mod WireCounts
 pub mod WireTries
 pub mod CnameChains
 pub mod Steps
+pub mod Clocks
+pub mod Datagrams

@@ -1,5 +1,6 @@
 -- Which octets are a reply to a query.
 use Rattle.std.specs.Prelude.{◌≡◌, ℕ, ◌+◌, ◌-◌, ◌/◌, ◌≤◌, take, drop, List, length, slice_index_or}
+use Rattle.dns_name.specs.Labels.{small_letters}
 
 -- a query has a header, and a message has as many octets as it at least
 abbrev pub IsWhole : List ℕ → List ℕ → Type 0
@@ -24,3 +25,16 @@ pub record IsReplyTo (query message : List ℕ) : Type 0 where
   pub id : HasId query message
   pub kind : IsAnswering query message
   pub question : HasQuestion query message
+
+-- the question is the same, in letters of any case (RFC 4343 3)
+abbrev pub HasSameName : List ℕ → List ℕ → Type 0
+HasSameName query message =
+    small_letters (take (length (drop 12 query)) (drop 12 message)) ≡ small_letters (drop 12 query)
+
+-- a message would be a reply to a query, but for the letters in its question
+pub record IsReplyInOtherLetters (query message : List ℕ) : Type 0 where
+  pub whole : IsWhole query message
+  pub id : HasId query message
+  pub kind : IsAnswering query message
+  pub name : HasSameName query message
+  pub letters : HasQuestion query message → ⊥

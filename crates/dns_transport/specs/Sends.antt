@@ -1,8 +1,10 @@
 -- What goes out for a query.
 use Rattle.std.specs.Prelude.{◌≡◌, ◌⊎◌, ℕ, Bool, true, List, ◌++◌, drop, length, nat_le, Option, Some, None, if◌then◌else◌}
 use Rattle.std.specs.Int.{to_be_bytes, w16}
+use Rattle.std.specs.List.{All}
 use Rattle.dns_transport.specs.CnameChains.{OpenValue}
-use Rattle.dns_transport.specs.Ends.{IsAnyOf, IsOf, TransportView}
+use Rattle.dns_transport.specs.Ends.{HasIdOver, IsAnyOf, IsOf, TransportView}
+use Rattle.dns_transport.specs.Letters.{IsRespelled}
 use Rattle.dns_transport.specs.QueryForms.{form_for, form_octets}
 use Rattle.dns_transport.specs.declared.lookup.Lookup.{Lookup}
 use Rattle.dns_transport.specs.declared.route.Route.{Route}
@@ -31,18 +33,29 @@ asked_by lookup = asked_along lookup.query.items lookup.chain
 abbrev pub way_to : Server → Bool → Route
 way_to server over_tcp = record { server = server.address; over_tcp = over_tcp }
 
+-- the octets that go out to a server, but for the cases of their letters
+abbrev pub octets_to : Server → QueryForm → ℕ → Lookup → List ℕ
+octets_to server form id lookup =
+    sent_octets (form_for form (Some server)) id (asked_by lookup)
+
 -- A server is asked: what is asked goes to it over TCP, or else over UDP, in the form for it, with
--- an id of its own.
+-- an id that no query has which is out the same way (RFC 5452 9.2). Over UDP the letters of the
+-- name may have other cases, unless a server changes them.
 pub record Asks {S : Type 0} (sends : S → List ℕ → Route → S → Type 0) (lookup : Lookup)
-    (over_tcp : Bool) (form : QueryForm) (server : Server) (old new : S) : Type 0 where
+    (over_tcp : Bool) (form : QueryForm) (server : Server) (old new : TransportView S)
+    : Type 0 where
   pub id : ℕ
-  pub sent : sends old (sent_octets (form_for form (Some server)) id (asked_by lookup))
-      (way_to server over_tcp) new
+  pub free : All (λ it. HasIdOver (way_to server over_tcp) id it → ⊥) old.exchanges
+  pub octets : List ℕ
+  pub respelled : IsRespelled (length (asked_by lookup)) (octets_to server form id lookup) octets
+  pub plain : (over_tcp ≡ true) ⊎ (lookup.is_plain ≡ true)
+      → octets ≡ octets_to server form id lookup
+  pub sent : sends old.system octets (way_to server over_tcp) new.system
 
 -- A server was asked, or what is asked is out over TCP to it already.
 abbrev pub HasAsked : {S : Type 0} → (S → List ℕ → Route → S → Type 0) → Lookup → Bool → QueryForm
     → Option Server → TransportView S → TransportView S → Type 0
 HasAsked sends lookup over_tcp form None old new = ⊥
 HasAsked sends lookup over_tcp form (Some server) old new =
-    Asks sends lookup over_tcp form server old.system new.system
+    Asks sends lookup over_tcp form server old new
     ⊎ ((over_tcp ≡ true) × IsAnyOf (IsOf lookup.number (way_to server true)) old.exchanges true)

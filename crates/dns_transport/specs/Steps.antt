@@ -2,7 +2,7 @@
 use Rattle.std.specs.Prelude.{◌≡◌, ℕ, ⊤, List}
 use Rattle.dns_transport.specs.CnameChains.{EndsWith, GoesFurther, IsStray, OpenValue}
 use Rattle.dns_transport.specs.declared.server_wire.Course.{Course}
-use Rattle.dns_transport.specs.declared.server_wire.Course.TheVariants.{Open, Replied, Over}
+use Rattle.dns_transport.specs.declared.server_wire.Course.TheVariants.{Open, Replied, Over, Closed}
 use Rattle.dns_transport.specs.declared.open_chain.Step.{Step}
 use Rattle.dns_transport.specs.declared.open_chain.Step.TheVariants.{Stray, Further, Ended}
 
@@ -17,3 +17,4 @@ abbrev pub IfReplied : Course → (List ℕ → Type 0) → Type 0
 IfReplied Open holds = ⊤
 IfReplied (Replied octets) holds = holds octets.items
 IfReplied Over holds = ⊤
+IfReplied Closed holds = ⊤

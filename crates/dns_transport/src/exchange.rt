@@ -1,14 +1,14 @@
 //! A query that is out.
 ghost use Rattle.std.specs.Prelude.{◌≡◌, ◌↔◌, IsTrue};
-ghost use Rattle.dns_transport.specs.Ends.{HasIdOver, IsAnswered, IsOf, front_of};
+ghost use Rattle.dns_transport.specs.Ends.{HasIdOver, IsAnswered, IsAnsweredInOtherLetters, IsOf, front_of};
 
 use crate::query::Query;
-use crate::reply::is_reply_to;
+use crate::reply::{is_reply_in_other_letters, is_reply_to};
 use crate::route::Route;
 use crate::wire_try::id_of;
 
 /// A query that is out over the link of a key, which was open already or opened for it.
-#[derive(Debug, Drop)]
+#[derive(Drop)]
 pub struct Exchange {
     pub(crate) key: usize,
     pub(crate) shared: bool,
@@ -44,5 +44,20 @@ impl Exchange {
         ensures { IsTrue result ↔ IsAnswered key route message.now self.now }
     {
         self.key == key && self.query.route == route && is_reply_to(self.front(), message)
+    }
+    /// Whether a message that came over the link of this key, from where this route goes, would be
+    /// a reply to it, but for the letters that were drawn for its name.
+    pub(crate) fn is_answered_in_other_letters(
+        &self,
+        key: usize,
+        route: Route,
+        message: &[u8],
+    ) -> bool
+        ensures { IsTrue result ↔ IsAnsweredInOtherLetters key route message.now self.now }
+    {
+        self.key == key
+            && self.query.route == route
+            && self.query.has_drawn_letters
+            && is_reply_in_other_letters(self.front(), message)
     }
 }

@@ -22,11 +22,11 @@ impl Model for Exchanges {
 }
 
 impl Exchanges {
-    ghost use Rattle.std.specs.Prelude.{◌≡◌, ◌++◌, ◌∷◌, [], ◌<◌, ◌≤◌, ℕ, IfSome, IfNone, MatchOption, OnErr, OnOk, length};
+    ghost use Rattle.std.specs.Prelude.{◌≡◌, true, ◌++◌, ◌∷◌, [], ◌<◌, ◌≤◌, ℕ, IfSome, IfNone, MatchOption, OnErr, OnOk, length};
     ghost use Rattle.std.specs.List.{All, HoldsAt, filter, remove};
-    ghost use Rattle.dns_transport.specs.declared.query.Outcome.TheVariants.{Failed, Reply, Silent};
-    ghost use Rattle.dns_transport.specs.Ends.{EndsAt, HasIdOver, IsAnswered, IsAnyOf, IsOf, at_key, front_of, without_number};
-    ghost use Rattle.dns_transport.specs.Replies.{IsReplyTo};
+    ghost use Rattle.dns_transport.specs.declared.query.Outcome.TheVariants.{Failed, OtherLetters, Reply, Silent};
+    ghost use Rattle.dns_transport.specs.Ends.{EndsAt, HasIdOver, IsAnswered, IsAnsweredInOtherLetters, IsAnyOf, IsOf, at_key, front_of, without_number};
+    ghost use Rattle.dns_transport.specs.Replies.{IsReplyInOtherLetters, IsReplyTo};
 
     /// None is out.
     pub(crate) fn new(alloc: Global) -> Exchanges
@@ -110,6 +110,50 @@ impl Exchanges {
             query,
             shared,
             outcome: Outcome::Reply(message),
+        })
+    }
+
+    /// The place of the query that a message over the link of a key answers but for its letters.
+    fn place_in_other_letters(&self, key: usize, route: Route, message: &[u8]) -> Option<usize>
+        ensures { MatchOption result
+            (All (λ it. IsAnsweredInOtherLetters key route message.now it → ⊥) self.now)
+            (λ at. (at < length self.now)
+            × HoldsAt (IsAnsweredInOtherLetters key route message.now) self.now at) }
+    {
+        self.items
+            .iter()
+            .position(|it| it.is_answered_in_other_letters(key, route, message))
+    }
+
+    /// Ends the query that a message over the link of a key answers but for its letters.
+    pub(crate) fn take_in_other_letters(
+        &mut self,
+        key: usize,
+        route: Route,
+        message: &[u8],
+    ) -> Option<End>
+        ensures ends { MatchOption result (self.new ≡ self.old)
+            (λ end. (at : ℕ) × EndsAt self.old self.new end at) }
+        ensures none { IfNone result
+            (All (λ it. IsAnsweredInOtherLetters key route message.now it → ⊥) self.old) }
+        ensures told { IfSome result (λ end. end.outcome ≡ OtherLetters) }
+        ensures goes { IfSome result (λ end. end.query.route ≡ route) }
+        ensures drawn { IfSome result (λ end. end.query.has_drawn_letters ≡ true) }
+        ensures replies { IfSome result
+            (λ end. IsReplyInOtherLetters (front_of end.query) message.now) }
+    {
+        let Some(at) = self.place_in_other_letters(key, route, message) else {
+            return None;
+        };
+        let Exchange {
+            key: _key,
+            shared,
+            query,
+        } = self.take_at(at);
+        Some(End {
+            query,
+            shared,
+            outcome: Outcome::OtherLetters,
         })
     }
 

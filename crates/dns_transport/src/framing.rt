@@ -231,6 +231,7 @@ impl Framing {
         ensures taken { IfOk result (λ it. MatchOption it
             ((self.new ≡ self.old) × IsPart self.old.untaken)
             (λ message. BeginsWith self.old.untaken message.items self.new.untaken)) }
+        ensures unchanged { OnErr result (self.new ≡ self.old) }
     {
         let front = front_of(alloc, &self.came[self.taken..])?;
         match &front {
@@ -240,7 +241,8 @@ impl Framing {
         Ok(front)
     }
 
-    /// Takes a message that came, without waiting.
+    /// Takes a message that came, without waiting. Where memory is refused, all stays as it is, and
+    /// more may come.
     #[tactic(auto, using(crate::proofs::Flows::reads_same, crate::proofs::Flows::reads_then))]
     pub(crate) fn read<S: Read>(&mut self, alloc: Global, stream: &mut S) -> Heard
         ensures unwritten { self.new.unwritten ≡ self.old.unwritten }
@@ -251,7 +253,11 @@ impl Framing {
             match self.take(alloc) {
                 Ok(Some(message)) => return Heard::Message(message),
                 Ok(None) => {}
+                Err(error) if error.kind() == ErrorKind::OutOfMemory => return Heard::More,
                 Err(_) => return Heard::Failed,
+            }
+            if self.came.reserve(PART_LIMIT).is_err() {
+                return Heard::More;
             }
             match self.read_part(stream) {
                 Part::Moved => {}

@@ -4,18 +4,23 @@ ghost use Rattle.dns_transport.specs.Sends.{asked_by};
 
 use crate::open_chain::OpenChain;
 use crate::server_order::server_at;
+use crate::wire_try::id_of;
 use std::alloc::{AllocError, Global};
 
 /// A query of the caller, under a number of its own: to which server it goes first, how often it
 /// was sent, a reply that is handed on where no better one comes, and the chain of CNAME records
 /// that is asked on for it.
-#[derive(Debug, Drop)]
+#[derive(Drop)]
 pub(crate) struct Lookup {
     pub(crate) number: u64,
     pub(crate) query: Vec<u8>,
     pub(crate) first: usize,
     pub(crate) sends: usize,
     pub(crate) went_out: bool,
+    /// Whether a server changes letters, so that it is asked as it stands from now on.
+    pub(crate) is_plain: bool,
+    /// Whether the last send of it failed for want of memory or of sockets: a later one may not.
+    pub(crate) was_lost: bool,
     /// The millisecond at which it was sent to the last server, if it was.
     pub(crate) asked_at: Option<u64>,
     pub(crate) kept: Option<Vec<u8>>,
@@ -36,6 +41,8 @@ impl Lookup {
             first,
             sends: 0,
             went_out: false,
+            is_plain: false,
+            was_lost: false,
             asked_at: None,
             kept: None,
             chain: None,
@@ -50,6 +57,11 @@ impl Lookup {
             Some(chain) => chain.further_octets(),
             None => self.query.as_slice(),
         }
+    }
+
+    /// The id of the query.
+    pub(crate) fn id(&self) -> u16 {
+        id_of(self.query.as_slice())
     }
 
     /// The one of so many servers that it was sent to last, if it was.

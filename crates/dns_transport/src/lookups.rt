@@ -1,10 +1,11 @@
 //! The queries of the caller that are open.
+ghost use Rattle.std.specs.Prelude.{◌≤◌, length};
 
 use crate::lookup::Lookup;
 use std::alloc::Global;
 
 /// How many are open at most: the last ones that something became of.
-pub const LOOKUP_LIMIT: usize = 512;
+pub(crate) const LOOKUP_LIMIT: usize = 512;
 
 /// The queries of the caller that are open, in the order in which something became of them.
 #[derive(Drop)]
@@ -29,6 +30,12 @@ impl Lookups {
         Some(self.items.remove(at))
     }
 
+    /// Takes the one of an id out, if there is one.
+    pub(crate) fn take_id(&mut self, id: u16) -> Option<Lookup> {
+        let at = self.items.iter().position(|it| it.id() == id)?;
+        Some(self.items.remove(at))
+    }
+
     /// Takes the one of a number out, if there is one.
     pub(crate) fn take_number(&mut self, number: u64) -> Option<Lookup> {
         let at = self.items.iter().position(|it| it.number == number)?;
@@ -37,7 +44,9 @@ impl Lookups {
 
     /// Puts one behind the others. Where as many are open as can be, the first one leaves, and its
     /// number is given; so does this one where memory is refused.
-    pub(crate) fn put(&mut self, lookup: Lookup) -> Option<u64> {
+    pub(crate) fn put(&mut self, lookup: Lookup) -> Option<u64>
+        ensures bound { length self.old.items.items ≤ 512 → length self.new.items.items ≤ 512 }
+    {
         let number = lookup.number;
         if self.items.len() >= LOOKUP_LIMIT {
             let left = self.items.remove(0);

@@ -6,16 +6,16 @@ ghost use Rattle.dns_message.specs.declared.kind.Kind as kinds;
 ghost use Rattle.dns_message.specs.declared.question.Question as questions;
 ghost use Rattle.dns_transport.specs.CnameChains.{Asks};
 
-use crate::cname_chain::{further_question, is_reply_to, joined};
-use crate::message_octets::{WriteRefusal, message_octets};
+use dns_answers::{follow_up, is_reply_to, join_replies};
 use dns_message::{
-    Asked, CLASS_IN, Kind, Message, Question, law_one_message_in_front, message_in, write_query,
+    Asked, CLASS_IN, Kind, Message, Question, WriteRefusal, law_one_message_in_front, message_in,
+    write_message, write_query,
 };
 use std::alloc::{AllocError, Global};
 use std::marker::Model;
 
 /// A query, and its question.
-#[derive(Debug, Drop)]
+#[derive(Drop)]
 struct Query {
     id: u16,
     question: Question,
@@ -23,7 +23,7 @@ struct Query {
 
 /// A question on its way: the octets of the query that began it, its id and question, the replies
 /// so far put together, how many links these have, and what is asked on.
-#[derive(Debug, Drop)]
+#[derive(Drop)]
 pub(crate) struct OpenChain {
     octets: Vec<u8>,
     query: Query,
@@ -53,7 +53,7 @@ impl Model for OpenChain {
 }
 
 /// What a message means to a question on its way.
-#[derive(Debug, Drop)]
+#[derive(Drop)]
 pub(crate) enum Step {
     /// It is no reply to what is asked on.
     Stray(OpenChain),
@@ -145,7 +145,7 @@ impl OpenChain {
         let Some(so_far) = message_in(alloc, reply)? else {
             return Ok(None);
         };
-        let Some(further) = further_question(alloc, &query.question, &so_far, 0)? else {
+        let Some(further) = follow_up(alloc, &query.question, &so_far, 0)? else {
             return Ok(None);
         };
         Ok(Some(OpenChain {
@@ -197,8 +197,8 @@ impl OpenChain {
             links,
             ..
         } = self;
-        let so_far = joined(alloc, so_far, reply)?;
-        match further_question(alloc, &query.question, &so_far, links)? {
+        let so_far = join_replies(alloc, so_far, reply)?;
+        match follow_up(alloc, &query.question, &so_far, links)? {
             Some(further) => Ok(Step::Further(OpenChain {
                 octets,
                 further_octets: write_query(alloc, query.id, &further.question)?,
@@ -207,7 +207,7 @@ impl OpenChain {
                 links: further.links,
                 further: further.question,
             })),
-            None => Ok(Step::Ended(message_octets(alloc, &so_far)?)),
+            None => Ok(Step::Ended(write_message(alloc, &so_far)?)),
         }
     }
 }

@@ -13,6 +13,8 @@ pub struct Query {
     pub octets: Vec<u8>,
     /// How many octets its header and its question have.
     pub front: usize,
+    /// Whether the letters of its name have cases that were drawn.
+    pub has_drawn_letters: bool,
     /// Whether it may go over a connection that is open already.
     pub shares: bool,
     /// The millisecond at which nothing more is waited for.
@@ -24,6 +26,8 @@ pub struct Query {
 pub enum Outcome {
     /// The octets of the reply.
     Reply(Vec<u8>),
+    /// A reply came that has other letters in its question than were drawn.
+    OtherLetters,
     /// Nothing came until its deadline.
     Silent,
     /// The system or the server refused it.

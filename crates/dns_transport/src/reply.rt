@@ -1,6 +1,7 @@
 //! Which octets are a reply to a query.
-ghost use Rattle.std.specs.Prelude.{◌≡◌, ◌↔◌, IsTrue, length, take};
-ghost use Rattle.dns_transport.specs.Replies.{HasId, HasQuestion, IsAnswering, IsReplyTo, IsWhole};
+ghost use Rattle.std.specs.Prelude.{◌≡◌, ◌↔◌, ◌≤◌, IsTrue, length, take};
+ghost use Rattle.dns_name.specs.Labels.{small_letters};
+ghost use Rattle.dns_transport.specs.Replies.{HasId, HasQuestion, HasSameName, IsAnswering, IsReplyInOtherLetters, IsReplyTo, IsWhole};
 
 /// The octets of a header (RFC 1035 4.1.1).
 const HEADER_LENGTH: usize = 12;
@@ -52,4 +53,32 @@ pub(crate) fn is_reply_to(query: &[u8], message: &[u8]) -> bool
         && has_id(query, message)
         && is_answering(query, message)
         && has_question(query, message)
+}
+
+/// Whether octets begin with these, in letters of any case.
+fn begins_in_any_letters(octets: &[u8], start: &[u8]) -> bool
+    requires { length start.now ≤ length octets.now }
+    ensures { IsTrue result
+        ↔ (small_letters (take (length start.now) octets.now) ≡ small_letters start.now) }
+{
+    octets[..start.len()].eq_ignore_ascii_case(start)
+}
+
+/// Whether a message has the question of a query, in letters of any case.
+fn has_same_name(query: &[u8], message: &[u8]) -> bool
+    requires { IsWhole query.now message.now }
+    ensures { IsTrue result ↔ HasSameName query.now message.now }
+{
+    begins_in_any_letters(&message[HEADER_LENGTH..], &query[HEADER_LENGTH..])
+}
+
+/// Whether a message would be a reply to a query, but for the letters in its question.
+pub(crate) fn is_reply_in_other_letters(query: &[u8], message: &[u8]) -> bool
+    ensures { IsTrue result ↔ IsReplyInOtherLetters query.now message.now }
+{
+    is_whole(query, message)
+        && has_id(query, message)
+        && is_answering(query, message)
+        && has_same_name(query, message)
+        && !has_question(query, message)
 }

@@ -1,15 +1,20 @@
 //! A wire to DNS servers over sockets.
-ghost use Rattle.std.specs.Prelude.{◌≡◌, IfOk, IfSome, IsFalse, IsTrue, slice_get};
+ghost use Rattle.std.specs.Prelude.{◌≡◌, false, IfOk, IfSome, IsFalse, IsTrue, length, slice_get};
+ghost use Rattle.std.specs.List.{All};
+ghost use Rattle.dns_asker.specs.MessageWires.{IfMessage};
 ghost use Rattle.dns_transport.specs.CnameChains.{IsHandedOn};
+ghost use Rattle.dns_transport.specs.Ends.{HasIdOver};
+ghost use Rattle.dns_transport.specs.Letters.{IsRespelled};
 ghost use Rattle.dns_transport.specs.QueryForms.{form_for};
+ghost use Rattle.dns_transport.specs.ServerOrders as orders;
 ghost use Rattle.dns_transport.specs.Steps.{IfReplied};
 ghost use Rattle.dns_transport.specs.Sends.{HasAsked, asked_by, sent_octets, with_id};
 ghost use Rattle.dns_transport.specs.Wires.{HandsOn};
 
+use crate::letters::respell;
 use crate::link::System;
 use crate::lookup::Lookup;
 use crate::lookups::Lookups;
-use crate::message_wire::MessageWire;
 use crate::open_chain::{OpenChain, Step};
 use crate::query::{End, Outcome, Query};
 use crate::query_form::QueryForm;
@@ -21,8 +26,10 @@ use crate::transport::Transport;
 use crate::try_log::TryLog;
 use crate::wire_counts::WireCounts;
 use crate::wire_try::{Tracer, TryRoute, WireTry, id_of};
+use dns_asker::{MessageWire, Received};
 use rand_core::Rng;
 use std::alloc::{AllocError, Global};
+use std::io::ErrorKind;
 use std::net::SocketAddr;
 use std::time::Duration;
 
@@ -62,7 +69,7 @@ pub struct WireOptions {
 }
 
 /// What becomes of a query of the caller.
-#[derive(Debug, Drop)]
+#[derive(Drop)]
 enum Course {
     /// It is open.
     Open,
@@ -70,6 +77,8 @@ enum Course {
     Replied(Vec<u8>),
     /// It is over without a reply.
     Over,
+    /// It is over, as no server takes it.
+    Closed,
 }
 
 /// A wire to DNS servers over sockets.
@@ -86,8 +95,11 @@ enum Course {
 ///
 /// Where a send or a receive fails, as at a closed port, or where a reply has the RCODE FORMERR,
 /// SERVFAIL, NOTIMP or REFUSED (RFC 1035 4.1.1), the query goes to the next server at once, as long
-/// as there is one that was not asked (RFC 1035 7.2). Where there is none, a send or a receive that
-/// fails counts as lost, and the reply is given.
+/// as there is one that was not asked (RFC 1035 7.2). Where there is none, the reply is given; and
+/// where none came and no other send is waited for, it is told that no server takes the query.
+///
+/// In a datagram the letters of the name have cases that are drawn (RFC 5452 9.3, RFC 4343 3).
+/// Where a reply has other letters, its server is asked once more, in small letters.
 ///
 /// Where queries have an OPT record and a server refuses that, by FORMERR, NOTIMP or an RCODE
 /// greater than 15, it is asked the same once more without one, and from then on so (RFC 6891
@@ -110,6 +122,8 @@ pub struct ServerWire<S: System, G> {
     options: WireOptions,
     lookups: Lookups,
     next_number: u64,
+    /// The ids of queries that no server takes, which is still to be told.
+    closed: Vec<u16>,
     log: TryLog,
     /// The millisecond at which the time of the wire is over.
     until: u64,
@@ -129,6 +143,20 @@ fn set_id(id: u16, message: &mut [u8])
         message[0] = high;
         message[1] = low;
     }
+}
+
+/// Whether an error of the system says that a server can't be reached: all others are of this host.
+fn is_refusal(kind: ErrorKind) -> bool {
+    matches!(
+        kind,
+        ErrorKind::ConnectionRefused
+            | ErrorKind::ConnectionReset
+            | ErrorKind::ConnectionAborted
+            | ErrorKind::HostUnreachable
+            | ErrorKind::NetworkUnreachable
+            | ErrorKind::NetworkDown
+            | ErrorKind::PermissionDenied
+    )
 }
 
 /// Whether a query has an additional record: its OPT record.
@@ -160,6 +188,7 @@ impl<S: System + Drop, G: Rng + Drop> ServerWire<S, G> {
             options,
             lookups: Lookups::new(alloc),
             next_number: 0,
+            closed: Vec::new(alloc),
             log: TryLog::new(alloc, options.keeps_tries),
             until,
         })
@@ -194,35 +223,49 @@ impl<S: System + Drop, G: Rng + Drop> ServerWire<S, G> {
         self.options.form.edns.is_some() && refuses_edns(self.alloc, message).unwrap_or(true)
     }
 
-    /// An id that no query has which is out over the same route (RFC 7766 6.2.1), as far as draws
-    /// find one.
-    fn fresh_id(&mut self, route: Route) -> u16
+    /// An id that no query has which is out over the same route (RFC 7766 6.2.1), if one is drawn.
+    fn fresh_id(&mut self, route: Route) -> Option<u16>
         ensures transport { self.new.transport ≡ self.old.transport }
         ensures options { self.new.options ≡ self.old.options }
         ensures servers { self.new.servers ≡ self.old.servers }
+        ensures free { IfSome result
+            (λ id. All (λ it. HasIdOver route id it → ⊥) self.old.transport.exchanges) }
     {
-        let mut id = 0;
         'draws: for _draw in 0..DRAW_LIMIT {
-            id = (self.draws.next_u32() % 65_536) as u16;
+            let id = (self.draws.next_u32() % 65_536) as u16;
             if !self.transport.has_id(route, id) {
-                break;
+                return Some(id);
             }
         }
-        id
+        None
     }
 
     /// When a query is waited for no more that is sent now.
     fn deadline(&self, over_tcp: bool) -> u64 {
         let time = if over_tcp { TCP_TIME } else { DATAGRAM_TIME };
-        self.transport.now().saturating_add(time).min(self.until)
+        self.transport.now().saturating_add(time)
     }
 
-    /// The octets that go out for what is asked, in this form and with this id.
-    fn octets_of(&self, form: QueryForm, id: u16, asked: &[u8]) -> Result<Vec<u8>, AllocError>
-        ensures { IfOk result (λ octets. octets.items ≡ sent_octets form id asked.now) }
+    /// The octets that go out for what is asked, in this form and with this id, and in letters that
+    /// are drawn, if they are to be.
+    fn octets_of(
+        &mut self,
+        form: QueryForm,
+        id: u16,
+        asked: &[u8],
+        draws_letters: bool,
+    ) -> Result<Vec<u8>, AllocError>
+        ensures transport { self.new.transport ≡ self.old.transport }
+        ensures octets { IfOk result (λ octets. IsRespelled (length asked.now)
+            (sent_octets form id asked.now) octets.items) }
+        ensures plain { IfOk result
+            (λ octets. draws_letters ≡ false → octets.items ≡ sent_octets form id asked.now) }
     {
         let mut octets = form.octets(self.alloc, asked)?;
         set_id(id, octets.as_mut_slice());
+        if draws_letters {
+            respell(&mut self.draws, asked.len(), octets.as_mut_slice());
+        }
         Ok(octets)
     }
 
@@ -253,8 +296,13 @@ impl<S: System + Drop, G: Rng + Drop> ServerWire<S, G> {
             return true;
         }
         let form = self.form_for(server);
-        let id = self.fresh_id(route);
-        let Ok(octets) = self.octets_of(form, id, lookup.asked()) else {
+        let has_drawn_letters = !over_tcp && !lookup.is_plain;
+        let Some(id) = self.fresh_id(route) else {
+            lookup.was_lost = true;
+            return false;
+        };
+        let Ok(octets) = self.octets_of(form, id, lookup.asked(), has_drawn_letters) else {
+            lookup.was_lost = true;
             return false;
         };
         let try_route = TryRoute {
@@ -268,20 +316,47 @@ impl<S: System + Drop, G: Rng + Drop> ServerWire<S, G> {
             route,
             octets,
             front: lookup.asked().len(),
+            has_drawn_letters,
             shares: to.shares,
             deadline: self.deadline(over_tcp),
         };
-        self.transport.send(query).is_ok()
+        match self.transport.send(query) {
+            Ok(()) => {
+                lookup.was_lost = false;
+                true
+            }
+            Err(error) => {
+                lookup.was_lost |= !is_refusal(error.kind());
+                false
+            }
+        }
+    }
+
+    /// Asks the server whose turn it is, and tells whether its reply may come.
+    fn ask_in_turn(&mut self, lookup: &mut Lookup) -> bool
+        ensures { IsTrue result → HasAsked S.sends lookup.old self.old.options.over_tcp
+            self.old.options.form (slice_get self.old.servers.items
+            (orders.server_at lookup.old.first lookup.old.sends (length self.old.servers.items)))
+            self.old.transport self.new.transport }
+    {
+        let servers = self.servers.len();
+        if servers == 0 {
+            return false;
+        }
+        let server = server_at(lookup.first, lookup.sends, servers);
+        let is_asked = self.ask(lookup, server, self.options.over_tcp);
+        lookup.sends = lookup.sends.saturating_add(1);
+        if is_asked {
+            lookup.asked_at = Some(self.transport.now());
+        }
+        is_asked
     }
 
     /// Asks the next server, or one behind it that can be asked, and tells whether one was asked.
     fn ask_next(&mut self, lookup: &mut Lookup) -> bool {
         let servers = self.servers.len();
         'servers: for _server in 0..servers {
-            let server = server_at(lookup.first, lookup.sends, servers);
-            lookup.sends = lookup.sends.saturating_add(1);
-            if self.ask(lookup, server, self.options.over_tcp) {
-                lookup.asked_at = Some(self.transport.now());
+            if self.ask_in_turn(lookup) {
                 return true;
             }
             if lookup.sends >= servers {
@@ -316,15 +391,35 @@ impl<S: System + Drop, G: Rng + Drop> ServerWire<S, G> {
     /// none is left.
     fn go_on(&mut self, lookup: &mut Lookup, server: usize, reply: Option<Vec<u8>>) -> Course {
         let servers = self.servers.len();
+        if reply.is_some() {
+            lookup.kept = reply;
+        }
         if lookup.last_server(servers) != Some(server) && self.transport.has_number(lookup.number) {
             return Course::Open;
         }
         if lookup.sends < servers && self.ask_next(lookup) {
             return Course::Open;
         }
-        match reply.or(lookup.kept.take()) {
+        match lookup.kept.take() {
             Some(reply) => self.hand_on(lookup, reply),
-            None => Course::Open,
+            None => self.wait_on(lookup),
+        }
+    }
+
+    /// Whether no server takes a query for which nothing more is sent now: no send of it is waited
+    /// for, and none was lost here.
+    fn is_closed(&self, lookup: &Lookup) -> bool {
+        !lookup.was_lost && !self.transport.has_number(lookup.number)
+    }
+
+    /// What becomes of a query for which nothing more is sent now.
+    fn wait_on(&self, lookup: &Lookup) -> Course
+        ensures { IfReplied result (λ _. ⊥) }
+    {
+        if self.is_closed(lookup) {
+            Course::Closed
+        } else {
+            Course::Open
         }
     }
 
@@ -366,11 +461,25 @@ impl<S: System + Drop, G: Rng + Drop> ServerWire<S, G> {
         self.go_on(lookup, server, None)
     }
 
+    /// Asks a server that changes letters the same once more, as it stands.
+    fn ask_in_plain(&mut self, lookup: &mut Lookup, server: usize) -> Course {
+        lookup.is_plain = true;
+        if self.ask(lookup, server, false) {
+            return Course::Open;
+        }
+        self.go_on(lookup, server, None)
+    }
+
     /// Asks a chain on.
-    fn ask_on(&mut self, lookup: &mut Lookup, chain: OpenChain) {
+    fn ask_on(&mut self, lookup: &mut Lookup, chain: OpenChain) -> Course
+        ensures { IfReplied result (λ _. ⊥) }
+    {
         self.transport.leave(lookup.number);
         lookup.go_on(chain, self.first);
-        let _is_asked = self.ask_next(lookup);
+        if self.ask_next(lookup) {
+            return Course::Open;
+        }
+        self.wait_on(lookup)
     }
 
     /// What becomes of a query to which this is the reply: nothing is handed on yet where a chain
@@ -387,19 +496,13 @@ impl<S: System + Drop, G: Rng + Drop> ServerWire<S, G> {
         let Some(chain) = lookup.chain.take() else {
             let begun = OpenChain::begin(self.alloc, lookup.query.as_slice(), reply.as_slice());
             return match begun {
-                Ok(Some(chain)) => {
-                    self.ask_on(lookup, chain);
-                    Course::Open
-                }
+                Ok(Some(chain)) => self.ask_on(lookup, chain),
                 Ok(None) | Err(_) => Course::Replied(reply),
             };
         };
         match chain.step(self.alloc, reply.as_slice()) {
             Ok(Step::Ended(octets)) => Course::Replied(octets),
-            Ok(Step::Further(chain)) => {
-                self.ask_on(lookup, chain);
-                Course::Open
-            }
+            Ok(Step::Further(chain)) => self.ask_on(lookup, chain),
             Ok(Step::Stray(_)) | Err(_) => Course::Over,
         }
     }
@@ -432,10 +535,13 @@ impl<S: System + Drop, G: Rng + Drop> ServerWire<S, G> {
         self.hand_on(lookup, reply)
     }
 
-    /// What becomes of a query to which nothing came until its deadline.
+    /// What becomes of a query to which nothing came until its deadline. Silence closes none.
     fn miss(&mut self, lookup: &mut Lookup, server: usize, query: &Query) -> Course {
         if query.route.over_tcp {
-            return self.fail(lookup, server);
+            return match self.fail(lookup, server) {
+                Course::Closed => Course::Open,
+                course => course,
+            };
         }
         if self.transport.has_number(lookup.number) {
             Course::Open
@@ -458,13 +564,14 @@ impl<S: System + Drop, G: Rng + Drop> ServerWire<S, G> {
             Outcome::Reply(reply) => self.hear(lookup, server, &query, reply),
             Outcome::Failed if shared => self.ask_alone(lookup, server),
             Outcome::Failed => self.fail(lookup, server),
+            Outcome::OtherLetters => self.ask_in_plain(lookup, server),
             Outcome::Silent => self.miss(lookup, server, &query),
         }
     }
 
     /// Takes the end of a query, and gives what is to be handed on.
-    fn take(&mut self, end: End) -> Option<Vec<u8>>
-        ensures { IfSome result (λ reply. HandsOn self.new.options.form reply.items) }
+    fn take(&mut self, end: End) -> Option<Received>
+        ensures { IfSome result (λ it. IfMessage it (HandsOn self.new.options.form)) }
     {
         let Some(mut lookup) = self.lookups.take_number(end.query.number) else {
             return None;
@@ -479,25 +586,30 @@ impl<S: System + Drop, G: Rng + Drop> ServerWire<S, G> {
                 if self.refuses(reply.as_slice()) {
                     return None;
                 }
-                Some(reply)
+                Some(Received::Message(reply))
             }
             Course::Over => {
                 self.transport.leave(lookup.number);
                 None
             }
+            Course::Closed => Some(Received::Closed(lookup.id())),
         }
     }
 
-    /// Takes the ends that are known, until one gives something to hand on.
-    fn take_all(&mut self) -> Option<Vec<u8>>
-        ensures { IfSome result (λ reply. HandsOn self.new.options.form reply.items) }
+    /// Tells of a query that no server takes, or takes the ends that are known, until one gives
+    /// something to hand on.
+    fn take_all(&mut self) -> Option<Received>
+        ensures { IfSome result (λ it. IfMessage it (HandsOn self.new.options.form)) }
     {
+        if let Some(id) = self.closed.pop() {
+            return Some(Received::Closed(id));
+        }
         'ends: for _end in 0..END_LIMIT {
             let Some(end) = self.transport.poll_end() else {
                 return None;
             };
-            if let Some(reply) = self.take(end) {
-                return Some(reply);
+            if let Some(received) = self.take(end) {
+                return Some(received);
             }
         }
         None
@@ -517,8 +629,19 @@ impl<S: System + Drop, G: Rng + Drop> ServerWire<S, G> {
         let Ok(mut lookup) = self.begin_lookup(query) else {
             return;
         };
-        let _is_asked = self.ask_next(&mut lookup);
+        if !self.ask_next(&mut lookup) && self.is_closed(&lookup) {
+            self.put_closed(lookup);
+            return;
+        }
         self.put(lookup);
+    }
+
+    /// Keeps that no server takes a query. Where memory is refused for that, the query is open,
+    /// until its caller waits for it no more.
+    fn put_closed(&mut self, lookup: Lookup) {
+        if self.closed.push(lookup.id()).is_err() {
+            self.put(lookup);
+        }
     }
 
     /// Sends a query of the caller once more, unless it has just been sent.
@@ -527,7 +650,10 @@ impl<S: System + Drop, G: Rng + Drop> ServerWire<S, G> {
             if let Some(server) = lookup.last_server(self.servers.len()) {
                 self.put_last(server);
             }
-            let _is_asked = self.ask_next(&mut lookup);
+            if !self.ask_next(&mut lookup) && self.is_closed(&lookup) {
+                self.put_closed(lookup);
+                return;
+            }
         }
         self.put(lookup);
     }
@@ -548,11 +674,6 @@ impl<S: System + Drop, G: Rng + Drop> MessageWire for ServerWire<S, G> {
     // Nor of time.
     ghost over = { λ _. ⊤ };
 
-    fn begin(&mut self) {
-        let total = milliseconds(self.options.total);
-        self.until = self.transport.now().saturating_add(total);
-    }
-
     /// Where a query is open already, the server that it was sent to last did not reply in time.
     fn send(&mut self, query: &[u8]) {
         match self.lookups.take(query) {
@@ -561,9 +682,16 @@ impl<S: System + Drop, G: Rng + Drop> MessageWire for ServerWire<S, G> {
         }
     }
 
-    fn receive(&mut self) -> Option<Vec<u8>> {
-        if let Some(reply) = self.take_all() {
-            return Some(reply);
+    fn leave(&mut self, id: u16) {
+        self.closed.retain(|it| *it != id);
+        if let Some(lookup) = self.lookups.take_id(id) {
+            self.transport.leave(lookup.number);
+        }
+    }
+
+    fn receive(&mut self) -> Option<Received> {
+        if let Some(received) = self.take_all() {
+            return Some(received);
         }
         self.transport.wait(RECEIVE_TIME);
         self.take_all()

@@ -220,6 +220,8 @@ impl<'a, R: Net + Clock, G: Rng + Drop> System for SystemSockets<'a, R, G> {
     }
 
     fn wait(&mut self, most: u64, ready: &mut Vec<usize>) -> io::Result<()> {
+        // (what is told of a link is told once, and must not be lost)
+        ready.reserve(EVENT_LIMIT)?;
         self.poll
             .poll(&mut self.events, Some(Duration::from_millis(most)))?;
         for event in &self.events {

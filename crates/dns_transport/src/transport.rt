@@ -21,9 +21,6 @@ const SHARE_LIMIT: usize = 64;
 /// How many messages are taken before deadlines are looked at again.
 const MESSAGE_LIMIT: usize = 256;
 
-/// How many links that are ready are told at one wait.
-pub const READY_LIMIT: usize = 256;
-
 /// Queries that are out side by side.
 #[derive(Drop)]
 pub struct Transport<S: System> {
@@ -67,13 +64,6 @@ impl<S: System + Drop> Transport<S> {
         ensures { S.shows result }
     {
         self.system.now()
-    }
-
-    /// How many queries are out.
-    pub fn len(&self) -> usize
-        ensures { result ≡ length self.now.exchanges }
-    {
-        self.exchanges.len()
     }
 
     /// Whether a query of this number is out.
@@ -167,12 +157,14 @@ impl<S: System + Drop> Transport<S> {
         Ok(key)
     }
 
-    /// Lets the queries of a number go: nothing more is told of them.
+    /// Lets the queries of a number go: nothing more is told of them. A connection over which one
+    /// has no reply takes no other query.
     pub fn leave(&mut self, number: u64)
         ensures { self.new.exchanges ≡ without_number number self.old.exchanges }
     {
         let now = self.system.now();
         'queries: while let Some(key) = self.exchanges.leave_one(number) {
+            self.links.retire(key);
             self.rest(key, now);
         }
     }
@@ -203,6 +195,20 @@ impl<S: System + Drop> Transport<S> {
         None
     }
 
+    /// Ends the query that a message ends which came over the link of a key, from where this route
+    /// goes.
+    fn take_heard(&mut self, key: usize, route: Route, message: Vec<u8>) -> Option<End>
+        requires heard { S.Link.hears route message.items }
+        ensures { MatchOption result (self.new.exchanges ≡ self.old.exchanges)
+            (EndsOne S.Link.hears S.shows self.old.exchanges self.new.exchanges) }
+    {
+        let octets = message.as_slice();
+        if let Some(end) = self.exchanges.take_in_other_letters(key, route, octets) {
+            return Some(end);
+        }
+        self.exchanges.take_answered(key, route, message)
+    }
+
     /// Takes what came over the link of a key.
     fn take_ready(&mut self, key: usize) -> Option<End>
         ensures { MatchOption result (self.new.exchanges ≡ self.old.exchanges)
@@ -211,7 +217,7 @@ impl<S: System + Drop> Transport<S> {
         let Some((route, Step::Message(message))) = self.links.step(self.alloc, key) else {
             return None;
         };
-        let Some(end) = self.exchanges.take_answered(key, route, message) else {
+        let Some(end) = self.take_heard(key, route, message) else {
             return None;
         };
         let now = self.system.now();

@@ -7,11 +7,11 @@
 
 use answer_cache::{AnswerBook, ListCache};
 use dns_asker as asker;
-use dns_client::{
-    RunClock, WireOrigin, draw_words, next_outcome, open_wire, random_ids, random_key,
+use dns_asker::MessageWire;
+use dns_transport::{QueryForm, RunClock, WireOptions, open_wire};
+use sip_resolver::{
+    Limits, Outcome, Resolver, WireOrigin, draw_words, next_outcome, random_ids, random_key,
 };
-use dns_transport::{MessageWire, QueryForm, WireOptions};
-use sip_resolver::{Limits, Outcome, Resolver};
 use sip_selection::{Caps, Families, Request};
 use sip_uri::Transport::{Tcp, Tls, Udp};
 use sip_uri::{address_text, read_uri};
@@ -52,7 +52,6 @@ fn resolve<R: Wait, B: AnswerBook + Drop, W: MessageWire, C: asker::Clock>(
     let Ok(()) = resolver.submit(1, request, caps, draw_words(key, 1)) else {
         return None;
     };
-    wire.begin();
     let ended = next_outcome(rt, &mut resolver, book, seat, wire, clock)?;
     Some(ended.into_outcome())
 }

@@ -25,8 +25,9 @@ mod zones;
 /// none for want of memory. What a call says is whether its answer is right, and `None` where it
 /// wants memory.
 fn are_right(first: Option<bool>, again: Option<bool>) -> bool {
-    matches!(
-        (first, again),
-        (Some(true), Some(true)) | (Some(true), None) | (None, Some(true))
-    )
+    match first {
+        Some(true) => again.unwrap_or(true),
+        Some(false) => false,
+        None => again.unwrap_or(false),
+    }
 }

@@ -140,6 +140,21 @@ distinct-left Stream (Ended id question ending) old it =
 distinct-left Datagram (Ignored why) old it = it
 distinct-left Stream (Ignored why) old it = it
 
+-- one is closed over one of both
+pub closed-one : (over : Over) (id : ℕ) (it : QuestionsView) → AreBounded it → AreBounded (closed_over over id it)
+closed-one Datagram id it bounded = record {
+  distinct = distinct-fewer it (closed_over Datagram id it) (fewer-kept (λ ticket. not (has_id id ticket)) it.datagrams.tickets)
+      (fewer-not it.streams.tickets) bounded.distinct;
+  few_datagrams = bounded.few_datagrams;
+  few_streams = bounded.few_streams;
+}
+closed-one Stream id it bounded = record {
+  distinct = distinct-fewer it (closed_over Stream id it) (fewer-not it.datagrams.tickets)
+      (fewer-kept (λ ticket. not (has_id id ticket)) it.streams.tickets) bounded.distinct;
+  few_datagrams = bounded.few_datagrams;
+  few_streams = bounded.few_streams;
+}
+
 -- one is closed over both
 pub closed-bounded : (id : ℕ) (it : QuestionsView) → AreBounded it → AreBounded (closed_both id it)
 closed-bounded id it bounded = record {

@@ -6,14 +6,14 @@ use Rattle.std.proofs.lemmas.List.Elements.{All-append, All-cons, All-head, All-
 use Rattle.dns_answers.specs.declared.refusal.ReplyRefusal.{ReplyRefusal}
 use Rattle.dns_asker.specs.Tickets.{Ticket}
 use Rattle.dns_message.specs.declared.question.Question.{Question}
-use Rattle.sip_resolver.specs.Ends.{EndsMore, IsByChoice, IsByFault, IsBySilence}
+use Rattle.sip_resolver.specs.Ends.{EndsMore, IsByChoice, IsByClosing, IsByFault, IsBySilence}
 use Rattle.sip_resolver.specs.Outcomes.{Ended}
 use Rattle.sip_resolver.specs.Requests.{IsWithoutHeld, IsWithoutReady, RequestsView}
 use Rattle.sip_resolver.specs.Sends.{IsInTime, IsUnanswered}
 use Rattle.sip_resolver.specs.Tasks.{EndsByChoice, Leaves, TaskView}
-use Rattle.sip_resolver.specs.Waits.{IsFailed, IsGivenUp}
+use Rattle.sip_resolver.specs.Waits.{IsClosed, IsFailed, IsGivenUp}
 use Rattle.sip_resolver.specs.declared.outcome.Outcome.{Outcome}
-use Rattle.sip_resolver.specs.declared.outcome.Outcome.TheVariants.{Targets, Refused, NoAnswer, BadReply, Memory}
+use Rattle.sip_resolver.specs.declared.outcome.Outcome.TheVariants.{Targets, Refused, NoAnswer, NoServer, BadReply, Memory}
 use Rattle.sip_resolver.specs.declared.task.Progress.{Progress}
 use Rattle.sip_resolver.specs.declared.task.Progress.TheVariants as progress
 use Rattle.sip_resolver.specs.declared.waits.WaitOutcome.TheVariants as wait_outcomes
@@ -74,6 +74,7 @@ pub failed-ends : (task : TaskView) (question : Question) (refusal : ReplyRefusa
 failed-ends task question refusal (Targets list) it = absurd it
 failed-ends task question refusal (Refused reason) it = absurd it
 failed-ends task question refusal (NoAnswer other) it = absurd it
+failed-ends task question refusal (NoServer other) it = absurd it
 failed-ends task question refusal (BadReply other fault) it = (it.1, it.2)
 failed-ends task question refusal Memory it = tt
 
@@ -82,14 +83,25 @@ pub given-up-ends : (task : TaskView) (question : Question) (outcome : Outcome) 
 given-up-ends task question (Targets list) it = absurd it
 given-up-ends task question (Refused reason) it = absurd it
 given-up-ends task question (NoAnswer other) it = it.1
+given-up-ends task question (NoServer other) it = absurd it
 given-up-ends task question (BadReply other fault) it = absurd it
 given-up-ends task question Memory it = tt
+
+pub closed-ends : (task : TaskView) (question : Question) (outcome : Outcome) → IsClosed task question (wait_outcomes.Ended outcome)
+    → IsByClosing question outcome
+closed-ends task question (Targets list) it = absurd it
+closed-ends task question (Refused reason) it = absurd it
+closed-ends task question (NoAnswer other) it = absurd it
+closed-ends task question (NoServer other) it = it.1
+closed-ends task question (BadReply other fault) it = absurd it
+closed-ends task question Memory it = tt
 
 pub choice-ends : (resolution : Resolution) (it : Progress) → Leaves resolution it → EndsByChoice it
 choice-ends resolution progress.Asks leaves = tt
 choice-ends resolution (progress.Ended (Targets list)) leaves = tt
 choice-ends resolution (progress.Ended (Refused reason)) leaves = tt
 choice-ends resolution (progress.Ended (NoAnswer question)) leaves = absurd leaves
+choice-ends resolution (progress.Ended (NoServer question)) leaves = absurd leaves
 choice-ends resolution (progress.Ended (BadReply question refusal)) leaves = absurd leaves
 choice-ends resolution (progress.Ended Memory) leaves = tt
 
@@ -98,6 +110,7 @@ module _ (tickets : List Ticket) (now : ℕ) where
   choice-in-time (Targets list) it = tt
   choice-in-time (Refused reason) it = tt
   choice-in-time (NoAnswer question) it = absurd it
+  choice-in-time (NoServer question) it = absurd it
   choice-in-time (BadReply question refusal) it = absurd it
   choice-in-time Memory it = tt
 
@@ -106,6 +119,7 @@ module _ (tickets : List Ticket) (now : ℕ) where
   silence-in-time question in-vain (Targets list) it = absurd it
   silence-in-time question in-vain (Refused reason) it = absurd it
   silence-in-time question in-vain (NoAnswer other) it = rw it in-vain
+  silence-in-time question in-vain (NoServer other) it = absurd it
   silence-in-time question in-vain (BadReply other fault) it = absurd it
   silence-in-time question in-vain Memory it = tt
 
@@ -116,5 +130,6 @@ in-time-of few many now more (Targets list) it = tt
 in-time-of few many now more (Refused reason) it = tt
 in-time-of few many now more (NoAnswer question) it =
     record { ticket = it.ticket; stands = more it.ticket it.stands; in_vain = it.in_vain; of_it = it.of_it }
+in-time-of few many now more (NoServer question) it = absurd it
 in-time-of few many now more (BadReply question refusal) it = absurd it
 in-time-of few many now more Memory it = tt

@@ -13,7 +13,7 @@ use Rattle.sip_resolver.proofs.Standing.{counted-later, prefix-self, works-quiet
 use Rattle.sip_resolver.specs.Outcomes.{Counts, IsChosen, IsLacking}
 use Rattle.sip_resolver.specs.Tasks.{IsCounted, Leaves, Progresses, TaskView, sought_of}
 use Rattle.sip_resolver.specs.Tasks as tasks
-use Rattle.sip_resolver.specs.declared.outcome.Outcome.TheVariants.{Targets, Refused, NoAnswer, BadReply, Memory}
+use Rattle.sip_resolver.specs.declared.outcome.Outcome.TheVariants.{Targets, Refused, NoAnswer, NoServer, BadReply, Memory}
 use Rattle.sip_resolver.specs.declared.task.Progress.{Progress}
 use Rattle.sip_resolver.specs.declared.task.Progress.TheVariants.{Asks, Ended}
 
@@ -68,6 +68,7 @@ module _ (gives : List ℕ → Type 0) (shows : ℕ → Type 0) (seat : SeatView
   leads-to task (Ended (Targets list)) leaves it lacks = chosen task (targets list) leaves it
   leads-to task (Ended (Refused reason)) leaves it lacks = chosen task (refused reason) leaves it
   leads-to task (Ended (NoAnswer question)) leaves it lacks = absurd leaves
+  leads-to task (Ended (NoServer question)) leaves it lacks = absurd leaves
   leads-to task (Ended (BadReply question refusal)) leaves it lacks = absurd leaves
   leads-to task (Ended Memory) leaves it lacks = tt
 

@@ -17,3 +17,5 @@ pub mod Dealing
 pub mod Circling
 pub mod Abandoned
 pub mod Cancelling
+mod Working
+mod Drives

@@ -12,7 +12,7 @@ use Rattle.sip_resolver.specs.Requests.{RequestsView, Stand}
 use Rattle.sip_resolver.specs.Tasks.{IsCounted, Lacks, TaskView, WaitingView}
 use Rattle.sip_resolver.specs.Works.{IsHeard, Works, offer_in}
 use Rattle.sip_resolver.specs.declared.outcome.Outcome.{Outcome}
-use Rattle.sip_resolver.specs.declared.outcome.Outcome.TheVariants.{Targets, Refused, NoAnswer, BadReply, Memory}
+use Rattle.sip_resolver.specs.declared.outcome.Outcome.TheVariants.{Targets, Refused, NoAnswer, NoServer, BadReply, Memory}
 
 pub prefix-self : {X : Type 0} (history : List X) → IsPrefix history history
 prefix-self history = ([], append-nil history)
@@ -101,6 +101,7 @@ module _ (gives : List ℕ → Type 0) (shows : ℕ → Type 0) where
     outcome-later sought (Targets list) it = chosen-later sought (targets list) it
     outcome-later sought (Refused reason) it = chosen-later sought (refused reason) it
     outcome-later sought (NoAnswer question) it = (chosen-later sought (need question) it.0, lacking-later question it.1)
+    outcome-later sought (NoServer question) it = (chosen-later sought (need question) it.0, lacking-later question it.1)
     outcome-later sought (BadReply question refusal) it = (chosen-later sought (need question) it.0, it.1)
     outcome-later sought Memory it = it
 

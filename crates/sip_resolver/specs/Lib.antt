@@ -12,4 +12,7 @@ pub mod Works
 pub mod Waits
 pub mod Resolvers
 pub mod Runs
+pub mod Driven
+pub mod IdStreams
+pub mod Draws
 pub mod Dues

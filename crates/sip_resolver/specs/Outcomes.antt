@@ -19,7 +19,7 @@ use Rattle.sip_selection.specs.Known.{Given}
 use Rattle.sip_selection.specs.declared.caps.Caps.{Caps}
 use Rattle.sip_selection.specs.declared.request.Request.{Request}
 use Rattle.sip_resolver.specs.declared.outcome.Outcome.{Outcome}
-use Rattle.sip_resolver.specs.declared.outcome.Outcome.TheVariants.{Targets, Refused, NoAnswer, BadReply, Memory}
+use Rattle.sip_resolver.specs.declared.outcome.Outcome.TheVariants.{Targets, Refused, NoAnswer, NoServer, BadReply, Memory}
 
 -- ---- where an answer comes from
 
@@ -76,6 +76,7 @@ abbrev pub HasParts : Outcome → Type 0
 HasParts (Targets list) = ⊤
 HasParts (Refused reason) = ⊥
 HasParts (NoAnswer question) = ⊤
+HasParts (NoServer question) = ⊤
 HasParts (BadReply question refusal) = ⊤
 HasParts Memory = ⊥
 
@@ -106,6 +107,8 @@ IsOutcome gives shows seat sought (Targets list) =
 IsOutcome gives shows seat sought (Refused reason) =
     IsChosen (Counts gives shows seat) sought (refused reason)
 IsOutcome gives shows seat sought (NoAnswer question) =
+    IsChosen (Counts gives shows seat) sought (need question) × IsLacking shows seat.seen question
+IsOutcome gives shows seat sought (NoServer question) =
     IsChosen (Counts gives shows seat) sought (need question) × IsLacking shows seat.seen question
 IsOutcome gives shows seat sought (BadReply question refusal) =
     IsChosen (Counts gives shows seat) sought (need question) × IsFaulty gives question refusal

@@ -1,6 +1,6 @@
 -- The requests inside a resolver.
 use Rattle.std.specs.Prelude.{◌≡◌, ◌==◌, ℕ, ◌+◌, ◌<◌, ◌≤◌, Bool, not, List, ◌∷◌, ◌++◌, length, map}
-use Rattle.std.specs.List.{All, filter, sum_by}
+use Rattle.std.specs.List.{All, Contains, filter, sum_by}
 use Rattle.answer_cache.specs.Seats.{SeatView}
 use Rattle.sip_resolver.specs.Outcomes.{Ended, IsOutcome, Sought}
 use Rattle.sip_resolver.specs.Queues.{Queued}
@@ -28,6 +28,13 @@ count_of it = length it.ready + length it.held + length it.waiting + length it.e
 -- the number of a request that waits for a reply
 abbrev pub number_of_waiting : WaitingView → ℕ
 number_of_waiting it = it.task.number
+
+-- a request of this number waits for the reply to the message of this id
+pub record IsAwaitedBy (number id : ℕ) (waiting : List WaitingView) : Type 0 where
+  pub it : WaitingView
+  pub stands : Contains waiting it
+  pub numbered : it.task.number ≡ number
+  pub waits : it.id ≡ id
 
 -- the number of a request that has ended
 abbrev pub number_of_ended : Ended → ℕ

@@ -6,6 +6,7 @@ use Rattle.dns_message.specs.declared.message.Message.{Message}
 use Rattle.dns_message.specs.declared.question.Question.{Question}
 use Rattle.dns_answers.specs.declared.refusal.ReplyRefusal.TheVariants as refusals
 use Rattle.dns_asker.specs.Events.{EndsBy, Means}
+use Rattle.dns_asker.specs.Out.{HasQuestion}
 use Rattle.dns_asker.specs.declared.incoming.Ending.{Ending}
 use Rattle.dns_asker.specs.declared.incoming.Ending.TheVariants as endings
 use Rattle.dns_asker.specs.declared.incoming.Incoming.TheVariants as incoming
@@ -13,13 +14,13 @@ use Rattle.answer_cache.specs.Seats.{SeatView}
 use Rattle.sip_selection.specs.Selections.{begun}
 use Rattle.sip_selection.specs.declared.caps.Caps.{Caps}
 use Rattle.sip_selection.specs.declared.request.Request.{Request}
-use Rattle.sip_resolver.specs.Ends.{EndsMore, IsByReply}
+use Rattle.sip_resolver.specs.Ends.{EndsMore, IsByClosing, IsByReply}
 use Rattle.sip_resolver.specs.Idle.{AreAwaited, IsIdle}
 use Rattle.sip_resolver.specs.Outcomes.{Ended}
 use Rattle.sip_resolver.specs.Questions.{AreDistinct, QuestionsView, asking_over, closed_over, none_out}
 use Rattle.sip_resolver.specs.Requests.{AreSame, RequestsView, Stand, count_of, numbers_of, requests_of}
 use Rattle.sip_resolver.specs.Sends.{AreSpaced, IsInTime, Sends, tickets_of}
-use Rattle.sip_resolver.specs.Settles.{GoesByReply, GoesOverStream, SettlesAll}
+use Rattle.sip_resolver.specs.Settles.{GoesByReply, GoesOverStream, NeedsOther, SettlesAll}
 use Rattle.sip_resolver.specs.Tasks.{TaskView}
 use Rattle.sip_resolver.specs.declared.outcome.Outcome.{Outcome}
 use Rattle.sip_resolver.specs.declared.resolver.Heard.{Heard}
@@ -112,6 +113,17 @@ Hears old new over octets Cut =
     × IsCut old over ending
 Hears old new over octets (Ignored why) =
     Means (asking_over over old.questions) octets (incoming.Ignored why) × (new ≡ old)
+
+-- The question that is out under an id is closed, as no server takes it, and no request waits for
+-- it any more: each that needs it ends for that, or for want of memory, and each other one goes on.
+pub record Closes (id : ℕ) (old new : ResolverView) : Type 0 where
+  pub over : Over
+  pub question : Question
+  pub was : HasQuestion question id (asking_over over old.questions).tickets
+  pub left : new.questions ≡ closed_over over id old.questions
+  pub settles : SettlesAll id (NeedsOther question) (IsByClosing question)
+      old.requests new.requests
+  pub streams : new.streams ≡ old.streams
 
 -- ---- an outcome is taken
 

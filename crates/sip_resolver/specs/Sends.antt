@@ -10,7 +10,7 @@ use Rattle.sip_selection.specs.Selections.{now_of}
 use Rattle.sip_resolver.specs.Questions.{QuestionsView, asked_over, asking_over}
 use Rattle.sip_resolver.specs.Tasks.{TaskView, WaitingView, over_of}
 use Rattle.sip_resolver.specs.declared.outcome.Outcome.{Outcome}
-use Rattle.sip_resolver.specs.declared.outcome.Outcome.TheVariants.{Targets, Refused, NoAnswer, BadReply, Memory}
+use Rattle.sip_resolver.specs.declared.outcome.Outcome.TheVariants.{Targets, Refused, NoAnswer, NoServer, BadReply, Memory}
 use Rattle.sip_resolver.specs.declared.transmit.Over.{Over}
 use Rattle.sip_resolver.specs.declared.transmit.Over.TheVariants.{Datagram, Stream}
 use Rattle.sip_resolver.specs.declared.transmit.Transmit.{Transmit}
@@ -49,6 +49,7 @@ abbrev pub IsInTime : List Ticket → ℕ → Outcome → Type 0
 IsInTime tickets now (Targets list) = ⊤
 IsInTime tickets now (Refused reason) = ⊤
 IsInTime tickets now (NoAnswer question) = IsUnanswered tickets now question
+IsInTime tickets now (NoServer question) = ⊥
 IsInTime tickets now (BadReply question refusal) = ⊥
 IsInTime tickets now Memory = ⊤
 

@@ -7,7 +7,7 @@ use Rattle.sip_selection.specs.Choice.{Resolution, targets, refused, need}
 use Rattle.sip_selection.specs.Selections.{SelectionValue, now_of}
 use Rattle.sip_resolver.specs.Ends.{IsByChoice}
 use Rattle.sip_resolver.specs.Outcomes.{Counts, IsLacking, IsOutcome, Sought}
-use Rattle.sip_resolver.specs.declared.outcome.Outcome.TheVariants.{Targets, Refused, NoAnswer, BadReply, Memory}
+use Rattle.sip_resolver.specs.declared.outcome.Outcome.TheVariants.{Targets, Refused, NoAnswer, NoServer, BadReply, Memory}
 use Rattle.sip_resolver.specs.declared.transmit.Over.{Over}
 use Rattle.sip_resolver.specs.declared.transmit.Over.TheVariants.{Datagram, Stream}
 use Rattle.sip_resolver.specs.declared.task.Progress.{Progress}
@@ -55,6 +55,7 @@ Leaves resolution Asks = (question : Question) × (resolution ≡ need question)
 Leaves resolution (Ended (Targets list)) = resolution ≡ targets list
 Leaves resolution (Ended (Refused reason)) = resolution ≡ refused reason
 Leaves resolution (Ended (NoAnswer question)) = ⊥
+Leaves resolution (Ended (NoServer question)) = ⊥
 Leaves resolution (Ended (BadReply question refusal)) = ⊥
 Leaves resolution (Ended Memory) = Unit {0}
 

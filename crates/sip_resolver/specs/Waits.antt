@@ -10,18 +10,18 @@ use Rattle.dns_message.specs.declared.question.Question.{Question}
 use Rattle.answer_cache.specs.Seats.{SeatView}
 use Rattle.sip_selection.specs.Choice.{need}
 use Rattle.sip_selection.specs.Selections.{now_of}
-use Rattle.sip_resolver.specs.Ends.{IsByFault, IsBySilence, IsMemory}
+use Rattle.sip_resolver.specs.Ends.{IsByClosing, IsByFault, IsBySilence, IsMemory}
 use Rattle.sip_resolver.specs.Outcomes.{Counts, IsFaulty, IsOutcome}
 use Rattle.sip_resolver.specs.Requests.{RequestsView}
 use Rattle.sip_resolver.specs.Sends.{GivesUp, IsOverdue}
 use Rattle.sip_resolver.specs.Settles.{GetsAnswer, GoesOverStream, NeedsOther}
 use Rattle.sip_resolver.specs.Tasks.{IsCounted, TaskView, WaitingView, sought_of}
 use Rattle.sip_resolver.specs.declared.outcome.Outcome.{Outcome}
-use Rattle.sip_resolver.specs.declared.outcome.Outcome.TheVariants.{Targets, Refused, NoAnswer, BadReply, Memory}
+use Rattle.sip_resolver.specs.declared.outcome.Outcome.TheVariants.{Targets, Refused, NoAnswer, NoServer, BadReply, Memory}
 use Rattle.sip_resolver.specs.declared.waits.WaitOutcome.{WaitOutcome}
 use Rattle.sip_resolver.specs.declared.waits.WaitOutcome.TheVariants.{Ready, Ended}
 use Rattle.sip_resolver.specs.declared.waits.WaitEnd.{WaitEnd}
-use Rattle.sip_resolver.specs.declared.waits.WaitEnd.TheVariants.{Answered, Faulty, Cut, GivenUp, NoMemory}
+use Rattle.sip_resolver.specs.declared.waits.WaitEnd.TheVariants.{Answered, Faulty, Cut, GivenUp, Closed, NoMemory}
 
 -- the answer counts, or the fault is one of octets that came in
 abbrev pub IsKnown : (List ℕ → Type 0) → (ℕ → Type 0) → SeatView → WaitEnd → Type 0
@@ -30,6 +30,7 @@ IsKnown gives shows seat (Answered question answer) =
 IsKnown gives shows seat (Faulty question refusal) = IsFaulty gives question.now refusal
 IsKnown gives shows seat Cut = ⊤
 IsKnown gives shows seat (GivenUp question) = ⊤
+IsKnown gives shows seat (Closed question) = ⊤
 IsKnown gives shows seat NoMemory = ⊤
 
 -- each answer of a request that can go on counts, and the outcome of one that ended is so
@@ -44,6 +45,7 @@ IsFailed task question refusal Ready = now_of task.selection ≢ need question
 IsFailed task question refusal (Ended (Targets list)) = ⊥
 IsFailed task question refusal (Ended (Refused reason)) = ⊥
 IsFailed task question refusal (Ended (NoAnswer other)) = ⊥
+IsFailed task question refusal (Ended (NoServer other)) = ⊥
 IsFailed task question refusal (Ended (BadReply other fault)) =
     (now_of task.selection ≡ need question) × (other ≡ question) × (fault ≡ refusal)
 IsFailed task question refusal (Ended Memory) = ⊤
@@ -56,8 +58,21 @@ IsGivenUp task question (Ended (Targets list)) = ⊥
 IsGivenUp task question (Ended (Refused reason)) = ⊥
 IsGivenUp task question (Ended (NoAnswer other)) =
     (now_of task.selection ≡ need question) × (other ≡ question)
+IsGivenUp task question (Ended (NoServer other)) = ⊥
 IsGivenUp task question (Ended (BadReply other fault)) = ⊥
 IsGivenUp task question (Ended Memory) = ⊤
+
+-- It ended because no server takes this question, which it needed, or for want of memory. Or it
+-- needed no such question, and goes on.
+abbrev pub IsClosed : TaskView → Question → WaitOutcome → Type 0
+IsClosed task question Ready = now_of task.selection ≢ need question
+IsClosed task question (Ended (Targets list)) = ⊥
+IsClosed task question (Ended (Refused reason)) = ⊥
+IsClosed task question (Ended (NoAnswer other)) = ⊥
+IsClosed task question (Ended (NoServer other)) =
+    (now_of task.selection ≡ need question) × (other ≡ question)
+IsClosed task question (Ended (BadReply other fault)) = ⊥
+IsClosed task question (Ended Memory) = ⊤
 
 -- how a request may end as the wait ends so: where the reply was cut, none does
 abbrev pub MayEnd : WaitEnd → Outcome → Type 0
@@ -65,6 +80,7 @@ MayEnd (Answered question answer) outcome = IsMemory outcome
 MayEnd (Faulty question refusal) outcome = IsByFault question.now refusal outcome
 MayEnd Cut outcome = ⊥
 MayEnd (GivenUp question) outcome = IsBySilence question.now outcome
+MayEnd (Closed question) outcome = IsByClosing question.now outcome
 MayEnd NoMemory outcome = IsMemory outcome
 
 -- how a request may go on as the wait ends so
@@ -75,6 +91,7 @@ MayGoOn (Answered question answer) old new =
 MayGoOn (Faulty question refusal) old new = NeedsOther question.now old new
 MayGoOn Cut old new = GoesOverStream old new
 MayGoOn (GivenUp question) old new = NeedsOther question.now old new
+MayGoOn (Closed question) old new = NeedsOther question.now old new
 MayGoOn NoMemory old new = ⊥
 
 abbrev pub GoesAs : WaitEnd → TaskView → TaskView → WaitOutcome → Type 0

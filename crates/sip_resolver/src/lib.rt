@@ -38,14 +38,27 @@
 //! A question that many requests ask at once is sent once. Its reply is read once and stored once,
 //! and all that wait for it get its answer, in the order in which they came to wait.
 //!
+//! `next_outcome` drives a resolver over a wire to DNS servers until a request ends: it sends what
+//! the resolver has to send, and hands it what comes back; `poll_over` does so once. They work over
+//! any `MessageWire` and any `Clock` of `dns_asker`, of which a `WireOrigin` is the `Origin`.
+//!
+//! `random_ids` and `draw_words` make ids of queries and random words of a key, which `random_key`
+//! takes from the system's entropy; `law_id_streams_are_apart` says that they come of streams of
+//! their own.
+//!
 //! Read `specs/Outcomes.antt` first: what an outcome says. Then `specs/Resolvers.antt`: what a
 //! resolver holds, `specs/Works.antt`: what it does at a seat, and `specs/Cancels.antt`: what is
-//! left after a request was cancelled.
+//! left after a request was cancelled. `specs/Driven.antt` says what the loop over a wire gives,
+//! and what it does at the wire.
 #![tactic(auto)]
 
 mod asks;
 mod cancels;
+mod draw;
+mod drive;
+mod id_streams;
 mod ids;
+mod key;
 mod laws;
 mod origin;
 mod outcome;
@@ -58,8 +71,13 @@ mod rounding;
 mod task;
 mod transmit;
 mod waits;
+mod wire_origin;
 
+pub use draw::draw_words;
+pub use drive::{cancel_over, next_outcome, poll_over};
+pub use id_streams::{law_id_streams_are_apart, random_ids};
 pub use ids::{CountingIds, Ids, RandomIds};
+pub use key::random_key;
 pub use laws::{law_questions_are_dealt_with, law_requests_are_awaited, law_requests_are_kept};
 pub use origin::{Anything, Origin};
 pub use outcome::{Outcome, Resolved, TargetList};
@@ -67,3 +85,4 @@ pub use refusal::SubmitRefusal;
 pub use resolver::{Heard, Limits, Resolver};
 pub use rounding::rounded_up;
 pub use transmit::{Over, Transmit};
+pub use wire_origin::WireOrigin;

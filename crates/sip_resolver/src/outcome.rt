@@ -72,6 +72,8 @@ pub enum Outcome {
     Refused(Reason),
     /// This question was sent three times, and has no answer.
     NoAnswer(Question),
+    /// No server takes this question, as the caller said (`Resolver::close`).
+    NoServer(Question),
     /// The reply to this question was cut (`Truncated`), or its RCODE is neither 0 nor 3
     /// (`ServerFault`).
     BadReply(Question, ReplyRefusal),
@@ -89,6 +91,7 @@ impl Outcome {
             Outcome::Targets(list) => Outcome::Targets(TargetList::of(alloc, list.as_slice())?),
             Outcome::Refused(reason) => Outcome::Refused(*reason),
             Outcome::NoAnswer(question) => Outcome::NoAnswer(question.try_clone()?),
+            Outcome::NoServer(question) => Outcome::NoServer(question.try_clone()?),
             Outcome::BadReply(question, refusal) => {
                 Outcome::BadReply(question.try_clone()?, *refusal)
             }

@@ -3,11 +3,12 @@ ghost use Rattle.std.specs.Prelude.{◌≡◌, ℕ, ◌≤◌, ◌↔◌, [], No
 ghost use Rattle.answer_cache.specs.Seats.{SeatView};
 ghost use Rattle.std.specs.List.{All};
 ghost use Rattle.dns_asker.specs.Events.{Means, Refuses, asked as asked_too};
+ghost use Rattle.dns_asker.specs.Out.{HasQuestion};
 ghost use Rattle.dns_asker.specs.Tickets.{ticket_of};
 ghost use Rattle.sip_resolver.specs.Ends.{EndsMore};
 ghost use Rattle.dns_asker.specs.declared.refusal.AskRefusal.TheVariants as refusals;
 ghost use Rattle.sip_resolver.specs.Idle.{AreAwaited, AreTaken, HasNoRoom, IsFull, IsInWait, IsOut, MayRefuse};
-ghost use Rattle.sip_resolver.specs.Questions.{AreDistinct, IsLeast, IsSent, Lacks, asked_over, asking_over, closed_both, deadlines_of, left_over, none_out};
+ghost use Rattle.sip_resolver.specs.Questions.{AreDistinct, IsLeast, IsSent, Lacks, asked_over, asking_over, closed_both, closed_over, deadlines_of, left_over, none_out};
 ghost use Rattle.sip_resolver.specs.Requests.{AreSame, Stand};
 ghost use Rattle.sip_resolver.specs.Sends.{GivesUpBoth, IsInTime, SendsAfter, tickets_of};
 
@@ -84,7 +85,7 @@ impl Questions {
     }
 
     /// Whether a question is out under this id.
-    fn is_out(&self, id: u16) -> bool
+    pub(crate) fn is_out(&self, id: u16) -> bool
         ensures { IsTrue result ↔ IsOut id self.now }
     {
         self.datagrams.is_open(id) || self.streams.is_open(id)
@@ -161,6 +162,22 @@ impl Questions {
         match over {
             Over::Datagram => self.datagrams.incoming(octets),
             Over::Stream => self.streams.incoming(octets),
+        }
+    }
+
+    /// Closes the question of this id, if one is out under it, and gives it, and over what it was
+    /// out.
+    pub(crate) fn take(&mut self, id: u16) -> Option<(Over, Question)>
+        ensures { MatchOption result ((self.new ≡ self.old) × (IsOut id self.old → ⊥))
+            (λ taken. (self.new ≡ closed_over taken.0 id self.old)
+            × HasQuestion taken.1 id (asking_over taken.0 self.old).tickets) }
+    {
+        if let Some(question) = self.datagrams.cancel(id) {
+            return Some((Over::Datagram, question));
+        }
+        match self.streams.cancel(id) {
+            Some(question) => Some((Over::Stream, question)),
+            None => None,
         }
     }
 

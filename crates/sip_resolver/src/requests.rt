@@ -1,9 +1,9 @@
 //! The requests inside a resolver, by how far they are.
 ghost use Rattle.std.specs.Prelude.{◌≡◌, ◌↔◌, ◌<◌, ◌≤◌, [], ◌∷◌, ◌++◌, IfOk, IfSome, IsTrue, MatchOption, length, map};
-ghost use Rattle.std.specs.List.{Contains};
+ghost use Rattle.std.specs.List.{All, Contains};
 ghost use Rattle.sip_resolver.specs.Cancels.{is_awaited, others_by};
 ghost use Rattle.sip_resolver.specs.Outcomes.{Ended};
-ghost use Rattle.sip_resolver.specs.Requests.{IsWithoutEnded, IsWithoutHeld, IsWithoutReady, IsWithoutWaiting, count_of, number_of_ended, numbers_of, requests_of};
+ghost use Rattle.sip_resolver.specs.Requests.{IsAwaitedBy, IsWithoutEnded, IsWithoutHeld, IsWithoutReady, IsWithoutWaiting, count_of, number_of_ended, numbers_of, requests_of};
 ghost use Rattle.sip_resolver.specs.Tasks.{sought_of};
 
 use crate::outcome::{Outcome, Resolved};
@@ -119,6 +119,21 @@ impl<B> Requests<B> {
             }
         }
         false
+    }
+
+    /// The id of the message whose reply a request of this number waits for, if one waits.
+    pub(crate) fn awaited_id(&self, number: u64) -> Option<u16>
+        ensures { MatchOption result
+            (All (λ it. it.task.number ≡ number → ⊥) self.now.waiting)
+            (λ id. IsAwaitedBy number id self.now.waiting) }
+    {
+        'waits: for at in 0..self.waiting.len() {
+            let waiting = self.waiting.at(at);
+            if waiting.task.number() == number {
+                return Some(waiting.id);
+            }
+        }
+        None
     }
 
     /// How many are held.

@@ -1,7 +1,7 @@
 //! The machine: what comes in, and what it leads to.
 ghost use Rattle.std.specs.Prelude.{◌≡◌, ◌↔◌, ◌+◌, ◌<◌, ℕ, ◌≤◌, ◌⊎◌, [], IfErr, IfNone, IfOk, IfSome, IsTrue, MatchOption, OnErr, OnOk};
 ghost use Rattle.std.specs.Bool.{OnFalse};
-ghost use Rattle.std.specs.List.{Contains, sum_by};
+ghost use Rattle.std.specs.List.{All, Contains, sum_by};
 ghost use Rattle.answer_cache.specs.Seats.{GoesOn, SeatView, StoresNothing};
 ghost use Rattle.dns_answers.specs.Records.{kind_of};
 ghost use Rattle.dns_answers.specs.declared.refusal.ReplyRefusal.TheVariants as refusals;
@@ -9,11 +9,11 @@ ghost use Rattle.dns_asker.specs.declared.incoming.Ending.TheVariants as endings
 ghost use Rattle.sip_locator.specs.Replies.{Answers};
 ghost use Rattle.sip_resolver.specs.Cancels.{questions_left, requests_with, requests_without};
 ghost use Rattle.sip_resolver.specs.Ends.{EndsMore, IsByChoice, IsByReply, IsMemory};
-ghost use Rattle.sip_resolver.specs.Idle.{AreAwaited, CannotAsk, IsIdle};
+ghost use Rattle.sip_resolver.specs.Idle.{AreAwaited, CannotAsk, IsIdle, IsOut};
 ghost use Rattle.sip_resolver.specs.Outcomes.{IsOutcome, Sought};
 ghost use Rattle.sip_resolver.specs.Questions.{IsLeast, deadlines_of};
-ghost use Rattle.sip_resolver.specs.Requests.{AreSame, IsBack, Stand, count_of, numbers_of, weight};
-ghost use Rattle.sip_resolver.specs.Resolvers.{HasRoomFor, Hears, IsCut, IsEnded, IsTaken, Polls, RefusesSubmit, begun_of, with_request};
+ghost use Rattle.sip_resolver.specs.Requests.{AreSame, IsAwaitedBy, IsBack, Stand, count_of, numbers_of, weight};
+ghost use Rattle.sip_resolver.specs.Resolvers.{Closes, HasRoomFor, Hears, IsCut, IsEnded, IsTaken, Polls, RefusesSubmit, begun_of, with_request};
 ghost use Rattle.sip_resolver.specs.Sends.{GivesUpBoth, IsInTime, SendsAfter, SendsFirst, tickets_of};
 ghost use Rattle.sip_resolver.specs.Settles.{GetsAnswer, GoesByReply, SettlesAll};
 ghost use Rattle.sip_resolver.specs.Tasks.{IsCounted, sought_of};
@@ -271,6 +271,45 @@ impl<B: AnswerBook, F: Origin, I: Ids + Drop> Resolver<B, F, I> {
         remove_waiting(&mut self.requests, &mut self.questions, number);
         self.requests.remove_not_waiting(number);
         true
+    }
+
+    /// Ends the wait for the reply to the question of this id, which no server takes: each request
+    /// that waits for it ends with `NoServer`. It says whether a question is out under the id. A
+    /// reply that comes later is ignored, and stores nothing.
+    pub fn close(&mut self, id: u16) -> bool
+        ensures found { IsTrue result ↔ IsOut id self.old.questions }
+        ensures closes { IsTrue result → Closes id self.old self.new }
+        ensures unchanged { OnFalse result (self.new ≡ self.old) }
+        ensures same { AreSame self.old.requests self.new.requests }
+        ensures stand { (seat : SeatView) → Stand F.gives F.shows seat self.old.requests
+            → Stand F.gives F.shows seat self.new.requests }
+        ensures awaited { AreAwaited self.old.requests self.old.questions
+            → AreAwaited self.new.requests self.new.questions }
+    {
+        let Some((_, question)) = self.questions.take(id) else {
+            return false;
+        };
+        settle_all::<B, F>(&mut self.requests, id, &WaitEnd::Closed(&question));
+        true
+    }
+
+    /// Whether a question is out under this id.
+    #[must_use]
+    pub fn is_out(&self, id: u16) -> bool
+        ensures { IsTrue result ↔ IsOut id self.now.questions }
+    {
+        self.questions.is_out(id)
+    }
+
+    /// The id of the question whose reply the request of this number waits for, if it waits for
+    /// one.
+    #[must_use]
+    pub fn awaited_id(&self, number: u64) -> Option<u16>
+        ensures { MatchOption result
+            (All (λ it. it.task.number ≡ number → ⊥) self.now.requests.waiting)
+            (λ id. IsAwaitedBy number id self.now.requests.waiting) }
+    {
+        self.requests.awaited_id(number)
     }
 
     /// The second at which `poll_transmit` next has something to send or to give up, if nothing

@@ -13,7 +13,7 @@ ghost use Rattle.sip_resolver.specs.Requests.{AreSame, IsBack, Stand, count_of};
 ghost use Rattle.sip_resolver.specs.Sends.{GivesUp, IsInTime, IsOverdue};
 ghost use Rattle.sip_resolver.specs.Tasks.{IsCounted, Lacks, sought_of};
 ghost use Rattle.sip_resolver.specs.Settles.{SettlesAll};
-ghost use Rattle.sip_resolver.specs.Waits.{EndsAs, Fits, GoesAs, IsFailed, IsGivenUp, IsKnown, MayEnd, MayGoOn, Resends, SettlesOne};
+ghost use Rattle.sip_resolver.specs.Waits.{EndsAs, Fits, GoesAs, IsClosed, IsFailed, IsGivenUp, IsKnown, MayEnd, MayGoOn, Resends, SettlesOne};
 
 use crate::origin::Origin;
 use crate::outcome::Outcome;
@@ -41,6 +41,8 @@ pub(crate) enum WaitEnd<'a> {
     Cut,
     /// This question was sent three times.
     GivenUp(&'a Question),
+    /// No server takes this question.
+    Closed(&'a Question),
     /// Memory was refused for the answer.
     NoMemory,
 }
@@ -171,6 +173,7 @@ fn wait_outcome_of<B: AnswerBook, F: Origin>(task: &mut Task<B>, end: &WaitEnd<'
             WaitOutcome::Ready
         }
         WaitEnd::GivenUp(question) => given_up(task, question),
+        WaitEnd::Closed(question) => closed(task, question),
         WaitEnd::NoMemory => WaitOutcome::Ended(Outcome::Memory),
     }
 }
@@ -199,6 +202,20 @@ fn given_up<B: AnswerBook>(task: &Task<B>, question: &Question) -> WaitOutcome
     }
     match question.try_clone() {
         Ok(question) => WaitOutcome::Ended(Outcome::NoAnswer(question)),
+        Err(AllocError) => WaitOutcome::Ended(Outcome::Memory),
+    }
+}
+
+/// What becomes of a request, as no server takes this question.
+fn closed<B: AnswerBook>(task: &Task<B>, question: &Question) -> WaitOutcome
+    ensures { IsClosed task.now question.now result }
+{
+    law_same_questions_are_equal();
+    if task.question() != Some(question) {
+        return WaitOutcome::Ready;
+    }
+    match question.try_clone() {
+        Ok(question) => WaitOutcome::Ended(Outcome::NoServer(question)),
         Err(AllocError) => WaitOutcome::Ended(Outcome::Memory),
     }
 }

@@ -22,3 +22,4 @@ mod Preferences
 mod LeastOrder
 mod Rising
 mod Kept
+mod Colons

@@ -1,4 +1,5 @@
 pub mod Requests
+pub mod RequestLines
 pub mod Callers
 pub mod Known
 pub mod Services

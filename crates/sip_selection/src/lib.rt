@@ -46,6 +46,8 @@
 //! (`law_questions_are_few`) and 16,384 targets (`law_targets_are_few`); of a selection as it is,
 //! `Selection::law_answers_are_few` says both.
 //!
+//! `read_request` reads the request of a line: a URI, or the top Via of a request.
+//!
 //! Each `give` goes on from where the choice stopped. It takes memory for the answer, for the
 //! targets that it leads to and for the next question, and keeps what was found before.
 #![tactic(auto)]
@@ -60,6 +62,7 @@ mod position;
 mod question_key;
 mod reason;
 mod request;
+mod request_line;
 mod rules;
 mod selection;
 mod service;
@@ -80,5 +83,6 @@ pub use laws::{
 };
 pub use reason::Reason;
 pub use request::Request;
+pub use request_line::read_request;
 pub use selection::{GiveRefusal, Next, Selection};
 pub use target::Target;

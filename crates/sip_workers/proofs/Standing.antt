@@ -14,7 +14,7 @@ use Rattle.sip_resolver.specs.Works.{IsHeard, Works, offer_in}
 use Rattle.sip_workers.specs.Outcomes.{Counts, IsChosen, IsOutcome, IsOutcomeAt, Says}
 use Rattle.sip_workers.specs.declared.job.Job.{Job}
 use Rattle.sip_resolver.specs.declared.outcome.Outcome.{Outcome}
-use Rattle.sip_resolver.specs.declared.outcome.Outcome.TheVariants.{Targets, Refused, NoAnswer, BadReply, Memory}
+use Rattle.sip_resolver.specs.declared.outcome.Outcome.TheVariants.{Targets, Refused, NoAnswer, NoServer, BadReply, Memory}
 
 pub prefix-self : {X : Type 0} (history : List X) → IsPrefix history history
 prefix-self history = ([], append-nil history)
@@ -53,6 +53,7 @@ module _ (gives : List ℕ → Type 0) (shows : ℕ → Type 0) where
       says-later (Targets list) it = chosen-later (targets list) it
       says-later (Refused reason) it = chosen-later (refused reason) it
       says-later (NoAnswer question) it = (chosen-later (need question) it.0, lacking-later question it.1)
+      says-later (NoServer question) it = (chosen-later (need question) it.0, lacking-later question it.1)
       says-later (BadReply question refusal) it = (chosen-later (need question) it.0, it.1)
       says-later Memory it = it
 

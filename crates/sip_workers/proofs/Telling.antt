@@ -8,7 +8,7 @@ use Rattle.sip_resolver.specs.Outcomes.{Counts, Sought}
 use Rattle.sip_resolver.specs.Outcomes.{IsChosen as WasChosen, IsOutcome as WasOutcome}
 use Rattle.sip_resolver.specs.Works.{Works}
 use Rattle.sip_resolver.specs.declared.outcome.Outcome.{Outcome}
-use Rattle.sip_resolver.specs.declared.outcome.Outcome.TheVariants.{Targets, Refused, NoAnswer, BadReply, Memory}
+use Rattle.sip_resolver.specs.declared.outcome.Outcome.TheVariants.{Targets, Refused, NoAnswer, NoServer, BadReply, Memory}
 use Rattle.sip_workers.proofs.Standing.{outcome-later}
 use Rattle.sip_workers.specs.Batches.{AreTold, sought_at}
 use Rattle.sip_workers.specs.Outcomes.{IsChosen, IsOutcomeAt}
@@ -51,6 +51,7 @@ module _ (gives : List ℕ → Type 0) (shows : ℕ → Type 0) where
     outcome-for sought place job (Targets list) is it = chosen-for sought place job (targets list) is it
     outcome-for sought place job (Refused reason) is it = chosen-for sought place job (refused reason) is it
     outcome-for sought place job (NoAnswer question) is it = (chosen-for sought place job (need question) is it.0, it.1)
+    outcome-for sought place job (NoServer question) is it = (chosen-for sought place job (need question) is it.0, it.1)
     outcome-for sought place job (BadReply question refusal) is it = (chosen-for sought place job (need question) is it.0, it.1)
     outcome-for sought place job Memory is it = tt
 

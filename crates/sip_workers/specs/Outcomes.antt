@@ -9,7 +9,7 @@ use Rattle.sip_selection.specs.Known.{Given}
 use Rattle.sip_resolver.specs.Outcomes.{IsCached, IsFaulty, IsLacking, IsReplied}
 use Rattle.sip_resolver.specs.Outcomes.{Counts as CountsAt}
 use Rattle.sip_resolver.specs.declared.outcome.Outcome.{Outcome}
-use Rattle.sip_resolver.specs.declared.outcome.Outcome.TheVariants.{Targets, Refused, NoAnswer, BadReply, Memory}
+use Rattle.sip_resolver.specs.declared.outcome.Outcome.TheVariants.{Targets, Refused, NoAnswer, NoServer, BadReply, Memory}
 use Rattle.sip_workers.specs.declared.job.Job.{Job}
 
 -- what contracts see of a result: a job, what became of it, and what its worker had seen then
@@ -31,6 +31,8 @@ abbrev pub Says : (List ℕ → Type 0) → (ℕ → Type 0) → List Store → 
 Says gives shows seen counts job (Targets list) = IsChosen counts job (targets list)
 Says gives shows seen counts job (Refused reason) = IsChosen counts job (refused reason)
 Says gives shows seen counts job (NoAnswer question) =
+    IsChosen counts job (need question) × IsLacking shows seen question
+Says gives shows seen counts job (NoServer question) =
     IsChosen counts job (need question) × IsLacking shows seen question
 Says gives shows seen counts job (BadReply question refusal) =
     IsChosen counts job (need question) × IsFaulty gives question refusal

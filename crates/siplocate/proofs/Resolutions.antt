@@ -13,7 +13,7 @@ use Rattle.siplocate.specs.declared.reply.BadReply.{BadReply}
 use Rattle.siplocate.specs.declared.reply.BadReply.TheVariants as bad
 use Rattle.siplocate.specs.Refusals.{of_request, of_reply, RefusedAs}
 use Rattle.siplocate.specs.Replies.{ReplyLine, FailsAt}
-use Rattle.dns_client.specs.RequestLines.{RequestText}
+use Rattle.sip_selection.specs.RequestLines.{RequestText}
 use Rattle.siplocate.specs.Requests.{LocatesTo, first_line, other_lines}
 
 -- a text that locates to a resolution has this request, and what it was told

@@ -27,6 +27,8 @@ outcome_lines number (outcome.Refused reason) =
     numbered number (codes "refused " ++ reason_word reason ++ 10 ∷ [])
 outcome_lines number (outcome.NoAnswer question) =
     numbered number (codes "gaveup " ++ question_words question ++ 10 ∷ [])
+outcome_lines number (outcome.NoServer question) =
+    numbered number (codes "gaveup " ++ question_words question ++ 10 ∷ [])
 outcome_lines number (outcome.BadReply question refusal) =
     numbered number (codes "badreply " ++ question_words question ++ 32 ∷ refusal_word refusal
     ++ 10 ∷ [])
@@ -52,6 +54,7 @@ abbrev pub has_targets : LineOutcome → Bool
 has_targets (line_outcome.Became (outcome.Targets list)) = true
 has_targets (line_outcome.Became (outcome.Refused reason)) = false
 has_targets (line_outcome.Became (outcome.NoAnswer question)) = false
+has_targets (line_outcome.Became (outcome.NoServer question)) = false
 has_targets (line_outcome.Became (outcome.BadReply question refusal)) = false
 has_targets (line_outcome.Became outcome.Memory) = false
 has_targets (line_outcome.Bad refusal) = false
@@ -61,6 +64,7 @@ abbrev pub lacks_memory : LineOutcome → Bool
 lacks_memory (line_outcome.Became (outcome.Targets list)) = false
 lacks_memory (line_outcome.Became (outcome.Refused reason)) = false
 lacks_memory (line_outcome.Became (outcome.NoAnswer question)) = false
+lacks_memory (line_outcome.Became (outcome.NoServer question)) = false
 lacks_memory (line_outcome.Became (outcome.BadReply question refusal)) = false
 lacks_memory (line_outcome.Became outcome.Memory) = true
 lacks_memory (line_outcome.Bad refusal) = false

@@ -9,7 +9,7 @@ use Rattle.sip_selection.specs.declared.caps.Families.{Families}
 use Rattle.sip_selection.specs.declared.request.Request.{Request}
 use Rattle.sip_selection.specs.Choice.{Resolution}
 use Rattle.sip_selection.specs.Known.{Given}
-use Rattle.dns_client.specs.RequestLines.{RequestText}
+use Rattle.sip_selection.specs.RequestLines.{RequestText}
 use Rattle.siplocate.specs.Talks.{goes, talk}
 use Rattle.siplocate.specs.declared.reply.BadReply.{BadReply}
 use Rattle.siplocate.specs.declared.reply.BadReply.TheVariants as bad

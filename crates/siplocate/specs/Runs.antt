@@ -8,12 +8,12 @@ use Rattle.sip_uri.specs.declared.refusal.UriRefusal.{UriRefusal}
 use Rattle.sip_uri.specs.declared.refusal.UriRefusal.TheVariants as uri
 use Rattle.sip_workers.specs.Runs.{IsMade}
 use Rattle.sip_workers.specs.declared.job.Job.{Job}
+use Rattle.sip_resolver.specs.Draws.{drawn}
 use Rattle.sip_resolver.specs.declared.outcome.Outcome.{Outcome}
 use Rattle.sip_workers.specs.declared.refusal.RunRefusal.{RunRefusal}
 use Rattle.sip_workers.specs.declared.refusal.RunRefusal.TheVariants.{BadCount, NoThread, Memory, Gathering}
-use Rattle.dns_client.specs.Draws.{drawn}
 use Rattle.siplocate.specs.Outcomes.{shown_from, status_of_all}
-use Rattle.dns_client.specs.RequestLines.{RequestText}
+use Rattle.sip_selection.specs.RequestLines.{RequestText}
 use Rattle.siplocate.specs.Talks.{own_caps}
 use Rattle.siplocate.specs.declared.line_outcome.LineOutcome.{LineOutcome}
 use Rattle.siplocate.specs.declared.line_outcome.LineOutcome.TheVariants as line_outcome

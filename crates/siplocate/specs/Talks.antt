@@ -10,7 +10,7 @@ use Rattle.sip_selection.specs.Selections.{SelectionValue}
 use Rattle.sip_selection.specs.declared.caps.Families.{Families}
 use Rattle.sip_selection.specs.declared.request.Request.{Request}
 use Rattle.sip_uri.specs.declared.transport.Transport.TheVariants.{Udp, Tcp, Tls, Sctp}
-use Rattle.dns_client.specs.Draws.{drawn}
+use Rattle.sip_resolver.specs.Draws.{drawn}
 
 -- the transports of the program, in order of preference
 abbrev pub own_caps : Families → CapsValue

@@ -1,9 +1,9 @@
 //! What the program can do as a sender of requests, and its random words.
 ghost use Rattle.std.specs.Prelude.{◌≡◌, replicate};
-ghost use Rattle.dns_client.specs.Draws.{drawn};
+ghost use Rattle.sip_resolver.specs.Draws.{drawn};
 ghost use Rattle.siplocate.specs.Talks as spec;
 
-use dns_client::draw_words;
+use sip_resolver::draw_words;
 use sip_selection::{Caps, Families};
 use sip_uri::Transport;
 use srv_choice::Words;

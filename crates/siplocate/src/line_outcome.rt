@@ -96,7 +96,7 @@ fn outcome_lines(alloc: Global, number: usize, outcome: &Outcome) -> Result<Stri
             let reason = reason_word(*reason);
             format!(in alloc; "{number} refused {reason}\n")
         }
-        Outcome::NoAnswer(question) => {
+        Outcome::NoAnswer(question) | Outcome::NoServer(question) => {
             let question = question_words(alloc, question)?;
             format!(in alloc; "{number} gaveup {question}\n")
         }

@@ -4,12 +4,11 @@ ghost use Rattle.std.specs.List.{after_first, before_first, position_or_len};
 ghost use Rattle.std.specs.Str.Lines.{lines};
 ghost use Rattle.siplocate.specs.Parts.{AreParts};
 ghost use Rattle.siplocate.specs.Runs.{AreEntries, HasTooMany, IsEntry, IsJob, IsRequest};
-ghost use Rattle.dns_client.specs.RequestLines.{RequestText};
+ghost use Rattle.sip_selection.specs.RequestLines.{RequestText};
 ghost use Rattle.sip_workers.specs.declared.refusal.RunRefusal.TheVariants.{BadCount, NoThread};
 
 use crate::caller::{own_caps, own_words};
-use dns_client::read_request;
-use sip_selection::{Families, Request};
+use sip_selection::{Families, Request, read_request};
 use sip_uri::UriRefusal;
 use sip_workers::{Job, RunRefusal};
 use std::alloc::Global;

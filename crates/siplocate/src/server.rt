@@ -13,7 +13,7 @@ use crate::requests::parts;
 use crate::run::run_text;
 use answer_cache::{CacheRefusal, SharedCache};
 use dns_asker::{PeerWire, serve};
-use dns_client::{SystemClock, UdpServerWire, UdpWire};
+use dns_transport::{SystemClock, UdpServerWire, UdpWire};
 use dns_zone::{Zone, ZoneRefusal};
 use sip_workers::{OpenGate, RunRefusal};
 use std::alloc::{AllocError, AllocFailed, Global};

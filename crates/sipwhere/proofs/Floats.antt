@@ -19,6 +19,7 @@ pub none : (form : AddressForm) (text : List ℕ) (it : LineOutcome) → has_flo
 none form text (line_outcome.Became (outcome.Targets list)) = rw (none_in_targets form list) refl
 none form text (line_outcome.Became (outcome.Refused reason)) = refl
 none form text (line_outcome.Became (outcome.NoAnswer question)) = refl
+none form text (line_outcome.Became (outcome.NoServer question)) = refl
 none form text (line_outcome.Became (outcome.BadReply question refusal.NotReply)) = refl
 none form text (line_outcome.Became (outcome.BadReply question refusal.OtherQuestion)) = refl
 none form text (line_outcome.Became (outcome.BadReply question refusal.Truncated)) = refl

@@ -96,6 +96,7 @@ module _ (gives : List ℕ → Type 0) (shows : ℕ → Type 0) where
     outcome-later sought (outcomes.Targets list) it = chosen-later sought (targets list) it
     outcome-later sought (outcomes.Refused reason) it = chosen-later sought (refused reason) it
     outcome-later sought (outcomes.NoAnswer question) it = (chosen-later sought (need question) it.0, lacking-later question it.1)
+    outcome-later sought (outcomes.NoServer question) it = (chosen-later sought (need question) it.0, lacking-later question it.1)
     outcome-later sought (outcomes.BadReply question refusal) it = (chosen-later sought (need question) it.0, it.1)
     outcome-later sought outcomes.Memory it = it
 

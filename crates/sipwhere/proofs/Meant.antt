@@ -5,7 +5,7 @@ use Rattle.std.specs.Prelude.{IfSome}
 use Rattle.std.proofs.lemmas.List.Elements.{at_read}
 use Rattle.std.proofs.lemmas.List.Sums.{sum_by_push}
 use Rattle.answer_cache.specs.Seats.{SeatView}
-use Rattle.dns_client.specs.Draws.{drawn}
+use Rattle.sip_resolver.specs.Draws.{drawn}
 use Rattle.sip_resolver.specs.Outcomes.{IsOutcome, Sought}
 use Rattle.sip_resolver.specs.Requests.{AreSame, IsBack, RequestsView, weight}
 use Rattle.sip_resolver.specs.Resolvers.{ResolverView, with_request}

@@ -15,6 +15,7 @@ abbrev pub check_status : LineOutcome → ℕ
 check_status (line_outcome.Became (outcome.Targets list)) = 0
 check_status (line_outcome.Became (outcome.Refused reason)) = 2
 check_status (line_outcome.Became (outcome.NoAnswer question)) = 2
+check_status (line_outcome.Became (outcome.NoServer question)) = 2
 check_status (line_outcome.Became (outcome.BadReply question refusal)) = 2
 check_status (line_outcome.Became outcome.Memory) = 3
 check_status line_outcome.TimeOver = 2
@@ -39,6 +40,8 @@ outcome_line form (outcome.Refused reason) =
     outcome_lines form (codes "SIP CRITICAL - ") (outcome.Refused reason)
 outcome_line form (outcome.NoAnswer question) =
     outcome_lines form (codes "SIP CRITICAL - ") (outcome.NoAnswer question)
+outcome_line form (outcome.NoServer question) =
+    outcome_lines form (codes "SIP CRITICAL - ") (outcome.NoServer question)
 outcome_line form (outcome.BadReply question refusal) =
     outcome_lines form (codes "SIP CRITICAL - ") (outcome.BadReply question refusal)
 outcome_line form outcome.Memory = outcome_lines form (codes "SIP UNKNOWN - ") outcome.Memory

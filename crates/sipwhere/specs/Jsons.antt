@@ -93,6 +93,8 @@ outcome_data form text (outcome.Targets list) = with_targets text (targets_data 
 outcome_data form text (outcome.Refused reason) = with_refused text (reason_word reason)
 outcome_data form text (outcome.NoAnswer question) =
     with_gaveup text (why_data question (codes "timeout"))
+outcome_data form text (outcome.NoServer question) =
+    with_gaveup text (why_data question (codes "closed"))
 outcome_data form text (outcome.BadReply question refusal) =
     with_gaveup text (reply_data question refusal)
 outcome_data form text outcome.Memory = with_fault text

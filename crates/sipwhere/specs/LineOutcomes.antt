@@ -1,9 +1,9 @@
 -- What becomes of a text.
 use Rattle.std.specs.Prelude.{◌≡◌, ℕ, List}
 use Rattle.answer_cache.specs.Seats.{SeatView}
-use Rattle.dns_client.specs.Draws.{drawn}
-use Rattle.dns_client.specs.RequestLines.{RequestText}
+use Rattle.sip_resolver.specs.Draws.{drawn}
 use Rattle.sip_resolver.specs.Outcomes.{IsOutcome, Sought}
+use Rattle.sip_selection.specs.RequestLines.{RequestText}
 use Rattle.sip_selection.specs.declared.caps.Caps.{Caps}
 use Rattle.sip_selection.specs.declared.request.Request.{Request}
 use Rattle.sip_uri.specs.declared.refusal.UriRefusal.{UriRefusal}

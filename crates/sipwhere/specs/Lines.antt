@@ -93,6 +93,7 @@ outcome_lines form front (outcome.Targets list) = flat_map (target_line form fro
 outcome_lines form front (outcome.Refused reason) =
     words_line front (codes "refused ") (reason_word reason)
 outcome_lines form front (outcome.NoAnswer question) = gaveup_line front question (codes "timeout")
+outcome_lines form front (outcome.NoServer question) = gaveup_line front question (codes "closed")
 outcome_lines form front (outcome.BadReply question refusal) =
     gaveup_line front question (why_word refusal)
 outcome_lines form front outcome.Memory = words_line front (codes "fault ") (codes "memory")
@@ -113,6 +114,7 @@ abbrev pub status_of : LineOutcome → ℕ
 status_of (line_outcome.Became (outcome.Targets list)) = 0
 status_of (line_outcome.Became (outcome.Refused reason)) = 2
 status_of (line_outcome.Became (outcome.NoAnswer question)) = 1
+status_of (line_outcome.Became (outcome.NoServer question)) = 1
 status_of (line_outcome.Became (outcome.BadReply question refusal)) = 1
 status_of (line_outcome.Became outcome.Memory) = 5
 status_of line_outcome.TimeOver = 1

@@ -21,8 +21,8 @@ pub fn check_status(line_outcome: &LineOutcome) -> u8
     match line_outcome {
         LineOutcome::Became(Outcome::Targets(_)) => 0,
         LineOutcome::Became(Outcome::Refused(_)) => 2,
-        LineOutcome::Became(Outcome::NoAnswer(_)) | LineOutcome::Became(Outcome::BadReply(_, _)) =>
-            2,
+        LineOutcome::Became(Outcome::NoAnswer(_)) | LineOutcome::Became(Outcome::NoServer(_)) => 2,
+        LineOutcome::Became(Outcome::BadReply(_, _)) => 2,
         LineOutcome::TimeOver => 2,
         LineOutcome::Became(Outcome::Memory) => 3,
         LineOutcome::Bad(_) | LineOutcome::Memory => 3,
@@ -58,6 +58,7 @@ fn outcome_line(alloc: Global, form: AddressForm, outcome: &Outcome) -> Result<S
         Outcome::Targets(list) => targets_line(alloc, form, list.as_slice()),
         Outcome::Refused(_) => outcome_lines(alloc, form, "SIP CRITICAL - ", outcome),
         Outcome::NoAnswer(_) => outcome_lines(alloc, form, "SIP CRITICAL - ", outcome),
+        Outcome::NoServer(_) => outcome_lines(alloc, form, "SIP CRITICAL - ", outcome),
         Outcome::BadReply(_, _) => outcome_lines(alloc, form, "SIP CRITICAL - ", outcome),
         Outcome::Memory => outcome_lines(alloc, form, "SIP UNKNOWN - ", outcome),
     }

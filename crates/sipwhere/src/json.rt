@@ -129,6 +129,9 @@ fn outcome_value(
         Outcome::NoAnswer(question) => {
             with_gaveup(alloc, text, why_value(alloc, question, "timeout")?)
         }
+        Outcome::NoServer(question) => {
+            with_gaveup(alloc, text, why_value(alloc, question, "closed")?)
+        }
         Outcome::BadReply(question, refusal) => {
             with_gaveup(alloc, text, reply_value(alloc, question, *refusal)?)
         }

@@ -25,8 +25,8 @@ pub fn status_of(line_outcome: &LineOutcome) -> u8
 {
     match line_outcome {
         LineOutcome::Became(Outcome::Targets(_)) => 0,
-        LineOutcome::Became(Outcome::NoAnswer(_)) | LineOutcome::Became(Outcome::BadReply(_, _)) =>
-            1,
+        LineOutcome::Became(Outcome::NoAnswer(_)) | LineOutcome::Became(Outcome::NoServer(_)) => 1,
+        LineOutcome::Became(Outcome::BadReply(_, _)) => 1,
         LineOutcome::TimeOver => 1,
         LineOutcome::Became(Outcome::Refused(_)) => 2,
         LineOutcome::Bad(_) => 3,

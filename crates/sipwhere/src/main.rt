@@ -5,6 +5,7 @@ ghost use Rattle.std.specs.Prelude.{◌≡◌, ◌≤◌, IfOk};
 
 mod address;
 mod check_line;
+mod counting_book;
 mod json;
 mod line;
 mod line_input;

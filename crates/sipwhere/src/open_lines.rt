@@ -11,11 +11,12 @@ use crate::sender::Sender;
 use crate::submitted_lines::{line_outcome_in_vain, line_outcome_of, submit};
 use crate::tell::tell;
 use answer_cache::AnswerBook;
-use dns_asker::Clock;
-use dns_client::{WireOrigin, poll_over, random_ids};
-use dns_transport::{MessageWire, Tracer};
+use dns_asker::{Clock, MessageWire};
+use dns_transport::Tracer;
 use rand_chacha::ChaCha20Rng;
-use sip_resolver::{Limits, RandomIds, Resolved, Resolver};
+use sip_resolver::{
+    Limits, RandomIds, Resolved, Resolver, WireOrigin, cancel_over, poll_over, random_ids,
+};
 use std::alloc::{AllocError, Global};
 use std::io::Write;
 use std::marker::Model;
@@ -146,7 +147,7 @@ impl<'a, B: AnswerBook + Drop, W: MessageWire, C: Clock> OpenLines<'a, B, W, C> 
     }
 
     /// Begins as many lines as there is room for. Their time is over at this moment.
-    pub fn begin_all(&mut self, wire: &mut W, end: Duration) -> Result<(), AllocError>
+    pub fn begin_all(&mut self, end: Duration) -> Result<(), AllocError>
         ensures stands { (seat : SeatView) → Stands W.gives C.shows seat self.old
             → Stands W.gives C.shows seat self.new }
     {
@@ -154,7 +155,6 @@ impl<'a, B: AnswerBook + Drop, W: MessageWire, C: Clock> OpenLines<'a, B, W, C> 
             if !self.begin_next(end)? {
                 break;
             }
-            wire.begin();
         }
         Ok(())
     }
@@ -195,21 +195,21 @@ impl<'a, B: AnswerBook + Drop, W: MessageWire, C: Clock> OpenLines<'a, B, W, C> 
     }
 
     /// Gives the line at a place up, whose time is over: its request is cancelled, and so has no
-    /// room any more.
-    fn give_up(&mut self, place: usize)
+    /// room any more. Nothing is waited for at the wire that nobody else waits for.
+    fn give_up(&mut self, wire: &mut W, place: usize)
         requires inside { place < length self.old.lines }
         ensures same { (self.new.told ≡ self.old.told) × (self.new.lines ≡ self.old.lines)
             × (self.new.sender ≡ self.old.sender) }
         ensures stands { (seat : SeatView) → Stands W.gives C.shows seat self.old
             → Stands W.gives C.shows seat self.new }
     {
-        let _was_inside = self.resolver.cancel(place as u64);
+        let _was_inside = cancel_over(&mut self.resolver, wire, place as u64);
         self.line_outcomes[place] = Some(line_outcome_in_vain(self.alloc, self.lines[place].text));
     }
 
     /// Looks at the next line, if its time is over by now, and tells whether it was. It is given up
     /// where it is not known what became of it.
-    fn give_next_up(&mut self, now: Duration) -> bool
+    fn give_next_up(&mut self, wire: &mut W, now: Duration) -> bool
         ensures same { (self.new.told ≡ self.old.told) × (self.new.lines ≡ self.old.lines)
             × (self.new.sender ≡ self.old.sender) }
         ensures stands { (seat : SeatView) → Stands W.gives C.shows seat self.old
@@ -221,21 +221,21 @@ impl<'a, B: AnswerBook + Drop, W: MessageWire, C: Clock> OpenLines<'a, B, W, C> 
         }
         self.late = place + 1;
         if self.line_outcomes[place].is_none() {
-            self.give_up(place);
+            self.give_up(wire, place);
         }
         true
     }
 
     /// Gives the lines up whose time is over by now and of which it is not known what became of
     /// them. The time of a line that was begun later is over later.
-    pub fn give_late_up(&mut self, now: Duration)
+    pub fn give_late_up(&mut self, wire: &mut W, now: Duration)
         ensures same { (self.new.told ≡ self.old.told) × (self.new.lines ≡ self.old.lines)
             × (self.new.sender ≡ self.old.sender) }
         ensures stands { (seat : SeatView) → Stands W.gives C.shows seat self.old
             → Stands W.gives C.shows seat self.new }
     {
         'lines: for _line in 0..self.lines.len() {
-            if !self.give_next_up(now) {
+            if !self.give_next_up(wire, now) {
                 break;
             }
         }

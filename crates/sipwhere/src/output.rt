@@ -190,6 +190,7 @@ pub fn outcome_lines(
         Outcome::Targets(list) => target_lines(alloc, form, front, list.as_slice()),
         Outcome::Refused(reason) => words_line(alloc, front, "refused ", reason_word(*reason)),
         Outcome::NoAnswer(question) => gaveup_line(alloc, front, question, "timeout"),
+        Outcome::NoServer(question) => gaveup_line(alloc, front, question, "closed"),
         Outcome::BadReply(question, refusal) => {
             gaveup_line(alloc, front, question, &why_word(alloc, *refusal)?)
         }

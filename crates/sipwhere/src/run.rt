@@ -1,6 +1,7 @@
 //! Texts, from their words to what is printed.
 ghost use Rattle.std.specs.Prelude.{◌<◌, ◌≤◌, IfOk};
 
+use crate::counting_book::CountingBook;
 use crate::line::{Line, lines_in, numbered};
 use crate::line_input::LineInput;
 use crate::open_lines::OpenLines;
@@ -13,9 +14,9 @@ use crate::sender::Sender;
 use crate::stats::tell_stats;
 use crate::tell::FAULT_STATUS;
 use answer_cache::{AnswerBook, ListCache};
-use dns_asker::Clock;
-use dns_client::{CountingBook, RunClock, Timer, open_wire, random_key};
-use dns_transport::{MessageWire, Tracer, WireOptions};
+use dns_asker::{Clock, MessageWire};
+use dns_transport::{RunClock, Timer, Tracer, WireOptions, open_wire};
+use sip_resolver::random_key;
 use std::alloc::Global;
 use std::io::{self, Write};
 use std::net::Net;
@@ -63,11 +64,8 @@ fn locate_side_by_side<
     let mut status = 0;
     'rounds: for _ in rt.forever() {
         let now = clock.elapsed();
-        open.give_late_up(now);
-        if open
-            .begin_all(wire, now.saturating_add(sender.total))
-            .is_err()
-        {
+        open.give_late_up(wire, now);
+        if open.begin_all(now.saturating_add(sender.total)).is_err() {
             return FAULT_STATUS;
         }
         status = greater_of(status, open.tell_all(style, wire, output));

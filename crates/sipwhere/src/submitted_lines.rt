@@ -9,8 +9,8 @@ use crate::line::Line;
 use crate::line_outcome::LineOutcome;
 use crate::sender::Sender;
 use answer_cache::AnswerBook;
-use dns_client::{draw_words, read_request};
-use sip_resolver::{Ids, Origin, Outcome, Resolver};
+use sip_resolver::{Ids, Origin, Outcome, Resolver, draw_words};
+use sip_selection::read_request;
 use std::alloc::Global;
 
 /// Hands the request of a text to a resolver, under this number, or gives what became of the text

@@ -5,12 +5,12 @@ ghost use Rattle.std.specs.List.{All};
 ghost use Rattle.dns_answers.specs.Records.{kind_of};
 ghost use Rattle.answer_cache.specs.Shared.{Belongs};
 
-use crate::fault::Fault;
-use crate::fields::fields;
-use crate::replies::{Reply, absent, moment, push_answer, question, read_reply};
+use crate::fields::{moment, question_of};
+use crate::replies::{Reply, absent, push_answer, read_reply};
 use answer_cache::{AnswerBook, Seat, SharedCache, StoreRefusal, group};
 use dns_answers::{Answer, Moment};
 use dns_message::Question;
+use row_fields::{Fault, Output, number32, split_word};
 use std::alloc::{AllocError, Global};
 use std::sync::{Arc, Wait};
 
@@ -30,21 +30,22 @@ fn stored<R: Wait, B: AnswerBook>(
     book.store(rt, seat, question, answer, now)
 }
 
-/// What a book says to a store of a reply, whose records are of the kind of its question.
+/// What a book says to a store of a reply, whose records have to be of the kind of its question:
+/// `None` where they are not.
 pub(crate) fn reply_stored<R: Wait, B: AnswerBook>(
     rt: &R,
     book: &B,
     seat: &mut B::Seat,
     reply: &Reply,
     now: Moment,
-) -> Result<Result<(), StoreRefusal>, Fault>
+) -> Option<Result<(), StoreRefusal>>
     requires { B.belongs book.now seat.old }
     ensures { B.belongs book.now seat.new }
 {
     if reply.answer.records().kind() != reply.question.kind {
-        return Err(Fault::Form);
+        return None;
     }
-    Ok(stored(rt, book, seat, &reply.question, &reply.answer, now))
+    Some(stored(rt, book, seat, &reply.question, &reply.answer, now))
 }
 
 /// What a book finds.
@@ -60,121 +61,214 @@ pub(crate) fn found<B: AnswerBook>(
     book.lookup(seat, question, now)
 }
 
-/// An answer that was found, as a line, or `nothing`.
-pub(crate) fn answer_line(alloc: Global, found: Option<Arc<Answer>>) -> Result<String, Fault> {
-    let mut line = String::new(alloc);
+/// Writes an answer that was found, or `nothing`.
+pub(crate) fn push_found(output: &mut Output, found: Result<Option<Arc<Answer>>, AllocError>) {
     match found {
-        Some(answer) => push_answer(&mut line, alloc, &answer)?,
-        None => line.push_str("nothing")?,
+        Ok(Some(answer)) => push_answer(output, &answer),
+        Ok(None) => output.push("nothing"),
+        Err(_) => output.fail(Fault::Memory),
     }
-    line.push_str("\n")?;
-    Ok(line)
+    output.push("\n");
 }
 
-/// What became of a store, as a line.
-fn store_line(alloc: Global, stored: Result<(), StoreRefusal>) -> Result<String, Fault> {
+/// Writes what became of a store.
+fn push_stored(output: &mut Output, stored: Option<Result<(), StoreRefusal>>) {
+    let alloc = output.alloc();
     match stored {
-        Ok(()) => Ok(String::from_str(alloc, "stored\n")?),
-        Err(refusal) => Ok(format!(in alloc; "{refusal:?}\n")?),
+        Some(Ok(())) => output.push_line("stored"),
+        Some(Err(refusal)) => output.push_made(format!(in alloc; "{refusal:?}\n")),
+        None => output.fail(Fault::Form),
     }
+}
+
+/// A moment, and a reply that is stored then.
+#[derive(Drop)]
+struct DatedReply {
+    now: Moment,
+    reply: Reply,
 }
 
 /// The moment and the reply of a line.
-fn store_of(alloc: Global, line: &str) -> Result<(Moment, Reply), Fault> {
-    let (now, line) = line.split_once(' ').ok_or(Fault::Form)?;
-    Ok((moment(now)?, read_reply(alloc, line)?))
+fn store_of(alloc: Global, line: &str) -> Result<DatedReply, Fault> {
+    let (now, line) = split_word(line);
+    let now = moment(now)?;
+    match read_reply(alloc, line) {
+        Ok(reply) => Ok(DatedReply { now, reply }),
+        Err(fault) => Err(fault),
+    }
 }
 
 /// A moment, a question and its answer are stored.
 fn store<R: Wait, B: AnswerBook>(
     rt: &R,
-    alloc: Global,
+    output: &mut Output,
     book: &B,
     seat: &mut B::Seat,
     line: &str,
-) -> Result<String, Fault>
+)
     requires { B.belongs book.now seat.old }
     ensures { B.belongs book.now seat.new }
 {
-    let (now, reply) = store_of(alloc, line)?;
-    store_line(alloc, reply_stored(rt, book, seat, &reply, now)?)
+    match store_of(output.alloc(), line) {
+        Ok(store) => push_stored(
+            output,
+            reply_stored(rt, book, seat, &store.reply, store.now),
+        ),
+        Err(fault) => output.fail(fault),
+    }
+}
+
+/// Stores a reply, and counts it where it is stored.
+fn count_reply<R: Wait, B: AnswerBook>(
+    rt: &R,
+    book: &B,
+    seat: &mut B::Seat,
+    reply: &Reply,
+    now: Moment,
+    count: &mut usize,
+)
+    requires { B.belongs book.now seat.old }
+    ensures { B.belongs book.now seat.new }
+{
+    if let Some(Ok(())) = reply_stored(rt, book, seat, reply, now) {
+        *count = count.wrapping_add(1);
+    }
+}
+
+/// A moment, and a question that is asked then.
+#[derive(Drop)]
+pub(crate) struct DatedQuestion {
+    pub(crate) now: Moment,
+    pub(crate) question: Question,
+}
+
+/// The moment and the question of three fields.
+fn dated(alloc: Global, now: &str, kind: &str, name: &str) -> Result<DatedQuestion, Fault> {
+    let now = moment(now)?;
+    match question_of(alloc, name, kind) {
+        Ok(question) => Ok(DatedQuestion { now, question }),
+        Err(fault) => Err(fault),
+    }
+}
+
+/// A question, and the answer without records to it that lives as long as a field says.
+fn absence(alloc: Global, question: &Question, life: &str) -> Result<Reply, Fault> {
+    let life = number32(life)?;
+    absent(alloc, question, life)
+}
+
+/// Stores an answer without records with a life, and counts it where it is stored.
+fn store_absence<R: Wait, B: AnswerBook>(
+    rt: &R,
+    output: &mut Output,
+    book: &B,
+    seat: &mut B::Seat,
+    dated: &DatedQuestion,
+    life: &str,
+    count: &mut usize,
+)
+    requires { B.belongs book.now seat.old }
+    ensures { B.belongs book.now seat.new }
+{
+    match absence(output.alloc(), &dated.question, life) {
+        Ok(reply) => count_reply(rt, book, seat, &reply, dated.now, count),
+        Err(fault) => output.fail(fault),
+    }
+}
+
+/// Stores answers without records with lives, and writes how many are stored.
+fn store_absences<R: Wait, B: AnswerBook>(
+    rt: &R,
+    output: &mut Output,
+    book: &B,
+    seat: &mut B::Seat,
+    dated: &DatedQuestion,
+    lives: &str,
+)
+    requires { B.belongs book.now seat.old }
+    ensures { B.belongs book.now seat.new }
+{
+    let mut count = 0usize;
+    'lives: for life in lives.split(' ') {
+        store_absence(rt, output, book, seat, dated, life, &mut count);
+    }
+    output.push_length(count);
+    output.push_line(" stored");
 }
 
 /// A moment, a kind and a name, and lives: an answer without records is stored with each of these.
 /// Gives how many are stored.
 fn stores<R: Wait, B: AnswerBook>(
     rt: &R,
-    alloc: Global,
+    output: &mut Output,
     book: &B,
     seat: &mut B::Seat,
     line: &str,
-) -> Result<String, Fault>
+)
     requires { B.belongs book.now seat.old }
     ensures { B.belongs book.now seat.new }
 {
-    match fields(alloc, line)?.as_slice() {
-        [now, kind, name, lives @ ..] => {
-            let now = moment(now)?;
-            let mut count = 0usize;
-            'lives: for life in lives {
-                let reply = absent(alloc, kind, name, life)?;
-                if reply_stored(rt, book, seat, &reply, now)?.is_ok() {
-                    count = count.wrapping_add(1);
-                }
-            }
-            Ok(format!(in alloc; "{count} stored\n")?)
-        }
-        _ => Err(Fault::Form),
+    let (now, rest) = split_word(line);
+    let (kind, rest) = split_word(rest);
+    let (name, lives) = split_word(rest);
+    match dated(output.alloc(), now, kind, name) {
+        Ok(dated) => store_absences(rt, output, book, seat, &dated, lives),
+        Err(fault) => output.fail(fault),
     }
+}
+
+/// The moment, the kind and the name of a line.
+pub(crate) fn lookup_of(alloc: Global, line: &str) -> Result<DatedQuestion, Fault> {
+    let (now, rest) = split_word(line);
+    let (kind, name) = split_word(rest);
+    dated(alloc, now, kind, name)
 }
 
 /// A moment, a kind and a name are looked up.
-fn lookup<B: AnswerBook>(
-    alloc: Global,
-    book: &B,
-    seat: &mut B::Seat,
-    line: &str,
-) -> Result<String, Fault>
+fn lookup<B: AnswerBook>(output: &mut Output, book: &B, seat: &mut B::Seat, line: &str)
     requires { B.belongs book.now seat.old }
     ensures { B.belongs book.now seat.new }
 {
-    match fields(alloc, line)?.as_slice() {
-        [now, kind, name] => {
-            let question = question(alloc, kind, name)?;
-            answer_line(alloc, found(book, seat, &question, moment(now)?)?)
-        }
-        _ => Err(Fault::Form),
+    match lookup_of(output.alloc(), line) {
+        Ok(lookup) => push_found(output, found(book, seat, &lookup.question, lookup.now)),
+        Err(fault) => output.fail(fault),
     }
 }
 
+/// Writes the group of a question.
+fn push_group(output: &mut Output, question: &Question) {
+    let alloc = output.alloc();
+    let group = group(question);
+    output.push_made(format!(in alloc; "{group}\n"));
+}
+
 /// The group of a kind and a name.
-fn group_line(alloc: Global, line: &str) -> Result<String, Fault> {
-    match fields(alloc, line)?.as_slice() {
-        [kind, name] => {
-            let group = group(&question(alloc, kind, name)?);
-            Ok(format!(in alloc; "{group}\n")?)
-        }
-        _ => Err(Fault::Form),
+fn group_line(output: &mut Output, line: &str) {
+    let (kind, name) = split_word(line);
+    match question_of(output.alloc(), name, kind) {
+        Ok(question) => push_group(output, &question),
+        Err(fault) => output.fail(fault),
     }
 }
 
 /// What a book gives for a line.
 pub(crate) fn book_line<R: Wait, B: AnswerBook>(
     rt: &R,
-    alloc: Global,
+    output: &mut Output,
     book: &B,
     seat: &mut B::Seat,
     line: &str,
-) -> Result<String, Fault>
+)
     requires { B.belongs book.now seat.old }
     ensures { B.belongs book.now seat.new }
 {
-    match line.split_once(' ') {
-        Some(("store", line)) => store(rt, alloc, book, seat, line),
-        Some(("stores", line)) => stores(rt, alloc, book, seat, line),
-        Some(("lookup", line)) => lookup(alloc, book, seat, line),
-        Some(("group", line)) => group_line(alloc, line),
-        _ => Err(Fault::Form),
+    let (word, rest) = split_word(line);
+    match word {
+        "store" => store(rt, output, book, seat, rest),
+        "stores" => stores(rt, output, book, seat, rest),
+        "lookup" => lookup(output, book, seat, rest),
+        "group" => group_line(output, rest),
+        _ => output.fail(Fault::Form),
     }
 }
 
@@ -208,12 +302,23 @@ pub(crate) fn one_seat(alloc: Global) -> Option<(SharedCache, Seat)>
     }
 }
 
-/// What both books give, once where it is the same.
-pub(crate) fn both(list: String, shared: String) -> Result<String, Fault> {
-    let mut text = list;
-    if text.as_str() != shared.as_str() {
-        text.push_str("the shared cache differs:\n")?;
-        text.push_str(&shared)?;
+/// Writes what both books give, once where it is the same.
+pub(crate) fn push_both(
+    output: &mut Output,
+    list: Result<String, Fault>,
+    shared: Result<String, Fault>,
+) {
+    match (list, shared) {
+        (Ok(list), Ok(shared)) => push_either(output, &list, &shared),
+        (Err(fault), _) | (_, Err(fault)) => output.fail(fault),
     }
-    Ok(text)
+}
+
+/// Writes two texts, and one where they are the same.
+fn push_either(output: &mut Output, list: &str, shared: &str) {
+    output.push(list);
+    if list != shared {
+        output.push_line("the shared cache differs:");
+        output.push(shared);
+    }
 }

@@ -3,94 +3,104 @@ ghost use Rattle.std.specs.Prelude.{◌≡◌, IfSome};
 ghost use Rattle.std.specs.List.{All};
 ghost use Rattle.answer_cache.specs.Shared.{Belongs};
 
-use crate::books::{book_line, both, last_of, one_seat};
-use crate::fault::Fault;
-use crate::fields::fields;
-use crate::replies::{moment, push_answer, push_question};
+use crate::books::{book_line, last_of, one_seat, push_both};
+use crate::fields::moment;
+use crate::replies::{push_answer, push_question};
 use answer_cache::{AnswerBook, CacheRefusal, Carried, ListCache, Notice, Seat, SharedCache};
-use dns_answers::Moment;
+use dns_answers::{Answer, Moment};
+use dns_message::Question;
+use row_fields::{Fault, Output, count, only_line, split_word};
 use std::alloc::Global;
 use std::sync::Wait;
 
 /// What a call gives for a row's lines.
-pub(crate) fn told<R: Wait>(
-    rt: &R,
-    alloc: Global,
-    call: &str,
-    input: &str,
-) -> Result<String, Fault> {
+pub(crate) fn told<R: Wait>(rt: &R, output: &mut Output, call: &str, input: &str) {
+    let alloc = output.alloc();
     match call {
-        "books" => both(over_list(rt, alloc, input)?, over_shared(rt, alloc, input)?),
-        "seats" => generations(rt, alloc, input),
-        "counts" => counts(rt, alloc, input.strip_suffix("\n").unwrap_or(input)),
-        _ => Err(Fault::Call),
+        "books" => push_both(
+            output,
+            over_list(rt, alloc, input),
+            over_shared(rt, alloc, input),
+        ),
+        "seats" => generations(rt, output, input),
+        "counts" => counts(rt, output, only_line(input)),
+        _ => output.fail(Fault::Call),
     }
 }
 
 /// What a book gives for lines.
 fn talk<R: Wait, B: AnswerBook>(
     rt: &R,
-    alloc: Global,
+    output: &mut Output,
     book: &B,
     seat: &mut B::Seat,
     input: &str,
-) -> Result<String, Fault>
+)
     requires { B.belongs book.now seat.old }
 {
-    let mut text = String::new(alloc);
     'lines: for line in input.lines() {
-        text.push_str(&book_line(rt, alloc, book, seat, line)?)?;
+        book_line(rt, output, book, seat, line);
     }
-    Ok(text)
 }
 
 /// The same of a new book of one thread.
 fn over_list<R: Wait>(rt: &R, alloc: Global, input: &str) -> Result<String, Fault> {
+    let mut output = Output::new(alloc);
     let (book, mut seat) = ListCache::new(alloc);
-    talk(rt, alloc, &book, &mut seat, input)
+    talk(rt, &mut output, &book, &mut seat, input);
+    output.finish()
 }
 
 /// The same of a new book that threads can share.
 fn over_shared<R: Wait>(rt: &R, alloc: Global, input: &str) -> Result<String, Fault> {
+    let mut output = Output::new(alloc);
     match one_seat(alloc) {
-        Some((book, mut seat)) => talk(rt, alloc, &book, &mut seat, input),
-        None => Err(Fault::Memory),
+        Some((book, mut seat)) => talk(rt, &mut output, &book, &mut seat, input),
+        None => output.fail(Fault::Memory),
     }
+    output.finish()
 }
 
-/// How many seats there are, as a line, or why there is no cache.
-fn count_line(
-    alloc: Global,
-    made: Result<(SharedCache, Vec<Seat>), CacheRefusal>,
-) -> Result<String, Fault> {
+/// Writes how many seats there are, or why there is no cache.
+fn push_count(output: &mut Output, made: Result<(SharedCache, Vec<Seat>), CacheRefusal>) {
+    let alloc = output.alloc();
     match made {
-        Ok((_, seats)) => Ok(format!(in alloc; "{} seats\n", seats.len())?),
-        Err(refusal) => Ok(format!(in alloc; "{refusal:?}\n")?),
+        Ok((_, seats)) => output.push_made(format!(in alloc; "{} seats\n", seats.len())),
+        Err(refusal) => output.push_made(format!(in alloc; "{refusal:?}\n")),
     }
 }
 
 /// What a new cache hands on in which nothing is stored.
-fn nothing_carried(alloc: Global) -> Result<Carried, Fault> {
-    let now = moment("0")?;
+fn nothing_carried(alloc: Global) -> Option<Carried> {
+    let now = Moment::new(0)?;
     match one_seat(alloc) {
         Some((cache, mut seat)) => carry(alloc, &cache, &mut seat, now),
-        None => Err(Fault::Memory),
+        None => None,
     }
 }
 
+/// Writes how many seats the successor of a new cache has, or why there is none.
+fn push_successor<R: Wait>(rt: &R, output: &mut Output, count: usize) {
+    let alloc = output.alloc();
+    match nothing_carried(alloc) {
+        Some(carried) => push_count(output, SharedCache::successor(rt, alloc, &carried, count)),
+        None => output.fail(Fault::Memory),
+    }
+}
+
+/// Writes how many seats a new cache has, or why there is none.
+fn push_new(output: &mut Output, count: usize) {
+    let made = SharedCache::new(output.alloc(), count);
+    push_count(output, made);
+}
+
 /// `new` or `successor` and a number of seats give how many a cache has, or why there is none.
-fn counts<R: Wait>(rt: &R, alloc: Global, line: &str) -> Result<String, Fault> {
-    match fields(alloc, line)?.as_slice() {
-        ["new", count] => {
-            let count = count.parse::<usize>().map_err(|_| Fault::Form)?;
-            count_line(alloc, SharedCache::new(alloc, count))
-        }
-        ["successor", count] => {
-            let count = count.parse::<usize>().map_err(|_| Fault::Form)?;
-            let carried = nothing_carried(alloc)?;
-            count_line(alloc, SharedCache::successor(rt, alloc, &carried, count))
-        }
-        _ => Err(Fault::Form),
+fn counts<R: Wait>(rt: &R, output: &mut Output, line: &str) {
+    let (word, field) = split_word(line);
+    match (word, count(field)) {
+        ("new", Ok(count)) => push_new(output, count),
+        ("successor", Ok(count)) => push_successor(rt, output, count),
+        _ => output.fail(Fault::Form),
     }
 }
 
@@ -127,39 +137,50 @@ fn two_seats<R: Wait>(
     }
 }
 
-/// The store at a place of what is carried, as a line, or `nothing`.
-fn carried_line(alloc: Global, carried: &Carried, place: &str) -> Result<String, Fault> {
-    let place = place.parse::<usize>().map_err(|_| Fault::Form)?;
-    let mut line = String::new(alloc);
-    match carried.get(place) {
-        Some((question, answer, moment)) => {
-            line.push_str(&format!(in alloc; "{} ", moment.get())?)?;
-            push_question(&mut line, question)?;
-            line.push_str(" ")?;
-            push_answer(&mut line, alloc, answer)?;
-        }
-        None => line.push_str("nothing")?,
-    }
-    line.push_str("\n")?;
-    Ok(line)
+/// Writes a store that is carried.
+fn push_store(output: &mut Output, question: &Question, answer: &Answer, moment: Moment) {
+    output.push_number(moment.get());
+    output.push(" ");
+    push_question(output, question);
+    output.push(" ");
+    push_answer(output, answer);
+    output.push("\n");
 }
 
-/// How many stores are carried, as a line.
-fn size_line(alloc: Global, carried: &Carried) -> Result<String, Fault> {
-    if carried.is_empty() {
-        return Ok(String::from_str(alloc, "nothing carried\n")?);
+/// Writes the store at a place of what is carried, or `nothing`.
+fn push_store_at(output: &mut Output, carried: &Carried, place: usize) {
+    match carried.get(place) {
+        Some((question, answer, moment)) => push_store(output, question, answer, moment),
+        None => output.push_line("nothing"),
     }
-    Ok(format!(in alloc; "{} carried\n", carried.len())?)
+}
+
+/// The same of the place of a field, where something is carried.
+fn push_carried(output: &mut Output, carried: Option<&Carried>, place: &str) {
+    match (carried, count(place)) {
+        (Some(carried), Ok(place)) => push_store_at(output, carried, place),
+        _ => output.fail(Fault::Form),
+    }
+}
+
+/// Writes how many stores are carried.
+fn push_size(output: &mut Output, carried: &Carried) {
+    if carried.is_empty() {
+        output.push_line("nothing carried");
+    } else {
+        output.push_length(carried.len());
+        output.push_line(" carried");
+    }
 }
 
 /// What a cache hands on.
-fn carry(alloc: Global, cache: &SharedCache, seat: &mut Seat, now: Moment) -> Result<Carried, Fault>
+fn carry(alloc: Global, cache: &SharedCache, seat: &mut Seat, now: Moment) -> Option<Carried>
     requires { Belongs cache.now seat.old }
     ensures { Belongs cache.now seat.new }
 {
     match cache.carry(alloc, seat, now) {
-        Ok(carried) => Ok(carried),
-        Err(_) => Err(Fault::Memory),
+        Ok(carried) => Some(carried),
+        Err(_) => None,
     }
 }
 
@@ -172,111 +193,133 @@ fn learn(cache: &SharedCache, seat: &mut Seat, notice: &Notice)
     cache.learn(seat, notice);
 }
 
+/// Keeps what a cache hands on, and writes how much that is.
+fn keep(output: &mut Output, carried: &mut Option<Carried>, found: Option<Carried>) {
+    match found {
+        Some(found) => {
+            push_size(output, &found);
+            *carried = Some(found);
+        }
+        None => output.fail(Fault::Memory),
+    }
+}
+
+/// What a cache hands on at a moment.
+fn carry_at(
+    output: &mut Output,
+    cache: &SharedCache,
+    seat: &mut Seat,
+    now: &str,
+    carried: &mut Option<Carried>,
+)
+    requires { Belongs cache.now seat.old }
+    ensures { Belongs cache.now seat.new }
+{
+    match moment(now) {
+        Ok(now) => keep(output, carried, carry(output.alloc(), cache, seat, now)),
+        Err(fault) => output.fail(fault),
+    }
+}
+
+/// Writes the number of a seat.
+fn push_number(output: &mut Output, seat: &Seat) {
+    output.push_length(seat.number());
+    output.push("\n");
+}
+
 /// What a seat gives for a line.
 fn seat_line<R: Wait>(
     rt: &R,
-    alloc: Global,
+    output: &mut Output,
     cache: &SharedCache,
     seat: &mut Seat,
     notice: &Notice,
     line: &str,
     carried: &mut Option<Carried>,
-) -> Result<String, Fault>
+)
     requires seat { Belongs cache.now seat.old }
     requires notice { notice.now.cache ≡ cache.now }
     ensures { Belongs cache.now seat.new }
 {
-    match fields(alloc, line)?.as_slice() {
-        ["learn"] => {
-            learn(cache, seat, notice);
-            Ok(String::new(alloc))
-        }
-        ["number"] => Ok(format!(in alloc; "{}\n", seat.number())?),
-        ["carry", now] => {
-            let found = carry(alloc, cache, seat, moment(now)?)?;
-            let line = size_line(alloc, &found);
-            *carried = Some(found);
-            line
-        }
-        ["carried", place] => match carried {
-            Some(carried) => carried_line(alloc, carried, place),
-            None => Err(Fault::Form),
-        },
-        _ => book_line(rt, alloc, cache, seat, line),
+    let (word, rest) = split_word(line);
+    match word {
+        "learn" => learn(cache, seat, notice),
+        "number" => push_number(output, seat),
+        "carry" => carry_at(output, cache, seat, rest, carried),
+        "carried" => push_carried(output, carried.as_ref(), rest),
+        _ => book_line(rt, output, cache, seat, line),
     }
 }
 
 /// What the seat of a line gives for it: that of number 0 or 1.
 fn two_seat_line<R: Wait>(
     rt: &R,
-    alloc: Global,
+    output: &mut Output,
     cache: &SharedCache,
     first: &mut Seat,
     second: &mut Seat,
     line: &str,
     carried: &mut Option<Carried>,
-) -> Result<String, Fault>
+)
     requires first { Belongs cache.now first.old }
     requires second { Belongs cache.now second.old }
     ensures first { Belongs cache.now first.new }
     ensures second { Belongs cache.now second.new }
 {
-    match line.split_once(' ') {
-        Some(("0", line)) => { seat_line(rt, alloc, cache, first, &second.notice(), line, carried) }
-        Some(("1", line)) => { seat_line(rt, alloc, cache, second, &first.notice(), line, carried) }
-        _ => Err(Fault::Form),
+    let (number, line) = split_word(line);
+    match number {
+        "0" => seat_line(rt, output, cache, first, &second.notice(), line, carried),
+        "1" => seat_line(rt, output, cache, second, &first.notice(), line, carried),
+        _ => output.fail(Fault::Form),
     }
 }
 
 /// What two seats of a cache give for lines, and what is carried then.
 fn two_talk<R: Wait>(
     rt: &R,
-    alloc: Global,
-    text: &mut String,
+    output: &mut Output,
     cache: &SharedCache,
     first: &mut Seat,
     second: &mut Seat,
     input: &str,
-) -> Result<Option<Carried>, Fault>
+    carried: &mut Option<Carried>,
+)
     requires first { Belongs cache.now first.old }
     requires second { Belongs cache.now second.old }
 {
-    let mut carried = None;
     'lines: for line in input.lines() {
-        text.push_str(&two_seat_line(rt, alloc, cache, first, second, line, &mut carried)?)?;
+        two_seat_line(rt, output, cache, first, second, line, carried);
     }
-    Ok(carried)
 }
 
 /// The same of a new cache, or of the successor by what is carried.
 fn generation<R: Wait>(
     rt: &R,
-    alloc: Global,
-    text: &mut String,
+    output: &mut Output,
     carried: Option<&Carried>,
     input: &str,
-) -> Result<Option<Carried>, Fault> {
-    match two_seats(rt, alloc, carried) {
+) -> Option<Carried> {
+    let mut next = None;
+    match two_seats(rt, output.alloc(), carried) {
         Some((cache, mut first, mut second)) => two_talk(
             rt,
-            alloc,
-            text,
+            output,
             &cache,
             &mut first,
             &mut second,
             input,
+            &mut next,
         ),
-        None => Err(Fault::Memory),
+        None => output.fail(Fault::Memory),
     }
+    next
 }
 
 /// Lines of two seats, 0 and 1, of a cache, and after each line `successor` of the cache that
 /// follows by what was carried last, give what they give.
-fn generations<R: Wait>(rt: &R, alloc: Global, input: &str) -> Result<String, Fault> {
-    let mut text = String::new(alloc);
+fn generations<R: Wait>(rt: &R, output: &mut Output, input: &str) {
     let mut carried = None;
     for lines in input.split("successor\n") {
-        carried = generation(rt, alloc, &mut text, carried.as_ref(), lines)?;
+        carried = generation(rt, output, carried.as_ref(), lines);
     }
-    Ok(text)
 }

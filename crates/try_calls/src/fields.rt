@@ -1,77 +1,11 @@
-//! Fields of a line: texts, octets, numbers and what is asked.
+//! What a field stands for: octets that are joined, names, kinds, questions and moments.
 //!
-//! A space parts two fields. In a field `\x2e` is the octet 46, with two hexadecimal digits, `\\`
-//! is a backslash, and any other character stands for itself; `""` is a field without octets. Where
-//! octets are joined of all fields of all lines, `20*FIELD` is a field twenty times.
-use crate::fault::Fault;
+//! Where octets are joined of all fields of all lines, `20*FIELD` is a field twenty times.
+use dns_answers::Moment;
 use dns_message::{Kind, Question};
 use dns_name::Name;
+use row_fields::{Fault, number64, octets, only_line, split_word, text};
 use std::alloc::Global;
-
-/// The value of a hexadecimal digit.
-fn digit(octet: u8) -> Option<u8> {
-    match octet {
-        b'0'..=b'9' => Some(octet - b'0'),
-        b'a'..=b'f' => Some(octet - b'a' + 10),
-        _ => None,
-    }
-}
-
-/// The octet of two hexadecimal digits.
-fn octet_of(high: u8, low: u8) -> Result<u8, Fault> {
-    match (digit(high), digit(low)) {
-        (Some(high), Some(low)) if high < 16 && low < 16 => Ok(high * 16 + low),
-        _ => Err(Fault::Form),
-    }
-}
-
-/// The first octet that a text in a field stands for, and what is left of the text.
-fn first_octet(text: &[u8]) -> Result<(u8, &[u8]), Fault> {
-    match text {
-        [b'\\', b'\\', rest @ ..] => Ok((b'\\', rest)),
-        [b'\\', b'x', high, low, rest @ ..] => Ok((octet_of(*high, *low)?, rest)),
-        [b'\\', ..] | [] => Err(Fault::Form),
-        [octet, rest @ ..] => Ok((*octet, rest)),
-    }
-}
-
-/// The octets of a field.
-pub(crate) fn octets(alloc: Global, field: &str) -> Result<Vec<u8>, Fault> {
-    let mut octets = Vec::new(alloc);
-    let mut rest = field.as_bytes();
-    if field == "\"\"" {
-        return Ok(octets);
-    }
-    for _ in 0..field.len() {
-        if rest.is_empty() {
-            break;
-        }
-        let (octet, behind) = first_octet(rest)?;
-        octets.push(octet).map_err(|_| Fault::Memory)?;
-        rest = behind;
-    }
-    Ok(octets)
-}
-
-/// The text of a field.
-pub(crate) fn text(alloc: Global, field: &str) -> Result<String, Fault> {
-    String::from_utf8(octets(alloc, field)?).map_err(|_| Fault::Form)
-}
-
-/// The fields of a line.
-pub(crate) fn fields<'a>(alloc: Global, line: &'a str) -> Result<Vec<&'a str>, Fault> {
-    Ok(line.split(' ').collect::<Vec<&str>>(alloc)?)
-}
-
-/// A line without the end of the input behind it.
-pub(crate) fn only_line(input: &str) -> &str {
-    input.strip_suffix("\n").unwrap_or(input)
-}
-
-/// The first line of an input, and the lines behind it.
-pub(crate) fn first_line(input: &str) -> Result<(&str, &str), Fault> {
-    input.split_once('\n').ok_or(Fault::Form)
-}
 
 /// How often a field counts, and the field.
 fn counted(field: &str) -> (u32, &str) {
@@ -84,14 +18,19 @@ fn counted(field: &str) -> (u32, &str) {
     }
 }
 
+/// Adds octets, so many times.
+fn push_times(all: &mut Vec<u8>, octets: &[u8], count: u32) -> Result<(), Fault> {
+    for _ in 0..count {
+        all.extend_from_slice(octets)?;
+    }
+    Ok(())
+}
+
 /// Adds the octets of a field, as often as it counts.
 fn push_field(alloc: Global, all: &mut Vec<u8>, field: &str) -> Result<(), Fault> {
     let (count, field) = counted(field);
     let octets = octets(alloc, field)?;
-    for _ in 0..count {
-        all.extend_from_slice(&octets)?;
-    }
-    Ok(())
+    push_times(all, &octets, count)
 }
 
 /// Adds the octets of the fields of a line.
@@ -111,29 +50,18 @@ pub(crate) fn joined(alloc: Global, lines: &str) -> Result<Vec<u8>, Fault> {
     Ok(all)
 }
 
-/// The number of a field.
-pub(crate) fn number16(field: &str) -> Result<u16, Fault> {
-    field.parse::<u16>().map_err(|_| Fault::Form)
-}
-
-/// The number of a field, of up to 32 bits.
-pub(crate) fn number32(field: &str) -> Result<u32, Fault> {
-    field.parse::<u32>().map_err(|_| Fault::Form)
-}
-
-/// The number of a field, of up to 64 bits.
-pub(crate) fn number64(field: &str) -> Result<u64, Fault> {
-    field.parse::<u64>().map_err(|_| Fault::Form)
-}
-
-/// The number of a field, as an index or a length.
-pub(crate) fn count(field: &str) -> Result<usize, Fault> {
-    field.parse::<usize>().map_err(|_| Fault::Form)
+/// The name of a text.
+fn name_of(alloc: Global, text: &str) -> Result<Name, Fault> {
+    match Name::from_text(alloc, text) {
+        Ok(name) => Ok(name),
+        Err(_) => Err(Fault::Form),
+    }
 }
 
 /// The name of a field.
 pub(crate) fn name(alloc: Global, field: &str) -> Result<Name, Fault> {
-    Name::from_text(alloc, &text(alloc, field)?).map_err(|_| Fault::Form)
+    let text = text(alloc, field)?;
+    name_of(alloc, &text)
 }
 
 /// The kind of a field: `A`, `AAAA`, `SRV` or `NAPTR`.
@@ -147,11 +75,25 @@ pub(crate) fn kind(field: &str) -> Result<Kind, Fault> {
     }
 }
 
-/// The question of a line with a name and a kind.
-pub(crate) fn question(alloc: Global, line: &str) -> Result<Question, Fault> {
-    let (name, kind) = line.split_once(' ').ok_or(Fault::Form)?;
+/// The question of two fields: a name and a kind.
+pub(crate) fn question_of(alloc: Global, name: &str, kind: &str) -> Result<Question, Fault> {
+    let kind = self::kind(kind)?;
     Ok(Question {
         name: self::name(alloc, name)?,
-        kind: self::kind(kind)?,
+        kind,
     })
+}
+
+/// The question of a line with a name and a kind.
+pub(crate) fn question(alloc: Global, line: &str) -> Result<Question, Fault> {
+    let (name, kind) = split_word(line);
+    question_of(alloc, name, kind)
+}
+
+/// The moment of a field, by its number of seconds.
+pub(crate) fn moment(field: &str) -> Result<Moment, Fault> {
+    match Moment::new(number64(field)?) {
+        Some(moment) => Ok(moment),
+        None => Err(Fault::Form),
+    }
 }

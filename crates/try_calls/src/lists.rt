@@ -1,35 +1,28 @@
 //! Calls of `pending_list`, of characters.
-use crate::fault::Fault;
-use crate::fields::fields;
 use pending_list::{PendingId, PendingList};
+use row_fields::{Fault, Output, count, first_line, number64, split_word};
 use std::alloc::Global;
 
 /// What a call gives for a row's lines.
-pub(crate) fn told(alloc: Global, call: &str, input: &str) -> Result<String, Fault> {
+pub(crate) fn told(output: &mut Output, call: &str, input: &str) -> Result<(), Fault> {
     match call {
-        "steps" => steps(alloc, input),
+        "steps" => steps(output, input),
         _ => Err(Fault::Call),
     }
 }
 
 /// A list of a limit and with a first serial.
-fn list(alloc: Global, line: &str) -> Result<PendingList<char>, Fault> {
-    match fields(alloc, line)?.as_slice() {
-        [limit, serial] => {
-            let limit = limit.parse::<usize>().map_err(|_| Fault::Form)?;
-            let serial = serial.parse::<u64>().map_err(|_| Fault::Form)?;
-            if limit < 1 || limit > 256 {
-                return Err(Fault::Form);
-            }
-            Ok(PendingList::new(alloc, limit, serial)?)
-        }
-        _ => Err(Fault::Form),
+fn new_list(alloc: Global, limit: usize, serial: u64) -> Result<PendingList<char>, Fault> {
+    if limit < 1 || limit > 256 {
+        return Err(Fault::Form);
     }
+    Ok(PendingList::new(alloc, limit, serial)?)
 }
 
-/// A deadline or a moment.
-fn number(field: &str) -> Result<u64, Fault> {
-    field.parse::<u64>().map_err(|_| Fault::Form)
+/// The list of a line: its limit, and its first serial.
+fn list(alloc: Global, line: &str) -> Result<PendingList<char>, Fault> {
+    let (limit, serial) = split_word(line);
+    new_list(alloc, count(limit)?, number64(serial)?)
 }
 
 /// An item: the one character of a field.
@@ -39,127 +32,163 @@ fn item(field: &str) -> Result<char, Fault> {
 
 /// The id at a place among all that the list gave.
 fn id_at(ids: &[PendingId], place: &str) -> Result<PendingId, Fault> {
-    let place = place.parse::<usize>().map_err(|_| Fault::Form)?;
+    let place = count(place)?;
     ids.get(place).copied().ok_or(Fault::Form)
 }
 
 /// Writes an item, or `none`.
-fn push_item(text: &mut String, item: Option<char>) -> Result<(), Fault> {
+fn push_item(output: &mut Output, item: Option<char>) {
     match item {
-        Some(item) => text.push(item)?,
-        None => text.push_str("none")?,
+        Some(item) => output.push_char(item),
+        None => output.push("none"),
     }
-    Ok(())
 }
 
-/// Inserts an item, and writes whether it is taken, or why not and what came back.
+/// Keeps an id, and writes that its item is taken.
+fn push_taken(output: &mut Output, ids: &mut Vec<PendingId>, id: PendingId) {
+    if ids.push(id).is_err() {
+        output.fail(Fault::Memory);
+    }
+    output.push("taken");
+}
+
+/// Inserts the item and the deadline of a line, and writes whether it is taken, or why not and what
+/// came back.
 fn insert(
-    text: &mut String,
-    alloc: Global,
-    list: &mut PendingList<char>,
-    ids: &mut Vec<PendingId>,
-    deadline: u64,
-    item: char,
-) -> Result<(), Fault> {
-    match list.insert(deadline, item) {
-        Ok(id) => {
-            ids.push(id).map_err(|_| Fault::Memory)?;
-            text.push_str("taken")?;
-        }
-        Err((item, refusal)) => {
-            text.push_str(&format!(in alloc; "{refusal:?} {item}")?)?;
-        }
-    }
-    Ok(())
-}
-
-/// Sets the item of an id, and writes whether it was there.
-fn set(
-    text: &mut String,
-    list: &mut PendingList<char>,
-    id: PendingId,
-    item: char,
-) -> Result<(), Fault> {
-    match list.get_mut(id) {
-        Some(slot) => {
-            *slot = item;
-            text.push_str("set")?;
-        }
-        None => text.push_str("none")?,
-    }
-    Ok(())
-}
-
-/// Writes whether an entry was moved.
-fn push_moved(text: &mut String, is_moved: bool) -> Result<(), Fault> {
-    text.push_str(if is_moved { "moved" } else { "none" })?;
-    Ok(())
-}
-
-/// Does the step of a line, and writes what it gives.
-fn step(
-    text: &mut String,
-    alloc: Global,
+    output: &mut Output,
     list: &mut PendingList<char>,
     ids: &mut Vec<PendingId>,
     line: &str,
 ) -> Result<(), Fault> {
-    match fields(alloc, line)?.as_slice() {
-        ["insert", one, deadline] => {
-            insert(text, alloc, list, ids, number(deadline)?, item(one)?)
-        }
-        ["remove", place] => push_item(text, list.remove(id_at(ids, place)?)),
-        ["move", place, deadline] => {
-            let is_moved = list.move_to(id_at(ids, place)?, number(deadline)?);
-            push_moved(text, is_moved)
-        }
-        ["due", now] => {
-            let due = list.pop_due(number(now)?);
-            push_item(text, due.map(|due| due.2))
-        }
-        ["get", place] => push_item(text, list.get(id_at(ids, place)?).copied()),
-        ["set", place, one] => set(text, list, id_at(ids, place)?, item(one)?),
-        ["can"] => {
-            text.push_str(&format!(in alloc; "{:?}", list.can_insert())?)?;
-            Ok(())
-        }
-        _ => Err(Fault::Form),
-    }
-}
-
-/// Writes how many entries there are, and the first deadline, or `empty`.
-fn push_size(text: &mut String, alloc: Global, list: &PendingList<char>) -> Result<(), Fault> {
-    if list.is_empty() {
-        text.push_str("; empty")?;
-    } else {
-        text.push_str(&format!(in alloc; "; {}", list.len())?)?;
-    }
-    if let Some((_, deadline)) = list.first() {
-        text.push_str(&format!(in alloc; " from {deadline}")?)?;
+    let alloc = output.alloc();
+    let (one, deadline) = split_word(line);
+    let deadline = number64(deadline)?;
+    let item = item(one)?;
+    match list.insert(deadline, item) {
+        Ok(id) => push_taken(output, ids, id),
+        Err((item, refusal)) => output.push_made(format!(in alloc; "{refusal:?} {item}")),
     }
     Ok(())
 }
 
-/// Writes the entries of a list.
-fn push_list(text: &mut String, alloc: Global, list: &PendingList<char>) -> Result<(), Fault> {
-    push_size(text, alloc, list)?;
-    for (_, deadline, item) in list.walk() {
-        text.push_str(&format!(in alloc; ", {item} {deadline}")?)?;
+/// Sets the item at a place, and writes whether it was there.
+fn set(
+    output: &mut Output,
+    list: &mut PendingList<char>,
+    ids: &[PendingId],
+    line: &str,
+) -> Result<(), Fault> {
+    let (place, one) = split_word(line);
+    let item = item(one)?;
+    match list.get_mut(id_at(ids, place)?) {
+        Some(slot) => {
+            *slot = item;
+            output.push("set");
+        }
+        None => output.push("none"),
     }
-    text.push_str("\n")?;
+    Ok(())
+}
+
+/// Moves the entry at a place to a deadline, and writes whether it was there.
+fn move_to(
+    output: &mut Output,
+    list: &mut PendingList<char>,
+    ids: &[PendingId],
+    line: &str,
+) -> Result<(), Fault> {
+    let (place, deadline) = split_word(line);
+    let id = id_at(ids, place)?;
+    let is_moved = list.move_to(id, number64(deadline)?);
+    output.push(if is_moved { "moved" } else { "none" });
+    Ok(())
+}
+
+/// Takes the entry that is due at a moment out, and writes its item.
+fn pop_due(output: &mut Output, list: &mut PendingList<char>, now: u64) {
+    match list.pop_due(now) {
+        Some((_, _, item)) => output.push_char(item),
+        None => output.push("none"),
+    }
+}
+
+/// Writes whether a list takes another entry.
+fn push_can(output: &mut Output, list: &PendingList<char>) {
+    let alloc = output.alloc();
+    output.push_made(format!(in alloc; "{:?}", list.can_insert()));
+}
+
+/// Does the step of a line, and writes what it gives.
+fn step(
+    output: &mut Output,
+    list: &mut PendingList<char>,
+    ids: &mut Vec<PendingId>,
+    line: &str,
+) -> Result<(), Fault> {
+    let (word, rest) = split_word(line);
+    match word {
+        "insert" => insert(output, list, ids, rest)?,
+        "remove" => push_item(output, list.remove(id_at(ids, rest)?)),
+        "move" => move_to(output, list, ids, rest)?,
+        "due" => pop_due(output, list, number64(rest)?),
+        "get" => push_item(output, list.get(id_at(ids, rest)?).copied()),
+        "set" => set(output, list, ids, rest)?,
+        "can" => push_can(output, list),
+        _ => return Err(Fault::Form),
+    }
+    Ok(())
+}
+
+/// Writes how many entries there are.
+fn push_size(output: &mut Output, list: &PendingList<char>) {
+    if list.is_empty() {
+        output.push("; empty");
+    } else {
+        output.push("; ");
+        output.push_length(list.len());
+    }
+}
+
+/// Writes the first deadline, where there is one.
+fn push_first(output: &mut Output, list: &PendingList<char>) {
+    if let Some((_, deadline)) = list.first() {
+        output.push(" from ");
+        output.push_number(deadline);
+    }
+}
+
+/// Writes an entry.
+fn push_entry(output: &mut Output, item: char, deadline: u64) {
+    output.push(", ");
+    output.push_char(item);
+    output.push(" ");
+    output.push_number(deadline);
+}
+
+/// Writes the entries of a list.
+fn push_list(output: &mut Output, list: &PendingList<char>) {
+    push_size(output, list);
+    push_first(output, list);
+    for (_, deadline, item) in list.walk() {
+        push_entry(output, *item, deadline);
+    }
+    output.push("\n");
+}
+
+/// Does the steps of lines, and writes what each gives, and what is in the list then.
+fn play(output: &mut Output, list: &mut PendingList<char>, lines: &str) -> Result<(), Fault> {
+    let mut ids = Vec::new(output.alloc());
+    for line in lines.lines() {
+        step(output, list, &mut ids, line)?;
+        push_list(output, list);
+    }
     Ok(())
 }
 
 /// A line with the limit and the first serial of a list, and lines with steps, give what each step
 /// gives, and what is in the list then.
-fn steps(alloc: Global, input: &str) -> Result<String, Fault> {
-    let (first, lines) = input.split_once('\n').ok_or(Fault::Form)?;
-    let mut list = list(alloc, first)?;
-    let mut ids = Vec::new(alloc);
-    let mut text = String::new(alloc);
-    for line in lines.lines() {
-        step(&mut text, alloc, &mut list, &mut ids, line)?;
-        push_list(&mut text, alloc, &list)?;
-    }
-    Ok(text)
+fn steps(output: &mut Output, input: &str) -> Result<(), Fault> {
+    let (first, lines) = first_line(input)?;
+    let mut list = list(output.alloc(), first)?;
+    play(output, &mut list, lines)
 }

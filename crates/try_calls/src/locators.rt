@@ -1,25 +1,26 @@
 //! Calls of `sip_locator`.
-use crate::books::{book_line, both, one_seat};
-use crate::fault::Fault;
-use crate::fields::octets;
-use crate::replies::{Reply, moment, read_reply};
+use crate::books::{book_line, one_seat, push_both};
+use crate::fields::moment;
+use crate::replies::{Reply, read_reply};
 use crate::requests::{Sending, push_next, read_sending};
 use answer_cache::{AnswerBook, ListCache};
 use dns_answers::Moment;
+use row_fields::{Fault, Output, count, octets, split_word};
 use sip_locator::{Kept, Locator, LocatorRefusal};
+use sip_selection::GiveRefusal;
 use std::alloc::Global;
 use std::sync::Wait;
 
 /// What a call gives for a row's lines.
-pub(crate) fn told<R: Wait>(
-    rt: &R,
-    alloc: Global,
-    call: &str,
-    input: &str,
-) -> Result<String, Fault> {
+pub(crate) fn told<R: Wait>(rt: &R, output: &mut Output, call: &str, input: &str) {
+    let alloc = output.alloc();
     match call {
-        "next" => both(over_list(rt, alloc, input)?, over_shared(rt, alloc, input)?),
-        _ => Err(Fault::Call),
+        "next" => push_both(
+            output,
+            over_list(rt, alloc, input),
+            over_shared(rt, alloc, input),
+        ),
+        _ => output.fail(Fault::Call),
     }
 }
 
@@ -44,31 +45,37 @@ fn locator<B: AnswerBook>(alloc: Global, line: &str) -> Result<Locator<B>, Fault
     }
 }
 
-/// What is next for a locator, as lines: nothing is looked up.
-fn next_lines<B: AnswerBook>(alloc: Global, locator: &Locator<B>) -> Result<String, Fault> {
-    let mut text = String::new(alloc);
-    push_next(&mut text, alloc, locator.next())?;
-    Ok(text)
-}
-
-/// What the next step of a locator gives, as lines.
-fn step<B: AnswerBook>(
-    alloc: Global,
+/// Does the next step of a locator, and writes what it gives.
+fn push_step<B: AnswerBook>(
+    output: &mut Output,
     locator: &mut Locator<B>,
     book: &B,
     seat: &mut B::Seat,
     now: Moment,
-) -> Result<String, Fault>
+)
     requires { B.belongs book.now seat.old }
     ensures { B.belongs book.now seat.new }
 {
     match locator.step(book, seat, now) {
-        Ok(next) => {
-            let mut text = String::new(alloc);
-            push_next(&mut text, alloc, next)?;
-            Ok(text)
-        }
-        Err(_) => Err(Fault::Memory),
+        Ok(next) => push_next(output, next),
+        Err(_) => output.fail(Fault::Memory),
+    }
+}
+
+/// A locator does its next step at the moment of a field.
+fn step<B: AnswerBook>(
+    output: &mut Output,
+    locator: &mut Locator<B>,
+    book: &B,
+    seat: &mut B::Seat,
+    now: &str,
+)
+    requires { B.belongs book.now seat.old }
+    ensures { B.belongs book.now seat.new }
+{
+    match moment(now) {
+        Ok(now) => push_step(output, locator, book, seat, now),
+        Err(fault) => output.fail(fault),
     }
 }
 
@@ -87,160 +94,194 @@ fn replied<R: Wait, B: AnswerBook>(
     locator.reply(rt, book, seat, now, octets)
 }
 
-/// What comes of a reply, as a line: whether its answer is kept, or why it is not taken.
-fn reply_line(alloc: Global, taken: Result<Kept, LocatorRefusal>) -> Result<String, Fault> {
+/// Writes whether the answer of a reply is kept, or why the reply is not taken.
+fn push_taken(output: &mut Output, taken: Result<Kept, LocatorRefusal>) {
+    let alloc = output.alloc();
     match taken {
-        Ok(Kept::Yes) => Ok(String::from_str(alloc, "kept\n")?),
-        Ok(Kept::No(refusal)) => Ok(format!(in alloc; "not kept: {refusal:?}\n")?),
-        Err(refusal) => Ok(format!(in alloc; "{refusal:?}\n")?),
+        Ok(Kept::Yes) => output.push_line("kept"),
+        Ok(Kept::No(refusal)) => output.push_made(format!(in alloc; "not kept: {refusal:?}\n")),
+        Err(refusal) => output.push_made(format!(in alloc; "{refusal:?}\n")),
     }
 }
 
-/// Hands the question and the answer of a line to a locator, and gives why they are not taken.
-fn give<B: AnswerBook>(
-    alloc: Global,
-    locator: &mut Locator<B>,
-    line: &str,
-) -> Result<String, Fault> {
-    let Reply { question, answer } = read_reply(alloc, line)?;
-    match locator.give(&question, answer) {
-        Ok(()) => Ok(String::from_str(alloc, "taken\n")?),
-        Err(refusal) => Ok(format!(in alloc; "{refusal:?}\n")?),
+/// Writes why an answer is not taken.
+fn push_given(output: &mut Output, given: Result<(), GiveRefusal>) {
+    let alloc = output.alloc();
+    match given {
+        Ok(()) => output.push_line("taken"),
+        Err(refusal) => output.push_made(format!(in alloc; "{refusal:?}\n")),
     }
+}
+
+/// Hands a question and its answer to a locator.
+fn given<B: AnswerBook>(locator: &mut Locator<B>, reply: Reply) -> Result<(), GiveRefusal> {
+    let Reply { question, answer } = reply;
+    locator.give(&question, answer)
+}
+
+/// Hands the question and the answer of a line to a locator, and writes why they are not taken.
+fn give<B: AnswerBook>(output: &mut Output, locator: &mut Locator<B>, line: &str) {
+    match read_reply(output.alloc(), line) {
+        Ok(reply) => push_given(output, given(locator, reply)),
+        Err(fault) => output.fail(fault),
+    }
+}
+
+/// Octets that come in at a moment.
+#[derive(Drop)]
+struct Heard {
+    now: Moment,
+    octets: Vec<u8>,
+}
+
+/// The moment and the octets of a line.
+fn heard_of(alloc: Global, line: &str) -> Result<Heard, Fault> {
+    let (now, field) = split_word(line);
+    let now = moment(now)?;
+    Ok(Heard {
+        now,
+        octets: octets(alloc, field)?,
+    })
 }
 
 /// What a locator gives for the octets that came in at a moment.
 fn reply<R: Wait, B: AnswerBook>(
     rt: &R,
-    alloc: Global,
+    output: &mut Output,
     locator: &mut Locator<B>,
     book: &B,
     seat: &mut B::Seat,
     line: &str,
-) -> Result<String, Fault>
+)
     requires { B.belongs book.now seat.old }
     ensures { B.belongs book.now seat.new }
 {
-    let (now, field) = line.split_once(' ').ok_or(Fault::Form)?;
-    let octets = octets(alloc, field)?;
-    let taken = replied(rt, locator, book, seat, moment(now)?, &octets);
-    reply_line(alloc, taken)
+    match heard_of(output.alloc(), line) {
+        Ok(Heard { now, octets }) => {
+            push_taken(output, replied(rt, locator, book, seat, now, &octets));
+        }
+        Err(fault) => output.fail(fault),
+    }
 }
 
 /// What a locator gives for a line.
 fn locator_line<R: Wait, B: AnswerBook>(
     rt: &R,
-    alloc: Global,
+    output: &mut Output,
     locator: &mut Locator<B>,
     book: &B,
     seat: &mut B::Seat,
     line: &str,
-) -> Result<String, Fault>
+)
     requires { B.belongs book.now seat.old }
     ensures { B.belongs book.now seat.new }
 {
-    match line.split_once(' ') {
-        Some(("step", now)) => step(alloc, locator, book, seat, moment(now)?),
-        Some(("reply", line)) => reply(rt, alloc, locator, book, seat, line),
-        Some(("give", line)) => give(alloc, locator, line),
-        Some(_) => Err(Fault::Form),
-        None => next_lines(alloc, locator),
+    let (word, rest) = split_word(line);
+    match word {
+        "step" => step(output, locator, book, seat, rest),
+        "reply" => reply(rt, output, locator, book, seat, rest),
+        "give" => give(output, locator, rest),
+        "next" => push_next(output, locator.next()),
+        _ => output.fail(Fault::Form),
     }
 }
 
-/// Adds a locator, and gives what is next for it.
-fn add<B: AnswerBook>(
-    alloc: Global,
-    locators: &mut Vec<Locator<B>>,
-    locator: Locator<B>,
-) -> Result<String, Fault> {
-    let text = next_lines(alloc, &locator);
-    match locators.push(locator) {
-        Ok(()) => text,
-        Err(_) => Err(Fault::Memory),
+/// Adds a locator, and writes what is next for it.
+fn add<B: AnswerBook>(output: &mut Output, locators: &mut Vec<Locator<B>>, locator: Locator<B>) {
+    push_next(output, locator.next());
+    if locators.push(locator).is_err() {
+        output.fail(Fault::Memory);
     }
 }
 
-/// Adds the locator of the request of a line, and gives what is next for it.
-fn locate<B: AnswerBook>(
-    alloc: Global,
-    locators: &mut Vec<Locator<B>>,
-    line: &str,
-) -> Result<String, Fault> {
-    match locator(alloc, line) {
-        Ok(locator) => add(alloc, locators, locator),
-        Err(fault) => Err(fault),
+/// Adds the locator of the request of a line, and writes what is next for it.
+fn locate<B: AnswerBook>(output: &mut Output, locators: &mut Vec<Locator<B>>, line: &str) {
+    match locator(output.alloc(), line) {
+        Ok(locator) => add(output, locators, locator),
+        Err(fault) => output.fail(fault),
+    }
+}
+
+/// The locator of a number.
+fn numbered<'a, B: AnswerBook>(
+    locators: &'a mut Vec<Locator<B>>,
+    number: &str,
+) -> Option<&'a mut Locator<B>> {
+    match count(number) {
+        Ok(number) => locators.get_mut(number),
+        Err(_) => None,
     }
 }
 
 /// What the locator of a number gives for a line.
-fn numbered<R: Wait, B: AnswerBook>(
+fn numbered_line<R: Wait, B: AnswerBook>(
     rt: &R,
-    alloc: Global,
+    output: &mut Output,
     locators: &mut Vec<Locator<B>>,
     book: &B,
     seat: &mut B::Seat,
     number: &str,
     line: &str,
-) -> Result<String, Fault>
+)
     requires { B.belongs book.now seat.old }
     ensures { B.belongs book.now seat.new }
 {
-    let number = number.parse::<usize>().map_err(|_| Fault::Form)?;
-    match locators.get_mut(number) {
-        Some(locator) => locator_line(rt, alloc, locator, book, seat, line),
-        None => Err(Fault::Form),
+    match numbered(locators, number) {
+        Some(locator) => locator_line(rt, output, locator, book, seat, line),
+        None => output.fail(Fault::Form),
     }
 }
 
 /// What the locators over a book give for a line, or the book itself.
 fn said<R: Wait, B: AnswerBook>(
     rt: &R,
-    alloc: Global,
+    output: &mut Output,
     locators: &mut Vec<Locator<B>>,
     book: &B,
     seat: &mut B::Seat,
     line: &str,
-) -> Result<String, Fault>
+)
     requires { B.belongs book.now seat.old }
     ensures { B.belongs book.now seat.new }
 {
-    match line.split_once(' ') {
-        Some(("locate", line)) => locate(alloc, locators, line),
-        Some(("book", line)) => book_line(rt, alloc, book, seat, line),
-        Some((number, line)) => numbered(rt, alloc, locators, book, seat, number, line),
-        None => Err(Fault::Form),
+    let (word, rest) = split_word(line);
+    match word {
+        "locate" => locate(output, locators, rest),
+        "book" => book_line(rt, output, book, seat, rest),
+        _ => numbered_line(rt, output, locators, book, seat, word, rest),
     }
 }
 
 /// What a book and the locators over it give for lines.
 fn talk<R: Wait, B: AnswerBook>(
     rt: &R,
-    alloc: Global,
+    output: &mut Output,
     book: &B,
     seat: &mut B::Seat,
     input: &str,
-) -> Result<String, Fault>
+)
     requires { B.belongs book.now seat.old }
 {
-    let mut text = String::new(alloc);
-    let mut locators = Vec::new(alloc);
+    let mut locators = Vec::new(output.alloc());
     'lines: for line in input.lines() {
-        text.push_str(&said(rt, alloc, &mut locators, book, seat, line)?)?;
+        said(rt, output, &mut locators, book, seat, line);
     }
-    Ok(text)
 }
 
 /// The same of a new book of one thread.
 fn over_list<R: Wait>(rt: &R, alloc: Global, input: &str) -> Result<String, Fault> {
+    let mut output = Output::new(alloc);
     let (book, mut seat) = ListCache::new(alloc);
-    talk(rt, alloc, &book, &mut seat, input)
+    talk(rt, &mut output, &book, &mut seat, input);
+    output.finish()
 }
 
 /// The same of a new book that threads can share.
 fn over_shared<R: Wait>(rt: &R, alloc: Global, input: &str) -> Result<String, Fault> {
+    let mut output = Output::new(alloc);
     match one_seat(alloc) {
-        Some((book, mut seat)) => talk(rt, alloc, &book, &mut seat, input),
-        None => Err(Fault::Memory),
+        Some((book, mut seat)) => talk(rt, &mut output, &book, &mut seat, input),
+        None => output.fail(Fault::Memory),
     }
+    output.finish()
 }

@@ -1,194 +1,251 @@
 //! Calls of `dns_message`.
-use crate::fault::Fault;
-use crate::fields::{fields, joined, kind, number16, octets, only_line, question};
-use crate::shown::{octets_line, push_asked, push_rdata, push_record};
+use crate::fields::{joined, kind, question};
+use crate::shown::{push_asked, push_rdata, push_record};
 use dns_message::{
-    Asked, CharString, Header, Message, MessageRefusal, OtherData, Record, message_in,
-    read_message, write_query, write_reply,
+    Asked, CharString, Header, Message, MessageRefusal, OtherData, Question, Record, message_in,
+    read_message, write_message, write_query, write_reply,
 };
+use row_fields::{Fault, Output, number16, octets, only_line, split_word};
 use std::alloc::Global;
 
 /// What a call gives for a row's lines.
-pub(crate) fn told(alloc: Global, call: &str, input: &str) -> Result<String, Fault> {
+pub(crate) fn told(output: &mut Output, call: &str, input: &str) -> Result<(), Fault> {
     match call {
-        "read_message" => read(alloc, input),
-        "count_answers" => count_answers(alloc, input),
-        "message_in" => read_in(alloc, input),
-        "read_data" => data(alloc, input),
-        "cut_message" => cut(alloc, input),
-        "write_query" => query(alloc, only_line(input)),
-        "write_reply" => reply(alloc, input),
-        "type_number" => type_number(alloc, only_line(input)),
-        "new_other_data" => other_data(alloc, only_line(input)),
-        "new_char_string" => char_string(alloc, input),
+        "read_message" => read(output, input),
+        "count_answers" => count_answers(output, input),
+        "message_in" => read_in(output, input),
+        "read_data" => data(output, input),
+        "cut_message" => cut(output, input),
+        "write_query" => query(output, only_line(input)),
+        "write_reply" => reply(output, input),
+        "write_message" => whole(output, input),
+        "type_number" => type_number(output, only_line(input)),
+        "new_other_data" => other_data(output, only_line(input)),
+        "new_char_string" => char_string(output, input),
         _ => Err(Fault::Call),
     }
 }
 
-/// A refusal as a line.
-fn refused(alloc: Global, refusal: MessageRefusal) -> Result<String, Fault> {
-    Ok(format!(in alloc; "{refusal:?}\n")?)
+/// Writes a refusal as a line.
+fn push_refusal(output: &mut Output, refusal: MessageRefusal) {
+    let alloc = output.alloc();
+    output.push_made(format!(in alloc; "{refusal:?}\n"));
 }
 
 /// Writes the word of a flag that is set.
-fn push_flag(text: &mut String, flag: bool, word: &str) -> Result<(), Fault> {
+fn push_flag(output: &mut Output, flag: bool, word: &str) {
     if flag {
-        text.push_str(word)?;
+        output.push(word);
     }
-    Ok(())
+}
+
+/// Writes a word and a number.
+fn push_word(output: &mut Output, word: &str, number: u16) {
+    output.push(word);
+    output.push_number(u64::from(number));
 }
 
 /// Writes a header: its number, the flags that are set, OPCODE and RCODE.
-fn push_header(text: &mut String, header: &Header) -> Result<(), Fault> {
-    let (id, opcode, rcode) = (header.id, header.opcode, header.rcode);
-    write!(text, "id {id}")?;
-    push_flag(text, header.reply, " qr")?;
-    push_flag(text, header.authoritative, " aa")?;
-    push_flag(text, header.truncated, " tc")?;
-    push_flag(text, header.recursion_desired, " rd")?;
-    push_flag(text, header.recursion_available, " ra")?;
-    write!(text, " opcode {opcode} rcode {rcode}\n")?;
-    Ok(())
+fn push_header(output: &mut Output, header: &Header) {
+    push_word(output, "id ", header.id);
+    push_flag(output, header.reply, " qr");
+    push_flag(output, header.authoritative, " aa");
+    push_flag(output, header.truncated, " tc");
+    push_flag(output, header.recursion_desired, " rd");
+    push_flag(output, header.recursion_available, " ra");
+    push_word(output, " opcode ", u16::from(header.opcode));
+    push_word(output, " rcode ", u16::from(header.rcode));
+    output.push("\n");
 }
 
 /// Writes questions, a line each.
-fn push_questions(text: &mut String, questions: &[Asked]) -> Result<(), Fault> {
+fn push_questions(output: &mut Output, questions: &[Asked]) {
     for asked in questions {
-        text.push_str("question ")?;
-        push_asked(text, asked)?;
-        text.push_str("\n")?;
+        output.push("question ");
+        push_asked(output, asked);
+        output.push("\n");
     }
-    Ok(())
 }
 
 /// Writes the records of a section, a line each, behind a word.
-fn push_section(text: &mut String, word: &str, records: &[Record]) -> Result<(), Fault> {
+fn push_section(output: &mut Output, word: &str, records: &[Record]) {
     for entry in records {
-        text.push_str(word)?;
-        push_record(text, entry)?;
-        text.push_str("\n")?;
+        output.push(word);
+        push_record(output, entry);
+        output.push("\n");
+    }
+}
+
+/// Writes a message as lines.
+pub(crate) fn push_message(output: &mut Output, message: &Message) {
+    push_header(output, &message.header);
+    push_questions(output, message.questions.as_slice());
+    push_section(output, "answer ", message.answers.as_slice());
+    push_section(output, "authority ", message.authority.as_slice());
+    push_section(output, "additional ", message.additional.as_slice());
+}
+
+/// Octets give the message in front of them, or the refusal.
+fn read(output: &mut Output, input: &str) -> Result<(), Fault> {
+    let octets = joined(output.alloc(), input)?;
+    match read_message(output.alloc(), &octets) {
+        Ok(message) => push_message(output, &message),
+        Err(refusal) => push_refusal(output, refusal),
     }
     Ok(())
 }
 
-/// A message as lines.
-fn message_lines(alloc: Global, message: &Message) -> Result<String, Fault> {
-    let mut text = String::new(alloc);
-    push_header(&mut text, &message.header)?;
-    push_questions(&mut text, message.questions.as_slice())?;
-    push_section(&mut text, "answer ", message.answers.as_slice())?;
-    push_section(&mut text, "authority ", message.authority.as_slice())?;
-    push_section(&mut text, "additional ", message.additional.as_slice())?;
-    Ok(text)
-}
-
-/// Octets give the message in front of them, or the refusal.
-fn read(alloc: Global, input: &str) -> Result<String, Fault> {
-    match read_message(alloc, &joined(alloc, input)?) {
-        Ok(message) => message_lines(alloc, &message),
-        Err(refusal) => refused(alloc, refusal),
-    }
-}
-
 /// Octets give how many answers the message in front of them has, or the refusal.
-fn count_answers(alloc: Global, input: &str) -> Result<String, Fault> {
-    match read_message(alloc, &joined(alloc, input)?) {
-        Ok(message) => {
-            let count = message.answers.len();
-            Ok(format!(in alloc; "{count}\n")?)
-        }
-        Err(refusal) => refused(alloc, refusal),
+fn count_answers(output: &mut Output, input: &str) -> Result<(), Fault> {
+    let octets = joined(output.alloc(), input)?;
+    match read_message(output.alloc(), &octets) {
+        Ok(message) => push_count(output, message.answers.len()),
+        Err(refusal) => push_refusal(output, refusal),
     }
+    Ok(())
 }
 
-/// The message in front of octets.
-fn message_of(alloc: Global, octets: &[u8]) -> Result<Option<Message>, Fault> {
-    message_in(alloc, octets).map_err(|_| Fault::Memory)
+/// Writes a length as a line.
+fn push_count(output: &mut Output, length: usize) {
+    output.push_length(length);
+    output.push("\n");
 }
 
 /// Octets give the message in front of them, or `none`.
-fn read_in(alloc: Global, input: &str) -> Result<String, Fault> {
-    let octets = joined(alloc, input)?;
-    match message_of(alloc, &octets)? {
-        Some(message) => message_lines(alloc, &message),
-        None => Ok(String::from_str(alloc, "none\n")?),
+fn read_in(output: &mut Output, input: &str) -> Result<(), Fault> {
+    let octets = joined(output.alloc(), input)?;
+    match message_in(output.alloc(), &octets) {
+        Ok(Some(message)) => push_message(output, &message),
+        Ok(None) => output.push_line("none"),
+        Err(_) => output.fail(Fault::Memory),
     }
+    Ok(())
 }
 
-/// A reply whose one record is the root's, with this data.
-fn reply_with(alloc: Global, form: (u16, u16), data: &[u8]) -> Result<Vec<u8>, Fault> {
+/// The type, the class and the data of a record.
+#[derive(Clone, Copy)]
+struct RecordData<'a> {
+    type_number: u16,
+    class_number: u16,
+    octets: &'a str,
+}
+
+/// The data of a line.
+fn data_of(line: &str) -> Result<RecordData<'_>, Fault> {
+    let (type_number, rest) = split_word(line);
+    let (class_number, octets) = split_word(rest);
+    Ok(RecordData {
+        type_number: number16(type_number)?,
+        class_number: number16(class_number)?,
+        octets,
+    })
+}
+
+/// Adds a number of two octets.
+fn push_two(all: &mut Vec<u8>, number: u16) -> Result<(), Fault> {
+    Ok(all.extend_from_slice(&number.to_be_bytes())?)
+}
+
+/// Writes a reply whose one record is the root's, with this data.
+fn write_reply_with(
+    all: &mut Vec<u8>,
+    type_number: u16,
+    class_number: u16,
+    data: &[u8],
+) -> Result<(), Fault> {
     let size = u16::try_from(data.len()).map_err(|_| Fault::Form)?;
-    let mut all = Vec::from_slice(alloc, b"\0\x01\x80\0\0\0\0\x01\0\0\0\0\0")?;
-    all.extend_from_slice(&form.0.to_be_bytes())?;
-    all.extend_from_slice(&form.1.to_be_bytes())?;
+    all.extend_from_slice(b"\0\x01\x80\0\0\0\0\x01\0\0\0\0\0")?;
+    push_two(all, type_number)?;
+    push_two(all, class_number)?;
     all.extend_from_slice(b"\0\0\0\x3c")?;
-    all.extend_from_slice(&size.to_be_bytes())?;
-    all.extend_from_slice(data)?;
+    push_two(all, size)?;
+    Ok(all.extend_from_slice(data)?)
+}
+
+/// A reply whose one record is the root's, with the data of a line.
+fn reply_of(alloc: Global, line: &str) -> Result<Vec<u8>, Fault> {
+    let data = data_of(line)?;
+    let mut all = Vec::new(alloc);
+    let octets = octets(alloc, data.octets)?;
+    write_reply_with(&mut all, data.type_number, data.class_number, &octets)?;
     Ok(all)
 }
 
-/// The data of the first answer as a line.
-fn first_data(alloc: Global, message: &Message) -> Result<String, Fault> {
-    let mut line = String::new(alloc);
-    let entry = message.answers.as_slice().first().ok_or(Fault::Form)?;
-    push_rdata(&mut line, &entry.rdata)?;
-    line.push_str("\n")?;
-    Ok(line)
+/// Writes the data of the first of these records as a line.
+fn push_first(output: &mut Output, records: &[Record]) {
+    match records.first() {
+        Some(entry) => push_rdata(output, &entry.rdata),
+        None => output.fail(Fault::Form),
+    }
+    output.push("\n");
 }
 
-/// What data of a type and class says, as that of the one answer of a reply, or the refusal.
-fn data_line(alloc: Global, line: &str) -> Result<String, Fault> {
-    let fields = fields(alloc, line)?;
-    let [type_number, class_number, data] = fields.as_slice() else {
-        return Err(Fault::Form);
-    };
-    let form = (number16(type_number)?, number16(class_number)?);
-    let reply = reply_with(alloc, form, &octets(alloc, data)?)?;
-    match read_message(alloc, &reply) {
-        Ok(message) => first_data(alloc, &message),
-        Err(refusal) => refused(alloc, refusal),
+/// Writes what the data of a reply's one record says, or the refusal.
+fn push_data(output: &mut Output, reply: &[u8]) {
+    match read_message(output.alloc(), reply) {
+        Ok(message) => push_first(output, message.answers.as_slice()),
+        Err(refusal) => push_refusal(output, refusal),
     }
 }
 
-/// Each line with a type, a class and data gives what the data says.
-fn data(alloc: Global, input: &str) -> Result<String, Fault> {
-    let mut text = String::new(alloc);
-    for line in only_line(input).split('\n') {
-        text.push_str(&data_line(alloc, line)?)?;
+/// Each line with a type, a class and data gives what the data says as that of the one answer of a
+/// reply, or the refusal.
+fn data(output: &mut Output, input: &str) -> Result<(), Fault> {
+    for line in input.lines() {
+        let reply = reply_of(output.alloc(), line)?;
+        push_data(output, &reply);
     }
-    Ok(text)
+    Ok(())
 }
 
-/// What is said of octets that are cut there.
-fn beginning(alloc: Global, octets: &[u8], end: usize) -> Result<String, Fault> {
-    let octets = octets.get(..end).ok_or(Fault::Form)?;
-    match read_message(alloc, octets) {
-        Ok(_) => Ok(String::from_str(alloc, "read\n")?),
-        Err(refusal) => refused(alloc, refusal),
+/// What is said of octets that are cut there: `None` where they are read.
+fn beginning(alloc: Global, octets: &[u8], end: usize) -> Option<MessageRefusal> {
+    match read_message(alloc, octets.get(..end)?) {
+        Ok(_) => None,
+        Err(refusal) => Some(refusal),
+    }
+}
+
+/// Writes what is said of a beginning, behind its length.
+fn push_beginning(output: &mut Output, end: usize, found: Option<MessageRefusal>) {
+    output.push_length(end);
+    output.push(" ");
+    match found {
+        Some(refusal) => push_refusal(output, refusal),
+        None => output.push_line("read"),
     }
 }
 
 /// Octets give what is said of each of their beginnings, in lines with the length from which it is
 /// said.
-fn cut(alloc: Global, input: &str) -> Result<String, Fault> {
-    let octets = joined(alloc, input)?;
-    let mut text = String::new(alloc);
-    let mut said = String::new(alloc);
+fn cut(output: &mut Output, input: &str) -> Result<(), Fault> {
+    let octets = joined(output.alloc(), input)?;
+    let mut said = None;
     for end in 0..=octets.len() {
-        let found = beginning(alloc, &octets, end)?;
-        if found != said {
-            write!(text, "{end} {found}")?;
+        let found = beginning(output.alloc(), &octets, end);
+        if end == 0 || found != said {
+            push_beginning(output, end, found);
             said = found;
         }
     }
-    Ok(text)
+    Ok(())
+}
+
+/// Writes the octets of a query.
+fn push_query(output: &mut Output, id: u16, question: &Question) {
+    match write_query(output.alloc(), id, question) {
+        Ok(octets) => output.push_octets_line(&octets),
+        Err(_) => output.fail(Fault::Memory),
+    }
 }
 
 /// Fields with a number, a name and a kind give the octets of the query.
-fn query(alloc: Global, line: &str) -> Result<String, Fault> {
-    let (id, rest) = line.split_once(' ').ok_or(Fault::Form)?;
-    let octets = write_query(alloc, number16(id)?, &question(alloc, rest)?)?;
-    octets_line(alloc, &octets)
+fn query(output: &mut Output, line: &str) -> Result<(), Fault> {
+    let (id, rest) = split_word(line);
+    let id = number16(id)?;
+    let question = question(output.alloc(), rest)?;
+    push_query(output, id, &question);
+    Ok(())
 }
 
 /// The octets of a reply.
@@ -201,43 +258,85 @@ fn reply_octets(alloc: Global, message: &Message) -> Result<Vec<u8>, Fault> {
     }
 }
 
-/// The octets of a message give those that are written of it.
-fn reply(alloc: Global, input: &str) -> Result<String, Fault> {
-    match read_message(alloc, &joined(alloc, input)?) {
-        Ok(message) => octets_line(alloc, &reply_octets(alloc, &message)?),
-        Err(_) => Err(Fault::Form),
+/// Writes the octets of a reply.
+fn push_reply(output: &mut Output, message: &Message) {
+    match reply_octets(output.alloc(), message) {
+        Ok(octets) => output.push_octets_line(&octets),
+        Err(fault) => output.fail(fault),
     }
 }
 
+/// The octets of a message give those that are written of it.
+fn reply(output: &mut Output, input: &str) -> Result<(), Fault> {
+    let octets = joined(output.alloc(), input)?;
+    match read_message(output.alloc(), &octets) {
+        Ok(message) => push_reply(output, &message),
+        Err(_) => output.fail(Fault::Form),
+    }
+    Ok(())
+}
+
+/// Writes the octets of a message of any length, or why there are none.
+fn push_whole(output: &mut Output, message: &Message) {
+    let alloc = output.alloc();
+    if message.header.opcode > 15 || message.header.rcode > 15 {
+        output.fail(Fault::Form);
+        return;
+    }
+    match write_message(alloc, message) {
+        Ok(octets) => output.push_octets_line(&octets),
+        Err(refusal) => output.push_made(format!(in alloc; "{refusal:?}\n")),
+    }
+}
+
+/// The octets of a message give those that are written of it, however many they are.
+fn whole(output: &mut Output, input: &str) -> Result<(), Fault> {
+    let octets = joined(output.alloc(), input)?;
+    match read_message(output.alloc(), &octets) {
+        Ok(message) => push_whole(output, &message),
+        Err(_) => output.fail(Fault::Form),
+    }
+    Ok(())
+}
+
 /// A field with a kind gives the number of its type.
-fn type_number(alloc: Global, line: &str) -> Result<String, Fault> {
-    let number = kind(line)?.type_number();
-    Ok(format!(in alloc; "{number}\n")?)
+fn type_number(output: &mut Output, line: &str) -> Result<(), Fault> {
+    let kind = kind(line)?;
+    push_word(output, "", kind.type_number());
+    output.push("\n");
+    Ok(())
+}
+
+/// Writes a type, a class and the length of data, or `none`.
+fn push_other(output: &mut Output, other: Option<OtherData>) {
+    match other {
+        Some(other) => {
+            push_word(output, "", other.type_number());
+            push_word(output, " ", other.class_number());
+            output.push(" ");
+            push_count(output, other.octets().len());
+        }
+        None => output.push_line("none"),
+    }
 }
 
 /// Fields with a type, a class and data give the type, the class and the length of the data, or
 /// `none`.
-fn other_data(alloc: Global, line: &str) -> Result<String, Fault> {
-    let (type_number, rest) = line.split_once(' ').ok_or(Fault::Form)?;
-    let (class_number, data) = rest.split_once(' ').ok_or(Fault::Form)?;
-    let octets = joined(alloc, data)?;
-    match OtherData::new(number16(type_number)?, number16(class_number)?, octets) {
-        Some(other) => {
-            let (type_number, class_number) = (other.type_number(), other.class_number());
-            let size = other.octets().len();
-            Ok(format!(in alloc; "{type_number} {class_number} {size}\n")?)
-        }
-        None => Ok(String::from_str(alloc, "none\n")?),
-    }
+fn other_data(output: &mut Output, line: &str) -> Result<(), Fault> {
+    let data = data_of(line)?;
+    let octets = joined(output.alloc(), data.octets)?;
+    push_other(
+        output,
+        OtherData::new(data.type_number, data.class_number, octets),
+    );
+    Ok(())
 }
 
 /// Octets give the length of their string, or `none`.
-fn char_string(alloc: Global, input: &str) -> Result<String, Fault> {
-    match CharString::new(joined(alloc, input)?) {
-        Some(string) => {
-            let size = string.octets().len();
-            Ok(format!(in alloc; "{size}\n")?)
-        }
-        None => Ok(String::from_str(alloc, "none\n")?),
+fn char_string(output: &mut Output, input: &str) -> Result<(), Fault> {
+    match CharString::new(joined(output.alloc(), input)?) {
+        Some(string) => push_count(output, string.octets().len()),
+        None => output.push_line("none"),
     }
+    Ok(())
 }

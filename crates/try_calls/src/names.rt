@@ -1,38 +1,58 @@
 //! Calls of `dns_name`.
-use crate::fault::Fault;
-use crate::fields::{count, fields, joined, name, octets, only_line, text};
-use crate::shown::{octets_line, push_name};
-use dns_name::{Name, NameRefusal, read_name, write_name};
-use std::alloc::Global;
+use crate::fields::{joined, name};
+use crate::shown::push_name;
+use dns_name::{Name, NameReadRefusal, NameRefusal, read_name, write_name};
+use row_fields::{Fault, Output, count, first_line, octets, only_line, split_word, text};
+use std::alloc::AllocError;
 
 /// What a call gives for a row's lines.
-pub(crate) fn told(alloc: Global, call: &str, input: &str) -> Result<String, Fault> {
+pub(crate) fn told(output: &mut Output, call: &str, input: &str) -> Result<(), Fault> {
     let line = only_line(input);
     match call {
-        "from_text" => from_text(alloc, line),
-        "prefixed" => prefixed(alloc, line),
-        "read_name" => at_offset(alloc, input),
-        "write_name" => written(alloc, line),
-        "parent" => parents(alloc, line),
-        "eq" => equal(alloc, line),
+        "from_text" => from_text(output, line),
+        "prefixed" => prefixed(output, line),
+        "read_name" => at_offset(output, input),
+        "write_name" => written(output, line),
+        "parent" => parents(output, line),
+        "eq" => equal(output, line),
         _ => Err(Fault::Call),
     }
 }
 
-/// A field with a text gives the octets of its name, or the refusal.
-fn from_text(alloc: Global, line: &str) -> Result<String, Fault> {
-    match Name::from_text(alloc, &text(alloc, line)?) {
-        Ok(name) => octets_line(alloc, name.wire()),
-        Err(refusal) => Ok(format!(in alloc; "{refusal:?}\n")?),
+/// Writes a refusal as a line.
+fn push_refusal(output: &mut Output, refusal: NameRefusal) {
+    let alloc = output.alloc();
+    output.push_made(format!(in alloc; "{refusal:?}\n"));
+}
+
+/// Writes the octets of a name, or the refusal.
+fn push_read(output: &mut Output, read: Result<Name, NameRefusal>) {
+    match read {
+        Ok(name) => output.push_octets_line(name.wire()),
+        Err(refusal) => push_refusal(output, refusal),
     }
 }
 
-/// The line of a name.
-fn name_line(alloc: Global, name: &Name) -> Result<String, Fault> {
-    let mut line = String::new(alloc);
-    push_name(&mut line, name)?;
-    line.push_str("\n")?;
-    Ok(line)
+/// A field with a text gives the octets of its name, or the refusal.
+fn from_text(output: &mut Output, line: &str) -> Result<(), Fault> {
+    let alloc = output.alloc();
+    let text = text(alloc, line)?;
+    push_read(output, Name::from_text(alloc, &text));
+    Ok(())
+}
+
+/// Writes the line of a name.
+fn push_name_line(output: &mut Output, name: &Name) {
+    push_name(output, name);
+    output.push("\n");
+}
+
+/// Writes the name with two labels in front, or the refusal.
+fn push_prefixed(output: &mut Output, prefixed: Result<Name, NameRefusal>) {
+    match prefixed {
+        Ok(name) => push_name_line(output, &name),
+        Err(refusal) => push_refusal(output, refusal),
+    }
 }
 
 /// The name with two labels in front.
@@ -40,72 +60,90 @@ fn in_front(name: &Name, service: &str, proto: &str) -> Result<Name, NameRefusal
     name.prefixed(service, proto)
 }
 
-/// The line of a name with two labels in front, or of the refusal.
-fn prefixed_line(alloc: Global, name: &Name, two: (&str, &str)) -> Result<String, Fault> {
-    match in_front(name, two.0, two.1) {
-        Ok(prefixed) => name_line(alloc, &prefixed),
-        Err(refusal) => Ok(format!(in alloc; "{refusal:?}\n")?),
-    }
+/// Writes the name with the labels of two fields in front, or the refusal.
+fn prefixed_by(output: &mut Output, name: &Name, service: &str, proto: &str) -> Result<(), Fault> {
+    let service = text(output.alloc(), service)?;
+    let proto = text(output.alloc(), proto)?;
+    push_prefixed(output, in_front(name, &service, &proto));
+    Ok(())
 }
 
 /// Fields with a name and two labels give the name with these in front, or the refusal.
-fn prefixed(alloc: Global, line: &str) -> Result<String, Fault> {
-    match fields(alloc, line)?.as_slice() {
-        [domain, service, proto] => {
-            let domain = name(alloc, domain)?;
-            let service = text(alloc, service)?;
-            let proto = text(alloc, proto)?;
-            prefixed_line(alloc, &domain, (&service, &proto))
-        }
-        _ => Err(Fault::Form),
-    }
+fn prefixed(output: &mut Output, line: &str) -> Result<(), Fault> {
+    let alloc = output.alloc();
+    let (domain, rest) = split_word(line);
+    let (service, proto) = split_word(rest);
+    let domain = name(alloc, domain)?;
+    prefixed_by(output, &domain, service, proto)
 }
 
 /// A line with an offset and lines with the octets of a message give the name there and the offset
 /// behind it, or the refusal.
-fn at_offset(alloc: Global, input: &str) -> Result<String, Fault> {
-    let (offset, message) = input.split_once('\n').ok_or(Fault::Form)?;
-    name_at(alloc, &joined(alloc, message)?, count(offset)?)
+fn at_offset(output: &mut Output, input: &str) -> Result<(), Fault> {
+    let (offset, lines) = first_line(input)?;
+    let offset = count(offset)?;
+    let message = joined(output.alloc(), lines)?;
+    push_name_at(output, &message, offset);
+    Ok(())
 }
 
-/// The line of the name at an offset of a message.
-fn name_at(alloc: Global, message: &[u8], offset: usize) -> Result<String, Fault> {
-    match read_name(alloc, message, offset) {
+/// Writes the line of the name at an offset of a message, or the refusal.
+fn push_name_at(output: &mut Output, message: &[u8], offset: usize) {
+    match read_name(output.alloc(), message, offset) {
         Ok((name, behind)) => {
-            let mut line = String::new(alloc);
-            push_name(&mut line, &name)?;
-            write!(line, " {behind}\n")?;
-            Ok(line)
+            push_name(output, &name);
+            output.push(" ");
+            output.push_length(behind);
+            output.push("\n");
         }
-        Err(refusal) => Ok(format!(in alloc; "{refusal:?}\n")?),
+        Err(refusal) => push_read_refusal(output, refusal),
     }
 }
 
-/// Octets with a copy of a name behind them.
-fn with_copy(mut out: Vec<u8>, name: &Name) -> Result<Vec<u8>, Fault> {
+/// Writes why there is no name, as a line.
+fn push_read_refusal(output: &mut Output, refusal: NameReadRefusal) {
+    let alloc = output.alloc();
+    output.push_made(format!(in alloc; "{refusal:?}\n"));
+}
+
+/// Writes a name behind octets.
+fn write_behind(name: &Name, out: &mut Vec<u8>) -> Result<(), AllocError> {
+    write_name(name, out)
+}
+
+/// Writes a copy of a name behind octets.
+fn write_copy(name: &Name, out: &mut Vec<u8>) -> Result<(), Fault> {
     let copy = name.try_clone()?;
-    write_name(&copy, &mut out)?;
-    Ok(out)
+    Ok(write_behind(&copy, out)?)
 }
 
 /// Fields with octets and a name give the octets with a copy of the name behind them.
-fn written(alloc: Global, line: &str) -> Result<String, Fault> {
-    let (front, behind) = line.split_once(' ').ok_or(Fault::Form)?;
-    let out = with_copy(octets(alloc, front)?, &name(alloc, behind)?)?;
-    octets_line(alloc, &out)
+fn written(output: &mut Output, line: &str) -> Result<(), Fault> {
+    let alloc = output.alloc();
+    let (front, behind) = split_word(line);
+    let name = name(alloc, behind)?;
+    let mut out = octets(alloc, front)?;
+    let written = write_copy(&name, &mut out);
+    output.push_octets_line(&out);
+    written
 }
 
 /// A field with a name gives its parent, or `none` for the root.
-fn parents(alloc: Global, line: &str) -> Result<String, Fault> {
-    match name(alloc, line)?.parent()? {
-        Some(parent) => name_line(alloc, &parent),
-        None => Ok(String::from_str(alloc, "none\n")?),
+fn parents(output: &mut Output, line: &str) -> Result<(), Fault> {
+    let name = name(output.alloc(), line)?;
+    match name.parent()? {
+        Some(parent) => push_name_line(output, &parent),
+        None => output.push_line("none"),
     }
+    Ok(())
 }
 
 /// Fields with two names give whether they are equal.
-fn equal(alloc: Global, line: &str) -> Result<String, Fault> {
-    let (first, second) = line.split_once(' ').ok_or(Fault::Form)?;
-    let equal = name(alloc, first)? == name(alloc, second)?;
-    Ok(format!(in alloc; "{equal}\n")?)
+fn equal(output: &mut Output, line: &str) -> Result<(), Fault> {
+    let alloc = output.alloc();
+    let (first, second) = split_word(line);
+    let first = name(alloc, first)?;
+    let second = name(alloc, second)?;
+    output.push_line(if first == second { "true" } else { "false" });
+    Ok(())
 }

@@ -1,61 +1,44 @@
 //! Calls of `srv_choice`.
-use crate::fault::Fault;
-use crate::fields::{count, fields, first_line, name, number16, number64, only_line};
+use crate::fields::name;
+use crate::requests::words_from;
 use dns_message::SrvRecord;
+use row_fields::{Fault, Output, count, first_line, number16, only_line, split_word};
 use srv_choice::{Indexes, RECORD_LIMIT, SrvOutcome, WORD_COUNT, Words, order};
 use std::alloc::Global;
 
 /// What a call gives for a row's lines.
-pub(crate) fn told(alloc: Global, call: &str, input: &str) -> Result<String, Fault> {
+pub(crate) fn told(output: &mut Output, call: &str, input: &str) -> Result<(), Fault> {
     match call {
-        "order" => ordered(alloc, input),
+        "order" => ordered(output, input),
         _ => Err(Fault::Call),
-    }
-}
-
-/// Puts words from an index on.
-fn put_words(all: &mut [u64; WORD_COUNT], from: usize, words: &[&str]) -> Result<(), Fault> {
-    for (at, word) in words.iter().enumerate() {
-        let slot = all.get_mut(from.saturating_add(at)).ok_or(Fault::Form)?;
-        *slot = number64(word)?;
-    }
-    Ok(())
-}
-
-/// The index and the words of a line, from that index on; other words are 0.
-fn words_of(alloc: Global, line: &str) -> Result<(usize, Words), Fault> {
-    match fields(alloc, line)?.as_slice() {
-        [from, words @ ..] => {
-            let from = count(from)?;
-            let mut all = [0; WORD_COUNT];
-            put_words(&mut all, from, words)?;
-            Ok((from, Words(all)))
-        }
-        [] => Err(Fault::Form),
     }
 }
 
 /// The record of a line: priority, weight, port and target.
 fn server_of(alloc: Global, line: &str) -> Result<SrvRecord, Fault> {
-    match fields(alloc, line)?.as_slice() {
-        [priority, weight, port, target] => Ok(SrvRecord {
-            priority: number16(priority)?,
-            weight: number16(weight)?,
-            port: number16(port)?,
-            target: name(alloc, target)?,
-        }),
-        _ => Err(Fault::Form),
-    }
+    let (priority, rest) = split_word(line);
+    let (weight, rest) = split_word(rest);
+    let (port, target) = split_word(rest);
+    Ok(SrvRecord {
+        priority: number16(priority)?,
+        weight: number16(weight)?,
+        port: number16(port)?,
+        target: name(alloc, target)?,
+    })
 }
 
-/// The records of lines.
-fn servers_of(alloc: Global, lines: &str) -> Result<Vec<SrvRecord>, Fault> {
+/// The records that a text has between separators.
+pub(crate) fn servers_of(
+    alloc: Global,
+    text: &str,
+    separator: &str,
+) -> Result<Vec<SrvRecord>, Fault> {
     let mut records = Vec::new(alloc);
-    if lines.is_empty() {
+    if text.is_empty() {
         return Ok(records);
     }
-    for line in only_line(lines).split('\n') {
-        let server = server_of(alloc, line)?;
+    for record in text.split(separator) {
+        let server = server_of(alloc, record)?;
         records.push(server).map_err(|_| Fault::Memory)?;
     }
     Ok(records)
@@ -75,25 +58,35 @@ fn outcome(
     }
 }
 
-/// The line of indexes, and the index of the next word.
-fn listed(alloc: Global, indexes: &Indexes, next: usize) -> Result<String, Fault> {
-    let mut line = String::new(alloc);
+/// Writes indexes, and the index of the next word.
+fn push_listed(output: &mut Output, indexes: &Indexes, next: usize) {
     for index in indexes.as_slice() {
-        write!(line, "{index} ")?;
+        output.push_length(*index);
+        output.push(" ");
     }
-    write!(line, "next word {next}\n")?;
-    Ok(line)
+    output.push("next word ");
+    output.push_length(next);
+    output.push("\n");
+}
+
+/// Writes an outcome.
+fn push_outcome(output: &mut Output, outcome: &SrvOutcome) {
+    match outcome {
+        SrvOutcome::Listed(indexes, next) => push_listed(output, indexes, *next),
+        SrvOutcome::Absent => output.push_line("absent"),
+        SrvOutcome::Denied => output.push_line("denied"),
+    }
 }
 
 /// A line with an index and words, and lines with records, give the indexes of the records in their
 /// order, and the index of the next word; or `absent` or `denied`.
-fn ordered(alloc: Global, input: &str) -> Result<String, Fault> {
+fn ordered(output: &mut Output, input: &str) -> Result<(), Fault> {
     let (line, lines) = first_line(input)?;
-    let (from, words) = words_of(alloc, line)?;
-    let records = servers_of(alloc, lines)?;
-    match outcome(alloc, &records, &words, from)? {
-        SrvOutcome::Listed(indexes, next) => listed(alloc, &indexes, next),
-        SrvOutcome::Absent => Ok(String::from_str(alloc, "absent\n")?),
-        SrvOutcome::Denied => Ok(String::from_str(alloc, "denied\n")?),
-    }
+    let (from, words) = split_word(line);
+    let from = count(from)?;
+    let words = words_from(from, words)?;
+    let records = servers_of(output.alloc(), only_line(lines), "\n")?;
+    let outcome = outcome(output.alloc(), &records, &words, from)?;
+    push_outcome(output, &outcome);
+    Ok(())
 }

@@ -2,11 +2,11 @@
 //!
 //! `sip:b.example udp,tcp v4 2 1` is a request, the caller's transports in order of preference, its
 //! families of addresses (`v4`, `v6`, `v4-v6` or `v6-v4`), and random words, which go on with 0.
-use crate::fault::Fault;
-use crate::fields::{fields, text};
 use crate::replies::push_question;
-use ip_text::address_text;
-use sip_selection::{Caps, Families, Next, Request, Target};
+use crate::shown::push_address;
+use dns_message::Question;
+use row_fields::{Fault, Output, number64, split_word, text};
+use sip_selection::{Caps, Families, Next, Reason, Request, Target};
 use sip_uri::{Transport, read_uri, read_via};
 use srv_choice::{WORD_COUNT, Words};
 use std::alloc::Global;
@@ -19,12 +19,29 @@ pub(crate) struct Sending {
     pub(crate) words: Words,
 }
 
-/// The URI or Via of a text.
-fn request(alloc: Global, text: &str) -> Result<Request, Fault> {
+/// The Via of a text.
+fn via(alloc: Global, text: &str) -> Result<Request, Fault> {
+    match read_via(alloc, text) {
+        Ok(via) => Ok(Request::Via(via)),
+        Err(_) => Err(Fault::Form),
+    }
+}
+
+/// The URI of a text.
+fn uri(alloc: Global, text: &str) -> Result<Request, Fault> {
+    match read_uri(alloc, text) {
+        Ok(uri) => Ok(Request::Uri(uri)),
+        Err(_) => Err(Fault::Form),
+    }
+}
+
+/// The URI or Via of a field.
+fn request(alloc: Global, field: &str) -> Result<Request, Fault> {
+    let text = text(alloc, field)?;
     if text.starts_with("SIP/") {
-        Ok(Request::Via(read_via(alloc, text).map_err(|_| Fault::Form)?))
+        via(alloc, &text)
     } else {
-        Ok(Request::Uri(read_uri(alloc, text).map_err(|_| Fault::Form)?))
+        uri(alloc, &text)
     }
 }
 
@@ -56,7 +73,8 @@ fn transports(alloc: Global, field: &str) -> Result<Vec<Transport>, Fault> {
         return Ok(all);
     }
     for word in field.split(',') {
-        all.push(transport(word)?).map_err(|_| Fault::Memory)?;
+        let transport = transport(word)?;
+        all.push(transport).map_err(|_| Fault::Memory)?;
     }
     Ok(all)
 }
@@ -78,62 +96,76 @@ pub(crate) fn caps(
     transport_field: &str,
     family_field: &str,
 ) -> Result<Option<Caps>, Fault> {
+    let families = families(family_field)?;
     let transports = transports(alloc, transport_field)?;
-    Ok(Caps::new(&transports, families(family_field)?))
+    Ok(Caps::new(&transports, families))
 }
 
-/// These words, and 0 after them.
-fn words(fields: &[&str]) -> Result<Words, Fault> {
+/// These words from an index on; other words are 0.
+pub(crate) fn words_from(from: usize, fields: &str) -> Result<Words, Fault> {
     let mut all = [0; WORD_COUNT];
-    for (slot, field) in all.iter_mut().zip(fields) {
-        *slot = field.parse::<u64>().map_err(|_| Fault::Form)?;
+    if fields.is_empty() {
+        return Ok(Words(all));
+    }
+    for (slot, field) in all.iter_mut().skip(from).zip(fields.split(' ')) {
+        *slot = number64(field)?;
     }
     Ok(Words(all))
 }
 
 /// The request of a line, with what stands behind it.
 pub(crate) fn read_sending(alloc: Global, line: &str) -> Result<Sending, Fault> {
-    match fields(alloc, line)?.as_slice() {
-        [request_field, transports, families, rest @ ..] => Ok(Sending {
-            request: request(alloc, &text(alloc, request_field)?)?,
-            caps: caps(alloc, transports, families)?.ok_or(Fault::Form)?,
-            words: words(rest)?,
+    let (request_field, rest) = split_word(line);
+    let (transports, rest) = split_word(rest);
+    let (families, rest) = split_word(rest);
+    let words = words_from(0, rest)?;
+    let caps = caps(alloc, transports, families)?.ok_or(Fault::Form)?;
+    match request(alloc, request_field) {
+        Ok(request) => Ok(Sending {
+            request,
+            caps,
+            words,
         }),
-        _ => Err(Fault::Form),
+        Err(fault) => Err(fault),
     }
 }
 
 /// Writes a target: its transport, its address and its port.
-pub(crate) fn push_target(text: &mut String, alloc: Global, target: &Target) -> Result<(), Fault> {
-    let transport = transport_word(target.transport);
-    let address = address_text(alloc, target.address)?;
-    text.push_str(&format!(in alloc; "{transport} {address} {}", target.port)?)?;
-    Ok(())
+pub(crate) fn push_target(output: &mut Output, target: &Target) {
+    output.push(transport_word(target.transport));
+    output.push(" ");
+    push_address(output, target.address);
+    output.push(" ");
+    output.push_number(u64::from(target.port));
 }
 
 /// Writes a line for each target.
-fn push_targets(text: &mut String, alloc: Global, targets: &[Target]) -> Result<(), Fault> {
+fn push_targets(output: &mut Output, targets: &[Target]) {
     for target in targets {
-        push_target(text, alloc, target)?;
-        text.push_str("\n")?;
+        push_target(output, target);
+        output.push("\n");
     }
-    Ok(())
+}
+
+/// Writes `ask` with a question.
+fn push_ask(output: &mut Output, question: &Question) {
+    output.push("ask ");
+    push_question(output, question);
+    output.push("\n");
+}
+
+/// Writes `refused` with the reason.
+fn push_refused(output: &mut Output, reason: Reason) {
+    let alloc = output.alloc();
+    output.push_made(format!(in alloc; "refused {reason:?}\n"));
 }
 
 /// Writes what is next: `ask` with a question, a line for each target, or `refused` with the
 /// reason.
-pub(crate) fn push_next(text: &mut String, alloc: Global, next: Next<'_>) -> Result<(), Fault> {
+pub(crate) fn push_next(output: &mut Output, next: Next<'_>) {
     match next {
-        Next::Ask(question) => {
-            text.push_str("ask ")?;
-            push_question(text, question)?;
-            text.push_str("\n")?;
-            Ok(())
-        }
-        Next::Targets(targets) => push_targets(text, alloc, targets),
-        Next::Refused(reason) => {
-            text.push_str(&format!(in alloc; "refused {reason:?}\n")?)?;
-            Ok(())
-        }
+        Next::Ask(question) => push_ask(output, question),
+        Next::Targets(targets) => push_targets(output, targets),
+        Next::Refused(reason) => push_refused(output, reason),
     }
 }

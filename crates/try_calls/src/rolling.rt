@@ -3,38 +3,46 @@ ghost use Rattle.std.specs.Prelude.{IfSome};
 ghost use Rattle.std.specs.List.{All};
 ghost use Rattle.rolling_cache.specs.Rolling.{IsAt, IsFirst, IsFresh};
 
-use crate::books::{answer_line, book_line, found, reply_stored};
-use crate::fault::Fault;
-use crate::fields::fields;
-use crate::replies::{Reply, moment, question, read_reply};
+use crate::books::{DatedQuestion, book_line, found, lookup_of, push_found, reply_stored};
+use crate::fields::moment;
+use crate::replies::{Reply, read_reply};
 use answer_cache::AnswerBook;
 use dns_answers::Moment;
 use dns_message::Question;
 use rolling_cache::{Change, RollingCache, RollingSeat};
-use std::alloc::Global;
+use row_fields::{Fault, Output, count, number64, only_line, split_word};
+use std::alloc::{AllocError, Global};
 use std::sync::Wait;
 
 /// What a call gives for a row's lines.
-pub(crate) fn told<R: Wait>(
-    rt: &R,
-    alloc: Global,
-    call: &str,
-    input: &str,
-) -> Result<String, Fault> {
+pub(crate) fn told<R: Wait>(rt: &R, output: &mut Output, call: &str, input: &str) {
     match call {
-        "seats" => seats(rt, alloc, input),
-        "asked" => asked(rt, alloc, input.strip_suffix("\n").unwrap_or(input)),
-        "counts" => counts(alloc, input.strip_suffix("\n").unwrap_or(input)),
-        _ => Err(Fault::Call),
+        "seats" => seats(rt, output, input),
+        "asked" => asked(rt, output, only_line(input)),
+        "counts" => counts(output, only_line(input)),
+        _ => output.fail(Fault::Call),
+    }
+}
+
+/// The moment at which a cache is made whose row says none.
+fn start() -> Option<Moment> {
+    Moment::new(100)
+}
+
+/// Writes how many seats a new cache has, or why there is none.
+fn push_count(output: &mut Output, count: usize, now: Moment) {
+    let alloc = output.alloc();
+    match RollingCache::new(alloc, count, now) {
+        Ok((_, seats)) => output.push_made(format!(in alloc; "{} seats\n", seats.len())),
+        Err(refusal) => output.push_made(format!(in alloc; "{refusal:?}\n")),
     }
 }
 
 /// A number of seats gives how many a cache has, or why there is none.
-fn counts(alloc: Global, line: &str) -> Result<String, Fault> {
-    let count = line.parse::<usize>().map_err(|_| Fault::Form)?;
-    match RollingCache::new(alloc, count, moment("100")?) {
-        Ok((_, seats)) => Ok(format!(in alloc; "{} seats\n", seats.len())?),
-        Err(refusal) => Ok(format!(in alloc; "{refusal:?}\n")?),
+fn counts(output: &mut Output, line: &str) {
+    match (count(line), start()) {
+        (Ok(count), Some(now)) => push_count(output, count, now),
+        _ => output.fail(Fault::Form),
     }
 }
 
@@ -81,13 +89,13 @@ fn catch_up<R: Wait>(
     cache: &RollingCache,
     seat: &mut RollingSeat,
     now: Moment,
-) -> Result<Change, Fault>
+) -> Option<Change>
     requires { IsAt seat.old }
     ensures { IsAt seat.new }
 {
     match cache.catch_up(rt, seat, now) {
-        Ok(change) => Ok(change),
-        Err(_) => Err(Fault::Memory),
+        Ok(change) => Some(change),
+        Err(_) => None,
     }
 }
 
@@ -97,145 +105,167 @@ fn renew<R: Wait>(
     cache: &RollingCache,
     seat: &mut RollingSeat,
     now: Moment,
-) -> Result<Change, Fault>
+) -> Option<Change>
     requires { IsAt seat.old }
     ensures { IsAt seat.new }
 {
     match cache.renew(rt, seat, now) {
-        Ok(change) => Ok(change),
-        Err(_) => Err(Fault::Memory),
+        Ok(change) => Some(change),
+        Err(_) => None,
     }
 }
 
-/// What became of a seat, as a line.
-fn change_line(alloc: Global, change: Change) -> Result<String, Fault> {
-    Ok(format!(in alloc; "{change:?}\n")?)
+/// Writes what became of a seat.
+fn push_change(output: &mut Output, change: Option<Change>) {
+    let alloc = output.alloc();
+    match change {
+        Some(change) => output.push_made(format!(in alloc; "{change:?}\n")),
+        None => output.fail(Fault::Memory),
+    }
 }
 
-/// What a seat finds in the cache of its generation, once it is taken apart, as a line.
-fn apart(
-    alloc: Global,
-    seat: RollingSeat,
-    question: &Question,
-    now: Moment,
-) -> Result<String, Fault>
+/// A seat catches up, or renews, at the moment of a field.
+fn change<R: Wait>(
+    rt: &R,
+    output: &mut Output,
+    cache: &RollingCache,
+    seat: &mut RollingSeat,
+    is_renewal: bool,
+    now: &str,
+)
+    requires { IsAt seat.old }
+    ensures { IsAt seat.new }
+{
+    match moment(now) {
+        Ok(now) if is_renewal => push_change(output, renew(rt, cache, seat, now)),
+        Ok(now) => push_change(output, catch_up(rt, cache, seat, now)),
+        Err(fault) => output.fail(fault),
+    }
+}
+
+/// What a seat finds in the cache of its generation, once it is taken apart.
+fn push_apart(output: &mut Output, seat: RollingSeat, question: &Question, now: Moment)
     requires { IsAt seat }
 {
     let (generation, mut seat) = seat.into_parts();
-    match found(generation.cache(), &mut seat, question, now) {
-        Ok(answer) => answer_line(alloc, answer),
-        Err(_) => Err(Fault::Memory),
+    push_found(output, found(generation.cache(), &mut seat, question, now));
+}
+
+/// Writes the number of a seat's generation, and whether that is to end.
+fn push_generation(output: &mut Output, seat: &RollingSeat) {
+    let alloc = output.alloc();
+    let number = seat.generation().number();
+    output.push_made(format!(in alloc; "generation {number}"));
+    if seat.generation().is_ending() {
+        output.push(", ending");
     }
+    output.push("\n");
 }
 
-/// Two lines, where both are there.
-fn joined(first: Result<String, Fault>, second: Result<String, Fault>) -> Result<String, Fault> {
-    let mut text = first?;
-    text.push_str(&second?)?;
-    Ok(text)
-}
-
-/// The number of the generation after that of a seat, and what a seat there finds, as lines, or
+/// Writes the number of the generation after that of a seat, and what a seat there finds, or
 /// `none`.
-fn after(
-    alloc: Global,
+fn push_after(
+    output: &mut Output,
     cache: &RollingCache,
     seat: &RollingSeat,
-    question: &Question,
-    now: Moment,
-) -> Result<String, Fault> {
+    lookup: &DatedQuestion,
+) {
     match cache.seat_after(seat.generation()) {
         Some(seat) => {
-            let generation = generation_line(alloc, &seat);
-            joined(generation, apart(alloc, seat, question, now))
+            push_generation(output, &seat);
+            push_apart(output, seat, &lookup.question, lookup.now);
         }
-        None => Ok(String::from_str(alloc, "none\n")?),
+        None => output.push_line("none"),
     }
 }
 
-/// The number of a seat's generation, and whether that is to end, as a line.
-fn generation_line(alloc: Global, seat: &RollingSeat) -> Result<String, Fault> {
-    let number = seat.generation().number();
-    let end = if seat.generation().is_ending() {
-        ", ending"
-    } else {
-        ""
-    };
-    Ok(format!(in alloc; "generation {number}{end}\n")?)
+/// The same for the moment, the kind and the name of a line.
+fn after(output: &mut Output, cache: &RollingCache, seat: &RollingSeat, line: &str) {
+    match lookup_of(output.alloc(), line) {
+        Ok(lookup) => push_after(output, cache, seat, &lookup),
+        Err(fault) => output.fail(fault),
+    }
 }
 
 /// What a seat gives for a line.
 fn seat_line<R: Wait>(
     rt: &R,
-    alloc: Global,
+    output: &mut Output,
     cache: &RollingCache,
     seat: &mut RollingSeat,
     line: &str,
-) -> Result<String, Fault>
+)
     requires { IsAt seat.old }
     ensures { IsAt seat.new }
 {
-    match fields(alloc, line)?.as_slice() {
-        ["catch-up", now] => change_line(alloc, catch_up(rt, cache, seat, moment(now)?)?),
-        ["renew", now] => change_line(alloc, renew(rt, cache, seat, moment(now)?)?),
-        ["generation"] => generation_line(alloc, seat),
-        ["after", now, kind, name] => {
-            let question = question(alloc, kind, name)?;
-            after(alloc, cache, seat, &question, moment(now)?)
-        }
-        _ => book_line(rt, alloc, cache, seat, line),
+    let (word, rest) = split_word(line);
+    match word {
+        "catch-up" => change(rt, output, cache, seat, false, rest),
+        "renew" => change(rt, output, cache, seat, true, rest),
+        "generation" => push_generation(output, seat),
+        "after" => after(output, cache, seat, rest),
+        _ => book_line(rt, output, cache, seat, line),
     }
 }
 
 /// What the seat of a line gives for it: that of number 0 or 1.
 fn two_seat_line<R: Wait>(
     rt: &R,
-    alloc: Global,
+    output: &mut Output,
     cache: &RollingCache,
     first: &mut RollingSeat,
     second: &mut RollingSeat,
     line: &str,
-) -> Result<String, Fault>
+)
     requires first { IsAt first.old }
     requires second { IsAt second.old }
     ensures first { IsAt first.new }
     ensures second { IsAt second.new }
 {
-    match line.split_once(' ') {
-        Some(("0", line)) => seat_line(rt, alloc, cache, first, line),
-        Some(("1", line)) => seat_line(rt, alloc, cache, second, line),
-        _ => Err(Fault::Form),
+    let (number, line) = split_word(line);
+    match number {
+        "0" => seat_line(rt, output, cache, first, line),
+        "1" => seat_line(rt, output, cache, second, line),
+        _ => output.fail(Fault::Form),
     }
 }
 
 /// What two seats give for lines.
 fn two_talk<R: Wait>(
     rt: &R,
-    alloc: Global,
+    output: &mut Output,
     cache: &RollingCache,
     first: &mut RollingSeat,
     second: &mut RollingSeat,
     input: &str,
-) -> Result<String, Fault>
+)
     requires first { IsAt first.old }
     requires second { IsAt second.old }
 {
-    let mut text = String::new(alloc);
     'lines: for line in input.lines() {
-        text.push_str(&two_seat_line(rt, alloc, cache, first, second, line)?)?;
+        two_seat_line(rt, output, cache, first, second, line);
     }
-    Ok(text)
+}
+
+/// What the two seats of a cache that is made at a moment give for lines.
+fn talk<R: Wait>(rt: &R, output: &mut Output, now: Moment, lines: &str) {
+    match two_seats(output.alloc(), now) {
+        Some((cache, mut first, mut second)) => {
+            two_talk(rt, output, &cache, &mut first, &mut second, lines);
+        }
+        None => output.fail(Fault::Memory),
+    }
 }
 
 /// A line with the moment at which a cache is made, and lines of its two seats, 0 and 1, give what
 /// they give.
-fn seats<R: Wait>(rt: &R, alloc: Global, input: &str) -> Result<String, Fault> {
-    let (now, lines) = input.split_once('\n').ok_or(Fault::Form)?;
-    match two_seats(alloc, moment(now)?) {
-        Some((cache, mut first, mut second)) => {
-            two_talk(rt, alloc, &cache, &mut first, &mut second, lines)
-        }
-        None => Err(Fault::Memory),
+fn seats<R: Wait>(rt: &R, output: &mut Output, input: &str) {
+    match input.split_once('\n') {
+        Some((now, lines)) => match moment(now) {
+            Ok(now) => talk(rt, output, now, lines),
+            Err(fault) => output.fail(fault),
+        },
+        None => output.fail(Fault::Form),
     }
 }
 
@@ -249,7 +279,7 @@ struct Tally {
     renewed: u64,
 }
 
-/// Tally what becomes of a store.
+/// Stores a reply, and counts where the store is refused.
 fn count_store<R: Wait>(
     rt: &R,
     cache: &RollingCache,
@@ -257,15 +287,37 @@ fn count_store<R: Wait>(
     reply: &Reply,
     now: Moment,
     counts: &mut Tally,
-) -> Result<(), Fault>
+)
     requires { IsAt seat.old }
     ensures { IsAt seat.new }
 {
     counts.missed = counts.missed.wrapping_add(1);
-    if reply_stored(rt, cache, seat, reply, now)?.is_err() {
+    if let Some(Err(_)) = reply_stored(rt, cache, seat, reply, now) {
         counts.refused = counts.refused.wrapping_add(1);
     }
-    Ok(())
+}
+
+/// Counts a generation that was begun.
+fn count_change(change: Option<Change>, counts: &mut Tally) {
+    if change == Some(Change::Renewed) {
+        counts.renewed = counts.renewed.wrapping_add(1);
+    }
+}
+
+/// Whether a seat finds an answer.
+fn is_found(
+    cache: &RollingCache,
+    seat: &mut RollingSeat,
+    question: &Question,
+    now: Moment,
+) -> Result<bool, AllocError>
+    requires { IsAt seat.old }
+    ensures { IsAt seat.new }
+{
+    match found(cache, seat, question, now) {
+        Ok(answer) => Ok(answer.is_some()),
+        Err(refused) => Err(refused),
+    }
 }
 
 /// Looks a question up, and stores its answer where none is found.
@@ -276,26 +328,23 @@ fn ask<R: Wait>(
     reply: &Reply,
     now: Moment,
     counts: &mut Tally,
-) -> Result<(), Fault>
+)
     requires { IsAt seat.old }
     ensures { IsAt seat.new }
 {
-    if catch_up(rt, cache, seat, now)? == Change::Renewed {
-        counts.renewed = counts.renewed.wrapping_add(1);
+    count_change(catch_up(rt, cache, seat, now), counts);
+    match is_found(cache, seat, &reply.question, now) {
+        Ok(true) => counts.found = counts.found.wrapping_add(1),
+        _ => count_store(rt, cache, seat, reply, now, counts),
     }
-    if found(cache, seat, &reply.question, now)?.is_some() {
-        counts.found = counts.found.wrapping_add(1);
-        return Ok(());
-    }
-    count_store(rt, cache, seat, reply, now, counts)
 }
 
 /// The moment of a time, by a clock that goes on from 100 by a second each so many times.
-fn moment_of(time: u64, a_second: u64) -> Result<Moment, Fault> {
+fn moment_of(time: u64, a_second: u64) -> Option<Moment> {
     if a_second == 0 {
-        return Err(Fault::Form);
+        return None;
     }
-    Moment::new((time / a_second).saturating_add(100)).ok_or(Fault::Form)
+    Moment::new((time / a_second).saturating_add(100))
 }
 
 /// Asks so many times for one answer.
@@ -306,7 +355,7 @@ fn ask_all<R: Wait>(
     reply: &Reply,
     times: u64,
     a_second: u64,
-) -> Result<Tally, Fault>
+) -> Tally
     requires { IsAt seat.old }
 {
     let mut counts = Tally {
@@ -316,37 +365,79 @@ fn ask_all<R: Wait>(
         renewed: 0,
     };
     'times: for time in 0..times {
-        let now = moment_of(time, a_second)?;
-        ask(rt, cache, seat, reply, now, &mut counts)?;
+        if let Some(now) = moment_of(time, a_second) {
+            ask(rt, cache, seat, reply, now, &mut counts);
+        }
     }
-    Ok(counts)
+    counts
 }
 
-/// How often an answer is found and not found, and how often its store is refused and a generation
-/// is begun, as a line.
-fn counts_line(alloc: Global, counts: Result<Tally, Fault>) -> Result<String, Fault> {
-    let Tally {
-        found,
-        missed,
-        refused,
-        renewed,
-    } = counts?;
-    Ok(format!(in alloc; "found {found}, missed {missed}, refused {refused}, renewed {renewed}\n")?)
+/// Writes how often an answer is found and not found, and how often its store is refused and a
+/// generation is begun.
+fn push_tally(output: &mut Output, counts: Tally) {
+    output.push("found ");
+    output.push_number(counts.found);
+    output.push(", missed ");
+    output.push_number(counts.missed);
+    output.push(", refused ");
+    output.push_number(counts.refused);
+    output.push(", renewed ");
+    output.push_number(counts.renewed);
+    output.push("\n");
+}
+
+/// What is asked how many times, and how many times a second.
+#[derive(Drop)]
+struct Asking {
+    times: u64,
+    a_second: u64,
+    reply: Reply,
+}
+
+/// How many times is asked, how many times a second, and a question with its answer.
+fn asking_of(alloc: Global, line: &str) -> Result<Asking, Fault> {
+    let (times, rest) = split_word(line);
+    let (a_second, rest) = split_word(rest);
+    let times = number64(times)?;
+    let a_second = number64(a_second)?;
+    match read_reply(alloc, rest) {
+        Ok(reply) => Ok(Asking {
+            times,
+            a_second,
+            reply,
+        }),
+        Err(fault) => Err(fault),
+    }
+}
+
+/// The counts of a new cache, of which one answer is asked so many times.
+fn tallied<R: Wait>(rt: &R, alloc: Global, asking: &Asking) -> Option<Tally> {
+    match two_seats(alloc, start()?) {
+        Some((cache, mut seat, _)) => Some(ask_all(
+            rt,
+            &cache,
+            &mut seat,
+            &asking.reply,
+            asking.times,
+            asking.a_second,
+        )),
+        None => None,
+    }
+}
+
+/// Writes the counts of a new cache, of which one answer is asked so many times.
+fn push_asked<R: Wait>(rt: &R, output: &mut Output, asking: &Asking) {
+    match tallied(rt, output.alloc(), asking) {
+        Some(counts) => push_tally(output, counts),
+        None => output.fail(Fault::Memory),
+    }
 }
 
 /// How many times is asked, how many times a second, and a question with its answer, which is
 /// stored where it is not found, give how often that is.
-fn asked<R: Wait>(rt: &R, alloc: Global, line: &str) -> Result<String, Fault> {
-    let (times, line) = line.split_once(' ').ok_or(Fault::Form)?;
-    let (a_second, line) = line.split_once(' ').ok_or(Fault::Form)?;
-    let times = times.parse::<u64>().map_err(|_| Fault::Form)?;
-    let a_second = a_second.parse::<u64>().map_err(|_| Fault::Form)?;
-    let reply = read_reply(alloc, line)?;
-    match two_seats(alloc, moment("100")?) {
-        Some((cache, mut seat, _)) => {
-            let counts = ask_all(rt, &cache, &mut seat, &reply, times, a_second);
-            counts_line(alloc, counts)
-        }
-        None => Err(Fault::Memory),
+fn asked<R: Wait>(rt: &R, output: &mut Output, line: &str) {
+    match asking_of(output.alloc(), line) {
+        Ok(asking) => push_asked(rt, output, &asking),
+        Err(fault) => output.fail(fault),
     }
 }

@@ -1,21 +1,22 @@
 //! Calls of `sip_selection`.
-use crate::fault::Fault;
-use crate::fields::fields;
-use crate::replies::{Reply, read_reply, short};
+use crate::replies::{Reply, read_reply};
+use crate::request_lines::request_line;
 use crate::requests::{
     Sending, caps, push_next, push_target, read_sending, transport, transport_word,
 };
 use ip_text::address_from_text;
+use row_fields::{Fault, Output, first_line, number16, only_line, split_word};
 use sip_selection::{Caps, Event, Failover, Failure, GiveRefusal, Selection, Target};
 use sip_uri::Transport;
 use std::alloc::Global;
 
 /// What a call gives for a row's lines.
-pub(crate) fn told(alloc: Global, call: &str, input: &str) -> Result<String, Fault> {
+pub(crate) fn told(output: &mut Output, call: &str, input: &str) -> Result<(), Fault> {
     match call {
-        "next" | "random" => conversation(alloc, input),
-        "caps" => caps_line(alloc, input.strip_suffix("\n").unwrap_or(input)),
-        "failover" => tries(alloc, input),
+        "next" | "random" => conversation(output, input),
+        "caps" => caps_line(output, only_line(input)),
+        "failover" => tries(output, input),
+        "read_request" => request_line(output, only_line(input)),
         _ => Err(Fault::Call),
     }
 }
@@ -41,54 +42,62 @@ fn selection(alloc: Global, line: &str) -> Result<Selection, Fault> {
     }
 }
 
-/// What is next for a choice, as lines.
-fn next_lines(alloc: Global, selection: &Selection) -> Result<String, Fault> {
-    let mut text = String::new(alloc);
-    push_next(&mut text, alloc, selection.next())?;
-    Ok(text)
-}
-
 /// Hands a question and its answer to a choice.
 fn given(alloc: Global, selection: &mut Selection, reply: Reply) -> Result<(), GiveRefusal> {
     let Reply { question, answer } = reply;
     selection.give(alloc, &question, answer)
 }
 
-/// Hands the question and the answer of a line to a choice. Gives why they are not taken, and what
-/// is next.
-fn give(alloc: Global, selection: &mut Selection, line: &str) -> Result<String, Fault> {
-    let reply = read_reply(alloc, line)?;
-    match given(alloc, selection, reply) {
-        Ok(()) => next_lines(alloc, selection),
-        Err(refusal) => {
-            let mut text = format!(in alloc; "{refusal:?}\n")?;
-            text.push_str(&next_lines(alloc, selection)?)?;
-            Ok(text)
-        }
+/// Writes why a reply is not taken.
+fn push_given(output: &mut Output, given: Result<(), GiveRefusal>) {
+    let alloc = output.alloc();
+    if let Err(refusal) = given {
+        output.push_made(format!(in alloc; "{refusal:?}\n"));
+    }
+}
+
+/// Hands the question and the answer of a line to a choice, and writes why they are not taken.
+fn give(output: &mut Output, selection: &mut Selection, line: &str) {
+    match read_reply(output.alloc(), line) {
+        Ok(reply) => push_given(output, given(output.alloc(), selection, reply)),
+        Err(fault) => output.fail(fault),
     }
 }
 
 /// What is next for a choice, before lines with questions and their answers, and after each of
 /// them.
-fn talk(alloc: Global, selection: &mut Selection, answers: &str) -> Result<String, Fault> {
-    let mut text = next_lines(alloc, selection)?;
+fn talk(output: &mut Output, selection: &mut Selection, answers: &str) {
+    push_next(output, selection.next());
     for line in answers.lines() {
-        text.push_str(&give(alloc, selection, line)?)?;
+        give(output, selection, line);
+        push_next(output, selection.next());
     }
-    Ok(text)
+}
+
+/// The same of this choice.
+fn talk_once(output: &mut Output, selection: Selection, answers: &str) {
+    let mut selection = selection;
+    talk(output, &mut selection, answers);
+}
+
+/// The same of the choice of a request.
+fn talk_of(output: &mut Output, request: &str, answers: &str) {
+    match selection(output.alloc(), request) {
+        Ok(selection) => talk_once(output, selection, answers),
+        Err(fault) => output.fail(fault),
+    }
 }
 
 /// A line with a request, and lines with questions and their answers, give what is next after each.
-fn conversation(alloc: Global, input: &str) -> Result<String, Fault> {
-    let (first, answers) = input.split_once('\n').ok_or(Fault::Form)?;
-    match selection(alloc, first) {
-        Ok(mut selection) => talk(alloc, &mut selection, answers),
-        Err(fault) => Err(fault),
-    }
+fn conversation(output: &mut Output, input: &str) -> Result<(), Fault> {
+    let (request, answers) = first_line(input)?;
+    talk_of(output, request, answers);
+    Ok(())
 }
 
 /// Writes which transports a caller has, and its families of addresses.
-fn push_caps(text: &mut String, alloc: Global, caps: &Caps) -> Result<(), Fault> {
+fn push_caps(output: &mut Output, caps: &Caps) {
+    let alloc = output.alloc();
     for transport in [
         Transport::Udp,
         Transport::Tcp,
@@ -96,37 +105,32 @@ fn push_caps(text: &mut String, alloc: Global, caps: &Caps) -> Result<(), Fault>
         Transport::Tls,
     ] {
         if caps.offers(transport) {
-            text.push_str(transport_word(transport))?;
-            text.push_str(" ")?;
+            output.push(transport_word(transport));
+            output.push(" ");
         }
     }
-    text.push_str(&format!(in alloc; "{:?}\n", caps.families())?)?;
-    Ok(())
+    output.push_made(format!(in alloc; "{:?}\n", caps.families()));
 }
 
 /// Fields with transports and families give those of their caller, or `none` where there is none.
-fn caps_line(alloc: Global, line: &str) -> Result<String, Fault> {
-    let mut text = String::new(alloc);
-    match fields(alloc, line)?.as_slice() {
-        [transports, families] => match caps(alloc, transports, families)? {
-            Some(caps) => push_caps(&mut text, alloc, &caps)?,
-            None => text.push_str("none\n")?,
-        },
-        _ => return Err(Fault::Form),
+fn caps_line(output: &mut Output, line: &str) -> Result<(), Fault> {
+    let (transports, families) = split_word(line);
+    match caps(output.alloc(), transports, families)? {
+        Some(caps) => push_caps(output, &caps),
+        None => output.push_line("none"),
     }
-    Ok(text)
+    Ok(())
 }
 
 /// A target: its transport, its address and its port.
-fn target(alloc: Global, line: &str) -> Result<Target, Fault> {
-    match fields(alloc, line)?.as_slice() {
-        [transport_field, address, port] => Ok(Target {
-            transport: transport(transport_field)?,
-            address: address_from_text(address).ok_or(Fault::Form)?,
-            port: short(port)?,
-        }),
-        _ => Err(Fault::Form),
-    }
+fn target(line: &str) -> Result<Target, Fault> {
+    let (transport_field, rest) = split_word(line);
+    let (address, port) = split_word(rest);
+    Ok(Target {
+        transport: transport(transport_field)?,
+        address: address_from_text(address).ok_or(Fault::Form)?,
+        port: number16(port)?,
+    })
 }
 
 /// Targets, of which ` | ` parts two; `none` where there are none.
@@ -136,7 +140,8 @@ fn targets(alloc: Global, line: &str) -> Result<Vec<Target>, Fault> {
         return Ok(all);
     }
     for part in line.split(" | ") {
-        all.push(target(alloc, part)?).map_err(|_| Fault::Memory)?;
+        let target = target(part)?;
+        all.push(target).map_err(|_| Fault::Memory)?;
     }
     Ok(all)
 }
@@ -152,33 +157,46 @@ fn event(line: &str) -> Result<Event, Fault> {
     }
 }
 
+/// Writes targets that were tried.
+fn push_tried(output: &mut Output, targets: &[Target]) {
+    for target in targets {
+        output.push(" | ");
+        push_target(output, target);
+    }
+}
+
+/// Writes the current target.
+fn push_current(output: &mut Output, target: Option<&Target>) {
+    if let Some(target) = target {
+        output.push(" ");
+        push_target(output, target);
+    }
+}
+
 /// Writes how far the tries are, the current target, and those that were tried.
-fn push_tries(text: &mut String, alloc: Global, failover: &Failover) -> Result<(), Fault> {
-    text.push_str(&format!(in alloc; "{:?}", failover.progress())?)?;
-    if let Some(target) = failover.current() {
-        text.push_str(" ")?;
-        push_target(text, alloc, target)?;
+fn push_tries(output: &mut Output, failover: &Failover) {
+    let alloc = output.alloc();
+    output.push_made(format!(in alloc; "{:?}", failover.progress()));
+    push_current(output, failover.current());
+    push_tried(output, failover.tried());
+    output.push("\n");
+}
+
+/// Tells of a try, and writes how far the tries are then.
+fn tell(output: &mut Output, failover: &mut Failover, event: Event) {
+    if failover.event(event) != failover.progress() {
+        output.fail(Fault::Form);
     }
-    for target in failover.tried() {
-        text.push_str(" | ")?;
-        push_target(text, alloc, target)?;
-    }
-    text.push_str("\n")?;
-    Ok(())
+    push_tries(output, failover);
 }
 
 /// A line of targets, and lines with how their tries went, give how far the tries are after each.
-fn tries(alloc: Global, input: &str) -> Result<String, Fault> {
-    let (first, events) = input.split_once('\n').ok_or(Fault::Form)?;
-    let mut failover = Failover::new(targets(alloc, first)?);
-    let mut text = String::new(alloc);
-    push_tries(&mut text, alloc, &failover)?;
+fn tries(output: &mut Output, input: &str) -> Result<(), Fault> {
+    let (first, events) = first_line(input)?;
+    let mut failover = Failover::new(targets(output.alloc(), first)?);
+    push_tries(output, &failover);
     for line in events.lines() {
-        let progress = failover.event(event(line)?);
-        if progress != failover.progress() {
-            return Err(Fault::Form);
-        }
-        push_tries(&mut text, alloc, &failover)?;
+        tell(output, &mut failover, event(line)?);
     }
-    Ok(text)
+    Ok(())
 }

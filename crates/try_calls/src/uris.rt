@@ -1,32 +1,32 @@
 //! Calls of `sip_uri`.
-use crate::fault::Fault;
-use crate::fields::{only_line, text};
 use crate::shown::{push_address, push_name};
+use row_fields::{Fault, Output, only_line, split_word, text};
 use sip_uri::{Address, Host, SipUri, Spoken, Transport, UriRefusal, Via, read_uri, read_via};
 use std::alloc::Global;
 
 /// What a call gives for a row's lines.
-pub(crate) fn told(alloc: Global, call: &str, input: &str) -> Result<String, Fault> {
+pub(crate) fn told(output: &mut Output, call: &str, input: &str) -> Result<(), Fault> {
     let line = only_line(input);
     match call {
-        "read_uri" => uri(alloc, line),
-        "read_via" => via(alloc, line),
-        "same_uri" => same_uri(alloc, line),
+        "read_uri" => uri(output, line),
+        "read_via" => via(output, line),
+        "same_uri" => same_uri(output, line),
         _ => Err(Fault::Call),
     }
 }
 
-/// A refusal as a line.
-fn refused(alloc: Global, refusal: UriRefusal) -> Result<String, Fault> {
-    Ok(format!(in alloc; "{refusal:?}\n")?)
+/// Writes a refusal as a line.
+fn push_refusal(output: &mut Output, refusal: UriRefusal) {
+    let alloc = output.alloc();
+    output.push_made(format!(in alloc; "{refusal:?}\n"));
 }
 
 /// Writes a host.
-pub(crate) fn push_host(text: &mut String, host: &Host) -> Result<(), Fault> {
+pub(crate) fn push_host(output: &mut Output, host: &Host) {
     match host {
-        Host::V4(octets) => push_address(text, Address::V4(*octets)),
-        Host::V6(octets) => push_address(text, Address::V6(*octets)),
-        Host::Domain(name) => push_name(text, name),
+        Host::V4(octets) => push_address(output, Address::V4(*octets)),
+        Host::V6(octets) => push_address(output, Address::V6(*octets)),
+        Host::Domain(name) => push_name(output, name),
     }
 }
 
@@ -42,92 +42,109 @@ fn transport_word(transport: Spoken) -> &'static str {
 }
 
 /// Writes a port, where one is written.
-fn push_port(text: &mut String, port: Option<u16>) -> Result<(), Fault> {
+fn push_port(output: &mut Output, port: Option<u16>) {
     if let Some(port) = port {
-        write!(text, " port {port}")?;
+        output.push(" port ");
+        output.push_number(u64::from(port));
     }
-    Ok(())
 }
 
-/// Writes what the parameters of a URI say.
-fn push_params(text: &mut String, uri: &SipUri) -> Result<(), Fault> {
-    if let Some(transport) = uri.transport {
-        let word = transport_word(transport);
-        write!(text, " transport {word}")?;
+/// Writes the transport that a URI names, where it names one.
+fn push_transport(output: &mut Output, transport: Option<Spoken>) {
+    if let Some(transport) = transport {
+        output.push(" transport ");
+        output.push(transport_word(transport));
     }
-    if let Some(maddr) = &uri.maddr {
-        text.push_str(" maddr ")?;
-        push_host(text, maddr)?;
+}
+
+/// Writes the `maddr` of a URI, where it has one.
+fn push_maddr(output: &mut Output, maddr: Option<&Host>) {
+    if let Some(maddr) = maddr {
+        output.push(" maddr ");
+        push_host(output, maddr);
     }
-    Ok(())
 }
 
 /// Writes a URI: its scheme and its host, and what else is written.
-pub(crate) fn push_uri(text: &mut String, uri: &SipUri) -> Result<(), Fault> {
-    text.push_str(if uri.secure { "sips " } else { "sip " })?;
-    push_host(text, &uri.host)?;
-    push_port(text, uri.port)?;
-    push_params(text, uri)?;
-    text.push_str("\n")?;
+fn push_uri(output: &mut Output, uri: &SipUri) {
+    output.push(if uri.secure { "sips " } else { "sip " });
+    push_host(output, &uri.host);
+    push_port(output, uri.port);
+    push_transport(output, uri.transport);
+    push_maddr(output, uri.maddr.as_ref());
+    output.push("\n");
+}
+
+/// Writes the copy of a URI, which has to be equal.
+fn push_uri_copy(output: &mut Output, uri: &SipUri) -> Result<(), Fault> {
+    let copy = uri.try_clone()?;
+    if copy != *uri {
+        output.push("another ");
+    }
+    push_uri(output, &copy);
     Ok(())
 }
 
-/// The line of the copy of a URI, which has to be equal.
-fn copied_uri(alloc: Global, uri: &SipUri) -> Result<String, Fault> {
-    let copy = uri.try_clone()?;
-    let mut line = String::new(alloc);
-    if copy != *uri {
-        line.push_str("another ")?;
-    }
-    push_uri(&mut line, &copy)?;
-    Ok(line)
-}
-
 /// A field with a text gives its URI, or the refusal.
-fn uri(alloc: Global, line: &str) -> Result<String, Fault> {
-    match read_uri(alloc, &text(alloc, line)?) {
-        Ok(uri) => copied_uri(alloc, &uri),
-        Err(refusal) => refused(alloc, refusal),
+fn uri(output: &mut Output, line: &str) -> Result<(), Fault> {
+    let alloc = output.alloc();
+    let text = text(alloc, line)?;
+    match read_uri(alloc, &text) {
+        Ok(uri) => push_uri_copy(output, &uri),
+        Err(refusal) => {
+            push_refusal(output, refusal);
+            Ok(())
+        }
     }
 }
 
 /// Writes a Via: its transport and its host, and its port where one is written.
-pub(crate) fn push_via(text: &mut String, via: &Via) -> Result<(), Fault> {
-    text.push_str(transport_word(via.transport))?;
-    text.push_str(" ")?;
-    push_host(text, &via.host)?;
-    push_port(text, via.port)?;
-    text.push_str("\n")?;
+fn push_via(output: &mut Output, via: &Via) {
+    output.push(transport_word(via.transport));
+    output.push(" ");
+    push_host(output, &via.host);
+    push_port(output, via.port);
+    output.push("\n");
+}
+
+/// Writes the copy of a Via, which has to be equal.
+fn push_via_copy(output: &mut Output, via: &Via) -> Result<(), Fault> {
+    let copy = via.try_clone()?;
+    if copy != *via {
+        output.push("another ");
+    }
+    push_via(output, &copy);
     Ok(())
 }
 
-/// The line of the copy of a Via, which has to be equal.
-fn copied_via(alloc: Global, via: &Via) -> Result<String, Fault> {
-    let copy = via.try_clone()?;
-    let mut line = String::new(alloc);
-    if copy != *via {
-        line.push_str("another ")?;
-    }
-    push_via(&mut line, &copy)?;
-    Ok(line)
-}
-
 /// A field with a text gives its Via, or the refusal.
-fn via(alloc: Global, line: &str) -> Result<String, Fault> {
-    match read_via(alloc, &text(alloc, line)?) {
-        Ok(via) => copied_via(alloc, &via),
-        Err(refusal) => refused(alloc, refusal),
+fn via(output: &mut Output, line: &str) -> Result<(), Fault> {
+    let alloc = output.alloc();
+    let text = text(alloc, line)?;
+    match read_via(alloc, &text) {
+        Ok(via) => push_via_copy(output, &via),
+        Err(refusal) => {
+            push_refusal(output, refusal);
+            Ok(())
+        }
     }
 }
 
 /// The URI of a field.
 fn uri_of(alloc: Global, field: &str) -> Result<SipUri, Fault> {
-    read_uri(alloc, &text(alloc, field)?).map_err(|_| Fault::Form)
+    let text = text(alloc, field)?;
+    match read_uri(alloc, &text) {
+        Ok(uri) => Ok(uri),
+        Err(_) => Err(Fault::Form),
+    }
 }
 
 /// Fields with two URIs give whether they say the same of where a request goes.
-fn same_uri(alloc: Global, line: &str) -> Result<String, Fault> {
-    let (first, second) = line.split_once(' ').ok_or(Fault::Form)?;
-    let same = uri_of(alloc, first)? == uri_of(alloc, second)?;
-    Ok(format!(in alloc; "{same}\n")?)
+fn same_uri(output: &mut Output, line: &str) -> Result<(), Fault> {
+    let alloc = output.alloc();
+    let (first, second) = split_word(line);
+    let first = uri_of(alloc, first)?;
+    let second = uri_of(alloc, second)?;
+    output.push_line(if first == second { "true" } else { "false" });
+    Ok(())
 }

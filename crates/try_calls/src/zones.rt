@@ -1,108 +1,125 @@
 //! Calls of `dns_zone`.
-use crate::fault::Fault;
-use crate::fields::{fields, octets, text};
-use crate::shown::octets_line;
 use dns_zone::{Zone, ZoneRefusal};
+use row_fields::{Fault, Output, count, octets, only_line, split_word, text};
 use std::alloc::Global;
 
 /// What a call gives for a row's lines.
-pub(crate) fn told(alloc: Global, call: &str, input: &str) -> Result<String, Fault> {
-    let input = input.strip_suffix("\n").unwrap_or(input);
+pub(crate) fn told(output: &mut Output, call: &str, input: &str) -> Result<(), Fault> {
+    let input = only_line(input);
     match call {
-        "read" => read(alloc, input),
-        "reply" => replies(alloc, input),
-        "repeated" => repeated(alloc, input),
-        "zeros" => zeros(alloc, input),
+        "read" => read(output, input),
+        "reply" => replies(output, input),
+        "repeated" => repeated(output, input),
+        "zeros" => zeros(output, input),
         _ => Err(Fault::Call),
     }
 }
 
 /// Writes why a zone was not read.
-fn refused(alloc: Global, refusal: ZoneRefusal) -> Result<String, Fault> {
-    Ok(format!(in alloc; "{refusal:?}\n")?)
+fn push_refusal(output: &mut Output, refusal: ZoneRefusal) {
+    let alloc = output.alloc();
+    output.push_made(format!(in alloc; "{refusal:?}\n"));
 }
 
 /// Lines of a zone give `read`, or why they are not.
-fn read(alloc: Global, input: &str) -> Result<String, Fault> {
-    match Zone::read(alloc, &text(alloc, input)?) {
-        Ok(_) => Ok(String::from_str(alloc, "read\n")?),
-        Err(refusal) => refused(alloc, refusal),
+fn read(output: &mut Output, input: &str) -> Result<(), Fault> {
+    let text = text(output.alloc(), input)?;
+    match Zone::read(output.alloc(), &text) {
+        Ok(_) => output.push_line("read"),
+        Err(refusal) => push_refusal(output, refusal),
+    }
+    Ok(())
+}
+
+/// Writes the octets of a zone's reply to octets, or `nothing`.
+fn push_reply(output: &mut Output, zone: &Zone, query: &[u8]) {
+    match zone.answer_datagram(output.alloc(), query) {
+        Ok(Some(reply)) => output.push_octets_line(&reply),
+        Ok(None) => output.push_line("nothing"),
+        Err(_) => output.fail(Fault::Memory),
     }
 }
 
-/// The octets of a zone's reply to octets, as a line, or `nothing`.
-fn reply_line(alloc: Global, zone: &Zone, query: &[u8]) -> Result<String, Fault> {
-    match zone.answer_datagram(alloc, query)? {
-        Some(reply) => octets_line(alloc, &reply),
-        None => Ok(String::from_str(alloc, "nothing\n")?),
+/// Writes what a zone replies to the query of a field.
+fn push_field_reply(output: &mut Output, zone: &Zone, query: &str) {
+    match octets(output.alloc(), query) {
+        Ok(query) => push_reply(output, zone, &query),
+        Err(fault) => output.fail(fault),
     }
 }
 
-/// What a zone replies to each of these queries, which ` ? ` parts.
-fn reply_lines(alloc: Global, zone: &Zone, queries: &str) -> Result<String, Fault> {
-    let mut lines = String::new(alloc);
+/// Writes what a zone replies to each of these queries, which ` ? ` parts.
+fn push_replies(output: &mut Output, zone: &Zone, queries: &str) {
     for query in queries.split("\n? ") {
-        lines.push_str(&reply_line(alloc, zone, &octets(alloc, query)?)?)?;
+        push_field_reply(output, zone, query);
     }
-    Ok(lines)
 }
 
 /// Lines of a zone, and lines of `? ` and the octets of a query, give the reply to each query, or
 /// why the zone is not read.
-fn replies(alloc: Global, input: &str) -> Result<String, Fault> {
+fn replies(output: &mut Output, input: &str) -> Result<(), Fault> {
     let (zone, queries) = input.split_once("\n? ").ok_or(Fault::Form)?;
-    match Zone::read(alloc, &text(alloc, zone)?) {
-        Ok(zone) => reply_lines(alloc, &zone, queries),
-        Err(refusal) => refused(alloc, refusal),
+    let text = text(output.alloc(), zone)?;
+    match Zone::read(output.alloc(), &text) {
+        Ok(zone) => push_replies(output, &zone, queries),
+        Err(refusal) => push_refusal(output, refusal),
+    }
+    Ok(())
+}
+
+/// Writes the length of a zone's reply to octets, or `nothing`.
+fn push_reply_length(output: &mut Output, zone: &Zone, query: &[u8]) {
+    match zone.answer_datagram(output.alloc(), query) {
+        Ok(Some(reply)) => output.push_length(reply.len()),
+        Ok(None) => output.push("nothing"),
+        Err(_) => output.fail(Fault::Memory),
+    }
+    output.push("\n");
+}
+
+/// Writes the length of the reply to octets by the zone of a text, or why it is not read.
+fn push_length_by(output: &mut Output, text: &str, query: &[u8]) {
+    match Zone::read(output.alloc(), text) {
+        Ok(zone) => push_reply_length(output, &zone, query),
+        Err(refusal) => push_refusal(output, refusal),
     }
 }
 
-/// The length of a zone's reply to octets, as a line, or `nothing`.
-fn length_line(alloc: Global, zone: &Zone, query: &[u8]) -> Result<String, Fault> {
-    match zone.answer_datagram(alloc, query)? {
-        Some(reply) => Ok(format!(in alloc; "{}\n", reply.len())?),
-        None => Ok(String::from_str(alloc, "nothing\n")?),
-    }
-}
-
-/// A text in which a part stands so many times between two others.
-fn repeated_text(
-    alloc: Global,
-    front: &str,
-    part: &str,
-    count: &str,
-    back: &str,
-) -> Result<String, Fault> {
-    let count = count.parse::<usize>().map_err(|_| Fault::Form)?;
-    let mut all = text(alloc, front)?;
-    let part = text(alloc, part)?;
+/// Adds the text of a field, so many times.
+fn push_field(all: &mut String, alloc: Global, field: &str, count: usize) -> Result<(), Fault> {
+    let part = text(alloc, field)?;
     for _ in 0..count {
         all.push_str(&part)?;
     }
-    all.push_str(&text(alloc, back)?)?;
-    Ok(all)
+    Ok(())
+}
+
+/// The text of three fields, of which the second stands so many times between the others: they and
+/// the number come as a text, a part, the number and a text.
+fn push_repeated(all: &mut String, alloc: Global, line: &str) -> Result<(), Fault> {
+    let (front, rest) = split_word(line);
+    let (part, rest) = split_word(rest);
+    let (times, back) = split_word(rest);
+    push_field(all, alloc, front, 1)?;
+    push_field(all, alloc, part, count(times)?)?;
+    push_field(all, alloc, back, 1)
 }
 
 /// The octets of a query, and fields with a text, a part that stands so many times behind it, and a
 /// text behind that, give the length of the reply by the zone of the whole text.
-fn repeated(alloc: Global, line: &str) -> Result<String, Fault> {
-    match fields(alloc, line)?.as_slice() {
-        [query, front, part, count, back] => {
-            let query = octets(alloc, query)?;
-            match Zone::read(alloc, &repeated_text(alloc, front, part, count, back)?) {
-                Ok(zone) => length_line(alloc, &zone, &query),
-                Err(refusal) => refused(alloc, refusal),
-            }
-        }
-        _ => Err(Fault::Form),
-    }
+fn repeated(output: &mut Output, line: &str) -> Result<(), Fault> {
+    let (query, rest) = split_word(line);
+    let query = octets(output.alloc(), query)?;
+    let mut text = String::new(output.alloc());
+    push_repeated(&mut text, output.alloc(), rest)?;
+    push_length_by(output, &text, &query);
+    Ok(())
 }
 
 /// A number gives the length of the reply to so many octets of 0.
-fn zeros(alloc: Global, line: &str) -> Result<String, Fault> {
-    let count = line.parse::<usize>().map_err(|_| Fault::Form)?;
-    match Zone::read(alloc, "") {
-        Ok(zone) => length_line(alloc, &zone, &vec![in alloc; 0u8; count]?),
-        Err(refusal) => refused(alloc, refusal),
-    }
+fn zeros(output: &mut Output, line: &str) -> Result<(), Fault> {
+    let alloc = output.alloc();
+    let query = vec![in alloc; 0u8; count(line)?]?;
+    push_length_by(output, "", &query);
+    Ok(())
 }

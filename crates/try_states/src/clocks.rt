@@ -1,6 +1,6 @@
 //! The clocks of the system.
 use dns_asker::Clock;
-use dns_client::{RunClock, SystemClock, Timer};
+use dns_transport::{RunClock, SystemClock, Timer};
 use std::test::Fail;
 use std::time::Duration;
 

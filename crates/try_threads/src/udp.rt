@@ -1,9 +1,9 @@
 //! A question over UDP, to a server on another thread.
 use dns_answers::{Records, answer_of};
 use dns_asker::{DATAGRAM_LIMIT, PeerWire, Wire, Zone, serve};
-use dns_client::{UdpServerWire, UdpWire};
 use dns_message::{Kind, Question, read_message};
 use dns_name::Name;
+use dns_transport::{UdpServerWire, UdpWire};
 use std::alloc::Global;
 use std::net::{Ipv4Addr, Ipv6Addr, Net, SocketAddr};
 use std::sync::Arc;

@@ -3,7 +3,7 @@
 use crate::worker_jobs::{ZONE, goes_to, jobs_to};
 use answer_cache::{Notice, SharedCache};
 use dns_asker::{DATAGRAM_LIMIT, PeerWire, Zone, serve};
-use dns_client::{SystemClock, UdpServerWire, UdpWire};
+use dns_transport::{SystemClock, UdpServerWire, UdpWire};
 use sip_selection::Reason;
 use sip_workers::{OpenGate, Outcome, run_workers};
 use std::alloc::Global;

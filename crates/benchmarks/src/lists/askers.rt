@@ -44,20 +44,29 @@ fn is_answer(asker: &mut Asker, octets: &[u8]) -> bool {
     )
 }
 
+/// The reply under an id.
+fn reply_of(id: u16) -> [u8; 43] {
+    let mut reply = REPLY;
+    [reply[0], reply[1]] = id.to_be_bytes();
+    reply
+}
+
+/// Hears a reply. Gives how long that took, in nanoseconds, with a reading of the clock.
+fn hear<R: Clock>(rt: &R, asker: &mut Asker, reply: &[u8; 43]) -> Option<u128> {
+    let start = Instant::now(rt).ok()?;
+    let answered = is_answer(asker, reply);
+    let time = start.elapsed(rt).ok()?;
+    answered.then_some(time.as_nanos())
+}
+
 /// Hears a reply to each question and asks it anew. Gives how long the hearing took, in
 /// nanoseconds, each with a reading of the clock.
 fn round<R: Clock + AllocGlobal>(rt: &R, asker: &mut Asker, open: usize) -> Option<u128> {
-    let mut reply = REPLY;
     let mut nanoseconds = 0u128;
     for at in 0..open {
         let id = id_at(at);
-        [reply[0], reply[1]] = id.to_be_bytes();
-        let start = Instant::now(rt).ok()?;
-        let answered = is_answer(asker, &reply);
-        nanoseconds = nanoseconds.saturating_add(start.elapsed(rt).ok()?.as_nanos());
-        if !answered {
-            return None;
-        }
+        let time = hear(rt, asker, &reply_of(id))?;
+        nanoseconds = nanoseconds.saturating_add(time);
         ask(rt.alloc(), asker, id)?;
     }
     Some(nanoseconds)

@@ -14,6 +14,9 @@ use srv_choice::{WORD_COUNT, Words};
 use std::alloc::Global;
 use std::sync::Wait;
 
+/// The random words of each locator.
+const WORDS: Words = Words([7; WORD_COUNT]);
+
 /// What is stored of each domain.
 #[derive(Clone, Copy)]
 enum Part {
@@ -76,6 +79,30 @@ fn store_parts<R: Wait + AllocGlobal, B: AnswerBook>(
     Some(())
 }
 
+/// A locator of a request.
+fn new_locator(alloc: Global, row: &Row) -> Option<Locator<SharedCache>> {
+    let caps = Caps::new(&[Udp, Tcp, Tls, Sctp], row.families)?;
+    let request = row.request(alloc)?;
+    Locator::new(alloc, request, caps, WORDS).ok()
+}
+
+/// A locator with the answers that a book has.
+fn stepped(
+    locator: Locator<SharedCache>,
+    book: &SharedCache,
+    seat: &mut Seat,
+    now: Moment,
+) -> Option<Locator<SharedCache>>
+    requires { Belongs book.now seat.old }
+    ensures { Belongs book.now seat.new }
+{
+    let mut locator = locator;
+    if locator.step(book, seat, now).is_err() {
+        return None;
+    }
+    Some(locator)
+}
+
 /// A locator of a request, with the answers that a book has.
 fn located(
     alloc: Global,
@@ -87,19 +114,9 @@ fn located(
     requires { Belongs book.now seat.old }
     ensures { Belongs book.now seat.new }
 {
-    let Some(caps) = Caps::new(&[Udp, Tcp, Tls, Sctp], row.families) else {
-        return None;
-    };
-    let Some(request) = row.request(alloc) else {
-        return None;
-    };
-    let words = Words([7; WORD_COUNT]);
-    let Ok(mut locator) = Locator::<SharedCache>::new(alloc, request, caps, words) else {
-        return None;
-    };
-    match locator.step(book, seat, now) {
-        Ok(_) => Some(locator),
-        Err(_) => None,
+    match new_locator(alloc, row) {
+        Some(locator) => stepped(locator, book, seat, now),
+        None => None,
     }
 }
 
@@ -129,22 +146,27 @@ fn located_times(
 /// So many locators of the request of ten answers, each with all of them, of which it made 21
 /// targets.
 fn hold_locators<R: Wait + AllocGlobal>(rt: &R, count: usize) -> Option<Vec<Locator<SharedCache>>> {
-    let alloc = rt.alloc();
     let row = rows::ten_answers();
-    let (cache, mut seat) = one_seat(alloc)?;
-    let known = row.domain.known(alloc)?;
-    fill(rt, &cache, &mut seat, known.as_slice(), Moment::new(100)?);
-    located_times(alloc, &row, &cache, &mut seat, count)
+    let known = row.domain.known(rt.alloc())?;
+    let now = Moment::new(100)?;
+    match one_seat(rt.alloc()) {
+        Some((cache, mut seat)) => {
+            fill(rt, &cache, &mut seat, known.as_slice(), now);
+            located_times(rt.alloc(), &row, &cache, &mut seat, count)
+        }
+        None => None,
+    }
 }
 
 /// Stores a part of so many domains in a shared cache or in a list.
 fn hold_part<R: Wait + AllocGlobal>(rt: &R, part: Part, is_shared: bool, count: u64) -> Option<()> {
-    if is_shared {
-        let (cache, mut seat) = one_seat(rt.alloc())?;
-        store_parts(rt, part, count, &cache, &mut seat)
-    } else {
+    if !is_shared {
         let (list, mut seat) = ListCache::new(rt.alloc());
-        store_parts(rt, part, count, &list, &mut seat)
+        return store_parts(rt, part, count, &list, &mut seat);
+    }
+    match one_seat(rt.alloc()) {
+        Some((cache, mut seat)) => store_parts(rt, part, count, &cache, &mut seat),
+        None => None,
     }
 }
 

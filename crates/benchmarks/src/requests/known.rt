@@ -16,7 +16,14 @@ pub struct Known {
 const LIFE: u32 = 3_600;
 
 /// The most addresses that an answer has.
-const MOST_ADDRESSES: usize = 32;
+const MOST_ADDRESSES: u8 = 32;
+
+/// How many addresses an answer has that is to have so many.
+fn most(count: usize) -> u8 {
+    u8::try_from(count)
+        .unwrap_or(MOST_ADDRESSES)
+        .min(MOST_ADDRESSES)
+}
 
 /// The records of a domain: its rules, the servers of the service of each rule, and the addresses
 /// of each server.
@@ -36,27 +43,106 @@ pub struct Domain<'a> {
     pub more: usize,
 }
 
+/// The name of a text.
+fn name_of(alloc: Global, text: &str) -> Option<Name> {
+    match Name::from_text(alloc, text) {
+        Ok(name) => Some(name),
+        Err(_) => None,
+    }
+}
+
+/// An answer of records.
+fn answer_of(alloc: Global, records: Records) -> Option<Arc<Answer>> {
+    match Answer::new(records, LIFE) {
+        Some(answer) => Arc::new(alloc, answer).ok(),
+        None => None,
+    }
+}
+
 /// A question for records of a name, with their answer.
 fn answered(alloc: Global, name: &str, kind: Kind, records: Records) -> Option<Known> {
-    Some(Known {
-        question: Question {
-            name: Name::from_text(alloc, name).ok()?,
-            kind,
-        },
-        answer: Arc::new(alloc, Answer::new(records, LIFE)?).ok()?,
-    })
+    let answer = answer_of(alloc, records)?;
+    match name_of(alloc, name) {
+        Some(name) => Some(Known {
+            question: Question { name, kind },
+            answer,
+        }),
+        None => None,
+    }
+}
+
+/// Adds an answer.
+fn push_known(all: &mut Vec<Known>, known: Option<Known>) -> Option<()> {
+    match known {
+        Some(known) => all.push(known).ok(),
+        None => None,
+    }
+}
+
+/// The octets of a text.
+fn octets_of(alloc: Global, text: &str) -> Option<Vec<u8>> {
+    Vec::from_slice(alloc, text.as_bytes()).ok()
 }
 
 /// The character string of a text.
 fn string_of(alloc: Global, text: &str) -> Option<CharString> {
-    CharString::new(Vec::from_slice(alloc, text.as_bytes()).ok()?)
+    let octets = octets_of(alloc, text)?;
+    CharString::new(octets)
+}
+
+/// The strings of a rule.
+#[derive(Drop)]
+struct RuleStrings {
+    flags: CharString,
+    services: CharString,
+    regexp: CharString,
+}
+
+/// The strings of a rule for a service.
+fn strings_of(alloc: Global, service: &str) -> Option<RuleStrings> {
+    let flags = string_of(alloc, "s")?;
+    let services = string_of(alloc, service)?;
+    let regexp = string_of(alloc, "")?;
+    Some(RuleStrings {
+        flags,
+        services,
+        regexp,
+    })
+}
+
+/// A rule for a service, whose servers are listed under a name.
+fn rule(alloc: Global, service: &str, target: &str) -> Option<NaptrRecord> {
+    let replacement = name_of(alloc, target)?;
+    let RuleStrings {
+        flags,
+        services,
+        regexp,
+    } = strings_of(alloc, service)?;
+    Some(NaptrRecord {
+        order: 10,
+        preference: 50,
+        flags,
+        services,
+        regexp,
+        replacement,
+    })
+}
+
+/// A server of a priority.
+fn server_of(alloc: Global, priority: u16, target: &str) -> Option<SrvRecord> {
+    Some(SrvRecord {
+        priority,
+        weight: 60,
+        port: 5060,
+        target: name_of(alloc, target)?,
+    })
 }
 
 /// Addresses of IPv4, so many.
 fn addresses_v4(alloc: Global, count: usize) -> Option<Records> {
     let mut all = Vec::new(alloc);
-    for number in 0..count.min(MOST_ADDRESSES) {
-        all.push([192, 0, 2, number as u8]).ok()?;
+    for number in 0..most(count) {
+        all.push([192, 0, 2, number]).ok()?;
     }
     Some(Records::V4(Section::from_vec(all)))
 }
@@ -64,12 +150,23 @@ fn addresses_v4(alloc: Global, count: usize) -> Option<Records> {
 /// Addresses of IPv6, so many.
 fn addresses_v6(alloc: Global, count: usize) -> Option<Records> {
     let mut all = Vec::new(alloc);
-    for number in 0..count.min(MOST_ADDRESSES) {
-        let mut octets = [0; 16];
-        octets[15] = number as u8;
-        all.push(octets).ok()?;
+    for number in 0..most(count) {
+        all.push([0, 0, 0, 0, 0, 0, 0, 0, 0, 0, 0, 0, 0, 0, 0, number])
+            .ok()?;
     }
     Some(Records::V6(Section::from_vec(all)))
+}
+
+/// The question for so many addresses of IPv4 of a name, with their answer.
+fn answered_v4(alloc: Global, name: &str, count: usize) -> Option<Known> {
+    let records = addresses_v4(alloc, count)?;
+    answered(alloc, name, Kind::A, records)
+}
+
+/// The question for so many addresses of IPv6 of a name, with their answer.
+fn answered_v6(alloc: Global, name: &str, count: usize) -> Option<Known> {
+    let records = addresses_v6(alloc, count)?;
+    answered(alloc, name, Kind::Aaaa, records)
 }
 
 impl<'a> Domain<'a> {
@@ -80,45 +177,72 @@ impl<'a> Domain<'a> {
         format!(in alloc; "s{server}-{list}.{label}.example").ok()
     }
 
-    /// The rules.
-    fn rules(&self, alloc: Global) -> Option<Known> {
+    /// Its own name.
+    fn own_name(&self, alloc: Global) -> Option<String> {
+        let label = self.label;
+        format!(in alloc; "{label}.example").ok()
+    }
+
+    /// Its name with labels in front.
+    fn name_behind(&self, alloc: Global, labels: &str) -> Option<String> {
+        let label = self.label;
+        format!(in alloc; "{labels}.{label}.example").ok()
+    }
+
+    /// The rule for a service, whose servers are listed under a label.
+    fn rule(&self, alloc: Global, service: &str, list: &str) -> Option<NaptrRecord> {
+        let target = self.name_behind(alloc, list)?;
+        rule(alloc, service, target.as_str())
+    }
+
+    /// The rules for all services.
+    fn all_rules(&self, alloc: Global) -> Option<Vec<NaptrRecord>> {
         let mut rules = Vec::new(alloc);
         for (service, list) in self.services {
-            let target = format!(in alloc; "{list}.{}.example", self.label).ok()?;
-            rules
-                .push(NaptrRecord {
-                    order: 10,
-                    preference: 50,
-                    flags: string_of(alloc, "s")?,
-                    services: string_of(alloc, service)?,
-                    regexp: string_of(alloc, "")?,
-                    replacement: Name::from_text(alloc, target.as_str()).ok()?,
-                })
-                .ok()?;
+            let rule = self.rule(alloc, service, list)?;
+            rules.push(rule).ok()?;
         }
-        let name = format!(in alloc; "{}.example", self.label).ok()?;
+        Some(rules)
+    }
+
+    /// The answer that has the rules.
+    fn rules(&self, alloc: Global) -> Option<Known> {
+        let name = self.own_name(alloc)?;
+        let rules = self.all_rules(alloc)?;
         let records = Records::Naptr(Section::from_vec(rules));
         answered(alloc, name.as_str(), Kind::Naptr, records)
     }
 
-    /// The servers of a list.
-    fn list(&self, alloc: Global, at: usize, labels: &str) -> Option<Known> {
+    /// The server of this number in the list of this number.
+    fn server(&self, alloc: Global, list: usize, server: usize) -> Option<SrvRecord> {
+        let is_last = server > 0 && server.saturating_add(1) == self.servers;
+        let target = self.server_name(alloc, list, server)?;
+        server_of(alloc, if is_last { 20 } else { 10 }, target.as_str())
+    }
+
+    /// All servers of the list of this number.
+    fn all_servers(&self, alloc: Global, list: usize) -> Option<Vec<SrvRecord>> {
         let mut servers = Vec::new(alloc);
-        for server in 0..self.servers {
-            let target = self.server_name(alloc, at, server)?;
-            let is_last = server > 0 && server.saturating_add(1) == self.servers;
-            servers
-                .push(SrvRecord {
-                    priority: if is_last { 20 } else { 10 },
-                    weight: 60,
-                    port: 5060,
-                    target: Name::from_text(alloc, target.as_str()).ok()?,
-                })
-                .ok()?;
+        for number in 0..self.servers {
+            let server = self.server(alloc, list, number)?;
+            servers.push(server).ok()?;
         }
-        let name = format!(in alloc; "{labels}.{}.example", self.label).ok()?;
+        Some(servers)
+    }
+
+    /// The answer that has the servers of a list.
+    fn list(&self, alloc: Global, at: usize, labels: &str) -> Option<Known> {
+        let name = self.name_behind(alloc, labels)?;
+        let servers = self.all_servers(alloc, at)?;
         let records = Records::Srv(Section::from_vec(servers));
         answered(alloc, name.as_str(), Kind::Srv, records)
+    }
+
+    /// How many addresses of IPv4 a server of a list has.
+    fn count_v4(&self, server: usize) -> usize {
+        let [v4, _] = self.addresses;
+        let more = if server == 0 { self.more } else { 0 };
+        v4.saturating_add(more)
     }
 
     /// Adds the addresses of the server of this number in the list of this number.
@@ -130,22 +254,18 @@ impl<'a> Domain<'a> {
         server: usize,
     ) -> Option<()> {
         let name = self.server_name(alloc, list, server)?;
-        let [v4, v6] = self.addresses;
-        let more = if server == 0 { self.more } else { 0 };
-        let records = addresses_v4(alloc, v4.saturating_add(more))?;
-        all.push(answered(alloc, name.as_str(), Kind::A, records)?)
-            .ok()?;
-        let records = addresses_v6(alloc, v6)?;
-        all.push(answered(alloc, name.as_str(), Kind::Aaaa, records)?)
-            .ok()
+        let [_, v6] = self.addresses;
+        push_known(
+            all,
+            answered_v4(alloc, name.as_str(), self.count_v4(server)),
+        )?;
+        push_known(all, answered_v6(alloc, name.as_str(), v6))
     }
 
     /// Adds the addresses of the domain itself: one of IPv4.
     fn push_own(&self, alloc: Global, all: &mut Vec<Known>) -> Option<()> {
-        let name = format!(in alloc; "{}.example", self.label).ok()?;
-        let records = addresses_v4(alloc, 1)?;
-        all.push(answered(alloc, name.as_str(), Kind::A, records)?)
-            .ok()
+        let name = self.own_name(alloc)?;
+        push_known(all, answered_v4(alloc, name.as_str(), 1))
     }
 
     /// Adds the addresses of the servers of a list.
@@ -166,19 +286,41 @@ impl<'a> Domain<'a> {
     /// The answer that has the servers of its first list, alone.
     pub fn servers(&self, alloc: Global) -> Option<Vec<Known>> {
         let (_, labels) = self.services.first()?;
-        vec![in alloc; self.list(alloc, 0, labels)?].ok()
+        let mut all = Vec::new(alloc);
+        push_known(&mut all, self.list(alloc, 0, labels))?;
+        Some(all)
+    }
+
+    /// Adds the servers of a list, and the addresses of these where they are its own.
+    fn push_list(
+        &self,
+        alloc: Global,
+        all: &mut Vec<Known>,
+        at: usize,
+        labels: &str,
+    ) -> Option<()> {
+        push_known(all, self.list(alloc, at, labels))?;
+        if at == 0 || self.are_apart {
+            self.push_servers(alloc, all, at)
+        } else {
+            Some(())
+        }
+    }
+
+    /// Adds all its answers.
+    fn push_all(&self, alloc: Global, all: &mut Vec<Known>) -> Option<()> {
+        push_known(all, self.rules(alloc))?;
+        self.push_own(alloc, all)?;
+        for (at, (_, labels)) in self.services.iter().enumerate() {
+            self.push_list(alloc, all, at, labels)?;
+        }
+        Some(())
     }
 
     /// All its answers.
     pub fn known(&self, alloc: Global) -> Option<Vec<Known>> {
-        let mut all = vec![in alloc; self.rules(alloc)?].ok()?;
-        self.push_own(alloc, &mut all)?;
-        for (at, (_, labels)) in self.services.iter().enumerate() {
-            all.push(self.list(alloc, at, labels)?).ok()?;
-            if at == 0 || self.are_apart {
-                self.push_servers(alloc, &mut all, at)?;
-            }
-        }
+        let mut all = Vec::new(alloc);
+        self.push_all(alloc, &mut all)?;
         Some(all)
     }
 }

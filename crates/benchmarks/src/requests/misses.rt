@@ -1,7 +1,7 @@
 //! How long a miss takes: a reply is read, its answer is taken out of it, and is stored in a book.
 use crate::requests::books::one_seat;
 use answer_cache::{AnswerBook, ListCache};
-use dns_answers::{Moment, answer_of};
+use dns_answers::{Answer, Moment, answer_of};
 use dns_message::{Kind, Message, Question, read_message};
 use dns_name::Name;
 use std::alloc::Global;
@@ -34,9 +34,13 @@ struct Reply<'a> {
 
 /// The kind of this number (RFC 1035 3.2.2, 3596 2.1, 2782, 3403 4.1).
 fn kind_of(code: u16) -> Option<Kind> {
-    [Kind::A, Kind::Aaaa, Kind::Srv, Kind::Naptr]
-        .into_iter()
-        .find(|kind| kind.type_number() == code)
+    match code {
+        1 => Some(Kind::A),
+        28 => Some(Kind::Aaaa),
+        33 => Some(Kind::Srv),
+        35 => Some(Kind::Naptr),
+        _ => None,
+    }
 }
 
 /// The first question of a message.
@@ -59,6 +63,43 @@ fn questions_of(alloc: Global, kind: Kind) -> Option<Vec<Question>> {
     Some(all)
 }
 
+/// The answer of a message to the question of a reply.
+fn answer_by(alloc: Global, reply: &Reply<'_>, message: &Message) -> Option<Arc<Answer>> {
+    match answer_of(alloc, reply.question, message) {
+        Ok(answer) => Arc::new(alloc, answer).ok(),
+        Err(_) => None,
+    }
+}
+
+/// Reads the reply, and takes its answer out of it.
+fn answer_in(alloc: Global, reply: &Reply<'_>) -> Option<Arc<Answer>> {
+    match read_message(alloc, reply.octets) {
+        Ok(message) => answer_by(alloc, reply, &message),
+        Err(_) => None,
+    }
+}
+
+/// Stores an answer under a question: how many records it has.
+fn store_answer<R: Wait, B: AnswerBook>(
+    rt: &R,
+    question: &Question,
+    answer: &Arc<Answer>,
+    book: &B,
+    seat: &mut B::Seat,
+    now: Moment,
+) -> Option<usize>
+    requires { B.belongs book.now seat.old }
+    ensures { B.belongs book.now seat.new }
+{
+    if answer.records().kind() != question.kind {
+        return None;
+    }
+    match book.store(rt, seat, question, answer, now) {
+        Ok(()) => Some(answer.records().len()),
+        Err(_) => None,
+    }
+}
+
 /// Reads the reply, and stores its answer under a question: how many records it has.
 fn store_one<R: Wait + AllocGlobal, B: AnswerBook>(
     rt: &R,
@@ -70,23 +111,9 @@ fn store_one<R: Wait + AllocGlobal, B: AnswerBook>(
     requires { B.belongs book.now seat.old }
     ensures { B.belongs book.now seat.new }
 {
-    let alloc = rt.alloc();
-    let Ok(message) = read_message(alloc, reply.octets) else {
-        return None;
-    };
-    let Ok(answer) = answer_of(alloc, reply.question, &message) else {
-        return None;
-    };
-    let count = answer.records().len();
-    let Ok(answer) = Arc::new(alloc, answer) else {
-        return None;
-    };
-    if answer.records().kind() != question.kind {
-        return None;
-    }
-    match book.store(rt, seat, question, &answer, reply.now) {
-        Ok(()) => Some(count),
-        Err(_) => None,
+    match answer_in(rt.alloc(), reply) {
+        Some(answer) => store_answer(rt, question, &answer, book, seat, reply.now),
+        None => None,
     }
 }
 
@@ -146,7 +173,8 @@ fn slices<R: Clock + Wait + AllocGlobal>(
 ) -> Option<Vec<u128>> {
     let mut times = Vec::new(rt.alloc());
     for _slice in 0..SLICES {
-        times.push(slice(rt, reply, sort)?).ok()?;
+        let time = slice(rt, reply, sort)?;
+        times.push(time).ok()?;
     }
     times.sort().ok()?;
     Some(times)
@@ -172,6 +200,66 @@ fn print_misses<R: Clock + Print + Wait + AllocGlobal>(
     println!(rt; "{label}\t{name}\t{records}\t{least}\t{middle}").ok()
 }
 
+/// The question of the message in octets.
+fn question_in(alloc: Global, octets: &[u8]) -> Option<Question> {
+    let message = read_message(alloc, octets).ok()?;
+    first_question(&message)
+}
+
+/// How many records the reply in octets has for a question.
+fn count_records(alloc: Global, question: &Question, octets: &[u8]) -> Option<usize> {
+    let message = read_message(alloc, octets).ok()?;
+    let answer = answer_of(alloc, question, &message).ok()?;
+    Some(answer.records().len())
+}
+
+/// Stores the answer of a reply in so many shared caches.
+fn store_rounds<R: Clock + Wait + AllocGlobal>(
+    rt: &R,
+    reply: &Reply<'_>,
+    rounds: u64,
+) -> Option<()> {
+    for _round in 0..rounds {
+        slice(rt, reply, Sort::Shared)?;
+    }
+    Some(())
+}
+
+/// Measures the misses of a reply over both books, or stores its answer in a number of shared
+/// caches.
+fn run_reply<R: Clock + Print + Wait + AllocGlobal>(
+    rt: &R,
+    label: &str,
+    reply: &Reply<'_>,
+    rounds: Option<u64>,
+) -> Option<()> {
+    if let Some(rounds) = rounds {
+        return store_rounds(rt, reply, rounds);
+    }
+    let records = count_records(rt.alloc(), reply.question, reply.octets)?;
+    print_misses(rt, label, reply, Sort::Shared, records)?;
+    print_misses(rt, label, reply, Sort::List, records)
+}
+
+/// The same of the reply in octets to a question.
+fn run_octets<R: Clock + Print + Wait + AllocGlobal>(
+    rt: &R,
+    label: &str,
+    octets: &[u8],
+    question: &Question,
+    rounds: Option<u64>,
+) -> Option<()> {
+    let now = Moment::new(100)?;
+    let stored = questions_of(rt.alloc(), question.kind)?;
+    let reply = Reply {
+        octets,
+        question,
+        stored: stored.as_slice(),
+        now,
+    };
+    run_reply(rt, label, &reply, rounds)
+}
+
 /// Measures the misses of the reply in a file over both books, or stores its answer in a number of
 /// shared caches.
 pub fn run<R: Clock + Files + Print + Wait + AllocGlobal>(
@@ -180,24 +268,7 @@ pub fn run<R: Clock + Files + Print + Wait + AllocGlobal>(
     path: &str,
     rounds: Option<u64>,
 ) -> Option<()> {
-    let alloc = rt.alloc();
     let octets = fs::read(rt, path).ok()?;
-    let message = read_message(alloc, octets.as_slice()).ok()?;
-    let question = first_question(&message)?;
-    let stored = questions_of(alloc, question.kind)?;
-    let reply = Reply {
-        octets: octets.as_slice(),
-        question: &question,
-        stored: stored.as_slice(),
-        now: Moment::new(100)?,
-    };
-    if let Some(rounds) = rounds {
-        for _round in 0..rounds {
-            slice(rt, &reply, Sort::Shared)?;
-        }
-        return Some(());
-    }
-    let records = answer_of(alloc, &question, &message).ok()?.records().len();
-    print_misses(rt, label, &reply, Sort::Shared, records)?;
-    print_misses(rt, label, &reply, Sort::List, records)
+    let question = question_in(rt.alloc(), octets.as_slice())?;
+    run_octets(rt, label, octets.as_slice(), &question, rounds)
 }

@@ -7,16 +7,27 @@ use sip_workers::Job;
 use srv_choice::{WORD_COUNT, Words};
 use std::alloc::Global;
 
+/// A request to the domain of this number.
+fn request_of(alloc: Global, domain: u64) -> Option<Request> {
+    let text = format!(in alloc; "sip:user@d{domain}.example").ok()?;
+    match read_uri(alloc, text.as_str()) {
+        Ok(uri) => Some(Request::Uri(uri)),
+        Err(_) => None,
+    }
+}
+
 /// The job of this number, where there is memory for it: it goes to a domain by its number.
 pub fn job_of(alloc: Global, number: u64) -> Option<Job> {
-    let domain = number % DOMAINS;
-    let text = format!(in alloc; "sip:user@d{domain}.example").ok()?;
-    Some(Job {
-        number,
-        request: Request::Uri(read_uri(alloc, text.as_str()).ok()?),
-        caps: Caps::new(&[Udp, Tcp, Tls], Families::V4ThenV6)?,
-        words: Words([number; WORD_COUNT]),
-    })
+    let caps = Caps::new(&[Udp, Tcp, Tls], Families::V4ThenV6)?;
+    match request_of(alloc, number % DOMAINS) {
+        Some(request) => Some(Job {
+            number,
+            request,
+            caps,
+            words: Words([number; WORD_COUNT]),
+        }),
+        None => None,
+    }
 }
 
 /// So many jobs.

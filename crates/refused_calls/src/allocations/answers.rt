@@ -2,7 +2,7 @@
 use super::are_right;
 use super::messages::message;
 use super::replies::REPLY;
-use dns_answers::{ReplyRefusal, answer_of};
+use dns_answers::{ReplyRefusal, answer_of, follow_up, join_replies};
 use dns_message::{Kind, Message, Question};
 use dns_name::Name;
 use std::alloc::Global;
@@ -19,6 +19,13 @@ const BEHIND: &[u8] =
     s\x07example\x00\x01a\x07example\x00\x00#\x00\x01\x00\x00\x010\x00\x1a\x00\x0a\x002\x01s\
     \x07SIP+D2U\x00\x01n\x07example\x00";
 
+/// A reply that is cut short: a CNAME record, and nothing about its target, whose name is too long
+/// to lie in the value itself.
+const CUT: &[u8] =
+    b"\x00\x07\x81\x80\x00\x01\x00\x01\x00\x00\x00\x00\x01w\x07example\x00\x00\x01\x00\x01\
+    \x01w\x07example\x00\x00\x05\x00\x01\x00\x00\x00<\x00\x20\x07proxy-1\x04west\x05voice\
+    \x07example\x03com\x00";
+
 /// The calls.
 #[derive(Clone, Copy, Debug)]
 enum Call {
@@ -26,14 +33,20 @@ enum Call {
     Address,
     /// Of a record of this kind behind an alias.
     Each(Kind),
+    /// The question that goes on where a chain was cut short.
+    FollowUp,
+    /// A reply that was cut short, and the one that goes on, together.
+    JoinReplies,
 }
 
-const CALLS: [Call; 5] = [
+const CALLS: [Call; 7] = [
     Call::Address,
     Call::Each(Kind::A),
     Call::Each(Kind::Aaaa),
     Call::Each(Kind::Srv),
     Call::Each(Kind::Naptr),
+    Call::FollowUp,
+    Call::JoinReplies,
 ];
 
 /// A question.
@@ -82,11 +95,29 @@ fn each(alloc: Global, kind: Kind) -> Option<bool> {
     is_answered_by(alloc, &question, &octets, 60)
 }
 
+/// `follow_up`, which goes on behind one CNAME record.
+fn followed(alloc: Global) -> Option<bool> {
+    let reply = message(alloc, CUT)?;
+    let question = question(alloc, "w.example", Kind::A)?;
+    let further = follow_up(alloc, &question, &reply, 0).ok()?;
+    Some(further.is_some_and(|it| it.links == 1))
+}
+
+/// `join_replies`, which gives the records of both.
+fn joined(alloc: Global) -> Option<bool> {
+    let first = message(alloc, CUT)?;
+    let last = message(alloc, REPLY)?;
+    let both = join_replies(alloc, first, last).ok()?;
+    Some(both.answers.len() == 2)
+}
+
 /// What a call says.
 fn says(alloc: Global, call: Call) -> Option<bool> {
     match call {
         Call::Address => address(alloc),
         Call::Each(kind) => each(alloc, kind),
+        Call::FollowUp => followed(alloc),
+        Call::JoinReplies => joined(alloc),
     }
 }
 

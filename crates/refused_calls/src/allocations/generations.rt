@@ -7,6 +7,7 @@ ghost use Rattle.dns_answers.specs.Records.{kind_of};
 ghost use Rattle.dns_message.specs.declared.kind.Kind.TheVariants.{A};
 ghost use Rattle.rolling_cache.specs.Rolling.{IsAt, IsFirst};
 
+use super::are_right;
 use answer_cache::{AnswerBook, CacheRefusal};
 use dns_answers::{Answer, Moment, Records, Section};
 use dns_message::{Kind, Question};
@@ -223,15 +224,6 @@ fn says<R: Wait>(rt: &R, alloc: Global, call: Call) -> Option<bool> {
         Call::New => new(alloc),
         Call::CatchUp | Call::Renew => changes(rt, alloc, call),
     }
-}
-
-/// Whether two equal calls, one after the other, have the right answer, of which one at most wants
-/// memory.
-fn are_right(first: Option<bool>, again: Option<bool>) -> bool {
-    matches!(
-        (first, again),
-        (Some(true), Some(true)) | (Some(true), None) | (None, Some(true))
-    )
 }
 
 #[test]

@@ -91,13 +91,26 @@ fn stores_and_steps<B: AnswerBook, R: Wait>(
     }
 }
 
+/// The same of a new book.
+fn steps_over_list<R: Wait>(
+    rt: &R,
+    alloc: Global,
+    locator: &mut Locator<ListCache>,
+    question: &Question,
+    answer: &Arc<Answer>,
+) -> Option<bool>
+    requires { kind_of (arc_value answer.now).records ≡ question.now.kind }
+{
+    let (book, mut seat) = ListCache::new(alloc);
+    stores_and_steps(rt, locator, &book, &mut seat, question, answer)
+}
+
 /// `step`, over a book that has the answer.
 fn step<R: Wait>(rt: &R, alloc: Global) -> Option<bool> {
     let question = question(alloc)?;
     let answer = answer(alloc, 60)?;
     let mut locator = locator(alloc)?;
-    let (book, mut seat) = ListCache::new(alloc);
-    stores_and_steps(rt, &mut locator, &book, &mut seat, &question, &answer)
+    steps_over_list(rt, alloc, &mut locator, &question, &answer)
 }
 
 /// What becomes of a reply, if memory is refused at first, then the second time.
@@ -146,12 +159,22 @@ fn goes_by_reply<B: AnswerBook, R: Wait>(
     }
 }
 
+/// The same of a new book.
+fn goes_over_list<R: Wait>(
+    rt: &R,
+    alloc: Global,
+    locator: &mut Locator<ListCache>,
+    question: &Question,
+) -> bool {
+    let (book, mut seat) = ListCache::new(alloc);
+    goes_by_reply(rt, locator, &book, &mut seat, question)
+}
+
 /// `reply`
 fn reply<R: Wait>(rt: &R, alloc: Global) -> Option<bool> {
     let question = question(alloc)?;
     let mut locator = locator(alloc)?;
-    let (book, mut seat) = ListCache::new(alloc);
-    Some(goes_by_reply(rt, &mut locator, &book, &mut seat, &question))
+    Some(goes_over_list(rt, alloc, &mut locator, &question))
 }
 
 /// `give`

@@ -2,8 +2,8 @@
 use super::are_right;
 use super::replies::{PLAIN, QUERY, REPLY, SHORT_QUERY, SRV_PLAIN, SRV_REPLY};
 use dns_message::{
-    Kind, Message, MessageRefusal, Part, Question, Rdata, message_in, read_message, write_query,
-    write_reply,
+    Kind, Message, MessageRefusal, Part, Question, Rdata, message_in, read_message, write_message,
+    write_query, write_reply,
 };
 use dns_name::Name;
 use std::alloc::Global;
@@ -18,9 +18,10 @@ enum Call {
     WriteShortQuery,
     WriteReply,
     WriteServer,
+    WriteMessage,
 }
 
-const CALLS: [Call; 7] = [
+const CALLS: [Call; 8] = [
     Call::ReadMessage,
     Call::ReadCounts,
     Call::MessageIn,
@@ -28,6 +29,7 @@ const CALLS: [Call; 7] = [
     Call::WriteShortQuery,
     Call::WriteReply,
     Call::WriteServer,
+    Call::WriteMessage,
 ];
 
 /// The message of these octets.
@@ -102,6 +104,16 @@ fn reply(alloc: Global, octets: &[u8], plain: &[u8]) -> Option<bool> {
     Some(written.as_slice() == plain)
 }
 
+/// `write_message` of the message of these octets.
+fn whole(alloc: Global, octets: &[u8], plain: &[u8]) -> Option<bool> {
+    let message = message(alloc, octets)?;
+    if message.header.opcode > 15 || message.header.rcode > 15 {
+        return Some(false);
+    }
+    let written = write_message(alloc, &message).ok()?;
+    Some(written.as_slice() == plain)
+}
+
 /// What a call says.
 fn says(alloc: Global, call: Call) -> Option<bool> {
     match call {
@@ -112,6 +124,7 @@ fn says(alloc: Global, call: Call) -> Option<bool> {
         Call::WriteShortQuery => query(alloc, "a.example", SHORT_QUERY),
         Call::WriteReply => reply(alloc, REPLY, PLAIN),
         Call::WriteServer => reply(alloc, SRV_REPLY, SRV_PLAIN),
+        Call::WriteMessage => whole(alloc, REPLY, PLAIN),
     }
 }
 

@@ -5,6 +5,6 @@ use Rattle.dns_answers.proofs.Chains.{Leads}
 use Rattle.dns_answers.proofs.chain.chain_end.Given as goal
 
 -- so many records were followed
-abbrev pub invariant-loop : goal.invariant-loop
-invariant-loop l = (links : List Record) × (length links ≡ l.counter) × Leads l.section l.start links l.name
-    × (l.life ≡ least_from 2147483647 (ttls links))
+abbrev pub invariant-loop-links : goal.invariant-loop-links
+invariant-loop-links l = (passed : List Record) × (length passed ≡ l.links) × Leads l.section l.start passed l.name
+    × (l.life ≡ least_from 2147483647 (ttls passed))

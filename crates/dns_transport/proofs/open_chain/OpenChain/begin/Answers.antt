@@ -2,7 +2,8 @@ use Rattle.std.proofs.Common.{ℕ}
 use Rattle.dns_message.specs.Messages.{Begins}
 use Rattle.dns_message.specs.declared.message.Message.{Message}
 use Rattle.dns_message.specs.declared.question.Question.{Question}
-use Rattle.dns_transport.specs.CnameChains.{Asks, IsWhole}
+use Rattle.dns_answers.specs.CutChains.{IsWhole}
+use Rattle.dns_transport.specs.CnameChains.{Asks}
 use Rattle.dns_transport.proofs.SameQueries.{one_message, one_query}
 use Rattle.dns_transport.proofs.open_chain.OpenChain.begin.Goals as goal
 

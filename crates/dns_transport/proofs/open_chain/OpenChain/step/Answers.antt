@@ -1,7 +1,8 @@
 use Rattle.std.proofs.Common.{refl, ap, ◌∙◌}
 use Rattle.dns_message.specs.Messages.{Begins}
 use Rattle.dns_message.specs.declared.message.Message.{Message}
-use Rattle.dns_transport.specs.CnameChains.{OpenValue, is_reply_to}
+use Rattle.dns_answers.specs.CutChains.{is_reply_to}
+use Rattle.dns_transport.specs.CnameChains.{OpenValue}
 use Rattle.dns_transport.proofs.SameQueries.{one_message}
 use Rattle.dns_transport.proofs.open_chain.OpenChain.step.Goals as goal
 

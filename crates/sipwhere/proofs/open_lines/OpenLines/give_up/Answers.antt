@@ -8,8 +8,8 @@ pub invariant_of-self : goal.invariant_of-self
 invariant_of-self g c = record {
   few = c.self.invariant.few;
   own = meant-left c.self.inside.sender c.self.inside.lines.now c.self.inside.resolver.requests
-      c.cancel-was_inside.new.self.requests (requests_with c.args.place c.self.inside.resolver.requests)
-      c.cancel-was_inside.ensures.kept c.self.invariant.own;
+      c.cancel_over-was_inside.new.resolver.requests (requests_with c.args.place c.self.inside.resolver.requests)
+      c.cancel_over-was_inside.ensures.kept c.self.invariant.own;
   as_many = length-set _ _ _ ∙ c.self.invariant.as_many;
 }
 
@@ -21,7 +21,7 @@ returns-clause-stands g c = λ seat was.
     let within = rw (← c.self.view_is) at c.requires.inside in
     let inside : c.args.place < length lines = omega (arith, within) in
     record {
-      requests = c.cancel-was_inside.ensures.stand seat before.requests;
+      requests = c.cancel_over-was_inside.ensures.stand seat before.requests;
       line_outcomes = line_outcomes-submitted _ _ seat c.self.inside.sender lines _ _ _ (Some c.line_outcome_in_vain.result) inside
           before.line_outcomes needless;
     }

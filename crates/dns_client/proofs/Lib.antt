@@ -1,3 +1,0 @@
-mod Colons
-mod Works
-mod Drives

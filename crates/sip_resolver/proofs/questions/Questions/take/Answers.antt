@@ -1,0 +1,14 @@
+use Rattle.sip_resolver.proofs.Apart.{closed-bounded, closed-one}
+use Rattle.sip_resolver.specs.Questions.{QuestionsView}
+use Rattle.sip_resolver.specs.declared.transmit.Over.TheVariants.{Datagram}
+use Rattle.sip_resolver.proofs.questions.Questions.take.Goals as goal
+
+pub invariant_of-self : goal.invariant_of-self
+invariant_of-self c =
+    let old : QuestionsView = record { datagrams = c.self.inside.datagrams; streams = c.self.inside.streams } in
+    rw c.cancel.ensures.left (closed-one Datagram c.args.id old c.self.invariant)
+
+pub invariant_of-self-2 : goal.invariant_of-self-2
+invariant_of-self-2 c =
+    let old : QuestionsView = record { datagrams = c.self.inside.datagrams; streams = c.self.inside.streams } in
+    rw (c.cancel.ensures.left, c.cancel-2.ensures.left) (closed-bounded c.args.id old c.self.invariant)

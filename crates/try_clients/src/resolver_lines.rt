@@ -1,0 +1,147 @@
+//! What a resolver gives, as lines.
+use crate::lookups::{kind_word, push_address, push_name, push_question};
+use dns_answers::ReplyRefusal;
+use dns_message::{Asked, Kind, Message, Question, read_message};
+use row_fields::{Fault, Output};
+use sip_resolver::{Heard, Outcome, Over, SubmitRefusal};
+use sip_selection::{Reason, Target};
+use sip_uri::Transport;
+use std::alloc::AllocError;
+
+/// Writes why a request is not taken.
+pub(crate) fn push_submit_refusal(output: &mut Output, refusal: SubmitRefusal) {
+    let alloc = output.alloc();
+    output.push_made(format!(in alloc; "{refusal:?}\n"));
+}
+
+/// Writes what octets meant.
+pub(crate) fn push_heard(output: &mut Output, heard: Result<Heard, AllocError>) {
+    let alloc = output.alloc();
+    match heard {
+        Ok(Heard::Reply) => output.push_line("reply"),
+        Ok(Heard::Cut) => output.push_line("cut"),
+        Ok(Heard::Ignored(why)) => output.push_made(format!(in alloc; "ignored {why:?}\n")),
+        Err(_) => output.fail(Fault::Memory),
+    }
+}
+
+/// The word for what octets go over.
+fn over_word(over: Over) -> &'static str {
+    match over {
+        Over::Datagram => "datagram ",
+        Over::Stream => "stream ",
+    }
+}
+
+/// Writes octets that are sent.
+pub(crate) fn push_sent_octets(output: &mut Output, octets: &[u8], over: Over) {
+    output.push(over_word(over));
+    output.push_octets_line(octets);
+}
+
+/// The name of a type of records, by its number.
+fn type_word(number: u16) -> Option<&'static str> {
+    for kind in [Kind::A, Kind::Aaaa, Kind::Srv, Kind::Naptr] {
+        if kind.type_number() == number {
+            return Some(kind_word(kind));
+        }
+    }
+    None
+}
+
+/// Writes what is asked.
+fn push_asked(output: &mut Output, asked: &Asked) {
+    match type_word(asked.type_number) {
+        Some(word) => output.push(word),
+        None => output.fail(Fault::Form),
+    }
+    output.push(" ");
+    push_name(output, &asked.name);
+}
+
+/// Writes the one question of a message.
+fn push_asked_of(output: &mut Output, questions: &[Asked]) {
+    match questions {
+        [asked] => push_asked(output, asked),
+        _ => output.fail(Fault::Form),
+    }
+}
+
+/// Writes a message: what it goes over, its id, and its question.
+fn push_message(output: &mut Output, message: &Message, over: Over) {
+    output.push(over_word(over));
+    output.push_number(u64::from(message.header.id));
+    output.push(" ");
+    push_asked_of(output, message.questions.as_slice());
+    output.push("\n");
+}
+
+/// Writes the message that is sent in octets.
+pub(crate) fn push_sent(output: &mut Output, octets: &[u8], over: Over) {
+    match read_message(output.alloc(), octets) {
+        Ok(message) => push_message(output, &message, over),
+        Err(_) => output.fail(Fault::Form),
+    }
+}
+
+/// The word for a transport.
+fn transport_word(transport: Transport) -> &'static str {
+    match transport {
+        Transport::Udp => "udp",
+        Transport::Tcp => "tcp",
+        Transport::Sctp => "sctp",
+        Transport::Tls => "tls",
+    }
+}
+
+/// Writes a target, behind a comma.
+fn push_target(output: &mut Output, target: &Target) {
+    output.push(", ");
+    output.push(transport_word(target.transport));
+    output.push(" ");
+    push_address(output, target.address);
+    output.push(" ");
+    output.push_number(u64::from(target.port));
+}
+
+/// Writes targets.
+fn push_targets(output: &mut Output, targets: &[Target]) {
+    output.push(" goes");
+    for target in targets {
+        push_target(output, target);
+    }
+}
+
+/// Writes why a request goes nowhere.
+fn push_reason(output: &mut Output, reason: Reason) {
+    let alloc = output.alloc();
+    output.push_made(format!(in alloc; " refused {reason:?}"));
+}
+
+/// Writes words, and the question to which there is no answer.
+fn push_asked_in_vain(output: &mut Output, words: &str, question: &Question) {
+    output.push(words);
+    push_question(output, question);
+}
+
+/// Writes the question to which there is a bad reply.
+fn push_bad_reply(output: &mut Output, question: &Question, refusal: ReplyRefusal) {
+    let alloc = output.alloc();
+    output.push(" has a bad reply to ");
+    push_question(output, question);
+    output.push_made(format!(in alloc; ": {refusal:?}"));
+}
+
+/// Writes what became of the request of a number.
+pub(crate) fn push_outcome(output: &mut Output, number: u64, outcome: &Outcome) {
+    output.push_number(number);
+    match outcome {
+        Outcome::Targets(list) => push_targets(output, list.as_slice()),
+        Outcome::Refused(reason) => push_reason(output, *reason),
+        Outcome::NoAnswer(question) => push_asked_in_vain(output, " has no answer to ", question),
+        Outcome::NoServer(question) => push_asked_in_vain(output, " has no server for ", question),
+        Outcome::BadReply(question, refusal) => push_bad_reply(output, question, *refusal),
+        Outcome::Memory => output.fail(Fault::Memory),
+    }
+    output.push("\n");
+}

@@ -1,0 +1,160 @@
+//! Calls of `sip_resolver`: what happens to a resolver, and what it gives.
+ghost use Rattle.std.specs.Prelude.{◌≤◌, ℕ, IfSome, IsTrue, List};
+ghost use Rattle.answer_cache.specs.Seats.{SeatView};
+ghost use Rattle.sip_resolver.specs.Requests.{Stand};
+
+use crate::clients;
+use crate::lookups::{moment_of, push_number_line, push_yes, zone_of};
+use crate::resolver_calls::{
+    cancel, close, hear, outcome, poll, poll_octets, push_awaited, serve, submit,
+};
+use crate::resolver_steps::{LineIds, Setting, Step, setting_of, steps_of, zone_text};
+use answer_cache::{AnswerBook, ListCache};
+use dns_asker::Zone;
+use row_fields::{Fault, Output, first_line, only_line};
+use sip_resolver::{Anything, Limits, Origin, Resolver, rounded_up};
+use std::alloc::Global;
+use std::sync::Wait;
+
+/// What a call gives for a row's lines.
+pub(crate) fn told<R: Wait>(
+    rt: &R,
+    output: &mut Output,
+    call: &str,
+    input: &str,
+) -> Result<(), Fault> {
+    match call {
+        "script" => script(rt, output, input),
+        "rounded_up" => rounded(output, only_line(input)),
+        "draw_words" | "random_ids" => clients::told(output, call, input),
+        _ => Err(Fault::Call),
+    }
+}
+
+/// The next moment of a clock.
+fn rounded(output: &mut Output, line: &str) -> Result<(), Fault> {
+    let now = moment_of(line)?;
+    push_number_line(output, Some(rounded_up(now).get()));
+    Ok(())
+}
+
+/// The zone of the lines that begin with `zone `.
+fn zone_in(alloc: Global, lines: &str) -> Result<Zone, Fault> {
+    let text = zone_text(alloc, lines)?;
+    zone_of(alloc, &text)
+}
+
+/// What a resolver gives for what happens to it, line by line.
+fn script<R: Wait>(rt: &R, output: &mut Output, input: &str) -> Result<(), Fault> {
+    let (first, lines) = first_line(input)?;
+    let zone = zone_in(output.alloc(), lines)?;
+    let setting = setting_of(output.alloc(), first)?;
+    if !are_limits(setting.limits) {
+        return Err(Fault::Form);
+    }
+    match steps_of(output.alloc(), lines) {
+        Ok(steps) => play_new(rt, output, setting, &zone, steps),
+        Err(fault) => output.fail(fault),
+    }
+    Ok(())
+}
+
+/// Whether a resolver can have these limits.
+fn are_limits(limits: Limits) -> bool
+    ensures requests { IsTrue result → (1 ≤ limits.requests) × (limits.requests ≤ 1024) }
+    ensures questions { IsTrue result → (1 ≤ limits.questions) × (limits.questions ≤ 256) }
+{
+    limits.requests >= 1
+        && limits.requests <= 1024
+        && limits.questions >= 1
+        && limits.questions <= 256
+}
+
+/// A resolver in which no request is, where there is memory for it.
+fn empty<B: AnswerBook, F: Origin>(
+    alloc: Global,
+    limits: Limits,
+    ids: LineIds,
+) -> Option<Resolver<B, F, LineIds>>
+    requires requests { (1 ≤ limits.requests) × (limits.requests ≤ 1024) }
+    requires questions { (1 ≤ limits.questions) × (limits.questions ≤ 256) }
+    ensures { (seat : SeatView) → IfSome result
+        (λ made. Stand F.gives F.shows seat made.requests) }
+{
+    let Ok(resolver) = Resolver::new(alloc, limits, ids) else {
+        return None;
+    };
+    Some(resolver)
+}
+
+/// Plays steps to a new resolver.
+fn play_new<R: Wait>(rt: &R, output: &mut Output, setting: Setting, zone: &Zone, steps: Vec<Step>)
+    requires requests { (1 ≤ setting.limits.requests) × (setting.limits.requests ≤ 1024) }
+    requires questions { (1 ≤ setting.limits.questions) × (setting.limits.questions ≤ 256) }
+{
+    let alloc = output.alloc();
+    let Setting { limits, ids } = setting;
+    let Some(mut resolver) = empty::<ListCache, Anything>(alloc, limits, ids) else {
+        output.fail(Fault::Memory);
+        return;
+    };
+    let (book, mut seat) = ListCache::new(alloc);
+    play(rt, output, &mut resolver, &book, &mut seat, zone, steps);
+}
+
+/// Plays steps to a resolver.
+fn play<B: AnswerBook, F: Origin, R: Wait>(
+    rt: &R,
+    output: &mut Output,
+    resolver: &mut Resolver<B, F, LineIds>,
+    book: &B,
+    seat: &mut B::Seat,
+    zone: &Zone,
+    steps: Vec<Step>,
+)
+    requires made_here { B.belongs book.now seat.old }
+    requires given { (octets : List ℕ) → F.gives octets }
+    requires shown { (now : ℕ) → F.shows now }
+    requires stand { Stand F.gives F.shows (B.shown seat.old) resolver.old.requests }
+{
+    'steps: for step in steps {
+        does(rt, output, resolver, book, seat, zone, step);
+    }
+}
+
+/// What a resolver gives for a step.
+fn does<B: AnswerBook, F: Origin, R: Wait>(
+    rt: &R,
+    output: &mut Output,
+    resolver: &mut Resolver<B, F, LineIds>,
+    book: &B,
+    seat: &mut B::Seat,
+    zone: &Zone,
+    step: Step,
+)
+    requires made_here { B.belongs book.now seat.old }
+    requires given { (octets : List ℕ) → F.gives octets }
+    requires shown { (now : ℕ) → F.shows now }
+    requires stand { Stand F.gives F.shows (B.shown seat.old) resolver.old.requests }
+    ensures stays { B.belongs book.now seat.new }
+    ensures stand { Stand F.gives F.shows (B.shown seat.new) resolver.new.requests }
+{
+    match step {
+        Step::Submit(submitted) => submit(output, resolver, submitted),
+        Step::Poll(now, asked) => poll(output, resolver, book, seat, now, asked),
+        Step::PollOctets(now, asked) => poll_octets(output, resolver, book, seat, now, asked),
+        Step::Hear(now, over, octets) => {
+            hear(rt, output, resolver, book, seat, now, over, &octets);
+        }
+        Step::Serve(now) => serve(rt, output, resolver, book, seat, zone, now),
+        Step::Cancel(number) => cancel(output, resolver, number),
+        Step::Close(id) => close(output, resolver, id),
+        Step::AwaitedId(number) => push_awaited(output, resolver, number),
+        Step::IsOut(id) => push_yes(output, resolver.is_out(id)),
+        Step::PollOutcome => outcome(output, resolver),
+        Step::NextTimeout => push_number_line(output, resolver.next_timeout()),
+        Step::HasRoom => push_yes(output, resolver.has_room()),
+        Step::IsEmpty => push_yes(output, resolver.is_empty()),
+        Step::Zone => {}
+    }
+}
