@@ -12,7 +12,7 @@ use Rattle.dns_message.specs.declared.question.Question.{Question}
 use Rattle.sip_selection.specs.Known.{find_answer, answer_to}
 use Rattle.sip_selection.specs.Views.{given_of}
 
-question_equiv : IsEquivalence same_question
+pub question_equiv : IsEquivalence same_question
 question_equiv =
     and_equiv (on_equiv (λ (question : Question). question.name) (lists_equiv (lists_equiv nat_eq_equiv)))
     (on_equiv (λ (question : Question). type_of_kind question.kind) nat_eq_equiv)

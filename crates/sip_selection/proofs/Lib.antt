@@ -17,6 +17,7 @@ mod Answered
 mod Walking
 mod Choosing
 mod Steps
+mod Consulting
 mod TriedServices
 mod Preferences
 mod LeastOrder

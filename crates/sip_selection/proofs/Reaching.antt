@@ -1,5 +1,5 @@
 -- Targets that are pushed as far as a loop has come.
-use Rattle.std.proofs.Common.{◌≡◌, ℕ, ◌+◌, ◌<◌, false, List, [], ◌∷◌, ◌++◌, length, map, drop, get_or, Some, Ok, Err, slice_get, refl, sym, true≢false, ap, subst, ◌∙◌, append_assoc}
+use Rattle.std.proofs.Common.{◌≡◌, ℕ, ◌+◌, ◌<◌, false, List, [], ◌∷◌, ◌++◌, length, map, drop, get_or, None, Some, Ok, Err, slice_get, refl, sym, true≢false, ap, subst, ◌∙◌, append_assoc}
 use Rattle.std.specs.Bool.{IsTrue}
 use Rattle.std.proofs.lemmas.List.{drop_more}
 use Rattle.dns_answers.specs.Values.{AnswerValue}
@@ -128,3 +128,16 @@ module _ (caps : Caps) (transport : Transport) (servers : List SrvRecord) where
         → Reaches given (λ all. index_left caps all transport servers index) kind (Some (stop, question)) found
         → servers_left caps given transport servers indexes (record { server = at; kind = stop }) ≡ Err question
     server-stops given stop question found part = rw (indexes-are, part.1) refl
+
+    pub index-stops : (given : List Given) (question : Question) → index_left caps given transport servers index kind ≡ Err question
+        → servers_left caps given transport servers indexes (record { server = at; kind = kind }) ≡ Err question
+    index-stops given question unknown = rw (indexes-are, unknown) refl
+
+    -- all its addresses are there
+    pub server-done : (given : List Given) (found : List Target)
+        → Reaches given (λ all. index_left caps all transport servers index) kind None found
+        → (all : List Given) → Extends given all
+        → servers_left caps all transport servers indexes (record { server = at; kind = kind })
+        ≡ made (λ others. found ++ others) (servers_left caps all transport servers indexes (record { server = at + 1; kind = 0 }))
+    server-done given found part all extends =
+        rw (indexes-are, part all extends, all-left all (drop (at + 1) indexes)) refl

@@ -11,10 +11,10 @@ use Rattle.std.specs.declared.boxed.Box.{Box}
 use Rattle.std.specs.Option.{option_map}
 use Rattle.srv_choice.specs.declared.words.Words.{Words}
 use Rattle.sip_selection.specs.Choice.{IsNotRefused, Settled, need, refused, settled, resolved, chosen, locate}
-use Rattle.sip_selection.specs.Known.{Given, answer_to}
+use Rattle.sip_selection.specs.Known.{Given, Needing, answer_to}
 use Rattle.sip_selection.specs.Requests.{is_secure, target_of}
 use Rattle.sip_selection.specs.Selections.{AreAskedOneByOne}
-use Rattle.sip_selection.specs.Stages.{AreHeld, ComesTo, IsAsking, name_of, stage_left}
+use Rattle.sip_selection.specs.Stages.{AreHeld, ComesTo, Extends, IsAsking, name_of, stage_left}
 use Rattle.sip_selection.specs.declared.caps.Caps.{Caps}
 use Rattle.sip_selection.specs.declared.reason.Reason.{Reason}
 use Rattle.sip_selection.specs.declared.request.Request.{Request}
@@ -78,17 +78,25 @@ module _ (request : Request) (caps : Caps) (words : List ℕ) (given : List Give
     ];
   }
 
-  -- with an answer more, the choice goes on from its stage
-  pub goes-on : (question : Question) (stage : Stage) → Stands (Ask question stage)
-      → (more : Given) (step : Step) (found' : List Target)
-      → ComesTo (is_secure request) caps words (name_of (target_of request)) (given ++ more ∷ [])
-      (stage_left (is_secure request) caps words (name_of (target_of request)) stage found) step found'
-      → ComesTo (is_secure request) caps words (name_of (target_of request)) (given ++ more ∷ []) (chosen request caps words) step found'
-  goes-on question stage comes more step found' next = (
-    λ all extends. comes.0 all
-        (λ asked answer is. extends asked answer (answer-grows given (more ∷ []) asked answer is)) ∙ next.0 all extends,
-    next.1,
-  )
+  -- with more answers, the choice goes on from its stage
+  module _ (question : Question) (stage : Stage) (comes : Stands (Ask question stage)) (then : List Given) (more : Extends given then) where
+    abbrev left : List Given → Needing Settled
+    left = stage_left (is_secure request) caps words (name_of (target_of request)) stage found
+
+    on : (all : List Given) → Extends then all → chosen request caps words all ≡ left all
+    on all extends = comes.0 all (λ asked answer is. extends asked answer (more asked answer is))
+
+    pub goes-on : (step : Step) (found' : List Target)
+        → ComesTo (is_secure request) caps words (name_of (target_of request)) then left step found'
+        → ComesTo (is_secure request) caps words (name_of (target_of request)) then (chosen request caps words) step found'
+    goes-on step found' next = (λ all extends. on all extends ∙ next.0 all extends, next.1)
+
+    -- what is left of it is what the choice needs
+    pub left-needs : (all : List Given) (asked : Question) → Extends then all → left all ≡ Err asked
+        → locate request caps words all ≡ need asked
+    left-needs all asked extends is =
+        let whole : chosen request caps words all ≡ Err asked = on all extends ∙ is in
+        ap resolved whole
 
 -- words that are in memory are so at each step
 pub held-by : {Z : Type 0} (step : Step) (held : Option (Box Words Z)) (words : Words)

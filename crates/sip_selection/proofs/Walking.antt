@@ -159,6 +159,27 @@ pub listing-asks : (caps : Caps) (words : List ℕ) (name : List (List ℕ)) (gi
     → servers_first caps words name given services fallback listing cursor position found ≡ Err question
 listing-asks caps words name given services fallback listing cursor position found question is = rw is refl
 
+-- ---- where a question is asked
+
+-- of the servers that an answer lists
+pub answer-asks : (caps : Caps) (words : List ℕ) (all : List Given) (transport : Transport) (answer : AnswerValue) (word : ℕ)
+    (indexes : List ℕ) (next : ℕ) → order_from (servers_in answer.records) words word ≡ Listed indexes next
+    → (question : Question)
+    → servers_left caps all transport (servers_in answer.records) indexes (record { server = 0; kind = 0 }) ≡ Err question
+    → offer_by all (kinds_of caps.families) words transport word answer ≡ Err question
+answer-asks caps words all transport answer word indexes next is question unknown =
+    rw is (ap (made (λ targets. listed targets next))
+    (sym (all-left caps transport (servers_in answer.records) all indexes) ∙ unknown))
+
+-- of the next service
+pub service-asks : (caps : Caps) (words : List ℕ) (name : List (List ℕ)) (all : List Given) (services : List Service)
+    (fallback : Result Transport Reason) (position : Position) (found : List Target) (service : Service)
+    → drop position.service services ≡ service ∷ drop (position.service + 1) services
+    → (question : Question) → offer_along all (kinds_of caps.families) words service position.word ≡ Err question
+    → position_left caps words name all services fallback position found ≡ Err question
+service-asks caps words name all services fallback position found service there question unknown =
+    service-left caps words name all services fallback position found service there ∙ rw unknown refl
+
 -- ---- a service that lists nothing
 
 pub goes-on-unlisted : (position : Position) (outcome : SrvOutcome) → (outcome ≡ Absent) ⊎ (outcome ≡ Denied)
@@ -182,15 +203,22 @@ pub ok-each : {X E : Type 0} (P Q : X → Type 0) → ((x : X) → P x → Q x) 
 ok-each P Q each (Ok x) is = each x is
 ok-each P Q each (Err e) is = tt
 
+-- the same of two things that hold
+pub ok-both : {X E : Type 0} (P Q R : X → Type 0) → ((x : X) → P x → Q x → R x) → (result : Result X E) → IfOk result P
+    → IfOk result Q → IfOk result R
+ok-both P Q R each (Ok x) first second = each x first second
+ok-both P Q R each (Err e) first second = tt
+
 abbrev pub AlongLeft : Type 0
 AlongLeft = List Given → Result Transport Reason → List Target → Needing Settled
 
 -- what is left the same, leads as far
-pub walks-too : (context : Context) (services : List Service) (left left' : AlongLeft) (to : ServiceStep) (before now : List Target)
-    → ((all : List Given) → Extends context.known.now all → (fallback : Result Transport Reason) (found : List Target)
+pub walks-too : {Source Seat : Type 0} (context : Context Source Seat) (given : List Given) (services : List Service)
+    (left left' : AlongLeft) (to : ServiceStep) (before now : List Target)
+    → ((all : List Given) → Extends given all → (fallback : Result Transport Reason) (found : List Target)
     → left' all fallback found ≡ left all fallback found)
-    → Walks context services left to before now → Walks context services left' to before now
-walks-too context services left left' to before now same walks = λ fallback front. (
+    → Walks context given services left to before now → Walks context given services left' to before now
+walks-too context given services left left' to before now same walks = λ fallback front. (
   λ all extends. same all extends fallback (front ++ before) ∙ (walks fallback front).0 all extends,
   (walks fallback front).1,
 )
@@ -202,12 +230,12 @@ next-service services position at service here within is = rw here (drop_more se
     (λ (w : Service). w ∷ drop (at + 1) services) (sym is))
 
 -- what leads to the first service, and then the others
-pub walks-then : (context : Context) (services : List Service) (left left' : AlongLeft) (to : ServiceStep)
-    (before between now : List Target)
-    → ((fallback : Result Transport Reason) (front : List Target) (all : List Given) → Extends context.known.now all
+pub walks-then : {Source Seat : Type 0} (context : Context Source Seat) (given : List Given) (services : List Service)
+    (left left' : AlongLeft) (to : ServiceStep) (before between now : List Target)
+    → ((fallback : Result Transport Reason) (front : List Target) (all : List Given) → Extends given all
     → left' all fallback (front ++ before) ≡ left all fallback (front ++ between))
-    → Walks context services left to between now → Walks context services left' to before now
-walks-then context services left left' to before between now first walks = λ fallback front. (
+    → Walks context given services left to between now → Walks context given services left' to before now
+walks-then context given services left left' to before between now first walks = λ fallback front. (
   λ all extends. first fallback front all extends ∙ (walks fallback front).0 all extends,
   (walks fallback front).1,
 )

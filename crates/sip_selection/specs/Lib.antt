@@ -9,4 +9,5 @@ pub mod Trials
 pub mod Views
 pub mod Stages
 pub mod Selections
+pub mod Consulting
 pub mod Nexts

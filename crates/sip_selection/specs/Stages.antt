@@ -117,6 +117,10 @@ module _ (caps : Caps) (all : List Given) where
       servers_left listing.transport
       (servers_in (arc_value listing.answer).records) listing.indexes cursor
 
+-- before the first server
+abbrev pub first_server : Cursor
+first_server = record { server = 0; kind = 0 }
+
 -- ---- services
 
 module _ (caps : Caps) (name : List (List ℕ)) (all : List Given) where
@@ -188,25 +192,25 @@ IsPast count (service_step.Position position) = count ≤ position.service
 IsPast count (service_step.Stop service_stage question) = ⊤
 
 -- a question that is asked is the one that what is left needs first
-abbrev pub ServiceStepAsks : Context → List Service → Result Transport Reason → ServiceStep
-    → List Target → Type 0
-ServiceStepAsks context services fallback (service_step.Position position) found = ⊤
-ServiceStepAsks context services fallback (service_step.Stop service_stage question) found =
+abbrev pub ServiceStepAsks : {Source Seat : Type 0} → Context Source Seat → List Given
+    → List Service → Result Transport Reason → ServiceStep → List Target → Type 0
+ServiceStepAsks context given services fallback (service_step.Position position) found = ⊤
+ServiceStepAsks context given services fallback (service_step.Stop service_stage question) found =
     service_stage_left context.caps.now context.words.now.0 context.name.now
-    context.known.now services fallback service_stage found ≡ Err question
+    given services fallback service_stage found ≡ Err question
 
 -- What is left after some targets is what is left after these of the step, among these services
 -- and whatever was found before.
-abbrev pub Walks : Context → List Service
+abbrev pub Walks : {Source Seat : Type 0} → Context Source Seat → List Given → List Service
     → (List Given → Result Transport Reason → List Target → Needing Settled) → ServiceStep
     → List Target → List Target → Type 0
-Walks context services left service_step before now =
+Walks context given services left service_step before now =
     (fallback : Result Transport Reason) (front : List Target)
-    → ((all : List Given) → Extends context.known.now all → left all fallback (front ++ before)
+    → ((all : List Given) → Extends given all → left all fallback (front ++ before)
     ≡ service_step_left context.caps.now context.words.now.0 context.name.now all services fallback
     service_step
     (front ++ now))
-    × ServiceStepAsks context services fallback service_step (front ++ now)
+    × ServiceStepAsks context given services fallback service_step (front ++ now)
 
 -- ---- the whole choice
 
@@ -273,16 +277,17 @@ module _ (secure : Bool) (caps : Caps) (words : List ℕ) (name : List (List ℕ
       (offered_default secure caps)
 
 -- the choice for a domain comes to this step with these targets
-abbrev pub Comes : Context → (List Given → Needing Settled) → Step → List Target → Type 0
-Comes context = ComesTo context.secure context.caps.now context.words.now.0 context.name.now
-    context.known.now
+abbrev pub Comes : {Source Seat : Type 0} → Context Source Seat → List Given
+    → (List Given → Needing Settled) → Step → List Target → Type 0
+Comes context given = ComesTo context.secure context.caps.now context.words.now.0 context.name.now
+    given
 
 -- The same, whatever was found before: what is left after some targets comes to this step with
 -- these.
-abbrev pub Goes : Context → (List Target → List Given → Needing Settled) → Step → List Target
-    → List Target → Type 0
-Goes context left step before now = (front : List Target)
-    → Comes context (left (front ++ before)) step (front ++ now)
+abbrev pub Goes : {Source Seat : Type 0} → Context Source Seat → List Given
+    → (List Target → List Given → Needing Settled) → Step → List Target → List Target → Type 0
+Goes context given left step before now = (front : List Target)
+    → Comes context given (left (front ++ before)) step (front ++ now)
 
 -- the name whose services and addresses are needed; an address has none
 abbrev pub name_of : Host → List (List ℕ)

@@ -1,5 +1,5 @@
 -- How what the code keeps is seen in the definitions.
-use Rattle.std.specs.Prelude.{◌≡◌, ⊤, Err}
+use Rattle.std.specs.Prelude.{◌≡◌, ⊤, Err, Option, None}
 use Rattle.std.specs.Arc.{arc_value}
 use Rattle.std.specs.declared.sync.Arc.{Arc}
 use Rattle.dns_message.specs.declared.question.Question.{Question}
@@ -16,3 +16,8 @@ given_of answered = record { question = answered.0; answer = arc_value answered.
 abbrev pub StopsAt : {X : Type 0} → Stop → Needing X → Type 0
 StopsAt (Need question) value = value ≡ Err question
 StopsAt Memory value = ⊤
+
+-- where a value needs a question, this is said of it: that there is no answer
+abbrev pub LacksAt : (Question → Option AnswerValue → Type 0) → Stop → Type 0
+LacksAt says (Need question) = says question None
+LacksAt says Memory = ⊤

@@ -2,6 +2,7 @@
 ghost use Rattle.std.specs.Prelude.{◌≡◌, ◌*◌, ◌≤◌, ◌∷◌, ◌++◌, [], List, IfOk, OnErr, OnOk, length, Ok};
 ghost use Rattle.std.specs.Arc.{arc_value};
 ghost use Rattle.sip_selection.specs.Choice as spec;
+ghost use Rattle.sip_selection.specs.Consulting as consult;
 ghost use Rattle.sip_selection.specs.Known as known_as;
 ghost use Rattle.sip_selection.specs.Known.{made};
 ghost use Rattle.sip_selection.specs.Requests.{is_secure, target_of};
@@ -9,13 +10,16 @@ ghost use Rattle.sip_selection.specs.Rules as rules;
 ghost use Rattle.sip_selection.specs.Stages as left_of;
 
 use crate::caps::Caps;
-use crate::known::{Known, Stop};
-use crate::position::push_from;
+use crate::known::Stop;
+use crate::position::{push_from, push_services};
 use crate::reason::Reason;
 use crate::request::Request;
 use crate::rules::usable_services;
 use crate::service::{Service, service_at};
-use crate::stage::{Candidates, Context, Position, ServiceStage, ServiceStep, Stage, Step};
+use crate::source::{AnswerSource, answer_from};
+use crate::stage::{
+    Candidates, Context, Position, ServiceStep, ServiceStage, Stage, Step, Walk,
+};
 use crate::target::Target;
 use crate::targets::push_kinds;
 use crate::transports::{default_port, offered_default, transport_offered};
@@ -25,23 +29,36 @@ use dns_name::Name;
 use sip_uri::{Address, Host, Spoken, Transport};
 use srv_choice::Words;
 use std::alloc::{AllocError, Global};
+use std::snapshot::Snapshot;
 use std::sync::Arc;
 
 /// The addresses of the domain by a transport at a port, from a kind on.
-fn to_domain(
-    targets: &mut Vec<Target>,
-    context: &Context<'_>,
+fn to_domain<S: AnswerSource>(
+    walk: &mut Walk,
+    seat: &mut S::Seat,
+    context: &Context<'_, S>,
     transport: Transport,
     port: u16,
     from: usize,
 ) -> Result<Step, AllocError>
-    ensures { IfOk result (λ step. left_of.Goes context.now
+    requires needs { consult.Needs (consult.inquiry context.now) walk.old.known
+        (λ all. left_of.kinds_left context.now.caps.now all transport port context.now.name.now from) }
+    requires consulted { consult.Consulted (S.ready context.now.source.now) S.goes
+        (S.says context.now.source.now) (consult.inquiry context.now) context.now.start.value
+        seat.old walk.old.known }
+    ensures consulted { consult.Consulted (S.ready context.now.source.now) S.goes
+        (S.says context.now.source.now) (consult.inquiry context.now) context.now.start.value
+        seat.new walk.new.known }
+    ensures extends { IfOk result (λ _. left_of.Extends walk.old.known walk.new.known) }
+    ensures goes { IfOk result (λ step. left_of.Goes context.now walk.new.known
         (λ found all. made
         (λ more. Ok (found ++ more))
         (left_of.kinds_left context.now.caps.now all transport port context.now.name.now from))
-        step targets.old.items targets.new.items) }
+        step walk.old.targets.items walk.new.targets.items) }
+    ensures lacks { IfOk result
+        (consult.StepLacks (S.says context.now.source.now seat.new)) }
 {
-    let stop = push_kinds(targets, context, transport, port, context.name, from)?;
+    let stop = push_kinds(walk, seat, context, transport, port, context.name, from)?;
     Ok(match stop {
         None => Step::Found,
         Some((kind, question)) => Step::Ask(question, Stage::Domain(transport, port, kind)),
@@ -50,16 +67,29 @@ fn to_domain(
 
 /// Where all services are done: the targets of those that are listed; where none is, and none
 /// denied, those of the domain.
-fn ended(
-    targets: &mut Vec<Target>,
-    context: &Context<'_>,
+fn ended<S: AnswerSource>(
+    walk: &mut Walk,
+    seat: &mut S::Seat,
+    context: &Context<'_, S>,
     fallback: Result<Transport, Reason>,
     position: Position,
 ) -> Result<Step, AllocError>
-    ensures { IfOk result (λ step. left_of.Goes context.now
+    requires needs { consult.Needs (consult.inquiry context.now) walk.old.known
+        (λ all. left_of.ended context.now.caps.now context.now.name.now all fallback position
+        walk.old.targets.items []) }
+    requires consulted { consult.Consulted (S.ready context.now.source.now) S.goes
+        (S.says context.now.source.now) (consult.inquiry context.now) context.now.start.value
+        seat.old walk.old.known }
+    ensures consulted { consult.Consulted (S.ready context.now.source.now) S.goes
+        (S.says context.now.source.now) (consult.inquiry context.now) context.now.start.value
+        seat.new walk.new.known }
+    ensures extends { IfOk result (λ _. left_of.Extends walk.old.known walk.new.known) }
+    ensures goes { IfOk result (λ step. left_of.Goes context.now walk.new.known
         (λ found all. left_of.ended context.now.caps.now
         context.now.name.now all fallback position found [])
-        step targets.old.items targets.new.items) }
+        step walk.old.targets.items walk.new.targets.items) }
+    ensures lacks { IfOk result
+        (consult.StepLacks (S.says context.now.source.now seat.new)) }
 {
     if position.is_listed {
         return Ok(Step::Found);
@@ -68,30 +98,47 @@ fn ended(
         return Ok(Step::Refused(Reason::NotOffered));
     }
     match fallback {
-        Ok(transport) => to_domain(targets, context, transport, default_port(transport), 0),
+        Ok(transport) => to_domain(walk, seat, context, transport, default_port(transport), 0),
         Err(reason) => Ok(Step::Refused(reason)),
     }
 }
 
 /// The services that are looked for, from a stage on.
-fn along(
-    targets: &mut Vec<Target>,
-    context: &Context<'_>,
+fn along<S: AnswerSource>(
+    walk: &mut Walk,
+    seat: &mut S::Seat,
+    context: &Context<'_, S>,
     candidates: &Arc<Candidates>,
     service_stage: &ServiceStage,
 ) -> Result<Step, AllocError>
     requires few { left_of.CandidatesFits (arc_value candidates.now) }
     requires words { (left_of.position_of service_stage.now).word ≤ 32 *
         (left_of.position_of service_stage.now).service }
-    ensures { IfOk result (λ step. left_of.Goes context.now
+    requires needs { consult.Needs (consult.inquiry context.now) walk.old.known
+        (λ all. left_of.service_stage_left context.now.caps.now context.now.words.now.0
+        context.now.name.now all
+        (arc_value candidates.now).services.items (arc_value candidates.now).fallback
+        service_stage.now walk.old.targets.items) }
+    requires consulted { consult.Consulted (S.ready context.now.source.now) S.goes
+        (S.says context.now.source.now) (consult.inquiry context.now) context.now.start.value
+        seat.old walk.old.known }
+    ensures consulted { consult.Consulted (S.ready context.now.source.now) S.goes
+        (S.says context.now.source.now) (consult.inquiry context.now) context.now.start.value
+        seat.new walk.new.known }
+    ensures extends { IfOk result (λ _. left_of.Extends walk.old.known walk.new.known) }
+    ensures goes { IfOk result (λ step. left_of.Goes context.now walk.new.known
         (λ found all. left_of.service_stage_left context.now.caps.now context.now.words.now.0
         context.now.name.now all
         (arc_value candidates.now).services.items (arc_value candidates.now).fallback
         service_stage.now found)
-        step targets.old.items targets.new.items) }
+        step walk.old.targets.items walk.new.targets.items) }
+    ensures lacks { IfOk result
+        (consult.StepLacks (S.says context.now.source.now seat.new)) }
 {
-    match push_from(targets, context, &candidates.services, service_stage)? {
-        ServiceStep::Position(position) => ended(targets, context, candidates.fallback, position),
+    match push_from(walk, seat, context, &candidates.services, service_stage)? {
+        ServiceStep::Position(position) => {
+            ended(walk, seat, context, candidates.fallback, position)
+        }
         ServiceStep::Stop(service_stage, question) => Ok(Step::Ask(
             question,
             Stage::Along(Arc::try_clone(candidates)?, service_stage),
@@ -100,26 +147,41 @@ fn along(
 }
 
 /// The services that are looked for, from the first on.
-fn along_all(
-    targets: &mut Vec<Target>,
-    context: &Context<'_>,
+fn along_all<S: AnswerSource>(
+    walk: &mut Walk,
+    seat: &mut S::Seat,
+    context: &Context<'_, S>,
     candidates: Candidates,
 ) -> Result<Step, AllocError>
-    requires { left_of.CandidatesFits candidates }
-    ensures { IfOk result (λ step. left_of.Goes context.now
+    requires few { left_of.CandidatesFits candidates }
+    requires needs { consult.Needs (consult.inquiry context.now) walk.old.known
+        (λ all. spec.along context.now.caps.now context.now.words.now.0 all context.now.name.now
+        candidates.fallback candidates.services.items) }
+    requires consulted { consult.Consulted (S.ready context.now.source.now) S.goes
+        (S.says context.now.source.now) (consult.inquiry context.now) context.now.start.value
+        seat.old walk.old.known }
+    ensures consulted { consult.Consulted (S.ready context.now.source.now) S.goes
+        (S.says context.now.source.now) (consult.inquiry context.now) context.now.start.value
+        seat.new walk.new.known }
+    ensures extends { IfOk result (λ _. left_of.Extends walk.old.known walk.new.known) }
+    ensures goes { IfOk result (λ step. left_of.Goes context.now walk.new.known
         (λ found all. made (left_of.in_front found)
         (spec.along context.now.caps.now context.now.words.now.0 all context.now.name.now
         candidates.fallback
         candidates.services.items))
-        step targets.old.items targets.new.items) }
+        step walk.old.targets.items walk.new.targets.items) }
+    ensures lacks { IfOk result
+        (consult.StepLacks (S.says context.now.source.now seat.new)) }
 {
-    let candidates = Arc::new(context.alloc, candidates)?;
-    along(
-        targets,
-        context,
-        &candidates,
-        &ServiceStage::ServiceRecords(Position::start()),
-    )
+    match push_services(walk, seat, context, &candidates.services, Position::start())? {
+        ServiceStep::Position(position) => {
+            ended(walk, seat, context, candidates.fallback, position)
+        }
+        ServiceStep::Stop(service_stage, question) => Ok(Step::Ask(
+            question,
+            Stage::Along(Arc::new(context.alloc, candidates)?, service_stage),
+        )),
+    }
 }
 
 /// Whether a service of the domain is tried without NAPTR records.
@@ -179,7 +241,10 @@ fn rules_in(answer: &Answer) -> &[NaptrRecord]
 }
 
 /// Where rules lead; without one that is kept, to the services of the domain.
-fn candidates_by(context: &Context<'_>, rules: &[NaptrRecord]) -> Result<Candidates, AllocError>
+fn candidates_by<S: AnswerSource>(
+    context: &Context<'_, S>,
+    rules: &[NaptrRecord],
+) -> Result<Candidates, AllocError>
     ensures few { IfOk result left_of.CandidatesFits }
     ensures is { IfOk result (λ candidates. (all : List known_as.Given)
         → spec.by_rules context.now.secure context.now.caps.now context.now.words.now.0 all
@@ -202,35 +267,68 @@ fn candidates_by(context: &Context<'_>, rules: &[NaptrRecord]) -> Result<Candida
 }
 
 /// Where the NAPTR records of the domain lead.
-fn by_naptr(targets: &mut Vec<Target>, context: &Context<'_>) -> Result<Step, AllocError>
-    ensures { IfOk result (λ step. left_of.Goes context.now
+fn by_naptr<S: AnswerSource>(
+    walk: &mut Walk,
+    seat: &mut S::Seat,
+    context: &Context<'_, S>,
+) -> Result<Step, AllocError>
+    requires needs { consult.Needs (consult.inquiry context.now) walk.old.known
+        (λ all. spec.by_naptr context.now.secure context.now.caps.now context.now.words.now.0 all
+        context.now.name.now) }
+    requires consulted { consult.Consulted (S.ready context.now.source.now) S.goes
+        (S.says context.now.source.now) (consult.inquiry context.now) context.now.start.value
+        seat.old walk.old.known }
+    ensures consulted { consult.Consulted (S.ready context.now.source.now) S.goes
+        (S.says context.now.source.now) (consult.inquiry context.now) context.now.start.value
+        seat.new walk.new.known }
+    ensures extends { IfOk result (λ _. left_of.Extends walk.old.known walk.new.known) }
+    ensures goes { IfOk result (λ step. left_of.Goes context.now walk.new.known
         (λ found all. made (left_of.in_front found)
         (spec.by_naptr context.now.secure context.now.caps.now context.now.words.now.0 all
         context.now.name.now))
-        step targets.old.items targets.new.items) }
+        step walk.old.targets.items walk.new.targets.items) }
+    ensures lacks { IfOk result
+        (consult.StepLacks (S.says context.now.source.now seat.new)) }
 {
-    match context.known.answer_to(context.name, Kind::Naptr) {
-        Ok(answer) => along_all(targets, context, candidates_by(context, rules_in(answer))?),
+    match answer_from(walk, seat, context, context.name, Kind::Naptr) {
+        Ok(answer) => {
+            let candidates = candidates_by(context, rules_in(&answer))?;
+            along_all(walk, seat, context, candidates)
+        }
         Err(Stop::Need(question)) => Ok(Step::Ask(question, Stage::Rules)),
         Err(Stop::Memory) => Err(AllocError),
     }
 }
 
 /// The service of the domain by the transport that is named.
-fn to_service(
-    targets: &mut Vec<Target>,
-    context: &Context<'_>,
+fn to_service<S: AnswerSource>(
+    walk: &mut Walk,
+    seat: &mut S::Seat,
+    context: &Context<'_, S>,
     transport: Transport,
 ) -> Result<Step, AllocError>
-    ensures { IfOk result (λ step. left_of.Goes context.now
+    requires needs { consult.Needs (consult.inquiry context.now) walk.old.known
+        (λ all. spec.to_service context.now.caps.now context.now.words.now.0 all context.now.name.now
+        (Ok transport)) }
+    requires consulted { consult.Consulted (S.ready context.now.source.now) S.goes
+        (S.says context.now.source.now) (consult.inquiry context.now) context.now.start.value
+        seat.old walk.old.known }
+    ensures consulted { consult.Consulted (S.ready context.now.source.now) S.goes
+        (S.says context.now.source.now) (consult.inquiry context.now) context.now.start.value
+        seat.new walk.new.known }
+    ensures extends { IfOk result (λ _. left_of.Extends walk.old.known walk.new.known) }
+    ensures goes { IfOk result (λ step. left_of.Goes context.now walk.new.known
         (λ found all. made (left_of.in_front found)
         (spec.to_service context.now.caps.now context.now.words.now.0 all context.now.name.now
         (Ok transport)))
-        step targets.old.items targets.new.items) }
+        step walk.old.targets.items walk.new.targets.items) }
+    ensures lacks { IfOk result
+        (consult.StepLacks (S.says context.now.source.now seat.new)) }
 {
     let services = vec![in context.alloc; service_at(context.name, transport)?]?;
     let fallback = Ok(transport);
-    along_all(targets, context, Candidates { services, fallback })
+    let candidates = Candidates { services, fallback };
+    along_all(walk, seat, context, candidates)
 }
 
 /// An address, at the port that is written or the usual one.
@@ -261,111 +359,159 @@ fn to_address(
 
 /// Where the domain leads without a transport that is named. For SIPS, TLS has to be one of the
 /// caller's.
-fn discovered(targets: &mut Vec<Target>, context: &Context<'_>) -> Result<Step, AllocError>
-    ensures goes { IfOk result (λ step. left_of.Goes context.now
+fn discovered<S: AnswerSource>(
+    walk: &mut Walk,
+    seat: &mut S::Seat,
+    context: &Context<'_, S>,
+) -> Result<Step, AllocError>
+    requires needs { consult.Needs (consult.inquiry context.now) walk.old.known
+        (λ all. spec.discovered context.now.secure context.now.caps.now context.now.words.now.0 all
+        context.now.name.now (spec.offered_default context.now.secure context.now.caps.now)) }
+    requires consulted { consult.Consulted (S.ready context.now.source.now) S.goes
+        (S.says context.now.source.now) (consult.inquiry context.now) context.now.start.value
+        seat.old walk.old.known }
+    ensures consulted { consult.Consulted (S.ready context.now.source.now) S.goes
+        (S.says context.now.source.now) (consult.inquiry context.now) context.now.start.value
+        seat.new walk.new.known }
+    ensures extends { IfOk result (λ _. left_of.Extends walk.old.known walk.new.known) }
+    ensures goes { IfOk result (λ step. left_of.Goes context.now walk.new.known
         (λ found all. made (left_of.in_front found)
         (spec.discovered context.now.secure context.now.caps.now context.now.words.now.0 all
         context.now.name.now
         (spec.offered_default context.now.secure context.now.caps.now)))
-        step targets.old.items targets.new.items) }
+        step walk.old.targets.items walk.new.targets.items) }
     ensures memory { OnErr result (spec.IsNotRefused (spec.resolved
         (spec.discovered context.now.secure context.now.caps.now context.now.words.now.0 []
         context.now.name.now
         (spec.offered_default context.now.secure context.now.caps.now)))) }
+    ensures lacks { IfOk result
+        (consult.StepLacks (S.says context.now.source.now seat.new)) }
 {
     match offered_default(context.secure, context.caps) {
-        Ok(_) => by_naptr(targets, context),
-        Err(_) if !context.secure => by_naptr(targets, context),
+        Ok(_) => by_naptr(walk, seat, context),
+        Err(_) if !context.secure => by_naptr(walk, seat, context),
         Err(reason) => Ok(Step::Refused(reason)),
     }
 }
 
 /// The choice for a domain, from the beginning.
-fn for_domain(
-    targets: &mut Vec<Target>,
-    context: &Context<'_>,
+fn for_domain<S: AnswerSource>(
+    walk: &mut Walk,
+    seat: &mut S::Seat,
+    context: &Context<'_, S>,
     port: Option<u16>,
     spoken: Option<Spoken>,
     transport: Result<Transport, Reason>,
 ) -> Result<Step, AllocError>
-    requires { targets.old.items ≡ [] }
-    ensures comes { IfOk result (λ step. left_of.Comes context.now
+    requires empty { walk.old.targets.items ≡ [] }
+    requires needs { consult.Needs (consult.inquiry context.now) walk.old.known
+        (λ all. left_of.domain_choice context.now.secure context.now.caps.now
+        context.now.words.now.0 context.now.name.now all port spoken transport) }
+    requires consulted { consult.Consulted (S.ready context.now.source.now) S.goes
+        (S.says context.now.source.now) (consult.inquiry context.now) context.now.start.value
+        seat.old walk.old.known }
+    ensures consulted { consult.Consulted (S.ready context.now.source.now) S.goes
+        (S.says context.now.source.now) (consult.inquiry context.now) context.now.start.value
+        seat.new walk.new.known }
+    ensures extends { IfOk result (λ _. left_of.Extends walk.old.known walk.new.known) }
+    ensures comes { IfOk result (λ step. left_of.Comes context.now walk.new.known
         (λ all. left_of.domain_choice context.now.secure context.now.caps.now
         context.now.words.now.0
         context.now.name.now all port spoken transport)
-        step targets.new.items) }
+        step walk.new.targets.items) }
     ensures memory { OnErr result (spec.IsNotRefused (spec.resolved
         (left_of.domain_choice context.now.secure context.now.caps.now context.now.words.now.0
         context.now.name.now [] port spoken transport))) }
+    ensures lacks { IfOk result
+        (consult.StepLacks (S.says context.now.source.now seat.new)) }
 {
     match (port, spoken, transport) {
         (Some(_), _, Err(reason)) => Ok(Step::Refused(reason)),
-        (Some(port), _, Ok(transport)) => to_domain(targets, context, transport, port, 0),
+        (Some(port), _, Ok(transport)) => to_domain(walk, seat, context, transport, port, 0),
         (None, Some(_), Err(reason)) => Ok(Step::Refused(reason)),
-        (None, Some(_), Ok(transport)) => to_service(targets, context, transport),
-        (None, None, _) => discovered(targets, context),
+        (None, Some(_), Ok(transport)) => to_service(walk, seat, context, transport),
+        (None, None, _) => discovered(walk, seat, context),
     }
 }
 
 /// The choice for a request, from the beginning.
-pub(crate) fn begin<'a>(
-    targets: &mut Vec<Target>,
+pub(crate) fn begin<S: AnswerSource>(
+    walk: &mut Walk,
+    seat: &mut S::Seat,
+    source: &S,
     alloc: Global,
-    request: &'a Request,
-    caps: &'a Caps,
-    words: &'a Words,
-    known: &'a Known,
+    request: &Request,
+    caps: &Caps,
+    words: &Words,
 ) -> Result<Step, AllocError>
-    requires { targets.old.items ≡ [] }
+    requires empty { walk.old.targets.items ≡ [] }
+    requires ready { S.ready source.now seat.old }
+    ensures consulted { consult.Consulted (S.ready source.now) S.goes (S.says source.now)
+        (consult.asked_with request.now caps.now words.now.0 walk.old.known) seat.old
+        seat.new walk.new.known }
     ensures comes { IfOk result
         (λ step. left_of.ComesTo (is_secure request.now) caps.now words.now.0
-        (left_of.name_of (target_of request.now)) known.now
-        (spec.chosen request.now caps.now words.now.0) step targets.new.items) }
+        (left_of.name_of (target_of request.now)) walk.new.known
+        (spec.chosen request.now caps.now words.now.0) step walk.new.targets.items) }
     ensures memory { OnErr result
         (spec.IsNotRefused (spec.locate request.now caps.now words.now.0 [])) }
+    ensures lacks { IfOk result (consult.StepLacks (S.says source.now seat.new)) }
 {
     let port = request.port();
     let transport = transport_offered(request, caps);
+    let targets = &mut walk.targets;
     match request.target() {
         Host::V4(octets) => to_address(targets, Address::V4(*octets), port, transport),
         Host::V6(octets) => to_address(targets, Address::V6(*octets), port, transport),
         Host::Domain(name) => {
-            let secure = request.is_secure();
             let context = Context {
                 alloc,
-                secure,
+                request,
+                secure: request.is_secure(),
                 caps,
                 words,
                 name,
-                known,
+                source,
+                start: Snapshot::of(seat),
+                given: Snapshot::of(&walk.known),
             };
-            for_domain(targets, &context, port, request.spoken(), transport)
+            for_domain(walk, seat, &context, port, request.spoken(), transport)
         }
     }
 }
 
 /// The choice for a domain, from a stage on.
-pub(crate) fn resume(
-    targets: &mut Vec<Target>,
-    context: &Context<'_>,
+pub(crate) fn resume<S: AnswerSource>(
+    walk: &mut Walk,
+    seat: &mut S::Seat,
+    context: &Context<'_, S>,
     stage: &Stage,
 ) -> Result<Step, AllocError>
-    requires { left_of.StageFits stage.now }
-    ensures { IfOk result (λ step. left_of.Goes context.now
+    requires fits { left_of.StageFits stage.now }
+    requires needs { consult.Needs (consult.inquiry context.now) walk.old.known
+        (left_of.stage_left context.now.secure context.now.caps.now context.now.words.now.0
+        context.now.name.now stage.now walk.old.targets.items) }
+    requires consulted { consult.Consulted (S.ready context.now.source.now) S.goes
+        (S.says context.now.source.now) (consult.inquiry context.now) context.now.start.value
+        seat.old walk.old.known }
+    ensures consulted { consult.Consulted (S.ready context.now.source.now) S.goes
+        (S.says context.now.source.now) (consult.inquiry context.now) context.now.start.value
+        seat.new walk.new.known }
+    ensures extends { IfOk result (λ _. left_of.Extends walk.old.known walk.new.known) }
+    ensures goes { IfOk result (λ step. left_of.Goes context.now walk.new.known
         (left_of.stage_left context.now.secure context.now.caps.now context.now.words.now.0
         context.now.name.now stage.now)
-        step targets.old.items targets.new.items) }
+        step walk.old.targets.items walk.new.targets.items) }
+    ensures lacks { IfOk result
+        (consult.StepLacks (S.says context.now.source.now seat.new)) }
 {
     match stage {
-        Stage::Rules => by_naptr(targets, context),
-        Stage::Along(candidates, service_stage) => along(
-            targets,
-            context,
-            candidates,
-            service_stage,
-        ),
+        Stage::Rules => by_naptr(walk, seat, context),
+        Stage::Along(candidates, service_stage) => {
+            along(walk, seat, context, candidates, service_stage)
+        }
         Stage::Domain(transport, port, from) => {
-            to_domain(targets, context, *transport, *port, *from)
+            to_domain(walk, seat, context, *transport, *port, *from)
         }
     }
 }

@@ -1,5 +1,5 @@
 //! The answers that were given (RFC 3263 4), and the question that comes first where one lacks.
-ghost use Rattle.std.specs.Prelude.{◌≡◌, ◌<◌, ◌∷◌, ◌++◌, [], List, length, IfErr, IfSome, MatchResult, OnOk, OnErr, Ok, Err};
+ghost use Rattle.std.specs.Prelude.{◌≡◌, ◌<◌, ◌∷◌, ◌++◌, [], List, length, take, IfErr, IfSome, MatchResult, OnOk, OnErr, Ok, Err};
 ghost use Rattle.std.specs.Arc.{arc_value};
 ghost use Rattle.sip_selection.specs.Known.{Given, answer_to};
 ghost use Rattle.sip_selection.specs.Views.{StopsAt};
@@ -119,6 +119,20 @@ impl Known {
             self.answers.reserve(FIRST_ROOM)?;
         }
         Ok(())
+    }
+
+    /// How many there are.
+    pub(crate) fn count(&self) -> usize
+        ensures { result ≡ length self.now }
+    {
+        self.answers.len()
+    }
+
+    /// Takes all but the first ones away.
+    pub(crate) fn truncate(&mut self, count: usize)
+        ensures { self.new ≡ take count self.old }
+    {
+        self.answers.truncate(count);
     }
 
     /// Takes the last one away, and gives its question.

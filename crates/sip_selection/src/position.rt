@@ -2,15 +2,16 @@
 ghost use Rattle.std.specs.Prelude.{◌≡◌, ◌+◌, ◌*◌, ◌<◌, ◌≤◌, ◌∷◌, drop, length, List, IfOk};
 ghost use Rattle.std.specs.Arc.{arc_value};
 ghost use Rattle.sip_selection.specs.Callers.{kinds_of};
+ghost use Rattle.sip_selection.specs.Consulting as consult;
 ghost use Rattle.sip_selection.specs.Known.{servers_in};
-ghost use Rattle.sip_selection.specs.Services.{offer_by};
+ghost use Rattle.sip_selection.specs.Services.{offer_along, offer_by};
 ghost use Rattle.sip_selection.specs.Stages as spec;
 ghost use Rattle.sip_selection.specs.declared.service.Service.{Service};
 
 use crate::known::Stop;
 use crate::service::Service;
-use crate::stage::{Context, Cursor, Listing, Position, ServiceStage, ServiceStep};
-use crate::target::Target;
+use crate::source::{AnswerSource, answer_from};
+use crate::stage::{Context, Cursor, Listing, Position, ServiceStage, ServiceStep, Walk};
 use crate::targets::push_indexes;
 use dns_answers::{Answer, Records};
 use dns_message::{Kind, SrvRecord};
@@ -32,26 +33,38 @@ fn servers_in(answer: &Answer) -> &[SrvRecord]
 
 /// Adds the addresses of the servers of a listed service, from a cursor on. After them goes this
 /// walk.
-fn push_listing(
-    targets: &mut Vec<Target>,
-    context: &Context<'_>,
+fn push_listing<S: AnswerSource>(
+    walk: &mut Walk,
+    seat: &mut S::Seat,
+    context: &Context<'_, S>,
     listing: &Arc<Listing>,
     from: Cursor,
     position: Position,
 ) -> Result<ServiceStep, AllocError>
-    requires { position.word ≤ 32 * position.service }
+    requires fits { position.word ≤ 32 * position.service }
+    requires needs { consult.Needs (consult.inquiry context.now) walk.old.known
+        (λ all. spec.listing_left context.now.caps.now all (arc_value listing.now) from) }
+    requires consulted { consult.Consulted (S.ready context.now.source.now) S.goes
+        (S.says context.now.source.now) (consult.inquiry context.now) context.now.start.value
+        seat.old walk.old.known }
+    ensures consulted { consult.Consulted (S.ready context.now.source.now) S.goes
+        (S.says context.now.source.now) (consult.inquiry context.now) context.now.start.value
+        seat.new walk.new.known }
+    ensures extends { IfOk result (λ _. spec.Extends walk.old.known walk.new.known) }
     ensures left { IfOk result (λ service_step. (services : List Service)
-        → spec.Walks context.now services
+        → spec.Walks context.now walk.new.known services
         (λ all fallback found. spec.servers_first context.now.caps.now context.now.words.now.0
         context.now.name.now all services fallback
         (arc_value listing.now) from position found)
-        service_step targets.old.items targets.new.items) }
+        service_step walk.old.targets.items walk.new.targets.items) }
     ensures fits { IfOk result spec.ServiceStepFits }
     ensures goes_on { IfOk result (spec.GoesOnAt position.service) }
+    ensures lacks { IfOk result
+        (consult.ServiceStepLacks (S.says context.now.source.now seat.new)) }
 {
     let servers = servers_in(&listing.answer);
     let indexes = listing.indexes.as_slice();
-    match push_indexes(targets, context, listing.transport, servers, indexes, from)? {
+    match push_indexes(walk, seat, context, listing.transport, servers, indexes, from)? {
         None => Ok(ServiceStep::Position(position)),
         Some((cursor, question)) => Ok(ServiceStep::Stop(
             ServiceStage::Server(Arc::try_clone(listing)?, cursor, position),
@@ -60,30 +73,85 @@ fn push_listing(
     }
 }
 
+/// Adds the addresses of the servers of a listed service, from the first on. After them goes this
+/// walk.
+fn push_listed<S: AnswerSource>(
+    walk: &mut Walk,
+    seat: &mut S::Seat,
+    context: &Context<'_, S>,
+    listing: Listing,
+    position: Position,
+) -> Result<ServiceStep, AllocError>
+    requires fits { position.word ≤ 32 * position.service }
+    requires needs { consult.Needs (consult.inquiry context.now) walk.old.known
+        (λ all. spec.listing_left context.now.caps.now all listing spec.first_server) }
+    requires consulted { consult.Consulted (S.ready context.now.source.now) S.goes
+        (S.says context.now.source.now) (consult.inquiry context.now) context.now.start.value
+        seat.old walk.old.known }
+    ensures consulted { consult.Consulted (S.ready context.now.source.now) S.goes
+        (S.says context.now.source.now) (consult.inquiry context.now) context.now.start.value
+        seat.new walk.new.known }
+    ensures extends { IfOk result (λ _. spec.Extends walk.old.known walk.new.known) }
+    ensures left { IfOk result (λ service_step. (services : List Service)
+        → spec.Walks context.now walk.new.known services
+        (λ all fallback found. spec.servers_first context.now.caps.now context.now.words.now.0
+        context.now.name.now all services fallback
+        listing spec.first_server position found)
+        service_step walk.old.targets.items walk.new.targets.items) }
+    ensures fits { IfOk result spec.ServiceStepFits }
+    ensures goes_on { IfOk result (spec.GoesOnAt position.service) }
+    ensures lacks { IfOk result
+        (consult.ServiceStepLacks (S.says context.now.source.now seat.new)) }
+{
+    let servers = servers_in(&listing.answer);
+    let indexes = listing.indexes.as_slice();
+    let from = Cursor { server: 0, kind: 0 };
+    match push_indexes(walk, seat, context, listing.transport, servers, indexes, from)? {
+        None => Ok(ServiceStep::Position(position)),
+        Some((cursor, question)) => Ok(ServiceStep::Stop(
+            ServiceStage::Server(Arc::new(context.alloc, listing)?, cursor, position),
+            question,
+        )),
+    }
+}
+
 /// What the SRV records of an answer offer.
-fn push_answer(
-    targets: &mut Vec<Target>,
-    context: &Context<'_>,
+fn push_answer<S: AnswerSource>(
+    walk: &mut Walk,
+    seat: &mut S::Seat,
+    context: &Context<'_, S>,
     transport: Transport,
-    answer: &Arc<Answer>,
+    answer: Arc<Answer>,
     position: Position,
 ) -> Result<ServiceStep, AllocError>
     requires few { position.service < 8 }
     requires words { position.word ≤ 32 * position.service }
+    requires needs { consult.Needs (consult.inquiry context.now) walk.old.known
+        (λ all. offer_by all (kinds_of context.now.caps.now.families) context.now.words.now.0
+        transport position.word (arc_value answer)) }
+    requires consulted { consult.Consulted (S.ready context.now.source.now) S.goes
+        (S.says context.now.source.now) (consult.inquiry context.now) context.now.start.value
+        seat.old walk.old.known }
+    ensures consulted { consult.Consulted (S.ready context.now.source.now) S.goes
+        (S.says context.now.source.now) (consult.inquiry context.now) context.now.start.value
+        seat.new walk.new.known }
+    ensures extends { IfOk result (λ _. spec.Extends walk.old.known walk.new.known) }
     ensures left { IfOk result (λ service_step. (services : List Service)
-        → spec.Walks context.now services
+        → spec.Walks context.now walk.new.known services
         (λ all fallback found. spec.offer_left context.now.caps.now context.now.words.now.0
         context.now.name.now all services fallback position found
         (offer_by all
         (kinds_of context.now.caps.now.families) context.now.words.now.0 transport position.word
-        (arc_value answer.now)))
-        service_step targets.old.items targets.new.items) }
+        (arc_value answer)))
+        service_step walk.old.targets.items walk.new.targets.items) }
     ensures fits { IfOk result spec.ServiceStepFits }
     ensures goes_on { IfOk result (spec.GoesOnAt (position.service + 1)) }
+    ensures lacks { IfOk result
+        (consult.ServiceStepLacks (S.says context.now.source.now seat.new)) }
 {
     let outcome = order(
         context.alloc,
-        servers_in(answer),
+        servers_in(&answer),
         context.words,
         position.word,
     )?;
@@ -93,45 +161,51 @@ fn push_answer(
         SrvOutcome::Listed(indexes, _) => {
             let listing = Listing {
                 transport,
-                answer: Arc::try_clone(answer)?,
+                answer,
                 indexes,
             };
-            let listing = Arc::new(context.alloc, listing)?;
-            push_listing(
-                targets,
-                context,
-                &listing,
-                Cursor { server: 0, kind: 0 },
-                behind,
-            )
+            push_listed(walk, seat, context, listing, behind)
         }
     }
 }
 
 /// What the next service offers. Without a name it offers nothing.
-fn push_service(
-    targets: &mut Vec<Target>,
-    context: &Context<'_>,
+fn push_service<S: AnswerSource>(
+    walk: &mut Walk,
+    seat: &mut S::Seat,
+    context: &Context<'_, S>,
     service: &Service,
     position: Position,
 ) -> Result<ServiceStep, AllocError>
     requires few { position.service < 8 }
     requires words { position.word ≤ 32 * position.service }
+    requires needs { consult.Needs (consult.inquiry context.now) walk.old.known
+        (λ all. offer_along all (kinds_of context.now.caps.now.families) context.now.words.now.0
+        service.now position.word) }
+    requires consulted { consult.Consulted (S.ready context.now.source.now) S.goes
+        (S.says context.now.source.now) (consult.inquiry context.now) context.now.start.value
+        seat.old walk.old.known }
+    ensures consulted { consult.Consulted (S.ready context.now.source.now) S.goes
+        (S.says context.now.source.now) (consult.inquiry context.now) context.now.start.value
+        seat.new walk.new.known }
+    ensures extends { IfOk result (λ _. spec.Extends walk.old.known walk.new.known) }
     ensures left { IfOk result
         (λ service_step. (services : List Service) → drop position.service services
         ≡ service.now ∷ drop (position.service + 1) services
-        → spec.Walks context.now services
+        → spec.Walks context.now walk.new.known services
         (λ all fallback found. spec.position_left context.now.caps.now context.now.words.now.0
         context.now.name.now all services fallback position found)
-        service_step targets.old.items targets.new.items) }
+        service_step walk.old.targets.items walk.new.targets.items) }
     ensures fits { IfOk result spec.ServiceStepFits }
     ensures goes_on { IfOk result (spec.GoesOnAt (position.service + 1)) }
+    ensures lacks { IfOk result
+        (consult.ServiceStepLacks (S.says context.now.source.now seat.new)) }
 {
     let Some(name) = &service.name else {
         return Ok(ServiceStep::Position(position.behind(&SrvOutcome::Absent)));
     };
-    match context.known.answer_to(name, Kind::Srv) {
-        Ok(answer) => push_answer(targets, context, service.transport, answer, position),
+    match answer_from(walk, seat, context, name, Kind::Srv) {
+        Ok(answer) => push_answer(walk, seat, context, service.transport, answer, position),
         Err(Stop::Need(question)) => Ok(ServiceStep::Stop(
             ServiceStage::ServiceRecords(position),
             question,
@@ -142,24 +216,37 @@ fn push_service(
 
 /// What the services offer, one after the other, from a position on: all, or up to the first
 /// question without an answer.
-fn push_services(
-    targets: &mut Vec<Target>,
-    context: &Context<'_>,
+pub(crate) fn push_services<S: AnswerSource>(
+    walk: &mut Walk,
+    seat: &mut S::Seat,
+    context: &Context<'_, S>,
     services: &[Service],
     from: Position,
 ) -> Result<ServiceStep, AllocError>
     requires few { length services.now ≤ 8 }
     requires words { from.word ≤ 32 * from.service }
-    ensures left { IfOk result (λ service_step. spec.Walks context.now services.now
+    requires needs { consult.NeedsAlong (consult.inquiry context.now) walk.old.known
+        (λ all fallback. spec.position_left context.now.caps.now context.now.words.now.0
+        context.now.name.now all services.now fallback from walk.old.targets.items) }
+    requires consulted { consult.Consulted (S.ready context.now.source.now) S.goes
+        (S.says context.now.source.now) (consult.inquiry context.now) context.now.start.value
+        seat.old walk.old.known }
+    ensures consulted { consult.Consulted (S.ready context.now.source.now) S.goes
+        (S.says context.now.source.now) (consult.inquiry context.now) context.now.start.value
+        seat.new walk.new.known }
+    ensures extends { IfOk result (λ _. spec.Extends walk.old.known walk.new.known) }
+    ensures left { IfOk result (λ service_step. spec.Walks context.now walk.new.known services.now
         (λ all fallback found. spec.position_left context.now.caps.now context.now.words.now.0
         context.now.name.now all services.now fallback from found)
-        service_step targets.old.items targets.new.items) }
+        service_step walk.old.targets.items walk.new.targets.items) }
     ensures fits { IfOk result spec.ServiceStepFits }
     ensures all { IfOk result (spec.IsPast (length services.now)) }
+    ensures lacks { IfOk result
+        (consult.ServiceStepLacks (S.says context.now.source.now seat.new)) }
 {
     let mut position = from;
     for at in from.service..services.len() {
-        match push_service(targets, context, &services[at], position)? {
+        match push_service(walk, seat, context, &services[at], position)? {
             ServiceStep::Position(behind) => position = behind,
             stop => return Ok(stop),
         }
@@ -168,31 +255,45 @@ fn push_services(
 }
 
 /// What the services offer from a stage on.
-pub(crate) fn push_from(
-    targets: &mut Vec<Target>,
-    context: &Context<'_>,
+pub(crate) fn push_from<S: AnswerSource>(
+    walk: &mut Walk,
+    seat: &mut S::Seat,
+    context: &Context<'_, S>,
     services: &[Service],
     service_stage: &ServiceStage,
 ) -> Result<ServiceStep, AllocError>
     requires few { length services.now ≤ 8 }
     requires words { (spec.position_of service_stage.now).word ≤ 32 *
         (spec.position_of service_stage.now).service }
-    ensures left { IfOk result (λ service_step. spec.Walks context.now services.now
+    requires needs { consult.NeedsAlong (consult.inquiry context.now) walk.old.known
+        (λ all fallback. spec.service_stage_left context.now.caps.now context.now.words.now.0
+        context.now.name.now all services.now fallback service_stage.now
+        walk.old.targets.items) }
+    requires consulted { consult.Consulted (S.ready context.now.source.now) S.goes
+        (S.says context.now.source.now) (consult.inquiry context.now) context.now.start.value
+        seat.old walk.old.known }
+    ensures consulted { consult.Consulted (S.ready context.now.source.now) S.goes
+        (S.says context.now.source.now) (consult.inquiry context.now) context.now.start.value
+        seat.new walk.new.known }
+    ensures extends { IfOk result (λ _. spec.Extends walk.old.known walk.new.known) }
+    ensures left { IfOk result (λ service_step. spec.Walks context.now walk.new.known services.now
         (λ all fallback found. spec.service_stage_left context.now.caps.now context.now.words.now.0
         context.now.name.now all services.now fallback service_stage.now found)
-        service_step targets.old.items targets.new.items) }
+        service_step walk.old.targets.items walk.new.targets.items) }
     ensures fits { IfOk result spec.ServiceStepFits }
     ensures all { IfOk result (spec.IsPast (length services.now)) }
+    ensures lacks { IfOk result
+        (consult.ServiceStepLacks (S.says context.now.source.now seat.new)) }
 {
     match service_stage {
-        ServiceStage::ServiceRecords(position) => push_services(
-            targets, context, services, *position,
-        ),
+        ServiceStage::ServiceRecords(position) => {
+            push_services(walk, seat, context, services, *position)
+        }
         ServiceStage::Server(listing, cursor, position) => {
-            match push_listing(targets, context, listing, *cursor, *position)? {
-                ServiceStep::Position(position) => push_services(
-                    targets, context, services, position,
-                ),
+            match push_listing(walk, seat, context, listing, *cursor, *position)? {
+                ServiceStep::Position(position) => {
+                    push_services(walk, seat, context, services, position)
+                }
                 stop => Ok(stop),
             }
         }

@@ -1,11 +1,13 @@
 //! The choice of one request, question by question (RFC 3263 4, 5).
-ghost use Rattle.std.specs.Prelude.{◌≡◌, ◌≢◌, ◌↔◌, ◌≤◌, ◌++◌, List, length, IfErr, IfOk, IsTrue, OnErr, OnOk};
+ghost use Rattle.std.specs.Prelude.{◌≡◌, ◌≢◌, ◌↔◌, ◌≤◌, ◌++◌, List, length, None, IfErr, IfOk, IsTrue, OnErr, OnOk};
 ghost use Rattle.std.specs.Arc.{arc_value};
 ghost use Rattle.dns_answers.specs.Records.{count_of, kind_of};
 ghost use Rattle.sip_selection.specs.Choice.{IsNotRefused, need, targets};
+ghost use Rattle.sip_selection.specs.Consulting.{Consulted, Needs, StepLacks, inquiry, with_given};
+ghost use Rattle.sip_selection.specs.Known.{Given};
 ghost use Rattle.sip_selection.specs.Nexts.{next_of};
 ghost use Rattle.sip_selection.specs.Selections.{begun, given_too, now_of};
-ghost use Rattle.sip_selection.specs.Stages.{AreHeld, Comes, IsAsking, StageFits, stage_left};
+ghost use Rattle.sip_selection.specs.Stages.{AreHeld, Comes, Extends, IsAsking, StageFits, stage_left};
 ghost use Rattle.sip_selection.specs.declared.target.Target.{Target};
 
 use crate::caps::Caps;
@@ -13,10 +15,10 @@ use crate::choice::{begin, resume};
 use crate::choice_laws::{
     law_numeric_targets_ask_nothing, law_questions_are_few, law_targets_are_few,
 };
-use crate::known::Known;
 use crate::reason::Reason;
 use crate::request::Request;
-use crate::stage::{Context, Stage, Step};
+use crate::source::{AnswerSource, NoSource};
+use crate::stage::{Context, Stage, Step, Walk};
 use crate::target::Target;
 use dns_answers::Answer;
 use dns_message::{Question, law_same_questions_are_equal};
@@ -65,10 +67,10 @@ pub struct Selection {
     drawn: Snapshot<Words>,
     /// The same in memory, where a question is asked.
     words: Option<Box<Words>>,
-    known: Known,
+    /// The targets that were found.
     targets: Vec<Target>,
-    /// What the last step found: kept for its memory.
-    found: Vec<Target>,
+    /// The answers that were given, and what the last step found, kept for its memory.
+    walk: Walk,
     step: Step,
 }
 
@@ -85,36 +87,14 @@ impl Model for Selection {
       caps = it.caps;
       words = it.drawn.value.0;
       given =
-          it.known;
+          it.walk.known;
     } };
 
     ghost invariant = { λ it. ComesTo (is_secure it.request) it.caps it.drawn.value.0
-        (name_of (target_of it.request)) it.known (chosen it.request it.caps it.drawn.value.0)
+        (name_of (target_of it.request)) it.walk.known (chosen it.request it.caps it.drawn.value.0)
         it.step it.targets.items
-        × AreAskedOneByOne it.request it.caps it.drawn.value.0 it.known
+        × AreAskedOneByOne it.request it.caps it.drawn.value.0 it.walk.known
         × AreHeld it.step it.words it.drawn.value };
-}
-
-/// Goes on from a stage with one answer more, and adds the targets that are found, or gives the
-/// stage back where memory was refused.
-fn advance(
-    targets: &mut Vec<Target>,
-    found: &mut Vec<Target>,
-    context: &Context<'_>,
-    stage: Stage,
-) -> Result<Step, Stage>
-    requires { StageFits stage }
-    ensures goes { IfOk result (λ step. Comes context.now
-        (stage_left context.now.secure context.now.caps.now context.now.words.now.0
-        context.now.name.now stage targets.old.items)
-        step targets.new.items) }
-    ensures unchanged { OnErr result (targets.new.items ≡ targets.old.items) }
-    ensures given_back { IfErr result (λ it. it ≡ stage) }
-{
-    match go_on(targets, found, context, &stage) {
-        Ok(step) => Ok(step),
-        Err(AllocError) => Err(stage),
-    }
 }
 
 /// Adds the targets that were found behind the others. The first ones are not copied.
@@ -130,25 +110,75 @@ fn append(targets: &mut Vec<Target>, found: &mut Vec<Target>) -> Result<(), Allo
     Ok(())
 }
 
-/// Goes on from a stage with one answer more, and adds the targets that are found.
-fn go_on(
+/// Goes on from a stage, and adds the targets that are found. Where memory was refused the targets
+/// are as before.
+fn advance<S: AnswerSource>(
     targets: &mut Vec<Target>,
-    found: &mut Vec<Target>,
-    context: &Context<'_>,
+    walk: &mut Walk,
+    seat: &mut S::Seat,
+    context: &Context<'_, S>,
     stage: &Stage,
 ) -> Result<Step, AllocError>
-    requires { StageFits stage.now }
-    ensures goes { IfOk result (λ step. Comes context.now
+    requires fits { StageFits stage.now }
+    requires start { context.now.start.value ≡ seat.old }
+    requires given { context.now.given.value ≡ walk.old.known }
+    requires ready { S.ready context.now.source.now seat.old }
+    requires needs { Needs (inquiry context.now) walk.old.known
         (stage_left context.now.secure context.now.caps.now context.now.words.now.0
-        context.now.name.now
-        stage.now targets.old.items)
+        context.now.name.now stage.now targets.old.items) }
+    ensures goes { IfOk result (λ step. Comes context.now walk.new.known
+        (stage_left context.now.secure context.now.caps.now context.now.words.now.0
+        context.now.name.now stage.now targets.old.items)
         step targets.new.items) }
+    ensures consulted { Consulted (S.ready context.now.source.now) S.goes
+        (S.says context.now.source.now) (inquiry context.now) seat.old seat.new walk.new.known }
+    ensures extends { OnOk result (Extends walk.old.known walk.new.known) }
+    ensures lacks { IfOk result (StepLacks (S.says context.now.source.now seat.new)) }
     ensures unchanged { OnErr result (targets.new.items ≡ targets.old.items) }
 {
-    found.clear();
-    let step = resume(found, context, stage)?;
-    append(targets, found)?;
+    walk.targets.clear();
+    let step = resume(walk, seat, context, stage)?;
+    append(targets, &mut walk.targets)?;
     Ok(step)
+}
+
+/// The same. Where memory was refused the answers are as before too, and the stage is given back.
+fn go_on<S: AnswerSource>(
+    targets: &mut Vec<Target>,
+    walk: &mut Walk,
+    seat: &mut S::Seat,
+    context: &Context<'_, S>,
+    stage: Stage,
+) -> Result<Step, Stage>
+    requires fits { StageFits stage }
+    requires start { context.now.start.value ≡ seat.old }
+    requires given { context.now.given.value ≡ walk.old.known }
+    requires ready { S.ready context.now.source.now seat.old }
+    requires needs { Needs (inquiry context.now) walk.old.known
+        (stage_left context.now.secure context.now.caps.now context.now.words.now.0
+        context.now.name.now stage targets.old.items) }
+    ensures goes { IfOk result (λ step. Comes context.now walk.new.known
+        (stage_left context.now.secure context.now.caps.now context.now.words.now.0
+        context.now.name.now stage targets.old.items)
+        step targets.new.items) }
+    ensures consulted { OnOk result (Consulted (S.ready context.now.source.now) S.goes
+        (S.says context.now.source.now) (inquiry context.now) seat.old seat.new walk.new.known) }
+    ensures extends { OnOk result (Extends walk.old.known walk.new.known) }
+    ensures lacks { IfOk result (StepLacks (S.says context.now.source.now seat.new)) }
+    ensures goes_on { (given : List Given) × Consulted (S.ready context.now.source.now) S.goes
+        (S.says context.now.source.now) (inquiry context.now) seat.old seat.new given }
+    ensures unchanged { OnErr result
+        ((targets.new.items ≡ targets.old.items) × (walk.new.known ≡ walk.old.known)) }
+    ensures given_back { IfErr result (λ it. it ≡ stage) }
+{
+    let count = walk.known.count();
+    match advance(targets, walk, seat, context, &stage) {
+        Ok(step) => Ok(step),
+        Err(AllocError) => {
+            walk.known.truncate(count);
+            Err(stage)
+        }
+    }
 }
 
 /// The random words in memory of their own, where a question is asked.
@@ -174,17 +204,15 @@ impl Selection {
         ensures is { IfOk result (λ it. it ≡ begun request caps words.0) }
         ensures memory { OnErr result (IsNotRefused (now_of (begun request caps words.0))) }
     {
-        let known = Known::new(alloc);
-        let mut targets = Vec::new(alloc);
-        let step = begin(&mut targets, alloc, &request, &caps, &words, &known)?;
+        let mut walk = Walk::new(alloc);
+        let step = begin(&mut walk, &mut (), &NoSource, alloc, &request, &caps, &words)?;
         Ok(Selection {
             request,
             caps,
             drawn: Snapshot::of(&words),
             words: held_words(alloc, &step, &words)?,
-            known,
-            targets,
-            found: Vec::new(alloc),
+            targets: mem::replace(&mut walk.targets, Vec::new(alloc)),
+            walk,
             step,
         })
     }
@@ -268,27 +296,92 @@ impl Selection {
             unreachable!()
         };
         let (asked, stage) = self.step.take_ask();
-        if let Err(asked) = self.known.push(asked, answer) {
+        if let Err(asked) = self.walk.known.push(asked, answer) {
             self.step = Step::Ask(asked, stage);
             return Err(AllocError);
         }
         let context = Context {
             alloc,
+            request: &self.request,
             secure: self.request.is_secure(),
             caps: &self.caps,
             words,
             name,
-            known: &self.known,
+            source: &NoSource,
+            start: Snapshot::of(&()),
+            given: Snapshot::of(&self.walk.known),
         };
-        match advance(&mut self.targets, &mut self.found, &context, stage) {
+        match go_on(&mut self.targets, &mut self.walk, &mut (), &context, stage) {
             Ok(step) => {
                 self.step = step;
                 Ok(())
             }
             Err(stage) => {
-                self.step = Step::Ask(self.known.pop(), stage);
+                self.step = Step::Ask(self.walk.known.pop(), stage);
                 Err(AllocError)
             }
         }
+    }
+
+    /// Asks a source for the answer to each question that comes up, until it has none to one, or
+    /// none is asked. Where memory is refused the choice is as before, though the source was asked.
+    pub fn consult<S: AnswerSource>(
+        &mut self,
+        alloc: Global,
+        source: &S,
+        seat: &mut S::Seat,
+    ) -> Result<(), AllocError>
+        requires { S.ready source.now seat.old }
+        ensures consulted { OnOk result
+            ((self.new ≡ with_given self.old self.new.given)
+            × Consulted (S.ready source.now) S.goes (S.says source.now) self.old seat.old seat.new
+            self.new.given) }
+        ensures lacks { OnOk result ((question : Question) → now_of self.new ≡ need question
+            → S.says source.now seat.new question None) }
+        ensures goes_on { (given : List Given) × Consulted (S.ready source.now) S.goes
+            (S.says source.now) self.old seat.old seat.new given }
+        ensures unchanged { OnErr result (self.new ≡ self.old) }
+        ensures asking { OnErr result
+            ((question : Question) × (now_of self.old ≡ need question)) }
+    {
+        if !self.is_asking() {
+            return Ok(());
+        }
+        law_numeric_targets_ask_nothing();
+        let Host::Domain(name) = self.request.target() else {
+            unreachable!()
+        };
+        let Some(words) = &self.words else {
+            unreachable!()
+        };
+        let (asked, stage) = self.step.take_ask();
+        let context = Context {
+            alloc,
+            request: &self.request,
+            secure: self.request.is_secure(),
+            caps: &self.caps,
+            words,
+            name,
+            source,
+            start: Snapshot::of(seat),
+            given: Snapshot::of(&self.walk.known),
+        };
+        match go_on(&mut self.targets, &mut self.walk, seat, &context, stage) {
+            Ok(step) => {
+                self.step = step;
+                Ok(())
+            }
+            Err(stage) => {
+                self.step = Step::Ask(asked, stage);
+                Err(AllocError)
+            }
+        }
+    }
+
+    /// Whether a question is asked.
+    fn is_asking(&self) -> bool
+        ensures { IsTrue result ↔ ((question : Question) × (now_of self.now ≡ need question)) }
+    {
+        matches!(self.next(), Next::Ask(_))
     }
 }

@@ -1,12 +1,15 @@
 //! How far a choice has come (RFC 3263 4.1, 4.2).
-ghost use Rattle.std.specs.Prelude.{◌≡◌, ◌<◌};
+ghost use Rattle.std.specs.Prelude.{◌≡◌, ◌<◌, []};
 ghost use Rattle.sip_selection.specs.Stages as spec;
 ghost use Rattle.sip_selection.specs.declared.stage.Step.TheVariants as step;
 
 use crate::caps::Caps;
 use crate::known::Known;
 use crate::reason::Reason;
+use crate::request::Request;
 use crate::service::Service;
+use crate::source::AnswerSource;
+use crate::target::Target;
 use dns_answers::Answer;
 use dns_message::Question;
 use dns_name::Name;
@@ -14,19 +17,46 @@ use sip_uri::Transport;
 use srv_choice::{Indexes, SrvOutcome, Words};
 use std::alloc::Global;
 use std::mem;
+use std::snapshot::Snapshot;
 use std::sync::Arc;
 
-/// What the choice for a domain goes by, with the answers so far.
-#[derive(Clone, Copy)]
-pub(crate) struct Context<'a> {
+/// What the choice for a domain goes by.
+#[derive(Drop)]
+pub(crate) struct Context<'a, S: AnswerSource> {
     pub(crate) alloc: Global,
+    pub(crate) request: &'a Request,
     /// For a SIPS URI.
     pub(crate) secure: bool,
     pub(crate) caps: &'a Caps,
     pub(crate) words: &'a Words,
     /// The domain.
     pub(crate) name: &'a Name,
-    pub(crate) known: &'a Known,
+    /// Where answers come from that were not given.
+    pub(crate) source: &'a S,
+    /// The seat as it was at first, and the answers that were given then, as contracts see them.
+    pub(crate) start: Snapshot<S::Seat>,
+    pub(crate) given: Snapshot<Known>,
+}
+
+/// What a choice has found so far.
+#[derive(Drop)]
+pub(crate) struct Walk {
+    pub(crate) targets: Vec<Target>,
+    /// The answers that were given, with those of the source.
+    pub(crate) known: Known,
+}
+
+impl Walk {
+    /// Nothing found, and no answer.
+    pub(crate) fn new(alloc: Global) -> Walk
+        ensures targets { result.targets.items ≡ [] }
+        ensures known { result.known ≡ [] }
+    {
+        Walk {
+            targets: Vec::new(alloc),
+            known: Known::new(alloc),
+        }
+    }
 }
 
 /// The services that are looked for.

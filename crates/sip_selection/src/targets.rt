@@ -1,5 +1,6 @@
 //! The targets of the addresses of names (RFC 3263 4.2).
-ghost use Rattle.std.specs.Prelude.{◌≡◌, ◌++◌, List, IfOk, OnOk, map};
+ghost use Rattle.std.specs.Prelude.{◌≡◌, ◌++◌, List, None, IfOk, IfSome, OnOk, map};
+ghost use Rattle.sip_selection.specs.Consulting as consult;
 ghost use Rattle.sip_selection.specs.Known.{addresses_in};
 ghost use Rattle.sip_selection.specs.Services as spec;
 ghost use Rattle.sip_selection.specs.Stages as stage;
@@ -7,7 +8,8 @@ ghost use Rattle.sip_selection.specs.declared.target.Target as target;
 
 use crate::caps::kinds_of;
 use crate::known::Stop;
-use crate::stage::{Context, Cursor};
+use crate::source::{AnswerSource, answer_from};
+use crate::stage::{Context, Cursor, Walk};
 use crate::target::Target;
 use dns_answers::Records;
 use dns_message::{Question, SrvRecord};
@@ -74,24 +76,37 @@ fn push_addresses(
 
 /// Adds the addresses of a name at a port, from a kind on: all, or up to the kind whose question
 /// has no answer.
-pub(crate) fn push_kinds(
-    targets: &mut Vec<Target>,
-    context: &Context<'_>,
+pub(crate) fn push_kinds<S: AnswerSource>(
+    walk: &mut Walk,
+    seat: &mut S::Seat,
+    context: &Context<'_, S>,
     transport: Transport,
     port: u16,
     name: &Name,
     from: usize,
 ) -> Result<Option<(usize, Question)>, AllocError>
-    ensures { IfOk result
-        (λ stop. (found : List target.Target) × (targets.new.items ≡ targets.old.items ++ found)
-        × stage.Reaches context.now.known.now
+    requires needs { consult.Needs (consult.inquiry context.now) walk.old.known
+        (λ all. stage.kinds_left context.now.caps.now all transport port name.now from) }
+    requires consulted { consult.Consulted (S.ready context.now.source.now) S.goes
+        (S.says context.now.source.now) (consult.inquiry context.now) context.now.start.value
+        seat.old walk.old.known }
+    ensures consulted { consult.Consulted (S.ready context.now.source.now) S.goes
+        (S.says context.now.source.now) (consult.inquiry context.now) context.now.start.value
+        seat.new walk.new.known }
+    ensures extends { IfOk result (λ _. stage.Extends walk.old.known walk.new.known) }
+    ensures reaches { IfOk result
+        (λ stop. (found : List target.Target)
+        × (walk.new.targets.items ≡ walk.old.targets.items ++ found)
+        × stage.Reaches walk.new.known
         (λ all. stage.kinds_left context.now.caps.now all transport port name.now) from stop
         found) }
+    ensures lacks { IfOk result (λ stop. IfSome stop
+        (λ it. S.says context.now.source.now seat.new it.1 None)) }
 {
     let kinds = kinds_of(context.caps.families());
     for at in from..kinds.len() {
-        match context.known.answer_to(name, kinds[at]) {
-            Ok(answer) => push_addresses(targets, transport, port, answer.records())?,
+        match answer_from(walk, seat, context, name, kinds[at]) {
+            Ok(answer) => push_addresses(&mut walk.targets, transport, port, answer.records())?,
             Err(Stop::Need(question)) => return Ok(Some((at, question))),
             Err(Stop::Memory) => return Err(AllocError),
         }
@@ -100,77 +115,109 @@ pub(crate) fn push_kinds(
 }
 
 /// Adds the addresses of a server at its port, from a kind on, unless its target is the root.
-fn push_server(
-    targets: &mut Vec<Target>,
-    context: &Context<'_>,
+fn push_server<S: AnswerSource>(
+    walk: &mut Walk,
+    seat: &mut S::Seat,
+    context: &Context<'_, S>,
     transport: Transport,
     server: &SrvRecord,
     from: usize,
 ) -> Result<Option<(usize, Question)>, AllocError>
-    ensures { IfOk result
-        (λ stop. (found : List target.Target) × (targets.new.items ≡ targets.old.items ++ found)
-        × stage.Reaches context.now.known.now
-        (λ all. stage.server_left context.now.caps.now all transport server.now) from stop found) }
+    requires needs { consult.Needs (consult.inquiry context.now) walk.old.known
+        (λ all. stage.server_left context.now.caps.now all transport server.now from) }
+    requires consulted { consult.Consulted (S.ready context.now.source.now) S.goes
+        (S.says context.now.source.now) (consult.inquiry context.now) context.now.start.value
+        seat.old walk.old.known }
+    ensures consulted { consult.Consulted (S.ready context.now.source.now) S.goes
+        (S.says context.now.source.now) (consult.inquiry context.now) context.now.start.value
+        seat.new walk.new.known }
+    ensures extends { IfOk result (λ _. stage.Extends walk.old.known walk.new.known) }
+    ensures reaches { IfOk result
+        (λ stop. (found : List target.Target)
+        × (walk.new.targets.items ≡ walk.old.targets.items ++ found)
+        × stage.Reaches walk.new.known
+        (λ all. stage.server_left context.now.caps.now all transport server.now) from stop
+        found) }
+    ensures lacks { IfOk result (λ stop. IfSome stop
+        (λ it. S.says context.now.source.now seat.new it.1 None)) }
 {
     if server.target.is_root() {
         return Ok(None);
     }
-    push_kinds(
-        targets,
-        context,
-        transport,
-        server.port,
-        &server.target,
-        from,
-    )
+    let (port, name) = (server.port, &server.target);
+    push_kinds(walk, seat, context, transport, port, name, from)
 }
 
 /// Adds the addresses of the server at an index, if there is one, from a kind on.
-fn push_index(
-    targets: &mut Vec<Target>,
-    context: &Context<'_>,
+fn push_index<S: AnswerSource>(
+    walk: &mut Walk,
+    seat: &mut S::Seat,
+    context: &Context<'_, S>,
     transport: Transport,
     servers: &[SrvRecord],
     index: usize,
     from: usize,
 ) -> Result<Option<(usize, Question)>, AllocError>
-    ensures { IfOk result
-        (λ stop. (found : List target.Target) × (targets.new.items ≡ targets.old.items ++ found)
-        × stage.Reaches context.now.known.now
-        (λ all. stage.index_left context.now.caps.now all transport
-        servers.now index) from stop found) }
+    requires needs { consult.Needs (consult.inquiry context.now) walk.old.known
+        (λ all. stage.index_left context.now.caps.now all transport servers.now index from) }
+    requires consulted { consult.Consulted (S.ready context.now.source.now) S.goes
+        (S.says context.now.source.now) (consult.inquiry context.now) context.now.start.value
+        seat.old walk.old.known }
+    ensures consulted { consult.Consulted (S.ready context.now.source.now) S.goes
+        (S.says context.now.source.now) (consult.inquiry context.now) context.now.start.value
+        seat.new walk.new.known }
+    ensures extends { IfOk result (λ _. stage.Extends walk.old.known walk.new.known) }
+    ensures reaches { IfOk result
+        (λ stop. (found : List target.Target)
+        × (walk.new.targets.items ≡ walk.old.targets.items ++ found)
+        × stage.Reaches walk.new.known
+        (λ all. stage.index_left context.now.caps.now all transport servers.now index) from stop
+        found) }
+    ensures lacks { IfOk result (λ stop. IfSome stop
+        (λ it. S.says context.now.source.now seat.new it.1 None)) }
 {
     match servers.get(index) {
-        Some(server) => push_server(targets, context, transport, server, from),
+        Some(server) => push_server(walk, seat, context, transport, server, from),
         None => Ok(None),
     }
 }
 
 /// Adds the addresses of the servers at these indexes, in this order, from a cursor on: all, or up
 /// to the first question without an answer.
-pub(crate) fn push_indexes(
-    targets: &mut Vec<Target>,
-    context: &Context<'_>,
+pub(crate) fn push_indexes<S: AnswerSource>(
+    walk: &mut Walk,
+    seat: &mut S::Seat,
+    context: &Context<'_, S>,
     transport: Transport,
     servers: &[SrvRecord],
     indexes: &[usize],
     from: Cursor,
 ) -> Result<Option<(Cursor, Question)>, AllocError>
-    ensures { IfOk result
-        (λ stop. (found : List target.Target) × (targets.new.items ≡ targets.old.items ++ found)
-        × stage.Reaches context.now.known.now
+    requires needs { consult.Needs (consult.inquiry context.now) walk.old.known
         (λ all. stage.servers_left context.now.caps.now all transport servers.now
-        indexes.now) from stop found) }
+        indexes.now from) }
+    requires consulted { consult.Consulted (S.ready context.now.source.now) S.goes
+        (S.says context.now.source.now) (consult.inquiry context.now) context.now.start.value
+        seat.old walk.old.known }
+    ensures consulted { consult.Consulted (S.ready context.now.source.now) S.goes
+        (S.says context.now.source.now) (consult.inquiry context.now) context.now.start.value
+        seat.new walk.new.known }
+    ensures extends { IfOk result (λ _. stage.Extends walk.old.known walk.new.known) }
+    ensures reaches { IfOk result
+        (λ stop. (found : List target.Target)
+        × (walk.new.targets.items ≡ walk.old.targets.items ++ found)
+        × stage.Reaches walk.new.known
+        (λ all. stage.servers_left context.now.caps.now all transport servers.now
+        indexes.now) from stop
+        found) }
+    ensures lacks { IfOk result (λ stop. IfSome stop
+        (λ it. S.says context.now.source.now seat.new it.1 None)) }
 {
     let mut kind = from.kind;
     for server in from.server..indexes.len() {
+        let index = indexes[server];
         if let Some((kind, question)) = push_index(
-            targets,
-            context,
-            transport,
-            servers,
-            indexes[server],
-            kind,
+            walk, seat, context, transport, servers, index, kind,
         )? {
             return Ok(Some((Cursor { server, kind }, question)));
         }

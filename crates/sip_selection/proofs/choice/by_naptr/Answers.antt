@@ -1,17 +1,40 @@
+use Rattle.std.proofs.Common.{◌∙◌, refl}
 use Rattle.std.specs.Arc.{arc_value}
 use Rattle.dns_message.specs.declared.kind.Kind.TheVariants.{Naptr}
 use Rattle.sip_selection.proofs.Choosing.{goes-too, by_services-left}
-use Rattle.sip_selection.proofs.Walking.{ok-each}
+use Rattle.sip_selection.proofs.Consulting.{extends-on}
+use Rattle.sip_selection.proofs.Walking.{ok-both, ok-each}
 use Rattle.sip_selection.proofs.choice.by_naptr.Goals as goal
 
-pub returns-in_ok-candidates_by-in-Ok : goal.returns-in_ok-candidates_by-in-Ok
-returns-in_ok-candidates_by-in-Ok c =
+pub answer_from-requires-clause-needs : goal.answer_from-requires-clause-needs
+answer_from-requires-clause-needs g c = λ all question extends is. c.requires.needs all question extends (rw is refl)
+
+pub along_all-requires-clause-needs : goal.along_all-requires-clause-needs
+along_all-requires-clause-needs g c = λ all question extends unknown.
     let a = c.args in
     let b = a.context.now in
-    let answer = arc_value c.in-Ok.answer.now in
-    let candidates = c.in_ok-candidates_by-in-Ok.field-0 in
-    let is = rw (c.rules_in.ensures.rules, c.deref.ensures) at c.in_ok-candidates_by-in-Ok.ensures.is in
-    ok-each _ _ (λ step goes. goes-too b _ _ step a.targets.now.items _
+    let answer = arc_value c.in-Ok.answer in
+    let is = rw (c.rules_in.ensures.rules, c.deref.ensures) at c.in_ok-candidates-in-Ok.ensures.is in
+    c.requires.needs all question (extends-on a.walk.now.known c.answer_from.new.walk.known all c.answer_from.ensures.extends extends)
+    (rw (extends (record { name = b.name.now; kind = Naptr }) answer c.in-Ok.ensures.answer) (is all ∙ unknown))
+
+pub returns-in_ok-candidates-in-Ok-clause-goes : goal.returns-in_ok-candidates-in-Ok-clause-goes
+returns-in_ok-candidates-in-Ok-clause-goes g c =
+    let a = c.args in
+    let b = a.context.now in
+    let answer = arc_value c.in-Ok.answer in
+    let candidates = c.in_ok-candidates-in-Ok.candidates in
+    let then = c.answer_from.new.walk.known in
+    let more = c.along_all.new.walk.known in
+    let is = rw (c.rules_in.ensures.rules, c.deref.ensures) at c.in_ok-candidates-in-Ok.ensures.is in
+    let left = rw c.answer_from.ensures.targets at c.along_all.ensures.goes in
+    ok-both _ _ _ (λ step on goes. goes-too b more _ _ step a.walk.now.targets.items _
     (λ found all extends. by_services-left b.secure b.caps.now b.words.now.0 b.name.now all candidates.services.items candidates.fallback
     found answer
-    (extends (record { name = b.name.now; kind = Naptr }) answer c.in-Ok.ensures) (is all)) goes) c.along_all.result c.along_all.ensures
+    (extends-on then more all on extends (record { name = b.name.now; kind = Naptr }) answer c.in-Ok.ensures.answer) (is all)) goes)
+    c.along_all.result c.along_all.ensures.extends left
+
+pub returns-in_ok-candidates-in-Ok-clause-extends : goal.returns-in_ok-candidates-in-Ok-clause-extends
+returns-in_ok-candidates-in-Ok-clause-extends g c =
+    ok-each _ _ (λ _ on. extends-on c.args.walk.now.known c.answer_from.new.walk.known c.along_all.new.walk.known
+    c.answer_from.ensures.extends on) c.along_all.result c.along_all.ensures.extends
