@@ -15,6 +15,10 @@ pub whatever-came : {T E P : Type 0} (result : Result T E) → P → OnErr resul
 whatever-came (Ok value) is = tt
 whatever-came (Err error) is = is
 
+pub err-each : {T E P Q : Type 0} → (P → Q) → (result : Result T E) → OnErr result P → OnErr result Q
+err-each each (Ok value) is = tt
+err-each each (Err error) is = each is
+
 kinds-asked : (families : Families) (name : List (List ℕ)) (port : ℕ) (transport : Transport)
     → IsNotRefused (resolved (made Ok (targets_of [] (kinds_of families) transport port name)))
 kinds-asked V4 name port transport = tt

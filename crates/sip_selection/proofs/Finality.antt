@@ -1,5 +1,5 @@
 -- Where a request goes stays so when further answers are given.
-use Rattle.std.proofs.Common.{◌≡◌, ℕ, Bool, true, false, List, [], ◌∷◌, ◌++◌, Option, Some, None, Result, Ok, Err, refl, ap}
+use Rattle.std.proofs.Common.{◌≡◌, ℕ, Bool, true, false, List, [], ◌∷◌, ◌++◌, Option, Some, None, Result, Ok, Err, refl, sym, ap, ◌∙◌}
 use Rattle.std.specs.List.{list_any}
 use Rattle.dns_message.specs.declared.kind.Kind.TheVariants as kind
 use Rattle.dns_message.specs.declared.question.Question.{Question}
@@ -8,7 +8,7 @@ use Rattle.sip_uri.specs.declared.host.Host.TheVariants as host
 use Rattle.sip_uri.specs.declared.transport.Spoken.{Spoken}
 use Rattle.sip_uri.specs.declared.transport.Transport.{Transport}
 use Rattle.sip_selection.specs.Callers.{kinds_of}
-use Rattle.sip_selection.specs.Choice.{need, Settled, resolved, offered, offered_default, own_services, to_name, to_domain, by_offers, along, by_services, by_naptr, to_port, to_service, discovered, to_host, locate}
+use Rattle.sip_selection.specs.Choice.{IsNotRefused, Resolution, targets, refused, need, Settled, resolved, offered, offered_default, own_services, to_name, to_domain, by_offers, along, by_services, by_naptr, to_port, to_service, discovered, to_host, locate}
 use Rattle.sip_selection.specs.Known.{Given, Needing, rules_in}
 use Rattle.sip_selection.specs.Requests.{target_of, port_of, spoken_of, is_secure, transport_of, default_port}
 use Rattle.sip_selection.specs.Rules.{usable_services}
@@ -93,3 +93,17 @@ module _ (caps : Caps) (words : List ℕ) (given more : List Given) where
         resolved-grows (to_host request caps words given (target_of request) (port_of request) (spoken_of request))
         (to_host request caps words all (target_of request) (port_of request) (spoken_of request))
         (host-grows (target_of request) (port_of request) (spoken_of request)) final
+
+-- what asks with some answers is not refused without any
+module _ (request : Request) (caps : Caps) (words : List ℕ) (given : List Given) (question : Question)
+    (asks : locate request caps words given ≡ need question) where
+  asks-by : (resolution : Resolution) → locate request caps words [] ≡ resolution → IsNotRefused resolution
+  asks-by (targets list) is = tt
+  asks-by (need first) is = tt
+  asks-by (refused reason) is =
+      let never : refused reason ≡ need question =
+      sym is ∙ sym (final_is caps words [] given request (λ first asked. let no : refused reason ≡ need first = sym is ∙ asked in absurd cc)) ∙ asks in
+      absurd cc
+
+  pub asks-first : IsNotRefused (locate request caps words [])
+  asks-first = asks-by (locate request caps words []) refl

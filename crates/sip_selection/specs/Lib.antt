@@ -11,3 +11,4 @@ pub mod Stages
 pub mod Selections
 pub mod Consulting
 pub mod Nexts
+pub mod Choices

@@ -85,6 +85,6 @@ pub use laws::{
 pub use reason::Reason;
 pub use request::Request;
 pub use request_line::read_request;
-pub use selection::{GiveRefusal, Next, Selection};
+pub use selection::{Choice, GiveRefusal, Next, Selection, choose};
 pub use source::AnswerSource;
 pub use target::Target;

@@ -2,12 +2,14 @@
 ghost use Rattle.std.specs.Prelude.{◌≡◌, ◌≢◌, ◌↔◌, ◌≤◌, ◌++◌, List, length, None, IfErr, IfOk, IsTrue, OnErr, OnOk};
 ghost use Rattle.std.specs.Arc.{arc_value};
 ghost use Rattle.dns_answers.specs.Records.{count_of, kind_of};
-ghost use Rattle.sip_selection.specs.Choice.{IsNotRefused, need, targets};
-ghost use Rattle.sip_selection.specs.Consulting.{Consulted, Needs, StepLacks, inquiry, with_given};
+ghost use Rattle.sip_selection.specs.Choice.{IsNotRefused, chosen, need, targets};
+ghost use Rattle.sip_selection.specs.Choices.{ChoiceIs, ChoiceLacks};
+ghost use Rattle.sip_selection.specs.Consulting.{Consulted, Needs, StepLacks, asked_with, inquiry, with_given};
 ghost use Rattle.sip_selection.specs.Known.{Given};
 ghost use Rattle.sip_selection.specs.Nexts.{next_of};
-ghost use Rattle.sip_selection.specs.Selections.{begun, given_too, now_of};
-ghost use Rattle.sip_selection.specs.Stages.{AreHeld, Comes, Extends, IsAsking, StageFits, stage_left};
+ghost use Rattle.sip_selection.specs.Requests.{is_secure, target_of};
+ghost use Rattle.sip_selection.specs.Selections.{AreAskedOneByOne, begun, given_too, now_of};
+ghost use Rattle.sip_selection.specs.Stages.{AreHeld, Comes, ComesTo, Extends, IsAsking, StageFits, name_of, stage_left};
 ghost use Rattle.sip_selection.specs.declared.target.Target.{Target};
 
 use crate::caps::Caps;
@@ -192,6 +194,51 @@ fn held_words(alloc: Global, step: &Step, words: &Words) -> Result<Option<Box<Wo
     }
 }
 
+/// What a choice over a source comes to.
+#[derive(Drop)]
+pub enum Choice {
+    /// The request can be sent to these targets, which are to be tried in this order. There is at
+    /// least one.
+    Targets(Vec<Target>),
+    /// The request goes nowhere, for this reason.
+    Refused(Reason),
+    /// The source lacks an answer. The choice asks for it, and has used the answers before it.
+    Asks(Selection),
+}
+
+/// The choice of a request over a source: it is asked for the answer to each question that comes
+/// up, until it has none to one, or no more are needed. The words are copied into memory of their
+/// own only where an answer is missing. No memory is needed for a request that is refused at once.
+pub fn choose<S: AnswerSource>(
+    alloc: Global,
+    request: &Request,
+    caps: &Caps,
+    words: &Words,
+    source: &S,
+    seat: &mut S::Seat,
+) -> Result<Choice, AllocError>
+    requires { S.ready source.now seat.old }
+    ensures chosen { (given : List Given) × Consulted (S.ready source.now) S.goes
+        (S.says source.now) (begun request.now caps.now words.now.0) seat.old seat.new given
+        × IfOk result (ChoiceIs (asked_with request.now caps.now words.now.0 given)) }
+    ensures lacks { IfOk result (ChoiceLacks (S.says source.now seat.new)) }
+    ensures memory { OnErr result
+        (IsNotRefused (now_of (begun request.now caps.now words.now.0))) }
+{
+    let mut walk = Walk::new(alloc);
+    let step = begin(&mut walk, seat, source, alloc, request, caps, words)?;
+    match step {
+        Step::Found if walk.targets.is_empty() => Ok(Choice::Refused(Reason::NoAddress)),
+        Step::Found => Ok(Choice::Targets(walk.targets)),
+        Step::Refused(reason) => Ok(Choice::Refused(reason)),
+        Step::Ask(_, _) => {
+            let request = request.try_clone()?;
+            let selection = Selection::at_step(alloc, request, *caps, words, walk, step)?;
+            Ok(Choice::Asks(selection))
+        }
+    }
+}
+
 impl Selection {
     /// The choice of a request, without any answer. No memory is needed for a request that is
     /// refused at once.
@@ -206,13 +253,36 @@ impl Selection {
     {
         let mut walk = Walk::new(alloc);
         let step = begin(&mut walk, &mut (), &NoSource, alloc, &request, &caps, &words)?;
+        Selection::at_step(alloc, request, caps, &words, walk, step)
+    }
+
+    /// The choice of a request that came to a step.
+    fn at_step(
+        alloc: Global,
+        request: Request,
+        caps: Caps,
+        words: &Words,
+        walk: Walk,
+        step: Step,
+    ) -> Result<Selection, AllocError>
+        requires comes { ComesTo (is_secure request) caps words.now.0
+            (name_of (target_of request)) walk.known (chosen request caps words.now.0)
+            step walk.targets.items }
+        requires asked { AreAskedOneByOne request caps words.now.0 walk.known }
+        ensures is { IfOk result (λ it. it ≡ asked_with request caps words.now.0 walk.known) }
+        ensures memory { OnErr result (IsAsking step) }
+    {
+        let known = walk.known;
         Ok(Selection {
             request,
             caps,
-            drawn: Snapshot::of(&words),
-            words: held_words(alloc, &step, &words)?,
-            targets: mem::replace(&mut walk.targets, Vec::new(alloc)),
-            walk,
+            drawn: Snapshot::of(words),
+            words: held_words(alloc, &step, words)?,
+            targets: walk.targets,
+            walk: Walk {
+                targets: Vec::new(alloc),
+                known,
+            },
             step,
         })
     }
