@@ -4,9 +4,11 @@ ghost use Rattle.std.specs.Arc.{arc_value};
 ghost use Rattle.std.specs.Option.{option_map};
 ghost use Rattle.dns_answers.specs.Records.{kind_of};
 ghost use Rattle.answer_log.specs.Histories.{cached};
+ghost use Rattle.answer_cache.specs.Found.{answer_in};
 ghost use Rattle.answer_cache.specs.Seats.{GoesOn, IsRefused, IsSeat, IsStored, SeatView};
 ghost use Rattle.answer_cache.specs.Seats.{StoresNothing, offer_of};
 
+use crate::found::{Found, kept};
 use crate::refusal::StoreRefusal;
 use dns_answers::{Answer, Moment};
 use dns_message::Question;
@@ -31,6 +33,23 @@ pub trait AnswerBook {
     /// The answer of the last store of the question, while it lives: until as many seconds after
     /// the moment of its store as its life is. A look-up at an earlier moment finds it too. An
     /// older store does not come back when the last one has expired.
+    ///
+    /// A book that owns its answers lends it: a caller that only reads it touches no count that
+    /// threads share. The seat is not borrowed, so a caller may look again while it has an answer.
+    fn look<'a>(
+        &'a self,
+        seat: &mut Self::Seat,
+        question: &Question,
+        now: Moment,
+    ) -> Result<Option<Found<'a>>, AllocError>
+        requires { belongs self.now seat.old }
+        ensures stays { belongs self.now seat.new }
+        ensures goes_on { GoesOn (shown seat.old) (shown seat.new) }
+        ensures stores_nothing { StoresNothing (shown seat.old) (shown seat.new) }
+        ensures found { IfOk result
+            (λ found. option_map answer_in found ≡ cached (shown seat.new).seen question.now now) };
+
+    /// The answer that `look` finds, to keep.
     fn lookup(
         &self,
         seat: &mut Self::Seat,
@@ -42,7 +61,10 @@ pub trait AnswerBook {
         ensures goes_on { GoesOn (shown seat.old) (shown seat.new) }
         ensures stores_nothing { StoresNothing (shown seat.old) (shown seat.new) }
         ensures found { IfOk result
-            (λ found. option_map arc_value found ≡ cached (shown seat.new).seen question.now now) };
+            (λ found. option_map arc_value found ≡ cached (shown seat.new).seen question.now now) }
+    {
+        kept(self.look(seat, question, now)?)
+    }
 
     /// Stores an answer at this moment: it lives until as many seconds after it as its life is.
     fn store<R: Wait>(

@@ -9,10 +9,13 @@
 //! its own seat. A seat sees a history, and after each call it sees the same history or a longer
 //! one.
 //!
-//! `lookup` answers from the last store of the question. It gives the answer while that lives:
-//! until as many seconds after the moment of the store as the life of the answer says. A look-up at
-//! an earlier moment finds it too. When the life has ended, it finds nothing. An older store of the
-//! question does not come back.
+//! `look` answers from the last store of the question. It finds the answer while that lives: until
+//! as many seconds after the moment of the store as the life of the answer says. A look-up at an
+//! earlier moment finds it too. When the life has ended, it finds nothing. An older store of the
+//! question does not come back. `lookup` finds the same, and its caller keeps it.
+//!
+//! A `SharedCache` lends what `look` finds, and that stays until the cache is dropped. So a thread
+//! that only reads an answer touches no count that threads share.
 //!
 //! `store` adds an answer after all others, at the moment that the caller gives. It refuses an
 //! answer of life 0, because that may not be kept. It also refuses an answer when the group of its
@@ -24,9 +27,10 @@
 //! are full, the user of a book begins a new one. A `SharedCache` hands on what lives (`carry`),
 //! and its successor begins with that.
 //!
-//! `AnswerBook` is the trait of all books. Its `store` takes a runtime that may wait, for books
-//! that other threads share. `ListCache` is the book of one thread, and has one seat. It never
-//! waits, and a lookup looks through the stores of one group.
+//! `AnswerBook` is the trait of all books: each has `look` and `store`, and `lookup` comes with
+//! these. Its `store` takes a runtime that may wait, for books that other threads share.
+//! `ListCache` is the book of one thread, and has one seat. It never waits, and a lookup looks
+//! through the stores of one group. Its seat has the answers, so it lends none.
 //!
 //! So an answer of life 10 that is stored at the moment 100 is found at 109, and not at 110.
 //!
@@ -64,6 +68,7 @@
 mod book;
 mod carried;
 mod carry;
+mod found;
 mod index;
 mod list_cache;
 mod node;
@@ -78,6 +83,7 @@ mod successor;
 pub use answer_log::group;
 pub use book::AnswerBook;
 pub use carried::{Carried, law_carried_answers_as_before};
+pub use found::Found;
 pub use list_cache::{ListCache, ListSeat};
 pub use refusal::{CacheRefusal, StoreRefusal};
 pub use rival::Rival;

@@ -4,11 +4,13 @@ ghost use Rattle.std.specs.Arc.{arc_value};
 ghost use Rattle.std.specs.Option.{option_map};
 ghost use Rattle.dns_answers.specs.Records.{kind_of};
 ghost use Rattle.answer_log.specs.Histories.{cached};
+ghost use Rattle.answer_cache.specs.Found.{answer_in};
 ghost use Rattle.answer_cache.specs.Lists.{IsListSeat, Refuses, Takes, offered_too, seat_at};
 ghost use Rattle.answer_cache.specs.Lists.{stored_too};
 ghost use Rattle.answer_cache.specs.Seats.{offer_of};
 
 use crate::book::AnswerBook;
+use crate::found::Found;
 use crate::notes::Notes;
 use crate::refusal::StoreRefusal;
 use crate::store_list::StoreList;
@@ -73,6 +75,25 @@ impl AnswerBook for ListCache {
     ghost shown = { λ seat. seat };
 
     ghost holds = { λ book seat it. it.is };
+
+    // The seat has the answers, and is not borrowed, so none is lent.
+    fn look<'a>(
+        &'a self,
+        seat: &mut ListSeat,
+        question: &Question,
+        now: Moment,
+    ) -> Result<Option<Found<'a>>, AllocError>
+        ensures leaves { seat.new ≡ seat.old }
+        ensures found { IfOk result
+            (λ found. option_map answer_in found ≡ cached seat.old.seen question.now now) }
+        // Memory is wanted only where there is an answer to give.
+        ensures wanted { OnErr result (cached seat.old.seen question.now now ≢ None) }
+    {
+        match self.lookup(seat, question, now)? {
+            Some(answer) => Ok(Some(Found::Owned(answer))),
+            None => Ok(None),
+        }
+    }
 
     fn lookup(
         &self,

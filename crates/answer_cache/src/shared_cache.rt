@@ -17,6 +17,7 @@ ghost use Rattle.answer_log.specs.Rules.{node_at};
 ghost use Rattle.answer_log.specs.Steps.{HadRoom, store_by};
 ghost use Rattle.answer_log.specs.declared.store.Store.{Store};
 ghost use Rattle.dns_answers.specs.Records.{kind_of};
+ghost use Rattle.answer_cache.specs.Found.{IsBorrowed, answer_in};
 ghost use Rattle.answer_cache.specs.Indexes.{AreIndexes, IsIndex, TellsAll};
 ghost use Rattle.answer_cache.specs.Nodes.{Costs, Holds, IsLastOf, IsNode, IsReady, LeavesPlaces};
 ghost use Rattle.answer_cache.specs.Nodes.{Meets, Says};
@@ -29,6 +30,7 @@ ghost use Rattle.answer_log.specs.Cursors.{Ahead};
 ghost use Rattle.answer_log.specs.declared.event.Event.{Event as Noticed};
 
 use crate::book::AnswerBook;
+use crate::found::{Found, kept};
 use crate::index::{Index, IndexEntry};
 use crate::node::{ByBook, Hashed, Node, Shelf, ShelfRefusal, Shelved};
 use crate::notes::Notes;
@@ -658,6 +660,35 @@ impl AnswerBook for SharedCache {
 
     ghost holds = { λ cache seat made. made.is };
 
+    fn look<'a>(
+        &'a self,
+        seat: &mut Seat,
+        question: &Question,
+        now: Moment,
+    ) -> Result<Option<Found<'a>>, AllocError>
+        requires made_here { Belongs self.now seat.old }
+        ensures stays { Belongs self.now seat.new }
+        ensures goes_on { GoesOn seat.old.seat seat.new.seat }
+        ensures stores_nothing { StoresNothing seat.old.seat seat.new.seat }
+        ensures takes { Takes seat.old seat.new group_limit 0 }
+        ensures found { IfOk result
+            (λ found. option_map answer_in found ≡ cached seat.new.seat.seen question.now now) }
+        ensures lent { IfOk result (λ found. IfSome found IsBorrowed) }
+        // It wants no memory: it is refused only where a number led to no node.
+        ensures missed { OnErr result (seat.old.missed < seat.new.missed) }
+    {
+        let asked = Hashed {
+            question,
+            hash: hash(question),
+        };
+        let found = self.last_of(&mut seat.handle, &mut seat.indexes, &asked);
+        law_log_keeps_its_rule(&seat.handle.book);
+        match found? {
+            Some(node) if node.lives_at(now) => Ok(Some(Found::Borrowed(&node.answer))),
+            _ => Ok(None),
+        }
+    }
+
     fn lookup(
         &self,
         seat: &mut Seat,
@@ -673,16 +704,7 @@ impl AnswerBook for SharedCache {
             (λ found. option_map arc_value found ≡ cached seat.new.seat.seen question.now now) }
         ensures wanted { OnErr result (WantsForAnswer question.now now seat.old seat.new) }
     {
-        let asked = Hashed {
-            question,
-            hash: hash(question),
-        };
-        let found = self.last_of(&mut seat.handle, &mut seat.indexes, &asked);
-        law_log_keeps_its_rule(&seat.handle.book);
-        match found? {
-            Some(node) if node.lives_at(now) => Ok(Some(Arc::try_clone(&node.answer)?)),
-            _ => Ok(None),
-        }
+        kept(self.look(seat, question, now)?)
     }
 
     fn store<R: Wait>(

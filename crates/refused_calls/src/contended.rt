@@ -6,7 +6,7 @@ ghost use Rattle.answer_cache.specs.Shared.{Belongs, CacheView, cache_view};
 
 use crate::allocations::asked::{REPLY, answer, now, question};
 use crate::allocations::locators::{goes, locator};
-use answer_cache::{AnswerBook, Rival, Seat, SharedCache, StoreRefusal};
+use answer_cache::{AnswerBook, Found, Rival, Seat, SharedCache, StoreRefusal};
 use dns_answers::{Answer, Moment};
 use dns_message::Question;
 use sip_locator::{Kept, Locator, LocatorRefusal};
@@ -82,13 +82,13 @@ impl<'a, R: Wait + 'a, J: Naming> AnswerBook for Contended<'a, R, J> {
 
     ghost holds = { λ book pair at. at.is };
 
-    fn lookup(
-        &self,
+    fn look<'b>(
+        &'b self,
         pair: &mut Pair<'a, R, J>,
         question: &Question,
         now: Moment,
-    ) -> Result<Option<Arc<Answer>>, AllocError> {
-        self.cache.lookup(&mut pair.seat, question, now)
+    ) -> Result<Option<Found<'b>>, AllocError> {
+        self.cache.look(&mut pair.seat, question, now)
     }
 
     fn store<S: Wait>(

@@ -18,7 +18,8 @@
 //! calls the cache is an `AnswerBook` whose one history is that of the seat's generation. So a
 //! locator runs over it, and may also go on with a seat that has gone over. What owns its seat, as
 //! a worker does, takes the seat out (`RollingSeat::into_parts`), looks from time to time for one
-//! at a later generation (`RollingCache::seat_after`), and leaves `renew` to another seat.
+//! at a later generation (`RollingCache::seat_after`), and leaves `renew` to another seat. There
+//! the generation's cache lends what `look` finds; a `RollingCache` lends nothing.
 //!
 //! `catch_up` goes over to the present generation, where that is another one. Where the present one
 //! is to end, one thread carries what lives, and begins the next one with that. A generation is to

@@ -6,6 +6,7 @@ ghost use Rattle.std.specs.List.{All};
 ghost use Rattle.std.specs.Option.{option_map};
 ghost use Rattle.dns_answers.specs.Records.{kind_of};
 ghost use Rattle.answer_log.specs.Histories.{cached};
+ghost use Rattle.answer_cache.specs.Found.{answer_in};
 ghost use Rattle.answer_cache.specs.Seats.{GoesOn, IsRefused, IsStored, StoresNothing, offer_of};
 ghost use Rattle.answer_cache.specs.Shared.{Refuses};
 ghost use Rattle.rolling_cache.specs.Rolling.{Changes, IsAt, IsFirst, IsFresh, IsFreshAt, Waits};
@@ -13,7 +14,7 @@ ghost use Rattle.rolling_cache.specs.Rolling.{Changes, IsAt, IsFirst, IsFresh, I
 use crate::change::Change;
 use crate::generation::{Generation, Present};
 use crate::seat::RollingSeat;
-use answer_cache::{AnswerBook, CacheRefusal, StoreRefusal};
+use answer_cache::{AnswerBook, CacheRefusal, Found, StoreRefusal};
 use dns_answers::{Answer, Moment};
 use dns_message::Question;
 use std::alloc::{AllocError, Global};
@@ -186,6 +187,27 @@ impl AnswerBook for RollingCache {
     ghost shown = { λ seat. seat.seat.seat };
 
     ghost holds = { λ cache seat at. at.here.is };
+
+    // The seat has the generation, and may leave it, so no answer is lent.
+    fn look<'a>(
+        &'a self,
+        seat: &mut RollingSeat,
+        question: &Question,
+        now: Moment,
+    ) -> Result<Option<Found<'a>>, AllocError>
+        requires { IsAt seat.old }
+        ensures stays { IsAt seat.new }
+        ensures generation { seat.new.generation ≡ seat.old.generation }
+        ensures goes_on { GoesOn seat.old.seat.seat seat.new.seat.seat }
+        ensures stores_nothing { StoresNothing seat.old.seat.seat seat.new.seat.seat }
+        ensures found { IfOk result (λ found. option_map answer_in found
+            ≡ cached seat.new.seat.seat.seen question.now now) }
+    {
+        match self.lookup(seat, question, now)? {
+            Some(answer) => Ok(Some(Found::Owned(answer))),
+            None => Ok(None),
+        }
+    }
 
     fn lookup(
         &self,

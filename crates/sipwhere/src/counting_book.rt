@@ -2,7 +2,7 @@
 ghost use Rattle.std.specs.Prelude.{◌≡◌};
 ghost use Rattle.dns_transport.specs.WireCounts.{more, one_if};
 
-use answer_cache::{AnswerBook, StoreRefusal};
+use answer_cache::{AnswerBook, Found, StoreRefusal};
 use dns_answers::{Answer, Moment};
 use dns_message::Question;
 use std::alloc::AllocError;
@@ -60,13 +60,13 @@ impl<B: AnswerBook> AnswerBook for CountingBook<B> {
 
     ghost holds = { λ book seat it. B.holds book.book seat.seat it };
 
-    fn lookup(
-        &self,
+    fn look<'a>(
+        &'a self,
         seat: &mut CountingSeat<B::Seat>,
         question: &Question,
         now: Moment,
-    ) -> Result<Option<Arc<Answer>>, AllocError> {
-        let found = self.book.lookup(&mut seat.seat, question, now)?;
+    ) -> Result<Option<Found<'a>>, AllocError> {
+        let found = self.book.look(&mut seat.seat, question, now)?;
         seat.note(found.is_some());
         Ok(found)
     }

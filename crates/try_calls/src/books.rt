@@ -7,7 +7,7 @@ ghost use Rattle.answer_cache.specs.Shared.{Belongs};
 
 use crate::fields::{moment, question_of};
 use crate::replies::{Reply, absent, push_answer, read_reply};
-use answer_cache::{AnswerBook, Seat, SharedCache, StoreRefusal, group};
+use answer_cache::{AnswerBook, Found, Seat, SharedCache, StoreRefusal, group};
 use dns_answers::{Answer, Moment};
 use dns_message::Question;
 use row_fields::{Fault, Output, number32, split_word};
@@ -61,10 +61,33 @@ pub(crate) fn found<B: AnswerBook>(
     book.lookup(seat, question, now)
 }
 
+/// What a book finds, lent where it can be.
+fn looked<'a, B: AnswerBook>(
+    book: &'a B,
+    seat: &mut B::Seat,
+    question: &Question,
+    now: Moment,
+) -> Result<Option<Found<'a>>, AllocError>
+    requires { B.belongs book.now seat.old }
+    ensures { B.belongs book.now seat.new }
+{
+    book.look(seat, question, now)
+}
+
 /// Writes an answer that was found, or `nothing`.
 pub(crate) fn push_found(output: &mut Output, found: Result<Option<Arc<Answer>>, AllocError>) {
     match found {
         Ok(Some(answer)) => push_answer(output, &answer),
+        Ok(None) => output.push("nothing"),
+        Err(_) => output.fail(Fault::Memory),
+    }
+    output.push("\n");
+}
+
+/// Writes an answer where it lies, or `nothing`.
+fn push_looked(output: &mut Output, found: Result<Option<Found<'_>>, AllocError>) {
+    match found {
+        Ok(Some(found)) => push_answer(output, found.as_arc()),
         Ok(None) => output.push("nothing"),
         Err(_) => output.fail(Fault::Memory),
     }
@@ -235,6 +258,17 @@ fn lookup<B: AnswerBook>(output: &mut Output, book: &B, seat: &mut B::Seat, line
     }
 }
 
+/// A moment, a kind and a name are looked at.
+fn look<B: AnswerBook>(output: &mut Output, book: &B, seat: &mut B::Seat, line: &str)
+    requires { B.belongs book.now seat.old }
+    ensures { B.belongs book.now seat.new }
+{
+    match lookup_of(output.alloc(), line) {
+        Ok(lookup) => push_looked(output, looked(book, seat, &lookup.question, lookup.now)),
+        Err(fault) => output.fail(fault),
+    }
+}
+
 /// Writes the group of a question.
 fn push_group(output: &mut Output, question: &Question) {
     let alloc = output.alloc();
@@ -266,6 +300,7 @@ pub(crate) fn book_line<R: Wait, B: AnswerBook>(
     match word {
         "store" => store(rt, output, book, seat, rest),
         "stores" => stores(rt, output, book, seat, rest),
+        "look" => look(output, book, seat, rest),
         "lookup" => lookup(output, book, seat, rest),
         "group" => group_line(output, rest),
         _ => output.fail(Fault::Form),

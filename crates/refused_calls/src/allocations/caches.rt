@@ -8,7 +8,7 @@ ghost use Rattle.answer_cache.specs.Shared.{Belongs};
 use super::are_right;
 use super::asked::{answer, life_of, now, question};
 use answer_cache::{
-    AnswerBook, CacheRefusal, Carried, ListCache, Rival, Seat, SharedCache, StoreRefusal,
+    AnswerBook, CacheRefusal, Carried, Found, ListCache, Rival, Seat, SharedCache, StoreRefusal,
 };
 use dns_answers::Answer;
 use dns_message::Question;
@@ -46,6 +46,25 @@ fn found<B: AnswerBook>(book: &B, seat: &mut B::Seat, question: &Question) -> Op
     }
 }
 
+/// The life of what a look found, once it is kept, or of nothing 0.
+fn kept_life(found: Option<Found<'_>>) -> Option<u32> {
+    match found {
+        None => Some(0),
+        Some(found) => Some(found.into_arc().ok()?.life()),
+    }
+}
+
+/// The life of the answer that a look finds, if not at once, then the second time.
+fn looked<B: AnswerBook>(book: &B, seat: &mut B::Seat, question: &Question) -> Option<u32>
+    requires { B.belongs book.now seat.old }
+    ensures { B.belongs book.now seat.new }
+{
+    match book.look(seat, question, now()) {
+        Ok(found) => kept_life(found),
+        Err(_) => kept_life(book.look(seat, question, now()).ok()?),
+    }
+}
+
 /// Whether this life was found.
 fn is_life(found: Option<u32>, life: u32) -> bool {
     found == Some(life)
@@ -63,6 +82,15 @@ pub(super) fn finds<B: AnswerBook>(
     ensures { B.belongs book.now seat.new }
 {
     let found = found(book, seat, question);
+    is_life(found, life)
+}
+
+/// Whether a look finds an answer of this life, if not at once, then the second time.
+fn looks<B: AnswerBook>(book: &B, seat: &mut B::Seat, question: &Question, life: u32) -> bool
+    requires { B.belongs book.now seat.old }
+    ensures { B.belongs book.now seat.new }
+{
+    let found = looked(book, seat, question);
     is_life(found, life)
 }
 
@@ -90,7 +118,7 @@ fn stores<B: AnswerBook, R: Wait>(
     }
 }
 
-/// `store` of two answers to one question, and `lookup` of the second one.
+/// `store` of two answers to one question, and `lookup` and `look` of the second one.
 pub(super) fn stores_two<B: AnswerBook, R: Wait>(
     rt: &R,
     alloc: Global,
@@ -105,7 +133,7 @@ pub(super) fn stores_two<B: AnswerBook, R: Wait>(
     let second = answer(alloc, 20)?;
     let stored = stores(rt, book, seat, &question, &first, 0)
         && stores(rt, book, seat, &question, &second, 10);
-    Some(stored && finds(book, seat, &question, 20))
+    Some(stored && finds(book, seat, &question, 20) && looks(book, seat, &question, 20))
 }
 
 /// The same of a book for one thread.
