@@ -102,7 +102,9 @@ module _ (request : Request) (caps : Caps) (words : List ℕ) (given : List Give
   asks-by (need first) is = tt
   asks-by (refused reason) is =
       let never : refused reason ≡ need question =
-      sym is ∙ sym (final_is caps words [] given request (λ first asked. let no : refused reason ≡ need first = sym is ∙ asked in absurd cc)) ∙ asks in
+      sym is
+      ∙ sym (final_is caps words [] given request (λ first asked. let no : refused reason ≡ need first = sym is ∙ asked in absurd cc))
+      ∙ asks in
       absurd cc
 
   pub asks-first : IsNotRefused (locate request caps words [])

@@ -11,10 +11,12 @@ use Rattle.sip_selection.specs.declared.selection.Choice.TheVariants.{Targets, R
 abbrev pub ChoiceIs : SelectionValue → Choice → Type 0
 ChoiceIs it (Targets list) = now_of it ≡ targets list.items
 ChoiceIs it (Refused reason) = now_of it ≡ refused reason
-ChoiceIs it (Asks selection) = (selection ≡ it) × (question : Question) × (now_of it ≡ need question)
+ChoiceIs it (Asks selection) =
+    (selection ≡ it) × (question : Question) × (now_of it ≡ need question)
 
 -- a question that is asked is one that the source lacks
 abbrev pub ChoiceLacks : (Question → Option AnswerValue → Type 0) → Choice → Type 0
 ChoiceLacks says (Targets list) = ⊤
 ChoiceLacks says (Refused reason) = ⊤
-ChoiceLacks says (Asks selection) = (question : Question) → now_of selection ≡ need question → says question None
+ChoiceLacks says (Asks selection) =
+    (question : Question) → now_of selection ≡ need question → says question None

@@ -30,7 +30,8 @@ pub data Consulted {Seat : Type 0} (ready : Seat → Type 0) (goes : Seat → Se
   onward : {seat : Seat} {given : List Given} (next : Seat)
       → Consulted ready goes says it start seat given → goes seat next → ready next
       → Consulted ready goes says it start next given
-  one : {seat : Seat} {given : List Given} (next : Seat) (question : Question) (answer : AnswerValue)
+  one : {seat : Seat} {given : List Given} (next : Seat) (question : Question)
+      (answer : AnswerValue)
       → Consulted ready goes says it start seat given → goes seat next → ready next
       → says next question (Some answer) → now_of (with_given it given) ≡ need question
       → count_of answer.records ≤ 32
@@ -39,7 +40,8 @@ pub data Consulted {Seat : Type 0} (ready : Seat → Type 0) (goes : Seat → Se
 
 -- a choice that was given these answers, by its parts
 abbrev pub asked_with : Request → Caps → List ℕ → List Given → SelectionValue
-asked_with request caps words given = record { request = request; caps = caps; words = words; given = given }
+asked_with request caps words given =
+    record { request = request; caps = caps; words = words; given = given }
 
 -- the choice that a walk is made for, with the answers that it began with
 abbrev pub inquiry : {Source Seat : Type 0} → Context Source Seat → SelectionValue

@@ -17,9 +17,7 @@ use crate::request::Request;
 use crate::rules::usable_services;
 use crate::service::{Service, service_at};
 use crate::source::{AnswerSource, answer_from};
-use crate::stage::{
-    Candidates, Context, Position, ServiceStep, ServiceStage, Stage, Step, Walk,
-};
+use crate::stage::{Candidates, Context, Position, ServiceStage, ServiceStep, Stage, Step, Walk};
 use crate::target::Target;
 use crate::targets::push_kinds;
 use crate::transports::{default_port, offered_default, transport_offered};
@@ -42,7 +40,8 @@ fn to_domain<S: AnswerSource>(
     from: usize,
 ) -> Result<Step, AllocError>
     requires needs { consult.Needs (consult.inquiry context.now) walk.old.known
-        (λ all. left_of.kinds_left context.now.caps.now all transport port context.now.name.now from) }
+        (λ all. left_of.kinds_left context.now.caps.now all transport port context.now.name.now
+        from) }
     requires consulted { consult.Consulted (S.ready context.now.source.now) S.goes
         (S.says context.now.source.now) (consult.inquiry context.now) context.now.start.value
         seat.old walk.old.known }
@@ -308,8 +307,8 @@ fn to_service<S: AnswerSource>(
     transport: Transport,
 ) -> Result<Step, AllocError>
     requires needs { consult.Needs (consult.inquiry context.now) walk.old.known
-        (λ all. spec.to_service context.now.caps.now context.now.words.now.0 all context.now.name.now
-        (Ok transport)) }
+        (λ all. spec.to_service context.now.caps.now context.now.words.now.0 all
+        context.now.name.now (Ok transport)) }
     requires consulted { consult.Consulted (S.ready context.now.source.now) S.goes
         (S.says context.now.source.now) (consult.inquiry context.now) context.now.start.value
         seat.old walk.old.known }

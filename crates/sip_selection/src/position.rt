@@ -64,7 +64,15 @@ fn push_listing<S: AnswerSource>(
 {
     let servers = servers_in(&listing.answer);
     let indexes = listing.indexes.as_slice();
-    match push_indexes(walk, seat, context, listing.transport, servers, indexes, from)? {
+    match push_indexes(
+        walk,
+        seat,
+        context,
+        listing.transport,
+        servers,
+        indexes,
+        from,
+    )? {
         None => Ok(ServiceStep::Position(position)),
         Some((cursor, question)) => Ok(ServiceStep::Stop(
             ServiceStage::Server(Arc::try_clone(listing)?, cursor, position),
@@ -106,7 +114,15 @@ fn push_listed<S: AnswerSource>(
     let servers = servers_in(&listing.answer);
     let indexes = listing.indexes.as_slice();
     let from = Cursor { server: 0, kind: 0 };
-    match push_indexes(walk, seat, context, listing.transport, servers, indexes, from)? {
+    match push_indexes(
+        walk,
+        seat,
+        context,
+        listing.transport,
+        servers,
+        indexes,
+        from,
+    )? {
         None => Ok(ServiceStep::Position(position)),
         Some((cursor, question)) => Ok(ServiceStep::Stop(
             ServiceStage::Server(Arc::new(context.alloc, listing)?, cursor, position),

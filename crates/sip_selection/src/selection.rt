@@ -252,7 +252,15 @@ impl Selection {
         ensures memory { OnErr result (IsNotRefused (now_of (begun request caps words.0))) }
     {
         let mut walk = Walk::new(alloc);
-        let step = begin(&mut walk, &mut (), &NoSource, alloc, &request, &caps, &words)?;
+        let step = begin(
+            &mut walk,
+            &mut (),
+            &NoSource,
+            alloc,
+            &request,
+            &caps,
+            &words,
+        )?;
         Selection::at_step(alloc, request, caps, &words, walk, step)
     }
 

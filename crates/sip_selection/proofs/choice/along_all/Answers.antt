@@ -17,7 +17,8 @@ push_services-requires-clause-needs g c =
       λ all question extends is. c.requires.needs all question extends
           (made-asks (in_front a.walk.now.targets.items)
           (along b.caps.now b.words.now.0 all b.name.now a.candidates.fallback a.candidates.services.items) question
-          (along-left b.caps.now b.words.now.0 b.name.now all a.candidates.fallback a.walk.now.targets.items a.candidates.services.items ∙ is)),
+          (along-left b.caps.now b.words.now.0 b.name.now all a.candidates.fallback a.walk.now.targets.items a.candidates.services.items
+          ∙ is)),
     )
 
 pub ended-requires-clause-needs : goal.ended-requires-clause-needs

@@ -16,14 +16,16 @@ returns-in-None-Some-Ok-clause-comes g c =
     let it = c.in-None-Some-Ok in
     let b = c.args.context.now in
     rw (it.is-0, it.is-1, it.is-2)
-    (ok-each _ _ (λ step goes. comes-first b c.to_service.new.walk.known (λ all. spec.to_service b.caps.now b.words.now.0 all b.name.now (Ok it.transport))
+    (ok-each _ _ (λ step goes. comes-first b c.to_service.new.walk.known
+    (λ all. spec.to_service b.caps.now b.words.now.0 all b.name.now (Ok it.transport))
     step _ ((rw c.requires.empty at goes) [])) c.to_service.result c.to_service.ensures.goes)
 
 pub returns-in-None-None-default-clause-comes : goal.returns-in-None-None-default-clause-comes
 returns-in-None-None-default-clause-comes g c =
     let it = c.in-None-None-default in
     let b = c.args.context.now in
-    rw (it.is-0, it.is-1) (ok-each _ _ (λ step goes. comes-first b c.discovered.new.walk.known (λ all. spec.discovered b.secure b.caps.now b.words.now.0 all b.name.now (spec.offered_default b.secure b.caps.now))
+    rw (it.is-0, it.is-1) (ok-each _ _ (λ step goes. comes-first b c.discovered.new.walk.known
+    (λ all. spec.discovered b.secure b.caps.now b.words.now.0 all b.name.now (spec.offered_default b.secure b.caps.now))
     step _ ((rw c.requires.empty at goes) [])) c.discovered.result c.discovered.ensures.goes)
 
 pub returns-in-Some-default-Ok-clause-memory : goal.returns-in-Some-default-Ok-clause-memory

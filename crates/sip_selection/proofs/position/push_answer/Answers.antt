@@ -15,7 +15,8 @@ push_listed-requires-clause-needs g c =
     let b = a.context.now in
     let answer = arc_value a.answer in
     let is = rw (c.servers_in.ensures.servers, c.deref.ensures, c.in-Listed.is) at c.in_ok-outcome.ensures.order in
-    needs-of (inquiry b) a.walk.now.known (λ all. offer_by all (kinds_of b.caps.now.families) b.words.now.0 a.transport a.position.word answer)
+    needs-of (inquiry b) a.walk.now.known
+    (λ all. offer_by all (kinds_of b.caps.now.families) b.words.now.0 a.transport a.position.word answer)
     (λ all. servers_left b.caps.now all a.transport (servers_in answer.records) c.in-Listed.indexes first_server)
     (λ all question extends. answer-asks b.caps.now b.words.now.0 all a.transport answer a.position.word c.in-Listed.indexes
     c.in-Listed.field-1 (sym is) question) c.requires.needs

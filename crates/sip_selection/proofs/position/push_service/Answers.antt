@@ -13,7 +13,8 @@ pub answer_from-requires-clause-needs : goal.answer_from-requires-clause-needs
 answer_from-requires-clause-needs g c =
     let a = c.args in
     let b = a.context.now in
-    needs-of (inquiry b) a.walk.now.known (λ all. offer_along all (kinds_of b.caps.now.families) b.words.now.0 a.service.now a.position.word)
+    needs-of (inquiry b) a.walk.now.known
+    (λ all. offer_along all (kinds_of b.caps.now.families) b.words.now.0 a.service.now a.position.word)
     (λ all. answer_to all (record { name = c.in-Some.name; kind = Srv }))
     (λ all question extends is. rw (c.in-Some.is, is) refl) c.requires.needs
 

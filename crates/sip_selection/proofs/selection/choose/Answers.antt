@@ -50,6 +50,6 @@ returns-in_ok-selection-in-Ask-clause-lacks g c = λ question is.
     let known = c.begin.new.walk.known in
     let here = rw (c.in_ok-selection-in-Ask.ensures.is, c.in_ok-request-in-Ask.ensures.copy) at is in
     let asked = asked-is a.request.now a.caps.now a.words.now.0 known c.begin.new.walk.targets.items c.in-Ask.field-0 c.in-Ask.field-1
-        (rw c.in-Ask.is at c.in_ok-step.ensures.comes) in
+    (rw c.in-Ask.is at c.in_ok-step.ensures.comes) in
     let same : c.in-Ask.field-0 ≡ question = let both = sym asked ∙ here in cc in
     rw same at (rw c.in-Ask.is at c.in_ok-step.ensures.lacks)

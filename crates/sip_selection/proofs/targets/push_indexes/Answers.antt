@@ -28,7 +28,7 @@ returns-in-Some-clause-reaches g c =
     let part = rw c.in-Some.is at c.in_ok-kind.ensures.reaches in
     let index = get_or a.indexes.now l.server 0 in
     let came = came-grown l.walk.known then (λ all. servers_left caps all a.transport a.servers.now a.indexes.now) a.from
-        a.walk.now.targets.items _ l.walk.targets.items c.in_ok-kind.ensures.extends l.invariant.came in
+    a.walk.now.targets.items _ l.walk.targets.items c.in_ok-kind.ensures.extends l.invariant.came in
     came-stop then (λ all. servers_left caps all a.transport a.servers.now a.indexes.now) a.from a.walk.now.targets.items _ _
     c.in-Some.question
     (came-more then
@@ -53,7 +53,7 @@ loop-server-preserved g c =
     let part = rw c.in_default.is at c.in_ok-kind.ensures.reaches in
     let index = get_or a.indexes.now l.server 0 in
     let came = came-grown l.walk.known then (λ all. servers_left caps all a.transport a.servers.now a.indexes.now) a.from
-        a.walk.now.targets.items _ l.walk.targets.items c.in_ok-kind.ensures.extends l.invariant.came in
+    a.walk.now.targets.items _ l.walk.targets.items c.in_ok-kind.ensures.extends l.invariant.came in
     record {
       came = came-more then (λ all. servers_left caps all a.transport a.servers.now a.indexes.now) a.from a.walk.now.targets.items _ _
           l.walk.targets.items _ part.0 came part.1

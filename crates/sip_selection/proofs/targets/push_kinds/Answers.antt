@@ -53,7 +53,7 @@ returns-in-Err-Need-clause-reaches g c =
     let are = c.kinds_of-kinds.ensures ∙ ap kinds_of c.families.ensures in
     let unknown = rw it.field-0-is at it.ensures.answer in
     let came = came-grown l.walk.known then (λ all. kinds_left caps all a.transport a.port a.name.now) a.from a.walk.now.targets.items
-        l.at l.walk.targets.items c.answer_from.ensures.extends l.invariant.came in
+    l.at l.walk.targets.items c.answer_from.ensures.extends l.invariant.came in
     rw (it.field-0-is, c.answer_from.ensures.targets) (came-stop then (λ all. kinds_left caps all a.transport a.port a.name.now) a.from
     a.walk.now.targets.items l.at l.walk.targets.items it.question came
     (kind-stops caps a.transport a.port a.name.now c.kinds_of-kinds.result.now l.at are c.loop-at-test.true then it.question unknown))

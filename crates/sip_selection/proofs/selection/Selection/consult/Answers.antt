@@ -56,5 +56,6 @@ returns-in-Ok-clause-lacks g c = λ question is.
     let stands = goes-on s.request s.caps s.drawn.value.0 s.walk.known s.targets.items taken.result.0 taken.result.1 before
     c.go_on.new.walk.known c.in-Ok.ensures.extends c.in-Ok.step c.go_on.new.targets.items
     (rw (words, c.is_secure.ensures, ← (ap name_of there)) at c.in-Ok.ensures.goes) in
-    let asks = step-asks s.request s.caps s.drawn.value.0 c.go_on.new.walk.known c.go_on.new.targets.items c.in-Ok.step question stands is in
+    let asks = step-asks s.request s.caps s.drawn.value.0 c.go_on.new.walk.known c.go_on.new.targets.items c.in-Ok.step question
+    stands is in
     rw asks.1 at c.in-Ok.ensures.lacks

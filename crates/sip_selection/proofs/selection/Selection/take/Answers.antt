@@ -34,7 +34,6 @@ invariant_of-self c =
       rw c.take_ask-asked.ensures.taken at c.self.invariant.2,
     )
 
-
 pub go_on-requires-clause-needs : goal.go_on-requires-clause-needs
 go_on-requires-clause-needs c =
     let s = c.self.inside in
