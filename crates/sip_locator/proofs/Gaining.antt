@@ -1,5 +1,6 @@
 -- One look-up after the other.
-use Rattle.std.proofs.Common.{◌≡◌, ℕ, ◌+◌, ◌≤◌, List, [], ◌∷◌, ◌++◌, length, None, refl, sym, ap, ◌∙◌, append_assoc, length-append, arith}
+use Rattle.std.specs.Result.{OnOk}
+use Rattle.std.proofs.Common.{◌≡◌, ℕ, ◌+◌, ◌≤◌, List, [], ◌∷◌, ◌++◌, length, None, Result, Ok, Err, refl, sym, ap, ◌∙◌, append_assoc, length-append, arith}
 use Rattle.std.proofs.lemmas.List.{append-nil}
 use mathlib.Core.List.{IsPrefix}
 use Rattle.dns_message.specs.declared.question.Question.{Question}
@@ -18,7 +19,7 @@ pub record Progress (old new : SelectionValue) (before after : SeatView) (now co
   pub gains : Gains after.seen now before.seen old new
   pub many : count ≤ length new.given
 
-prefix-self : (history : List Store) → IsPrefix history history
+pub prefix-self : (history : List Store) → IsPrefix history history
 prefix-self history = ([], append-nil history)
 
 prefix-through : (first middle last : List Store) → IsPrefix first middle → IsPrefix middle last → IsPrefix first last
@@ -41,13 +42,13 @@ module _ (last : List Store) (now : ℕ) where
       one history next between first (gains-more value between.before others answered)
 
 module _ (before after : SeatView) where
-  on-through : (middle : SeatView) → GoesOn before middle → GoesOn middle after → GoesOn before after
+  pub on-through : (middle : SeatView) → GoesOn before middle → GoesOn middle after → GoesOn before after
   on-through middle front back = record {
     number = back.number ∙ front.number;
     seen = prefix-through before.seen middle.seen after.seen front.seen back.seen;
   }
 
-  nothing-through : (middle : SeatView) → StoresNothing before middle → StoresNothing middle after → StoresNothing before after
+  pub nothing-through : (middle : SeatView) → StoresNothing before middle → StoresNothing middle after → StoresNothing before after
   nothing-through middle front back = record { own = back.own ∙ front.own; offered = back.offered ∙ front.offered }
 
 pub begins : (it : SelectionValue) (seat : SeatView) (now : ℕ) → Progress it it seat seat now 0
@@ -93,3 +94,34 @@ module _ (old it new : SelectionValue) (before middle after : SeatView) (now cou
     between = record { after = all-on.seen; before = prefix-self after.seen };
     none = unanswered question (rw is at asked);
   }
+
+-- from an earlier history on
+pub gains-earlier : {first middle : List Store} (last : List Store) (now : ℕ) {old new : SelectionValue} → IsPrefix first middle
+    → Gains last now middle old new → Gains last now first old new
+gains-earlier last now on (nothing is) = nothing is
+gains-earlier {first} {middle} last now on (one history value between answered others) =
+    one history value (record { after = prefix-through first middle history on between.after; before = between.before }) answered others
+
+pub lacks-earlier : (first middle last : List Store) (now : ℕ) (question : Question) → IsPrefix first middle
+    → Lacks middle last now question → Lacks first last now question
+lacks-earlier first middle last now question on lacks = record {
+  history = lacks.history;
+  between = record {
+    after = prefix-through first middle lacks.history on lacks.between.after;
+    before = lacks.between.before;
+  };
+  none = lacks.none;
+}
+
+-- a history that holds no answer now
+pub lacks-now : (before after : SeatView) (now : ℕ) (question : Question) → GoesOn before after
+    → cached after.seen question now ≡ None → Lacks before.seen after.seen now question
+lacks-now before after now question on none = record {
+  history = after.seen;
+  between = record { after = on.seen; before = prefix-self after.seen };
+  none = none;
+}
+
+pub ok-each : {T E P Q : Type 0} → (P → Q) → (result : Result T E) → OnOk result P → OnOk result Q
+ok-each each (Ok value) is = each is
+ok-each each (Err error) is = tt

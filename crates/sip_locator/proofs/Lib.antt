@@ -1,3 +1,4 @@
 mod Faults
 mod Gaining
+mod Looking
 mod CachedKinds

@@ -1,3 +1,4 @@
+pub mod Locations
 pub mod Gains
 pub mod Refusals
 pub mod Replies

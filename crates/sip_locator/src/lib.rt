@@ -29,6 +29,10 @@
 //! the book had no answer to it. `step` stores nothing. Where memory is refused, the answers found
 //! before it stay used, and `step` can be called again.
 //!
+//! `locate` is `Locator::new` and one `step`, for a request whose answers are likely in the book: it
+//! gives the targets, or the reason why there are none, and makes a locator only where an answer is
+//! missing.
+//!
 //! `reply` takes the octets of one DNS message. Where the message answers the question that is
 //! asked, the answer counts for this request, and the book is then told to store it. `Kept` says
 //! whether it did. An answer whose store was refused still counts: one that may not be kept, say,
@@ -46,6 +50,7 @@
 //! `specs/Replies.antt`: it says what the octets of a reply do.
 #![tactic(auto)]
 
+mod book_at;
 mod kept;
 mod laws;
 mod locator;
@@ -54,5 +59,5 @@ mod refusal;
 
 pub use kept::Kept;
 pub use laws::law_messages_decide;
-pub use locator::Locator;
+pub use locator::{Located, Locator, locate};
 pub use refusal::LocatorRefusal;

@@ -5,18 +5,22 @@ ghost use Rattle.dns_answers.specs.Records.{kind_of};
 ghost use Rattle.answer_cache.specs.Seats.{GoesOn, StoresNothing};
 ghost use Rattle.sip_selection.specs.Choice.{IsNotRefused, need};
 ghost use Rattle.sip_selection.specs.Nexts.{next_of};
-ghost use Rattle.sip_selection.specs.Selections.{begun, given_too, now_of};
+ghost use Rattle.sip_selection.specs.Choices.{ChoiceIs, ChoiceLacks};
+ghost use Rattle.sip_selection.specs.Selections.{SelectionValue, begun, given_too, now_of};
+ghost use Rattle.answer_log.specs.Histories.{cached};
 ghost use Rattle.sip_locator.specs.Gains.{Gains, IsAsking, Lacks, LookedUp, Steps};
+ghost use Rattle.sip_locator.specs.Locations.{IsLocated};
 ghost use Rattle.sip_locator.specs.Replies.{Answers, IsTaken, Refuses};
 ghost use Rattle.dns_message.specs.declared.question.Question as question;
 
+use crate::book_at::BookAt;
 use crate::kept::Kept;
 use crate::read::read_answer;
 use crate::refusal::LocatorRefusal;
 use answer_cache::AnswerBook;
 use dns_answers::{Answer, Moment};
 use dns_message::{Question, law_same_questions_are_equal};
-use sip_selection::{Caps, GiveRefusal, Next, Request, Selection};
+use sip_selection::{Caps, Choice, GiveRefusal, Next, Reason, Request, Selection, Target, choose};
 use srv_choice::Words;
 use std::alloc::{AllocError, Global};
 use std::marker::{Model, PhantomData};
@@ -39,6 +43,75 @@ impl<B> Model for Locator<B> {
     ghost Value = { SelectionValue };
 
     ghost view = { λ it. it.selection };
+}
+
+/// Where a request goes, as far as a book has the answers.
+#[derive(Drop)]
+pub enum Located<B> {
+    /// The request can be sent to these targets, which are to be tried in this order. There is at
+    /// least one.
+    Targets(Vec<Target>),
+    /// The request goes nowhere, for this reason.
+    Refused(Reason),
+    /// The book lacks an answer. The locator asks for it, and has used the answers before it.
+    Missing(Locator<B>),
+}
+
+/// The choice of a request over what a book has at a moment.
+fn choose_at<B: AnswerBook>(
+    alloc: Global,
+    source: &BookAt<'_, B>,
+    seat: &mut B::Seat,
+    request: &Request,
+    caps: &Caps,
+    words: &Words,
+) -> Result<Choice, AllocError>
+    requires { B.belongs source.now.book.now seat.old }
+    ensures stays { B.belongs source.now.book.now seat.new }
+    ensures goes_on { GoesOn (B.shown seat.old) (B.shown seat.new) }
+    ensures stores_nothing { StoresNothing (B.shown seat.old) (B.shown seat.new) }
+    ensures chosen { (new : SelectionValue)
+        × Gains (B.shown seat.new).seen source.now.now (B.shown seat.old).seen
+        (begun request.now caps.now words.now.0) new
+        × IfOk result (ChoiceIs new) }
+    ensures lacks { IfOk result (ChoiceLacks
+        (λ question found. found ≡ cached (B.shown seat.new).seen question source.now.now)) }
+    ensures memory { OnErr result
+        (IsNotRefused (now_of (begun request.now caps.now words.now.0))) }
+{
+    choose(alloc, request, caps, words, source, seat)
+}
+
+/// Where a request goes: as `Locator::new` and one `step`, but the request and the words are copied
+/// only where the book lacks an answer. No memory is needed for a request that is refused at once.
+pub fn locate<B: AnswerBook>(
+    alloc: Global,
+    book: &B,
+    seat: &mut B::Seat,
+    request: &Request,
+    caps: &Caps,
+    words: &Words,
+    now: Moment,
+) -> Result<Located<B>, AllocError>
+    requires { B.belongs book.now seat.old }
+    ensures stays { B.belongs book.now seat.new }
+    ensures goes_on { GoesOn (B.shown seat.old) (B.shown seat.new) }
+    ensures stores_nothing { StoresNothing (B.shown seat.old) (B.shown seat.new) }
+    ensures located { IfOk result (IsLocated (begun request.now caps.now words.now.0)
+        (B.shown seat.old).seen (B.shown seat.new).seen now) }
+    ensures memory { OnErr result
+        (IsNotRefused (now_of (begun request.now caps.now words.now.0))) }
+{
+    let source = BookAt { book, now };
+    match choose_at(alloc, &source, seat, request, caps, words)? {
+        Choice::Targets(targets) => Ok(Located::Targets(targets)),
+        Choice::Refused(reason) => Ok(Located::Refused(reason)),
+        Choice::Asks(selection) => Ok(Located::Missing(Locator {
+            alloc,
+            selection,
+            book: PhantomData,
+        })),
+    }
 }
 
 impl<B: AnswerBook> Locator<B> {
@@ -132,8 +205,34 @@ impl<B: AnswerBook> Locator<B> {
         }
     }
 
-    /// Looks up one question after the other, until one is not answered or none is asked.
+    /// Looks up each question that is asked, until one is not answered or none is asked. Where memory
+    /// is refused they are looked up in turn, so that the answers found before stay used.
     fn look_all_up(&mut self, book: &B, seat: &mut B::Seat, now: Moment) -> Result<(), AllocError>
+        requires { B.belongs book.now seat.old }
+        ensures stays { B.belongs book.now seat.new }
+        ensures goes_on { GoesOn (B.shown seat.old) (B.shown seat.new) }
+        ensures stores_nothing { StoresNothing (B.shown seat.old) (B.shown seat.new) }
+        ensures gains { Gains (B.shown seat.new).seen now (B.shown seat.old).seen
+            self.old self.new }
+        ensures lacks { OnOk result ((question : question.Question)
+            → now_of self.new ≡ need question
+            → Lacks (B.shown seat.old).seen (B.shown seat.new).seen now question) }
+        ensures asking { OnErr result (IsAsking (now_of self.new)) }
+    {
+        let source = BookAt { book, now };
+        match self.selection.consult(self.alloc, &source, seat) {
+            Ok(()) => Ok(()),
+            Err(AllocError) => self.look_up_in_turn(book, seat, now),
+        }
+    }
+
+    /// Looks up one question after the other, until one is not answered or none is asked.
+    fn look_up_in_turn(
+        &mut self,
+        book: &B,
+        seat: &mut B::Seat,
+        now: Moment,
+    ) -> Result<(), AllocError>
         requires { B.belongs book.now seat.old }
         ensures stays { B.belongs book.now seat.new }
         ensures goes_on { GoesOn (B.shown seat.old) (B.shown seat.new) }

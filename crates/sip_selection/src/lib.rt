@@ -38,6 +38,11 @@
 //! the selection is as before, so the same answer can be given again where memory was refused. An
 //! answer is given at most once for a question, though several servers can have the same name.
 //!
+//! Where answers are at hand, `choose` makes a choice at once: it asks an `AnswerSource` for the
+//! answer to each question that comes up, and copies the request and the random words only where
+//! one is missing. `Selection::consult` does so for a selection that waits. What a source is asked
+//! is the question that was needed with the answers before it (`specs/Consulting.antt`).
+//!
 //! `specs/Choice.antt` says where a request goes, as one function `locate` of all this. Laws tell
 //! what follows from it: a numeric target asks nothing (`law_numeric_targets_ask_nothing`), a SIPS
 //! request goes over TLS alone (`law_secure_requests_go_over_tls`), each target has an address that

@@ -6,9 +6,9 @@ use crate::requests::{Sending, push_next, read_sending};
 use answer_cache::{AnswerBook, ListCache};
 use dns_answers::Moment;
 use row_fields::{Fault, Output, count, octets, split_word};
-use sip_locator::{Kept, Locator, LocatorRefusal};
-use sip_selection::GiveRefusal;
-use std::alloc::Global;
+use sip_locator::{Kept, Located, Locator, LocatorRefusal, locate};
+use sip_selection::{GiveRefusal, Next};
+use std::alloc::{AllocError, Global};
 use std::sync::Wait;
 
 /// What a call gives for a row's lines.
@@ -195,9 +195,80 @@ fn add<B: AnswerBook>(output: &mut Output, locators: &mut Vec<Locator<B>>, locat
 }
 
 /// Adds the locator of the request of a line, and writes what is next for it.
-fn locate<B: AnswerBook>(output: &mut Output, locators: &mut Vec<Locator<B>>, line: &str) {
+fn begin<B: AnswerBook>(output: &mut Output, locators: &mut Vec<Locator<B>>, line: &str) {
     match locator(output.alloc(), line) {
         Ok(locator) => add(output, locators, locator),
+        Err(fault) => output.fail(fault),
+    }
+}
+
+/// A request that is located at a moment.
+#[derive(Drop)]
+struct Timed {
+    now: Moment,
+    sending: Sending,
+}
+
+/// The moment and the request of a line.
+fn timed(alloc: Global, line: &str) -> Result<Timed, Fault> {
+    let (now, rest) = split_word(line);
+    match moment(now) {
+        Ok(now) => match read_sending(alloc, rest) {
+            Ok(sending) => Ok(Timed { now, sending }),
+            Err(fault) => Err(fault),
+        },
+        Err(fault) => Err(fault),
+    }
+}
+
+/// Where a request goes, as far as a book has the answers.
+fn located<B: AnswerBook>(
+    alloc: Global,
+    book: &B,
+    seat: &mut B::Seat,
+    it: &Timed,
+) -> Result<Located<B>, AllocError>
+    requires { B.belongs book.now seat.old }
+    ensures { B.belongs book.now seat.new }
+{
+    let Sending {
+        request,
+        caps,
+        words,
+    } = &it.sending;
+    locate(alloc, book, seat, request, caps, words, it.now)
+}
+
+/// Writes where a request goes; the locator of one whose answers are not all there is added.
+fn push_located<B: AnswerBook>(
+    output: &mut Output,
+    locators: &mut Vec<Locator<B>>,
+    located: Result<Located<B>, AllocError>,
+) {
+    match located {
+        Ok(Located::Targets(targets)) => push_next(output, Next::Targets(targets.as_slice())),
+        Ok(Located::Refused(reason)) => push_next(output, Next::Refused(reason)),
+        Ok(Located::Missing(locator)) => add(output, locators, locator),
+        Err(_) => output.fail(Fault::Memory),
+    }
+}
+
+/// Writes where the request of a line goes at its moment, by one call.
+fn locate_at<B: AnswerBook>(
+    output: &mut Output,
+    locators: &mut Vec<Locator<B>>,
+    book: &B,
+    seat: &mut B::Seat,
+    line: &str,
+)
+    requires { B.belongs book.now seat.old }
+    ensures { B.belongs book.now seat.new }
+{
+    match timed(output.alloc(), line) {
+        Ok(it) => {
+            let located = located(output.alloc(), book, seat, &it);
+            push_located(output, locators, located);
+        }
         Err(fault) => output.fail(fault),
     }
 }
@@ -246,7 +317,8 @@ fn said<R: Wait, B: AnswerBook>(
 {
     let (word, rest) = split_word(line);
     match word {
-        "locate" => locate(output, locators, rest),
+        "locate" => begin(output, locators, rest),
+        "at" => locate_at(output, locators, book, seat, rest),
         "book" => book_line(rt, output, book, seat, rest),
         _ => numbered_line(rt, output, locators, book, seat, word, rest),
     }

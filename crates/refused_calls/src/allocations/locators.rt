@@ -10,9 +10,9 @@ use answer_cache::{AnswerBook, ListCache, StoreRefusal};
 use dns_answers::Answer;
 use dns_asker::{AskRefusal, Asker, Ending, Incoming};
 use dns_message::Question;
-use sip_locator::{Kept, Locator, LocatorRefusal};
-use sip_selection::{GiveRefusal, Next};
-use std::alloc::Global;
+use sip_locator::{Kept, Located, Locator, LocatorRefusal, locate};
+use sip_selection::{Caps, GiveRefusal, Next, Request};
+use std::alloc::{AllocError, Global};
 use std::sync::{Arc, Wait};
 
 /// The calls.
@@ -20,12 +20,20 @@ use std::sync::{Arc, Wait};
 enum Call {
     New,
     Step,
+    Locate,
     Reply,
     Give,
     Asker,
 }
 
-const CALLS: [Call; 5] = [Call::New, Call::Step, Call::Reply, Call::Give, Call::Asker];
+const CALLS: [Call; 6] = [
+    Call::New,
+    Call::Step,
+    Call::Locate,
+    Call::Reply,
+    Call::Give,
+    Call::Asker,
+];
 
 /// Whether its question is next.
 fn asks(next: Next<'_>) -> bool {
@@ -111,6 +119,71 @@ fn step<R: Wait>(rt: &R, alloc: Global) -> Option<bool> {
     let answer = answer(alloc, 60)?;
     let mut locator = locator(alloc)?;
     steps_over_list(rt, alloc, &mut locator, &question, &answer)
+}
+
+/// A request that is located.
+#[derive(Drop)]
+struct Sent {
+    request: Request,
+    caps: Caps,
+}
+
+/// The request.
+fn sent(alloc: Global) -> Option<Sent> {
+    Some(Sent {
+        request: request(alloc)?,
+        caps: caps()?,
+    })
+}
+
+/// Where it goes by a book.
+fn located<B: AnswerBook>(
+    alloc: Global,
+    book: &B,
+    seat: &mut B::Seat,
+    sent: &Sent,
+) -> Result<Located<B>, AllocError>
+    requires { B.belongs book.now seat.old }
+    ensures { B.belongs book.now seat.new }
+{
+    locate(alloc, book, seat, &sent.request, &sent.caps, &WORDS, now())
+}
+
+/// Whether that is its target, or its question where the book has no answer.
+fn is_located<B: AnswerBook>(located: Result<Located<B>, AllocError>, is_known: bool) -> bool {
+    match located {
+        Ok(Located::Targets(targets)) => is_known && targets.len() == 1,
+        Ok(Located::Missing(locator)) => !is_known && asks(locator.next()),
+        Ok(Located::Refused(_)) | Err(_) => false,
+    }
+}
+
+/// The same, if memory is refused at first, then the second time.
+fn locates<B: AnswerBook>(
+    alloc: Global,
+    book: &B,
+    seat: &mut B::Seat,
+    sent: &Sent,
+    is_known: bool,
+) -> bool
+    requires { B.belongs book.now seat.old }
+    ensures { B.belongs book.now seat.new }
+{
+    let first = is_located(located(alloc, book, seat, sent), is_known);
+    first || is_located(located(alloc, book, seat, sent), is_known)
+}
+
+/// `locate`, over a book without the answer, and with it.
+fn locate_both<R: Wait>(rt: &R, alloc: Global) -> Option<bool> {
+    let question = question(alloc)?;
+    let answer = answer(alloc, 60)?;
+    let sent = sent(alloc)?;
+    let (book, mut seat) = ListCache::new(alloc);
+    let asks_first = locates(alloc, &book, &mut seat, &sent, false);
+    if !is_stored(rt, &book, &mut seat, &question, &answer) {
+        return None;
+    }
+    Some(asks_first && locates(alloc, &book, &mut seat, &sent, true))
 }
 
 /// What becomes of a reply, if memory is refused at first, then the second time.
@@ -254,6 +327,7 @@ fn says<R: Wait>(rt: &R, alloc: Global, call: Call) -> Option<bool> {
     match call {
         Call::New => new(alloc),
         Call::Step => step(rt, alloc),
+        Call::Locate => locate_both(rt, alloc),
         Call::Reply => reply(rt, alloc),
         Call::Give => give(alloc),
         Call::Asker => asker(alloc),

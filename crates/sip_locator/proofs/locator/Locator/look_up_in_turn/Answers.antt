@@ -1,5 +1,5 @@
 use Rattle.sip_locator.proofs.Gaining.{begins, stays, gains-one, lacks}
-use Rattle.sip_locator.proofs.locator.Locator.look_all_up.Goals as goal
+use Rattle.sip_locator.proofs.locator.Locator.look_up_in_turn.Goals as goal
 
 pub loop-round-init : goal.loop-round-init
 loop-round-init g c = (c.requires, begins c.args.self.now (g.B.AnswerBook.shown c.args.seat.now) c.args.now)

@@ -1,5 +1,5 @@
 use Rattle.sip_locator.proofs.Gaining.{Progress}
-use Rattle.sip_locator.proofs.locator.Locator.look_all_up.Given as goal
+use Rattle.sip_locator.proofs.locator.Locator.look_up_in_turn.Given as goal
 
 abbrev pub invariant-loop-round : goal.invariant-loop-round
 invariant-loop-round g l =

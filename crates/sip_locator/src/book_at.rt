@@ -1,0 +1,40 @@
+//! A book of answers as the source of a choice.
+ghost use Rattle.std.specs.Prelude.{◌≡◌};
+
+use answer_cache::AnswerBook;
+use dns_answers::{Answer, Moment};
+use dns_message::Question;
+use sip_selection::AnswerSource;
+use std::alloc::AllocError;
+use std::sync::Arc;
+
+/// What a book has at a moment.
+#[derive(Drop)]
+pub(crate) struct BookAt<'a, B> {
+    pub(crate) book: &'a B,
+    pub(crate) now: Moment,
+}
+
+impl<'a, B: AnswerBook> AnswerSource for BookAt<'a, B> {
+    type Seat = B::Seat;
+
+    ghost use Rattle.std.specs.Prelude.{◌≡◌};
+    ghost use Rattle.answer_log.specs.Histories.{cached};
+    ghost use Rattle.answer_cache.specs.Seats.{GoesOn, StoresNothing};
+
+    ghost ready = { λ it seat. B.belongs it.book.now seat };
+
+    ghost goes = { λ before after. GoesOn (B.shown before) (B.shown after)
+        × StoresNothing (B.shown before) (B.shown after) };
+
+    ghost says = { λ it seat question found.
+        found ≡ cached (B.shown seat).seen question it.now };
+
+    fn answer(
+        &self,
+        seat: &mut B::Seat,
+        question: &Question,
+    ) -> Result<Option<Arc<Answer>>, AllocError> {
+        self.book.lookup(seat, question, self.now)
+    }
+}
