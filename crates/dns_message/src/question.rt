@@ -73,16 +73,16 @@ impl Eq for Question {
 impl Hash for Question {
     ghost use Rattle.std.specs.Hash as fed;
     ghost use Rattle.std.specs.Cmp.Lexicographic.{pointwise_decides, bytes_decides};
-    ghost use Rattle.std.specs.Prelude.{nat_eq};
+    ghost use Rattle.std.specs.Prelude.{◌∷◌, [], nat_eq};
     ghost use Rattle.std.proofs.lemmas.Bool.{and_parts};
     ghost use Rattle.dns_name.specs.Labels.{wire_of, same_name};
     ghost use Rattle.dns_message.specs.Kinds.{type_of_kind};
 
-    ghost hash_input = { λ question. fed.slice fed.u8 (wire_of question.name) };
+    ghost hash_input = { λ question. wire_of question.name ∷ [] };
 
     ghost respects_eq = { λ it other same.
         (fed.same_Alike
-        (λ name. fed.slice fed.u8 (wire_of name))
+        (λ name. wire_of name ∷ [])
         (pointwise_decides bytes_decides)).fed it.name other.name
         (and_parts (same_name it.name other.name)
         (nat_eq (type_of_kind it.kind) (type_of_kind other.kind)) same).0 };

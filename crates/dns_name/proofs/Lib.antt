@@ -1,3 +1,4 @@
+mod Padding
 mod Wire
 mod Runs
 mod SmallRuns

@@ -108,7 +108,7 @@ impl PartialEq for Name {
         ensures value { result ≡ same_name self.now other.now }
         ensures same { IsTrue result ↔ (self.now ≡ other.now) }
     {
-        self.wire() == other.wire()
+        self.octets.is_same(&other.octets)
     }
 }
 
@@ -119,17 +119,18 @@ impl Eq for Name {
     ghost laws = { Prim.search (comparing, rules) };
 }
 
-/// By its octets, so that equal names have one hash.
+/// By all its octets at once, so that equal names have one hash.
 impl Hash for Name {
     ghost use Rattle.std.specs.Hash as fed;
+    ghost use Rattle.std.specs.Prelude.{◌∷◌, []};
     ghost use Rattle.std.specs.Cmp.Lexicographic.{pointwise_decides, bytes_decides};
 
-    ghost hash_input = { λ name. fed.slice fed.u8 (wire_of name) };
+    ghost hash_input = { λ name. wire_of name ∷ [] };
 
-    ghost respects_eq = { (fed.same_Alike (λ name. fed.slice fed.u8 (wire_of name))
+    ghost respects_eq = { (fed.same_Alike (λ name. wire_of name ∷ [])
         (pointwise_decides bytes_decides)).fed };
 
     fn hash<H: Hasher>(&self, state: &mut H) {
-        self.wire().hash(state)
+        state.write(self.wire());
     }
 }

@@ -1,14 +1,16 @@
 //! The octets of a name, which lie in the value itself where they are few.
-ghost use Rattle.std.specs.Prelude.{◌≡◌, ◌≤◌, ◌<◌, ◌+◌, ◌++◌, length, take, vec_len, IfOk};
+ghost use Rattle.std.specs.Prelude.{◌≡◌, ◌↔◌, ◌≤◌, ◌<◌, ◌+◌, ◌++◌, length, take, vec_len, IfOk, IsTrue};
+ghost use Rattle.dns_name.specs.Octets as spec;
 
 use std::alloc::{AllocError, Global};
 use std::marker::Model;
 
 /// The most octets that lie in the value itself: most names of hosts and of services have no more,
 /// and so take no memory of their own.
-pub(crate) const INLINE_LIMIT: usize = 30;
+pub(crate) const INLINE_LIMIT: usize = 31;
 
-/// Octets that do not change: in memory of their own, or, where there are none, in the value.
+/// Octets: in memory of their own, or, where there are none, in the value. Those of the value that
+/// are not in use are 0, so that two values can be compared as a whole.
 #[derive(Debug, Drop)]
 pub(crate) struct Octets {
     heap: Vec<u8>,
@@ -18,15 +20,15 @@ pub(crate) struct Octets {
 }
 
 impl Model for Octets {
-    ghost use Rattle.std.specs.Prelude.{◌≤◌, List, ℕ};
+    ghost use Rattle.std.specs.Prelude.{List, ℕ};
 
     ghost Value = { List ℕ };
 
-    ghost use Rattle.dns_name.specs.Octets.{octets_in};
+    ghost use Rattle.dns_name.specs.Octets.{octets_in, IsPadded};
 
     ghost view = { λ it. octets_in it.heap.items it.inline it.length };
 
-    ghost invariant = { λ it. it.length ≤ 30 };
+    ghost invariant = { λ it. IsPadded it.inline it.length };
 }
 
 /// Copies octets, and those behind them, over others, as many.
@@ -39,10 +41,39 @@ fn copy_both(octets: &mut [u8], front: &[u8], behind: &[u8])
     others.copy_from_slice(behind);
 }
 
+/// Eight octets from an offset on, as one number.
+fn word_from(octets: &[u8; INLINE_LIMIT], offset: usize) -> u64
+    requires { offset + 8 ≤ 31 }
+    ensures { result ≡ spec.word_from octets.now offset }
+{
+    let mut word = [0; 8];
+    word.copy_from_slice(&octets[offset..offset + 8]);
+    u64::from_le_bytes(word)
+}
+
+/// All octets, as four numbers. One octet is in two of them.
+fn words_of(octets: &[u8; INLINE_LIMIT]) -> [u64; 4]
+    ensures { result ≡ spec.words_of octets.now }
+{
+    [
+        word_from(octets, 0),
+        word_from(octets, 8),
+        word_from(octets, 16),
+        word_from(octets, 23),
+    ]
+}
+
+/// Whether all octets are the same.
+fn are_same(octets: &[u8; INLINE_LIMIT], others: &[u8; INLINE_LIMIT]) -> bool
+    ensures { IsTrue result ↔ (octets.now ≡ others.now) }
+{
+    words_of(octets) == words_of(others)
+}
+
 impl Octets {
-    /// The first octets of these, so many.
+    /// The first octets of these, so many. The others are 0.
     pub(crate) fn inline(alloc: Global, octets: [u8; INLINE_LIMIT], length: usize) -> Octets
-        requires { length ≤ INLINE_LIMIT }
+        requires { spec.IsPadded octets length }
         ensures { result ≡ take length octets }
     {
         Octets {
@@ -64,7 +95,7 @@ impl Octets {
         }
     }
 
-    /// A copy of octets and of those behind them. Memory is taken for more than 30.
+    /// A copy of octets and of those behind them. Memory is taken for more than 31.
     pub(crate) fn joined(alloc: Global, front: &[u8], behind: &[u8]) -> Result<Octets, AllocError>
         requires { length front.now + length behind.now ≤ 255 }
         ensures { IfOk result (λ it. it ≡ front.now ++ behind.now) }
@@ -81,7 +112,7 @@ impl Octets {
         Ok(Octets::inline(alloc, octets, count))
     }
 
-    /// A copy. Memory is taken for more than 30.
+    /// A copy. Memory is taken for more than 31.
     pub(crate) fn try_clone(&self) -> Result<Octets, AllocError>
         ensures { IfOk result (λ copy. copy ≡ self.now) }
     {
@@ -95,6 +126,16 @@ impl Octets {
     /// What memory is taken from.
     pub(crate) fn allocator(&self) -> Global {
         *self.heap.allocator()
+    }
+
+    /// Whether the octets are the same.
+    pub(crate) fn is_same(&self, other: &Octets) -> bool
+        ensures { IsTrue result ↔ (self.now ≡ other.now) }
+    {
+        if self.heap.is_empty() && other.heap.is_empty() {
+            return self.length == other.length && are_same(&self.inline, &other.inline);
+        }
+        self.as_slice() == other.as_slice()
     }
 
     /// The octets.

@@ -1,14 +1,24 @@
-use Rattle.std.proofs.Common.{◌≡◌, sym, ◌∙◌}
-use Rattle.dns_name.specs.Labels.{same_name}
-use Rattle.dns_name.proofs.Wire.{same_test, same_name-decides}
+use Rattle.std.proofs.Common.{◌≡◌, sym, ap, ◌∙◌}
+use Rattle.std.proofs.lemmas.Bool.Decides.{same_from_decides}
+use Rattle.dns_name.specs.Labels.{labels_of, wire_of, same_name}
+use Rattle.dns_name.proofs.Wire.{same_name-decides}
 use Rattle.dns_name.proofs.name.NamePartialEq.eq.Goals as goal
+use Rattle.dns_name.proofs.name.NamePartialEq.eq.Goals.{After-is_same}
+
+-- the octets of a name are those that spell it
+same_octets : (c : After-is_same) → c.args.self.now ≡ c.args.other.now → c.self.inside.octets ≡ c.other.inside.octets
+same_octets c same =
+    sym c.self.invariant.whole ∙ ap wire_of (c.self.view_is ∙ same ∙ sym c.other.view_is) ∙ c.other.invariant.whole
+
+same_labels : (c : After-is_same) → c.self.inside.octets ≡ c.other.inside.octets → c.args.self.now ≡ c.args.other.now
+same_labels c same = sym c.self.view_is ∙ ap labels_of same ∙ c.other.view_is
 
 pub returns-clause-value : goal.returns-clause-value
 returns-clause-value c =
-    same_test c.args.self.now c.args.other.now c.eq.result (rw (c.wire.ensures.value, c.wire-2.ensures.value) at c.eq.ensures)
+    same_from_decides c.is_same.result (same_name c.args.self.now c.args.other.now)
+    (λ yes'. same_labels c (c.is_same.ensures.0 yes'), λ same. c.is_same.ensures.1 (same_octets c same))
+    (same_name-decides c.args.self.now c.args.other.now)
 
 pub returns-clause-same : goal.returns-clause-same
 returns-clause-same c =
-    let is : c.eq.result ≡ same_name c.args.self.now c.args.other.now = returns-clause-value c in
-    let decides = same_name-decides c.args.self.now c.args.other.now in
-    (λ yes'. decides.0 (sym is ∙ yes'), λ same. is ∙ decides.1 same)
+    (λ yes'. same_labels c (c.is_same.ensures.0 yes'), λ same. c.is_same.ensures.1 (same_octets c same))
