@@ -2,6 +2,7 @@ mod Padding
 mod Wire
 mod Runs
 mod SmallRuns
+mod ShortRuns
 mod Finding
 mod Pieces
 mod Offsets

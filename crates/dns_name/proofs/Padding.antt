@@ -4,7 +4,7 @@ use Rattle.std.specs.Int.{w64, to_le_bytes}
 use Rattle.std.specs.List.{list_all}
 use Rattle.std.proofs.lemmas.Bool.Decides.{nat_tests}
 use Rattle.std.proofs.lemmas.Bool.{cases_lt}
-use Rattle.std.proofs.lemmas.List.{ext_get_or, get_or_past, get_or-take, get_or-drop, get_or-append-add, length-append, length-take, length-drop}
+use Rattle.std.proofs.lemmas.List.{ext_get_or, get_or_past, get_or-take, get_or-drop, get_or-append-add, take_at, take_more, length-append, length-take, length-take-le, length-drop}
 use Rattle.std.proofs.lemmas.Nat.{le_bytes_8}
 use Rattle.dns_name.specs.Octets.{octets_in, IsPadded, word_from, words_of}
 
@@ -30,6 +30,40 @@ IsPadded-front front zeros n size few all-size all = record {
 
 pub IsPadded-zeros : (zeros : List ℕ) → length zeros ≡ 31 → all_zero zeros ≡ true → IsPadded zeros 0
 IsPadded-zeros zeros size all = record { size = size; few = omega arith; zeros = λ i le. zero_at zeros all i }
+
+-- more octets in front, over some of the zeros
+pub IsPadded-more : (octets more : List ℕ) (n m : ℕ) → IsPadded octets n → n + length more ≡ m → m ≤ 31
+    → IsPadded (take n octets ++ more ++ drop m octets) m
+IsPadded-more octets more n m is sum few =
+    let front : List ℕ = take n octets ++ more in
+    let front-size : length front ≡ m = omega (arith, length-append (take n octets) more, length-take n octets, is.size, few, sum) in
+    record {
+      size = omega (arith, length-append front (drop m octets), front-size, length-drop m octets, is.size, few);
+      few = few;
+      zeros = λ i le.
+          let k : ℕ = i - m in
+          let at : i ≡ length front + k = omega (arith, le, front-size) in
+          let out : n ≤ m + k = omega (arith, sum) in
+          rw at (get_or-append-add front (drop m octets) k 0 ∙ get_or-drop m octets k 0 ∙ is.zeros (m + k) out);
+    }
+
+pub take-more : (octets more : List ℕ) (n m : ℕ) → IsPadded octets n → n + length more ≡ m → m ≤ 31
+    → take m (take n octets ++ more ++ drop m octets) ≡ take n octets ++ more
+take-more octets more n m is sum few =
+    let front : List ℕ = take n octets ++ more in
+    let front-size : length front ≡ m = omega (arith, length-append (take n octets) more, length-take n octets, is.size, few, sum) in
+    take_at front (drop m octets) m front-size
+
+-- one more of the zeros
+pub IsPadded-next : (octets : List ℕ) (n : ℕ) → IsPadded octets n → n + 1 ≤ 31 → IsPadded octets (n + 1)
+IsPadded-next octets n is few = record { size = is.size; few = few; zeros = λ i le. is.zeros i (omega arith) }
+
+pub take-next : (octets : List ℕ) (n : ℕ) → IsPadded octets n → n + 1 ≤ 31 → take (n + 1) octets ≡ take n octets ++ 0 ∷ []
+take-next octets n is few =
+    take_more octets n 0 (omega (arith, is.size)) ∙ ap (λ (octet : ℕ). take n octets ++ octet ∷ []) (is.zeros n (omega arith))
+
+pub used-length : (octets : List ℕ) (n : ℕ) → IsPadded octets n → length (take n octets) ≡ n
+used-length octets n is = length-take-le n octets (omega (arith, is.few, is.size))
 
 -- ---- two that have the same numbers
 
@@ -98,3 +132,7 @@ same_padded a b n m is is' same =
 pub octets_in-value : (heap inline : List ℕ) (n : ℕ) → length heap ≡ 0 → octets_in heap inline n ≡ take n inline
 octets_in-value [] inline n none = refl
 octets_in-value (octet ∷ heap) inline n none = absurd (omega arith)
+
+-- one octet that is 0
+pub IsPadded-one : (zeros : List ℕ) → length zeros ≡ 31 → all_zero zeros ≡ true → IsPadded zeros 1
+IsPadded-one zeros size all = record { size = size; few = omega arith; zeros = λ i le. zero_at zeros all i }

@@ -160,9 +160,9 @@ module _ (labels : List (List ℕ)) (count : ℕ) (label : List ℕ) (within : c
       (one_spelled (small_letters label) ∙ ap (λ (n : ℕ). n ∷ small_letters label) (length-map label to_ascii_lowercase))
 
   -- the label leaves room for the closing 0
-  pub has_room : length (wire_of (map small_letters labels)) ≤ 255
-      → length (spelled (map small_letters (take count labels))) + length label + 2 ≤ 255
-  has_room short =
+  pub has_room : (limit : ℕ) → length (wire_of (map small_letters labels)) ≤ limit
+      → length (spelled (map small_letters (take count labels))) + length label + 2 ≤ limit
+  has_room limit short =
       let first : List (List ℕ) = map small_letters (take count labels) in
       let all : List (List ℕ) = map small_letters labels in
       omega (
@@ -191,7 +191,7 @@ length-joined (label ∷ next ∷ labels) some =
     )
 
 -- a text and the octets of its labels
-length-wire : (text : List ℕ) → length (wire_of (parted text)) ≡ length text + 2
+pub length-wire : (text : List ℕ) → length (wire_of (parted text)) ≡ length text + 2
 length-wire text =
     let some : 0 < length (parted text) = omega (arith, length-slice_split (λ (octet : ℕ). octet == 46) text) in
     length-joined (parted text) some ∙ ap (λ (octets : List ℕ). length octets + 2) (join_with_byte-slice_split 46 text)

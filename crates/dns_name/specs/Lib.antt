@@ -2,4 +2,5 @@ pub mod Labels
 pub mod Octets
 pub mod Pieces
 pub mod Offsets
+pub mod ShortNames
 pub mod Texts

@@ -27,6 +27,6 @@ pub use laws::{
     law_name_rests_before_its_end, law_octets_determine_name, law_one_name_at_an_offset,
     law_same_names_are_equal, law_written_name_is_read, law_written_text_is_read,
 };
-pub use message::{read_name, write_name};
+pub use message::{read_name, read_name_into, write_name};
 pub use name::Name;
 pub use refusal::{NameReadRefusal, NameRefusal};

@@ -1,8 +1,10 @@
 //! Names in messages (RFC 1035 3.1, 4.1.4).
-ghost use Rattle.std.specs.Prelude.{◌≡◌, ◌++◌, List, ℕ, IfOk, OnOk, OnErr, IsOk, ◌+◌, ◌≤◌, length, take, vec_len, vec_capacity, Err, MatchResult, MatchOption};
+ghost use Rattle.std.specs.Prelude.{◌≡◌, ◌++◌, List, [], ℕ, IfOk, OnOk, OnErr, IsOk, ◌+◌, ◌≤◌, length, take, drop, vec_len, vec_capacity, Err, None, MatchResult, MatchOption, IfSome};
 ghost use Rattle.dns_name.specs.Labels.{small_letters, wire_of, IsName};
 ghost use Rattle.dns_name.specs.Pieces.{PieceAt, NothingAt};
 ghost use Rattle.dns_name.specs.Offsets.{NameAt};
+ghost use Rattle.dns_name.specs.Octets.{IsPadded};
+ghost use Rattle.dns_name.specs.ShortNames.{ShortNameAt};
 
 use crate::builder::NAME_LIMIT;
 use crate::name::Name;
@@ -49,7 +51,7 @@ fn put_run(front: &mut [u8; NAME_LIMIT], passed: usize, run: &[u8])
 }
 
 /// Writes a run of labels over octets, as many, with capitals as small letters.
-fn write_small(octets: &mut [u8], run: &[u8])
+pub(crate) fn write_small(octets: &mut [u8], run: &[u8])
     requires { length octets.old ≡ length run.now }
     ensures { octets.new ≡ small_letters run.now }
 {
@@ -144,6 +146,114 @@ pub fn read_name(alloc: Global, bytes: &[u8], at: usize) -> Result<(Name, usize)
             }
         }
     }
+}
+
+/// A name in the first octets of others, and the offset after it in its message.
+#[derive(Clone, Copy)]
+struct ShortName {
+    length: usize,
+    after: usize,
+}
+
+/// Writes a run of labels behind so many octets, with capitals as small letters.
+fn put_small(octets: &mut [u8; INLINE_LIMIT], passed: usize, run: &[u8])
+    requires { passed + length run.now ≤ 31 }
+    ensures { octets.new ≡ take passed octets.old ++ small_letters run.now
+        ++ drop (passed + length run.now) octets.old }
+{
+    write_small(&mut octets[passed..passed + run.len()], run);
+}
+
+/// Reads the name at offset `at` of a message over zeros, if one of at most 31 octets is there.
+fn read_short(bytes: &[u8], at: usize, octets: &mut [u8; INLINE_LIMIT]) -> Option<ShortName>
+    requires { IsPadded octets.old 0 }
+    ensures { IfSome result
+        (λ short. ShortNameAt bytes.now at octets.new short.length short.after) }
+{
+    let mut passed = 0;
+    let mut count = 0;
+    let mut run_start = at;
+    let mut limit = bytes.len();
+    let mut offset = at;
+    let mut end = None;
+    loop {
+        match piece_at(&bytes[..limit], offset)? {
+            Piece::Root => {
+                put_small(octets, passed, &bytes[run_start..offset + 1]);
+                return Some(ShortName {
+                    length: count + 1,
+                    after: end.unwrap_or(offset + 1),
+                });
+            }
+            Piece::Label(label) => {
+                count += 1 + label.len();
+                if count >= INLINE_LIMIT {
+                    return None;
+                }
+                offset += 1 + label.len();
+            }
+            Piece::Pointer(target) => {
+                if target >= run_start {
+                    return None;
+                }
+                put_small(octets, passed, &bytes[run_start..offset]);
+                passed = count;
+                end = Some(end.unwrap_or(offset + 2));
+                limit = run_start;
+                run_start = target;
+                offset = target;
+            }
+        }
+    }
+}
+
+/// Reads the name at offset `at` of a message over the octets of another name, if one of at most 31
+/// octets is there, and gives the offset after it. Else the octets are those of the root.
+fn read_short_over(alloc: Global, bytes: &[u8], at: usize, octets: &mut Octets) -> Option<usize>
+    ensures some { IfSome result (λ end. (name : List (List ℕ)) × NameAt bytes.now at at name end
+        × (octets.new ≡ wire_of name)) }
+    ensures none { result ≡ None → octets.new ≡ wire_of [] }
+{
+    octets.heap = Vec::new(alloc);
+    octets.inline = [0; INLINE_LIMIT];
+    match read_short(bytes, at, &mut octets.inline) {
+        Some(short) => {
+            octets.length = short.length as u8;
+            Some(short.after)
+        }
+        None => {
+            octets.inline = [0; INLINE_LIMIT];
+            octets.length = 1;
+            None
+        }
+    }
+}
+
+/// Reads the name at offset `at` of a message over another name, as `read_name` reads it, and gives
+/// the offset after it. After a refusal the other name is the root.
+pub fn read_name_into(
+    alloc: Global,
+    bytes: &[u8],
+    at: usize,
+    name: &mut Name,
+) -> Result<usize, NameReadRefusal>
+    // What is read is the name that stands there.
+    ensures found { IfOk result (λ end. NameAt bytes.now at at name.new end) }
+    // A name that stands there is read, unless memory is refused.
+    ensures read { (labels : List (List ℕ)) (end : ℕ) → NameAt bytes.now at at labels end
+        → MatchResult result (λ found. (name.new ≡ labels) × (found ≡ end))
+        (λ refusal. refusal ≡ NameReadRefusal.Memory) }
+    // Memory is asked for where a name stands, and nowhere else.
+    ensures memory { result ≡ Err NameReadRefusal.Memory
+        → (labels : List (List ℕ)) × (end : ℕ) × NameAt bytes.now at at labels end }
+    ensures refused { OnErr result (name.new ≡ []) }
+{
+    if let Some(after) = read_short_over(alloc, bytes, at, &mut name.octets) {
+        return Ok(after);
+    }
+    let (found, after) = read_name(alloc, bytes, at)?;
+    *name = found;
+    Ok(after)
 }
 
 /// Appends the octets of a name without pointers. After an error `out` is as before; where it has

@@ -1,8 +1,8 @@
 //! A domain name, and its octets.
-ghost use Rattle.std.specs.Prelude.{◌≡◌, ◌↔◌, ◌<◌, List, [], ◌∷◌, ℕ, length, IsTrue, IfOk, IfSome, IsSomeAnd, Ok, None};
+ghost use Rattle.std.specs.Prelude.{◌≡◌, ◌↔◌, ◌<◌, List, [], ◌∷◌, ℕ, length, IsTrue, IfOk, OnOk, OnErr, IfSome, IsSomeAnd, Ok, None};
 ghost use Rattle.dns_name.specs.Labels.{wire_of, same_name, parent_of, IsLabel, IsName};
 
-use crate::octets::Octets;
+use crate::octets::{INLINE_LIMIT, Octets};
 use std::alloc::{AllocError, Global};
 use std::hash::{Hash, Hasher};
 use std::marker::Model;
@@ -14,7 +14,7 @@ use std::marker::Model;
 /// labels: each label after its length, and a closing 0.
 #[derive(Debug, Drop)]
 pub struct Name {
-    octets: Octets,
+    pub(crate) octets: Octets,
 }
 
 impl Model for Name {
@@ -45,6 +45,13 @@ pub(crate) fn first_label(octets: &[u8]) -> Option<(&[u8], &[u8])>
 }
 
 impl Name {
+    /// The root (RFC 1034 3.1), for which no memory is taken.
+    pub fn root(alloc: Global) -> Name
+        ensures { result ≡ [] }
+    {
+        Name::from_wire(Octets::inline(alloc, [0; INLINE_LIMIT], 1))
+    }
+
     /// The name that these octets spell.
     pub(crate) fn from_wire(octets: Octets) -> Name
         requires { (labels : List (List ℕ)) × IsName labels × (octets ≡ wire_of labels) }
@@ -79,6 +86,14 @@ impl Name {
     {
         let octets = self.octets.try_clone()?;
         Ok(Name { octets })
+    }
+
+    /// Makes the name a copy of another one. After an error it is as before.
+    pub fn copy_from(&mut self, other: &Name) -> Result<(), AllocError>
+        ensures ok { OnOk result (self.new ≡ other.now) }
+        ensures err { OnErr result (self.new ≡ self.old) }
+    {
+        self.octets.copy_from(&other.octets)
     }
 
     /// The name without its first label, as the domain of a host (RFC 1034 3.1). The root has none,

@@ -1,5 +1,5 @@
 //! The octets of a name, which lie in the value itself where they are few.
-ghost use Rattle.std.specs.Prelude.{◌≡◌, ◌↔◌, ◌≤◌, ◌<◌, ◌+◌, ◌++◌, length, take, vec_len, IfOk, IsTrue};
+ghost use Rattle.std.specs.Prelude.{◌≡◌, ◌↔◌, ◌≤◌, ◌<◌, ◌+◌, ◌++◌, length, take, vec_len, IfOk, OnOk, OnErr, IsTrue};
 ghost use Rattle.dns_name.specs.Octets as spec;
 
 use std::alloc::{AllocError, Global};
@@ -13,10 +13,10 @@ pub(crate) const INLINE_LIMIT: usize = 31;
 /// are not in use are 0, so that two values can be compared as a whole.
 #[derive(Debug, Drop)]
 pub(crate) struct Octets {
-    heap: Vec<u8>,
-    inline: [u8; INLINE_LIMIT],
+    pub heap: Vec<u8>,
+    pub inline: [u8; INLINE_LIMIT],
     /// How many lie in the value.
-    length: u8,
+    pub length: u8,
 }
 
 impl Model for Octets {
@@ -121,6 +121,21 @@ impl Octets {
             inline: self.inline,
             length: self.length,
         })
+    }
+
+    /// Makes these a copy of others. After an error they are as before.
+    pub(crate) fn copy_from(&mut self, other: &Octets) -> Result<(), AllocError>
+        ensures ok { OnOk result (self.new ≡ other.now) }
+        ensures err { OnErr result (self.new ≡ self.old) }
+    {
+        if other.heap.is_empty() {
+            self.heap = Vec::new(self.allocator());
+        } else {
+            self.heap = Vec::from_slice(self.allocator(), other.heap.as_slice())?;
+        }
+        self.inline = other.inline;
+        self.length = other.length;
+        Ok(())
     }
 
     /// What memory is taken from.

@@ -1,13 +1,16 @@
 //! Names as texts (RFC 1035 5.1).
-ghost use Rattle.std.specs.Prelude.{◌≡◌, ◌∷◌, ◌++◌, ◌<◌, [], List, ℕ, length, map, IfOk, IfErr, OnOk, IfSome, IsSomeAnd, Some, None, MatchResult, ◌⊎◌};
+ghost use Rattle.std.specs.Prelude.{◌≡◌, ◌∷◌, ◌++◌, ◌+◌, ◌≤◌, ◌<◌, [], List, ℕ, length, map, take, drop, IfOk, IfErr, OnOk, IfSome, IsSomeAnd, Some, None, MatchResult, ◌⊎◌};
 ghost use Rattle.std.specs.Result.{result_err};
 ghost use Rattle.std.specs.List.{list_all};
 ghost use Rattle.std.specs.String.{string_bytes};
 ghost use Rattle.dns_name.specs.Labels.{small_letters, wire_of, IsLabel};
+ghost use Rattle.dns_name.specs.Octets.{IsPadded};
 ghost use Rattle.dns_name.specs.Texts as spec;
 
 use crate::builder::{NAME_LIMIT, NameBuilder};
+use crate::message::write_small;
 use crate::name::{Name, first_label};
+use crate::octets::{INLINE_LIMIT, Octets};
 use crate::refusal::NameRefusal;
 use std::alloc::{AllocError, Global};
 
@@ -94,6 +97,48 @@ fn builder_of(text: &[u8]) -> NameBuilder
     builder
 }
 
+/// Writes a label behind so many octets: its length, and its octets with capitals as small letters.
+fn put_label(octets: &mut [u8; INLINE_LIMIT], used: usize, label: &[u8])
+    requires short { length label.now ≤ 63 }
+    requires room { used + 1 + length label.now ≤ 31 }
+    ensures { octets.new ≡ take used octets.old ++ (length label.now ∷ small_letters label.now)
+        ++ drop (used + 1 + length label.now) octets.old }
+{
+    octets[used] = label.len() as u8;
+    write_small(&mut octets[used + 1..used + 1 + label.len()], label);
+}
+
+/// Writes the labels with dots between them over zeros, and gives how many octets they have, with
+/// the closing 0.
+fn put_labels(octets: &mut [u8; INLINE_LIMIT], text: &[u8]) -> usize
+    requires labels { spec.dotted_fault (spec.parted text.now) ≡ None }
+    requires short { length text.now + 2 ≤ 31 }
+    requires zeros { IsPadded octets.old 0 }
+    ensures padded { IsPadded octets.new result }
+    ensures spelled { take result octets.new ≡ wire_of (map small_letters (spec.parted text.now)) }
+{
+    let mut used = 0;
+    for label in text.split(|octet| *octet == b'.') {
+        put_label(octets, used, label);
+        used += 1 + label.len();
+    }
+    used + 1
+}
+
+/// The name of the labels with dots between them.
+fn name_of(alloc: Global, text: &[u8]) -> Result<Name, AllocError>
+    requires { spec.dotted_fault (spec.parted text.now) ≡ None }
+    ensures { IfOk result
+        (λ name. wire_of name ≡ wire_of (map small_letters (spec.parted text.now))) }
+{
+    if text.len() + 2 > INLINE_LIMIT {
+        return builder_of(text).finish(alloc, &[0]);
+    }
+    let mut octets = [0; INLINE_LIMIT];
+    let used = put_labels(&mut octets, text);
+    Ok(Name::from_wire(Octets::inline(alloc, octets, used)))
+}
+
 /// A text without its closing dot, if it has one.
 fn without_closing_dot(text: &[u8]) -> &[u8]
     ensures { result.now ≡ spec.without_closing_dot text.now }
@@ -149,11 +194,26 @@ impl Name {
     {
         let text = text.as_bytes();
         if text == b".".as_slice() {
-            return Ok(NameBuilder::new().finish(alloc, &[0])?);
+            return Ok(Name::root(alloc));
         }
         let dotted = without_closing_dot(text);
         check_labels(dotted)?;
-        Ok(builder_of(dotted).finish(alloc, &[0])?)
+        Ok(name_of(alloc, dotted)?)
+    }
+
+    /// The name of octets that were found to be a hostname, or another text of a name. They are
+    /// not checked again.
+    pub fn of_hostname(alloc: Global, octets: &[u8]) -> Result<Name, AllocError>
+        requires { (name : List (List ℕ)) × spec.TextOf name octets.now }
+        // What is named is a name of the octets, and they have no other one.
+        ensures found { IfOk result (λ name. spec.TextOf name octets.now) }
+        ensures read { (name : List (List ℕ)) → spec.TextOf name octets.now
+            → IfOk result (λ found. found ≡ name) }
+    {
+        if octets == b".".as_slice() {
+            return Ok(Name::root(alloc));
+        }
+        name_of(alloc, without_closing_dot(octets))
     }
 
     /// The name with two labels in front, as `_sip` and `_udp` in front of a domain (RFC 2782).

@@ -42,7 +42,7 @@ push-requires-clause-room c =
     let count : ℕ = length c.loop-label.yielded in
     let this = turn (goal.at.push-requires-clause-room c).In-Some in
     rw c.loop-label.invariant.octets
-    (has_room labels count c.in-Some.label.now this.0 this.1 (IsName-small labels c.requires).short)
+    (has_room labels count c.in-Some.label.now this.0 this.1 255 (IsName-small labels c.requires).short)
 
 pub loop-label-preserved : goal.loop-label-preserved
 loop-label-preserved c =

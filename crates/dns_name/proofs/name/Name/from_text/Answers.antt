@@ -4,28 +4,25 @@ use Rattle.std.proofs.lemmas.Slice.Eq.{bytes_eq-Decides}
 use Rattle.dns_name.specs.Labels.{small_letters}
 use Rattle.dns_name.specs.Texts.{root, parted, dotted_fault, without_closing_dot}
 use Rattle.dns_name.proofs.Wire.{same_labels}
-use Rattle.dns_name.proofs.TextNames.{IsName-small, TextOf-parted, named}
+use Rattle.dns_name.proofs.TextNames.{TextOf-parted, named}
 use Rattle.dns_name.proofs.name.Name.from_text.Goals as goal
-use Rattle.dns_name.proofs.name.Name.from_text.Goals.{In_ok-finish, In_ok-finish-2, In_ok-check_labels, Else-eq}
+use Rattle.dns_name.proofs.name.Name.from_text.Goals.{In_ok-name_of, In_ok-check_labels, Then-eq, Else-eq}
 
 -- ---- a dot alone
 
-is_dot : (c : In_ok-finish) → bytes_eq c.args.text.now (46 ∷ []) ≡ true
+is_dot : (c : Then-eq) → bytes_eq c.args.text.now (46 ∷ []) ≡ true
 is_dot c = rw (c.as_bytes-text.ensures.value, c.as_slice.ensures) at (sym c.if-eq.ensures)
-
-is_root : (c : In_ok-finish) → c.in_ok-finish.field-0 ≡ []
-is_root c = same_labels c.in_ok-finish.field-0 [] (rw c.new.ensures at c.in_ok-finish.ensures)
 
 pub returns-then-eq-clause-found : goal.returns-then-eq-clause-found
 returns-then-eq-clause-found c =
-    let here = (goal.at.returns-then-eq-clause-found c).In_ok-finish in
-    rw (is_root here) (root ((bytes_eq-Decides c.args.text.now (46 ∷ [])).0 (is_dot here)))
+    let here = (goal.at.returns-then-eq-clause-found c).Then-eq in
+    rw c.root.ensures (root ((bytes_eq-Decides c.args.text.now (46 ∷ [])).0 (is_dot here)))
 
 pub returns-then-eq-clause-read : goal.returns-then-eq-clause-read
 returns-then-eq-clause-read c = λ name text_of.
-    let here = (goal.at.returns-then-eq-clause-read c).In_ok-finish in
+    let here = (goal.at.returns-then-eq-clause-read c).Then-eq in
     elim (named name c.args.text.now text_of) [
-      | inl none ↦ is_root here ∙ sym none.0
+      | inl none ↦ c.root.ensures ∙ sym none.0
       | inr n ↦ (let dot : true ≡ false = sym (is_dot here) ∙ n.no_dot in absurd cc)
     ]
 
@@ -53,23 +50,16 @@ faultless c =
     c.without_closing_dot-dotted.ensures ∙ ap without_closing_dot c.as_bytes-text.ensures.value in
     (dotted', sym (rw dotted' at c.in_ok-check_labels.ensures))
 
-pub builder_of-requires : goal.builder_of-requires
-builder_of-requires c =
-    let k = faultless (goal.at.builder_of-requires c).In_ok-check_labels in
+pub name_of-requires : goal.name_of-requires
+name_of-requires c =
+    let k = faultless (goal.at.name_of-requires c).In_ok-check_labels in
     rw k.0 k.1
 
-pub finish-requires-2 : goal.finish-requires-2
-finish-requires-2 c =
-    let k = faultless (goal.at.finish-requires-2 c).In_ok-check_labels in
-    let parts : List (List ℕ) = parted (without_closing_dot c.args.text.now) in
-    (map small_letters parts, IsName-small parts k.1, rw k.0 at c.builder_of.ensures)
-
-found : (c : In_ok-finish-2) → c.in_ok-finish-2.field-0 ≡ map small_letters (parted (without_closing_dot c.args.text.now))
+found : (c : In_ok-name_of) → c.in_ok-name_of.field-0 ≡ map small_letters (parted (without_closing_dot c.args.text.now))
 found c =
     let k = faultless (goal.at.returns-clause-found c).In_ok-check_labels in
-    let spelled = rw k.0 at c.builder_of.ensures in
-    same_labels c.in_ok-finish-2.field-0 (map small_letters (parted (without_closing_dot c.args.text.now)))
-    (c.in_ok-finish-2.ensures ∙ spelled)
+    same_labels c.in_ok-name_of.field-0 (map small_letters (parted (without_closing_dot c.args.text.now)))
+    (rw k.0 at c.in_ok-name_of.ensures)
 
 pub returns-clause-found : goal.returns-clause-found
 returns-clause-found c =

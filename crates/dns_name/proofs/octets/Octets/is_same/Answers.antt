@@ -1,6 +1,5 @@
 use Rattle.std.proofs.Common.{◌≡◌, ℕ, take, sym, ap, ◌∙◌, arith}
 use Rattle.std.proofs.lemmas.Bool.Decides.{nat_tests}
-use Rattle.dns_name.specs.Octets.{octets_in}
 use Rattle.dns_name.proofs.Padding.{octets_in-value, same_padded}
 use Rattle.dns_name.proofs.octets.Octets.is_same.Goals as goal
 use Rattle.dns_name.proofs.octets.Octets.is_same.Goals.{Joined-self-other, then-self-other, else-self-other}
