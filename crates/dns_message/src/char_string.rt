@@ -40,6 +40,13 @@ impl CharString {
         }
     }
 
+    /// The string without octets.
+    pub(crate) fn empty(alloc: Global) -> CharString {
+        CharString {
+            octets: Vec::new(alloc),
+        }
+    }
+
     /// The octets of the string.
     pub fn octets(&self) -> &[u8]
         ensures octets { result.now ≡ self.now }

@@ -13,18 +13,22 @@ pub(crate) trait Entry: Sized + Drop {
     // It stands in a message from an offset to another.
     ghost stands: { List ℕ → ℕ → Self → ℕ → Type 0 };
 
-    /// Reads the one at an offset, and gives the offset after it. The name of the question may be
-    /// known by then.
-    fn read_at(
+    /// One that is still to be read.
+    fn unread(alloc: Global) -> Self;
+
+    /// Reads the one at an offset over this one, and gives the offset after it. The name of the
+    /// question may be known by then.
+    fn read_over(
+        &mut self,
         alloc: Global,
         bytes: &[u8],
         offset: usize,
         asked: Option<AskedName<'_>>,
-    ) -> Result<(Self, usize), EntryRefusal>
+    ) -> Result<usize, EntryRefusal>
         requires { IfSome asked (IsAskedName bytes.now) }
-        ensures found { IfOk result (λ found. stands bytes.now offset found.0 found.1) }
+        ensures found { IfOk result (λ end. stands bytes.now offset self.new end) }
         ensures read { (entry : Self) (end : ℕ) → stands bytes.now offset entry end
-            → MatchResult result (λ found. (found.0 ≡ entry) × (found.1 ≡ end))
+            → MatchResult result (λ found. (self.new ≡ entry) × (found ≡ end))
             (λ refusal. refusal ≡ EntryRefusal.Memory) }
         ensures memory { IfErr result (λ refusal. refusal ≡ EntryRefusal.Memory
             → NamedAt bytes.now offset) };
@@ -32,6 +36,25 @@ pub(crate) trait Entry: Sized + Drop {
     // It begins with a name.
     ghost named: { (message : List ℕ) (offset end : ℕ) (entry : Self)
         → stands message offset entry end → NamedAt message offset };
+}
+
+/// Why the one at an offset is not read where there is no memory for it.
+fn refusal_at<E: Entry>(
+    alloc: Global,
+    bytes: &[u8],
+    offset: usize,
+    asked: Option<AskedName<'_>>,
+) -> EntryRefusal
+    requires { IfSome asked (IsAskedName bytes.now) }
+    ensures read { (entry : E) (end : ℕ) → E.stands bytes.now offset entry end
+        → result ≡ EntryRefusal.Memory }
+    ensures memory { result ≡ EntryRefusal.Memory → NamedAt bytes.now offset }
+{
+    let mut entry = E::unread(alloc);
+    match entry.read_over(alloc, bytes, offset, asked) {
+        Ok(_) => EntryRefusal::Memory,
+        Err(refusal) => refusal,
+    }
 }
 
 /// Reads so many from an offset on into an empty list, and gives the offset after them.
@@ -56,9 +79,11 @@ fn read_entries<E: Entry>(
 {
     let mut offset = offset;
     for _ in 0..count {
-        let (entry, after) = E::read_at(alloc, bytes, offset, asked)?;
-        entries.push(entry)?;
-        offset = after;
+        let place = entries.len();
+        let Ok(()) = entries.push(E::unread(alloc)) else {
+            return Err(refusal_at::<E>(alloc, bytes, offset, asked));
+        };
+        offset = entries[place].read_over(alloc, bytes, offset, asked)?;
     }
     Ok(offset)
 }

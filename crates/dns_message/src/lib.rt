@@ -3,7 +3,7 @@
 //! A message is read where octets begin with one, and nothing else is taken for one: octets begin
 //! with at most one message, and `read_message` gives that one, with each name spelled out, or says
 //! in which part of the octets there is none. It gives up only where memory is refused, and takes
-//! memory only for what it has read. Records of types A, AAAA, CNAME, SOA, SRV and NAPTR in class
+//! memory only for what it reads. Records of types A, AAAA, CNAME, SOA, SRV and NAPTR in class
 //! IN have their data as values; all other data is kept as its octets. `message_in` gives the same
 //! message, or nothing, for a caller that need not know why there is none.
 //!

@@ -121,7 +121,7 @@ pub fn message_in(alloc: Global, octets: &[u8]) -> Result<Option<Message>, Alloc
     ensures read { IfOk result
         (λ it. MatchOption it ((it : message.Message) → Begins octets.now it → ⊥)
         (Begins octets.now)) }
-    // Memory is asked for only where a name stands after the header.
+    // A lack of memory is told only where a name stands after the header.
     ensures wanted_short { OnErr result (length octets.now ≤ 65535) }
     ensures wanted_name { OnErr result (NamedAt octets.now 12) }
 {

@@ -10,7 +10,7 @@ use crate::datagram::{Datagram, TooLong};
 use crate::name::push_name;
 use crate::number::{push_u16, u16_at};
 use crate::refusal::EntryRefusal;
-use dns_name::{Name, law_one_name_at_an_offset, read_name};
+use dns_name::{Name, law_one_name_at_an_offset, read_name_into};
 use std::alloc::{AllocError, Global};
 
 /// A rule that leads from a name to a service (RFC 3403 4.1).
@@ -31,6 +31,18 @@ pub struct NaptrRecord {
 }
 
 impl NaptrRecord {
+    /// One that is still to be read.
+    pub(crate) fn unread(alloc: Global) -> NaptrRecord {
+        NaptrRecord {
+            order: 0,
+            preference: 0,
+            flags: CharString::empty(alloc),
+            services: CharString::empty(alloc),
+            regexp: CharString::empty(alloc),
+            replacement: Name::root(alloc),
+        }
+    }
+
     /// A copy of the rule.
     pub fn try_clone(&self) -> Result<NaptrRecord, AllocError>
         ensures { IfOk result (λ copy. copy ≡ self.now) }
@@ -46,38 +58,32 @@ impl NaptrRecord {
     }
 }
 
-/// Reads the record at an offset, and gives the offset after it.
-pub(crate) fn naptr_at(
+/// Reads the record at an offset over another one, and gives the offset after it.
+pub(crate) fn read_naptr(
     alloc: Global,
     bytes: &[u8],
     offset: usize,
-) -> Result<(NaptrRecord, usize), EntryRefusal>
+    rule: &mut NaptrRecord,
+) -> Result<usize, EntryRefusal>
     requires { offset ≤ length bytes.now }
-    ensures found { IfOk result (λ found. NaptrAt bytes.now offset found.0 found.1) }
-    ensures read { (rule : naptr.NaptrRecord) (end : ℕ) → NaptrAt bytes.now offset rule end
-        → MatchResult result (λ found. (found.0 ≡ rule) × (found.1 ≡ end))
+    ensures found { IfOk result (λ end. NaptrAt bytes.now offset rule.new end) }
+    ensures read { (rule' : naptr.NaptrRecord) (end : ℕ) → NaptrAt bytes.now offset rule' end
+        → MatchResult result (λ found. (rule.new ≡ rule') × (found ≡ end))
         (λ refusal. refusal ≡ EntryRefusal.Memory) }
     ensures memory { IfErr result (λ refusal. refusal ≡ EntryRefusal.Memory
         → (flags : List ℕ) × (end : ℕ) × CharStringAt bytes.now (offset + 4) flags end) }
 {
     law_one_name_at_an_offset();
-    let order = u16_at(bytes, offset).ok_or(EntryRefusal::Malformed)?;
-    let preference = u16_at(bytes, offset + 2).ok_or(EntryRefusal::Malformed)?;
+    rule.order = u16_at(bytes, offset).ok_or(EntryRefusal::Malformed)?;
+    rule.preference = u16_at(bytes, offset + 2).ok_or(EntryRefusal::Malformed)?;
     let (flags, offset) = char_string_at(alloc, bytes, offset + 4)?;
+    rule.flags = flags;
     let (services, offset) = char_string_at(alloc, bytes, offset)?;
+    rule.services = services;
     let (regexp, offset) = char_string_at(alloc, bytes, offset)?;
-    let (replacement, end) = read_name(alloc, bytes, offset)?;
-    Ok((
-        NaptrRecord {
-            order,
-            preference,
-            flags,
-            services,
-            regexp,
-            replacement,
-        },
-        end,
-    ))
+    rule.regexp = regexp;
+    let end = read_name_into(alloc, bytes, offset, &mut rule.replacement)?;
+    Ok(end)
 }
 
 /// Appends the data of a rule.

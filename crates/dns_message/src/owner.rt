@@ -7,7 +7,7 @@ ghost use Rattle.dns_message.specs.Questions.{QuestionAt};
 
 use crate::question::Asked;
 use dns_name::{
-    Name, NameReadRefusal, law_name_rests_before_its_end, law_one_name_at_an_offset, read_name,
+    Name, NameReadRefusal, law_name_rests_before_its_end, law_one_name_at_an_offset, read_name_into,
 };
 use std::alloc::Global;
 
@@ -43,18 +43,19 @@ fn is_pointer_to_asked(bytes: &[u8], offset: usize) -> bool
     matches!(bytes.get(offset..), Some([0xC0, 12, ..]))
 }
 
-/// Reads the owner at an offset, and gives the offset after it. Where it is a pointer to the name
-/// of the question, that one is copied.
-pub(crate) fn owner_at(
+/// Reads the owner at an offset over another name, and gives the offset after it. Where it is a
+/// pointer to the name of the question, that one is copied.
+pub(crate) fn read_owner(
     alloc: Global,
     bytes: &[u8],
     offset: usize,
     asked: Option<AskedName<'_>>,
-) -> Result<(Name, usize), NameReadRefusal>
+    owner: &mut Name,
+) -> Result<usize, NameReadRefusal>
     requires { IfSome asked (IsAskedName bytes.now) }
-    ensures found { IfOk result (λ found. NameAt bytes.now offset offset found.0 found.1) }
+    ensures found { IfOk result (λ end. NameAt bytes.now offset offset owner.new end) }
     ensures read { (name : List (List ℕ)) (end : ℕ) → NameAt bytes.now offset offset name end
-        → MatchResult result (λ found. (found.0 ≡ name) × (found.1 ≡ end))
+        → MatchResult result (λ found. (owner.new ≡ name) × (found ≡ end))
         (λ refusal. refusal ≡ NameReadRefusal.Memory) }
     ensures memory { result ≡ Err NameReadRefusal.Memory → NamedAt bytes.now offset }
 {
@@ -64,7 +65,8 @@ pub(crate) fn owner_at(
         && asked.end <= offset
         && is_pointer_to_asked(bytes, offset)
     {
-        return Ok((asked.name.try_clone()?, offset + 2));
+        owner.copy_from(asked.name)?;
+        return Ok(offset + 2);
     }
-    read_name(alloc, bytes, offset)
+    read_name_into(alloc, bytes, offset, owner)
 }

@@ -12,7 +12,7 @@ use crate::name::push_name;
 use crate::number::{push_u16, u16_at};
 use crate::owner::AskedName;
 use crate::refusal::EntryRefusal;
-use dns_name::{Name, law_name_rests_before_its_end, law_one_name_at_an_offset, read_name};
+use dns_name::{Name, law_name_rests_before_its_end, law_one_name_at_an_offset, read_name_into};
 use std::alloc::{AllocError, Global};
 use std::hash::{Hash, Hasher};
 
@@ -121,25 +121,27 @@ impl Entry for Asked {
 
     ghost named = { λ message offset end asked there. (asked.name, there.after, there.name) };
 
-    fn read_at(
+    fn unread(alloc: Global) -> Asked {
+        Asked {
+            name: Name::root(alloc),
+            type_number: 0,
+            class_number: 0,
+        }
+    }
+
+    fn read_over(
+        &mut self,
         alloc: Global,
         bytes: &[u8],
         offset: usize,
         _asked: Option<AskedName<'_>>,
-    ) -> Result<(Asked, usize), EntryRefusal> {
+    ) -> Result<usize, EntryRefusal> {
         law_name_rests_before_its_end();
         law_one_name_at_an_offset();
-        let (name, offset) = read_name(alloc, bytes, offset)?;
-        let type_number = u16_at(bytes, offset).ok_or(EntryRefusal::Malformed)?;
-        let class_number = u16_at(bytes, offset + 2).ok_or(EntryRefusal::Malformed)?;
-        Ok((
-            Asked {
-                name,
-                type_number,
-                class_number,
-            },
-            offset + 4,
-        ))
+        let offset = read_name_into(alloc, bytes, offset, &mut self.name)?;
+        self.type_number = u16_at(bytes, offset).ok_or(EntryRefusal::Malformed)?;
+        self.class_number = u16_at(bytes, offset + 2).ok_or(EntryRefusal::Malformed)?;
+        Ok(offset + 4)
     }
 }
 

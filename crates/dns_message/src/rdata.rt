@@ -1,20 +1,24 @@
 //! The data of records (RFC 1035 3.2.1, 3.3, 3.4).
-ghost use Rattle.std.specs.Prelude.{◌≡◌, ◌≢◌, ◌+◌, ◌<◌, length, IfOk, MatchResult, ◌++◌, OnOk, OnErr};
-ghost use Rattle.dns_message.specs.Layouts.{RdataAt};
+ghost use Rattle.std.specs.Prelude.{◌≡◌, ◌≢◌, ◌+◌, ◌<◌, ◌≤◌, List, ℕ, length, IfOk, MatchResult, ◌++◌, OnOk, OnErr};
+ghost use Rattle.dns_name.specs.Offsets.{NameAt};
+ghost use Rattle.dns_message.specs.Layouts.{SrvAt, NaptrAt, RdataAt};
 ghost use Rattle.dns_message.specs.Written.{type_of_rdata, rdata_class, rdata_octets};
 ghost use Rattle.dns_message.specs.Fits.{RdataFits};
 ghost use Rattle.dns_message.specs.Data as spec;
-ghost use Rattle.dns_message.specs.declared.rdata.Rdata as rdata;
+ghost use Rattle.dns_message.specs.declared.rdata.Rdata as declared;
+ghost use Rattle.dns_message.specs.declared.rdata.Rdata.TheVariants as variant;
+ghost use Rattle.dns_message.specs.declared.naptr.NaptrRecord as naptr;
+ghost use Rattle.dns_message.specs.declared.srv.SrvRecord as srv;
 
 use crate::codes::{CLASS_IN, TYPE_A, TYPE_AAAA, TYPE_CNAME, TYPE_NAPTR, TYPE_SOA, TYPE_SRV};
 use crate::datagram::{Datagram, TooLong, push_octets};
 use crate::name::push_name;
-use crate::naptr::{NaptrRecord, naptr_at, push_naptr};
+use crate::naptr::{NaptrRecord, push_naptr, read_naptr};
 use crate::other_data::OtherData;
 use crate::refusal::EntryRefusal;
 use crate::soa::{SoaRecord, push_soa, soa_at};
-use crate::srv::{SrvRecord, push_srv, srv_at};
-use dns_name::{Name, law_name_rests_before_its_end, law_one_name_at_an_offset, read_name};
+use crate::srv::{SrvRecord, push_srv, read_srv};
+use dns_name::{Name, law_name_rests_before_its_end, law_one_name_at_an_offset, read_name_into};
 use std::alloc::{AllocError, Global};
 
 /// The data of a record.
@@ -139,38 +143,120 @@ fn ending_at<T: Drop>(found: (T, usize), end: usize) -> Result<T, EntryRefusal>
     }
 }
 
-/// Reads the data of a type and class between two offsets.
-pub(crate) fn rdata_at(
+/// Refuses data that ends elsewhere than at this offset.
+fn check_end(found: usize, end: usize) -> Result<(), EntryRefusal>
+    ensures { MatchResult result (λ _. found ≡ end)
+        (λ refusal. (refusal ≡ EntryRefusal.Malformed) × (found ≢ end)) }
+{
+    if found == end {
+        Ok(())
+    } else {
+        Err(EntryRefusal::Malformed)
+    }
+}
+
+/// Reads the data of a server between two offsets over other data.
+fn read_server(
+    alloc: Global,
+    bytes: &[u8],
+    offset: usize,
+    end: usize,
+    rdata: &mut Rdata,
+) -> Result<(), EntryRefusal>
+    requires { offset ≤ length bytes.now }
+    ensures found { OnOk result ((server : srv.SrvRecord) × (rdata.new ≡ variant.Srv server)
+        × SrvAt bytes.now offset server end) }
+    ensures read { (server : srv.SrvRecord) → SrvAt bytes.now offset server end
+        → MatchResult result (λ _. rdata.new ≡ variant.Srv server)
+        (λ refusal. refusal ≡ EntryRefusal.Memory) }
+{
+    *rdata = Rdata::Srv(SrvRecord::unread(alloc));
+    let Rdata::Srv(server) = rdata else {
+        return Err(EntryRefusal::Malformed);
+    };
+    let found = read_srv(alloc, bytes, offset, server)?;
+    check_end(found, end)
+}
+
+/// Reads the data of a rule between two offsets over other data.
+fn read_rule(
+    alloc: Global,
+    bytes: &[u8],
+    offset: usize,
+    end: usize,
+    rdata: &mut Rdata,
+) -> Result<(), EntryRefusal>
+    requires { offset ≤ length bytes.now }
+    ensures found { OnOk result ((rule : naptr.NaptrRecord) × (rdata.new ≡ variant.Naptr rule)
+        × NaptrAt bytes.now offset rule end) }
+    ensures read { (rule : naptr.NaptrRecord) → NaptrAt bytes.now offset rule end
+        → MatchResult result (λ _. rdata.new ≡ variant.Naptr rule)
+        (λ refusal. refusal ≡ EntryRefusal.Memory) }
+{
+    *rdata = Rdata::Naptr(NaptrRecord::unread(alloc));
+    let Rdata::Naptr(rule) = rdata else {
+        return Err(EntryRefusal::Malformed);
+    };
+    let found = read_naptr(alloc, bytes, offset, rule)?;
+    check_end(found, end)
+}
+
+/// Reads the canonical name of an alias between two offsets over other data.
+fn read_alias(
+    alloc: Global,
+    bytes: &[u8],
+    offset: usize,
+    end: usize,
+    rdata: &mut Rdata,
+) -> Result<(), EntryRefusal>
+    ensures found { OnOk result ((name : List (List ℕ)) × (rdata.new ≡ variant.Cname name)
+        × NameAt bytes.now offset offset name end) }
+    ensures read { (name : List (List ℕ)) → NameAt bytes.now offset offset name end
+        → MatchResult result (λ _. rdata.new ≡ variant.Cname name)
+        (λ refusal. refusal ≡ EntryRefusal.Memory) }
+{
+    *rdata = Rdata::Cname(Name::root(alloc));
+    let Rdata::Cname(name) = rdata else {
+        return Err(EntryRefusal::Malformed);
+    };
+    let found = read_name_into(alloc, bytes, offset, name)?;
+    check_end(found, end)
+}
+
+/// Reads the data of a type and class between two offsets over other data.
+pub(crate) fn read_rdata(
     alloc: Global,
     bytes: &[u8],
     offset: usize,
     end: usize,
     type_number: u16,
     class_number: u16,
-) -> Result<Rdata, EntryRefusal>
-    ensures found { IfOk result (λ found. RdataAt bytes.now offset type_number class_number found
-        end) }
-    ensures read { (data' : rdata.Rdata) → RdataAt bytes.now offset type_number class_number data'
-        end
-        → MatchResult result (λ found. found ≡ data') (λ refusal. refusal ≡ EntryRefusal.Memory) }
+    rdata: &mut Rdata,
+) -> Result<(), EntryRefusal>
+    ensures found { OnOk result (RdataAt bytes.now offset type_number class_number rdata.new end) }
+    ensures read { (data' : declared.Rdata)
+        → RdataAt bytes.now offset type_number class_number data' end
+        → MatchResult result (λ _. rdata.new ≡ data')
+        (λ refusal. refusal ≡ EntryRefusal.Memory) }
 {
     law_one_name_at_an_offset();
     law_name_rests_before_its_end();
     let octets = bytes.get(offset..end).ok_or(EntryRefusal::Malformed)?;
     match data_format(type_number, class_number) {
-        DataFormat::A => Ok(Rdata::Addr4(address_of(octets)?)),
-        DataFormat::Aaaa => Ok(Rdata::Addr6(address_of(octets)?)),
-        DataFormat::Srv => Ok(Rdata::Srv(ending_at(srv_at(alloc, bytes, offset)?, end)?)),
-        DataFormat::Naptr => Ok(Rdata::Naptr(ending_at(naptr_at(alloc, bytes, offset)?, end)?)),
-        DataFormat::Cname => Ok(Rdata::Cname(ending_at(read_name(alloc, bytes, offset)?, end)?)),
-        DataFormat::Soa => Ok(Rdata::Soa(ending_at(soa_at(alloc, bytes, offset)?, end)?)),
+        DataFormat::A => *rdata = Rdata::Addr4(address_of(octets)?),
+        DataFormat::Aaaa => *rdata = Rdata::Addr6(address_of(octets)?),
+        DataFormat::Srv => read_server(alloc, bytes, offset, end, rdata)?,
+        DataFormat::Naptr => read_rule(alloc, bytes, offset, end, rdata)?,
+        DataFormat::Cname => read_alias(alloc, bytes, offset, end, rdata)?,
+        DataFormat::Soa => *rdata = Rdata::Soa(ending_at(soa_at(alloc, bytes, offset)?, end)?),
         DataFormat::Other => {
             let octets = Vec::from_slice(alloc, octets)?;
-            OtherData::new(type_number, class_number, octets)
+            *rdata = OtherData::new(type_number, class_number, octets)
                 .map(Rdata::Other)
-                .ok_or(EntryRefusal::Malformed)
+                .ok_or(EntryRefusal::Malformed)?;
         }
     }
+    Ok(())
 }
 
 /// Appends data.

@@ -9,8 +9,8 @@ use crate::datagram::{Datagram, TooLong, set_u16};
 use crate::entry::Entry;
 use crate::name::push_name;
 use crate::number::{push_u16, push_u32, u16_at, u32_at};
-use crate::owner::{AskedName, owner_at};
-use crate::rdata::{Rdata, push_rdata, rdata_at};
+use crate::owner::{AskedName, read_owner};
+use crate::rdata::{Rdata, push_rdata, read_rdata};
 use crate::refusal::EntryRefusal;
 use dns_name::{Name, law_name_rests_before_its_end, law_one_name_at_an_offset};
 use std::alloc::{AllocError, Global};
@@ -69,34 +69,38 @@ impl Entry for Record {
 
     ghost named = { λ message offset end entry there. (entry.owner, there.after, there.owner) };
 
-    fn read_at(
+    fn unread(alloc: Global) -> Record {
+        Record {
+            owner: Name::root(alloc),
+            ttl: 0,
+            rdata: Rdata::Addr4([0; 4]),
+        }
+    }
+
+    fn read_over(
+        &mut self,
         alloc: Global,
         bytes: &[u8],
         offset: usize,
         asked: Option<AskedName<'_>>,
-    ) -> Result<(Record, usize), EntryRefusal> {
+    ) -> Result<usize, EntryRefusal> {
         law_name_rests_before_its_end();
         law_one_name_at_an_offset();
-        let (owner, offset) = owner_at(alloc, bytes, offset, asked)?;
+        let offset = read_owner(alloc, bytes, offset, asked, &mut self.owner)?;
         let fixed = fixed_at(bytes, offset).ok_or(EntryRefusal::Malformed)?;
+        self.ttl = fixed.ttl;
         let start = offset + 10;
         let end = start + usize::from(fixed.size);
-        let rdata = rdata_at(
+        read_rdata(
             alloc,
             bytes,
             start,
             end,
             fixed.type_number,
             fixed.class_number,
+            &mut self.rdata,
         )?;
-        Ok((
-            Record {
-                owner,
-                ttl: fixed.ttl,
-                rdata,
-            },
-            end,
-        ))
+        Ok(end)
     }
 }
 

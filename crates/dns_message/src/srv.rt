@@ -10,7 +10,7 @@ use crate::datagram::{Datagram, TooLong};
 use crate::name::push_name;
 use crate::number::{push_u16, u16_at};
 use crate::refusal::EntryRefusal;
-use dns_name::{Name, law_one_name_at_an_offset, read_name};
+use dns_name::{Name, law_one_name_at_an_offset, read_name_into};
 use std::alloc::{AllocError, Global};
 
 /// A server of a service (RFC 2782).
@@ -27,6 +27,16 @@ pub struct SrvRecord {
 }
 
 impl SrvRecord {
+    /// One that is still to be read.
+    pub(crate) fn unread(alloc: Global) -> SrvRecord {
+        SrvRecord {
+            priority: 0,
+            weight: 0,
+            port: 0,
+            target: Name::root(alloc),
+        }
+    }
+
     /// A copy of the record.
     pub fn try_clone(&self) -> Result<SrvRecord, AllocError>
         ensures { IfOk result (λ copy. copy ≡ self.now) }
@@ -40,34 +50,27 @@ impl SrvRecord {
     }
 }
 
-/// Reads the record at an offset, and gives the offset after it.
-pub(crate) fn srv_at(
+/// Reads the record at an offset over another one, and gives the offset after it.
+pub(crate) fn read_srv(
     alloc: Global,
     bytes: &[u8],
     offset: usize,
-) -> Result<(SrvRecord, usize), EntryRefusal>
+    server: &mut SrvRecord,
+) -> Result<usize, EntryRefusal>
     requires { offset ≤ length bytes.now }
-    ensures found { IfOk result (λ found. SrvAt bytes.now offset found.0 found.1) }
-    ensures read { (server : srv.SrvRecord) (end : ℕ) → SrvAt bytes.now offset server end
-        → MatchResult result (λ found. (found.0 ≡ server) × (found.1 ≡ end))
+    ensures found { IfOk result (λ end. SrvAt bytes.now offset server.new end) }
+    ensures read { (server' : srv.SrvRecord) (end : ℕ) → SrvAt bytes.now offset server' end
+        → MatchResult result (λ found. (server.new ≡ server') × (found ≡ end))
         (λ refusal. refusal ≡ EntryRefusal.Memory) }
     ensures memory { IfErr result (λ refusal. refusal ≡ EntryRefusal.Memory
         → NamedAt bytes.now (offset + 6)) }
 {
     law_one_name_at_an_offset();
-    let priority = u16_at(bytes, offset).ok_or(EntryRefusal::Malformed)?;
-    let weight = u16_at(bytes, offset + 2).ok_or(EntryRefusal::Malformed)?;
-    let port = u16_at(bytes, offset + 4).ok_or(EntryRefusal::Malformed)?;
-    let (target, end) = read_name(alloc, bytes, offset + 6)?;
-    Ok((
-        SrvRecord {
-            priority,
-            weight,
-            port,
-            target,
-        },
-        end,
-    ))
+    server.priority = u16_at(bytes, offset).ok_or(EntryRefusal::Malformed)?;
+    server.weight = u16_at(bytes, offset + 2).ok_or(EntryRefusal::Malformed)?;
+    server.port = u16_at(bytes, offset + 4).ok_or(EntryRefusal::Malformed)?;
+    let end = read_name_into(alloc, bytes, offset + 6, &mut server.target)?;
+    Ok(end)
 }
 
 /// Appends the data of a server.

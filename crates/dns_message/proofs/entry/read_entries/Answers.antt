@@ -1,5 +1,5 @@
-use Rattle.std.proofs.Common.{refl, sym, arith, ◌∙◌}
-use Rattle.std.proofs.lemmas.List.{length_push}
+use Rattle.std.proofs.Common.{[], refl, sym, arith, ◌∙◌}
+use Rattle.std.proofs.lemmas.List.{length_push, set_at}
 use Rattle.std.proofs.lemmas.Result.{err_from_is_err_and}
 use Rattle.dns_message.specs.Offsets.{NamedAt, none}
 use Rattle.dns_message.proofs.Offsets.{AllAt-push, AllAt-first, Follows-push, Follows-next, Follows-all}
@@ -17,11 +17,13 @@ pub loop-preserved : goal.loop-preserved
 loop-preserved g c =
     let l = c.loop in
     let stands = g.E.Entry.stands c.args.bytes.now in
-    let read = c.in_ok-entry in
-    rw c.in_ok-push.ensures.items (record {
-      so_far = AllAt-push stands read.after read.entry l.invariant.so_far read.ensures.found;
-      follows = Follows-push stands c.args.offset l.offset read.after read.entry l.entries.items l.invariant.follows read.ensures.read;
-      count = length_push l.entries.items read.entry ∙ omega arith;
+    let entry = c.read_over.new.self in
+    let read = c.in_ok-offset in
+    let placed = set_at l.entries.items c.unread.result [] entry c.len-place.result (omega (arith, c.len-place.ensures)) in
+    rw (c.in-Ok.ensures.items, placed) (record {
+      so_far = AllAt-push stands read.offset entry l.invariant.so_far read.ensures.found;
+      follows = Follows-push stands c.args.offset l.offset read.offset entry l.entries.items l.invariant.follows read.ensures.read;
+      count = length_push l.entries.items entry ∙ omega arith;
     })
 
 pub returns-clause-read : goal.returns-clause-read
@@ -30,26 +32,33 @@ returns-clause-read g c = λ entries end there count.
     Follows-all (g.E.Entry.stands c.args.bytes.now) c.args.offset l.offset end l.entries.items entries l.invariant.follows there
     (omega (arith, count))
 
-pub returns-in_err-entry-clause-read : goal.returns-in_err-entry-clause-read
-returns-in_err-entry-clause-read g c = λ entries end there count.
+pub returns-in_err-offset-clause-read : goal.returns-in_err-offset-clause-read
+returns-in_err-offset-clause-read g c = λ entries end there count.
     let l = c.loop in
     let here = Follows-next (g.E.Entry.stands c.args.bytes.now) c.args.offset l.offset end l.entries.items entries l.invariant.follows there
     (omega (arith, count)) in
     let p = err_from_is_err_and c.from_residual.result c.from_residual.ensures.1 in
-    rw p.1 (p.2 ∙ c.in_err-entry.ensures.read here.0 here.1 here.2)
+    rw p.1 (p.2 ∙ c.in_err-offset.ensures.read here.0 here.1 here.2)
 
 -- a name stands where the entries begin, if one stands where the next one would
-pub returns-in_err-entry-clause-memory : goal.returns-in_err-entry-clause-memory
-returns-in_err-entry-clause-memory g c =
+pub returns-in_err-offset-clause-memory : goal.returns-in_err-offset-clause-memory
+returns-in_err-offset-clause-memory g c =
     let bytes = c.args.bytes.now in
     let p = err_from_is_err_and c.from_residual.result c.from_residual.ensures.1 in
     rw p.1 (λ is. AllAt-first (g.E.Entry.stands bytes) (NamedAt bytes) (g.met.E.Entry.named bytes) c.loop.invariant.so_far
-    (c.in_err-entry.ensures.memory (sym p.2 ∙ is)))
+    (c.in_err-offset.ensures.memory (sym p.2 ∙ is)))
 
-pub returns-in_err-push-clause-memory : goal.returns-in_err-push-clause-memory
-returns-in_err-push-clause-memory g c =
+-- ---- there is no memory for a further one
+
+pub returns-in_default-clause-read : goal.returns-in_default-clause-read
+returns-in_default-clause-read g c = λ entries end there count.
+    let l = c.loop in
+    let here = Follows-next (g.E.Entry.stands c.args.bytes.now) c.args.offset l.offset end l.entries.items entries l.invariant.follows there
+    (omega (arith, count)) in
+    c.refusal_at.ensures.read here.0 here.1 here.2
+
+pub returns-in_default-clause-memory : goal.returns-in_default-clause-memory
+returns-in_default-clause-memory g c = λ is.
     let bytes = c.args.bytes.now in
-    let read = c.in_ok-entry in
-    let p = err_from_is_err_and c.from_residual-in_err-push.result c.from_residual-in_err-push.ensures.1 in
-    rw p.1 (λ is. AllAt-first (g.E.Entry.stands bytes) (NamedAt bytes) (g.met.E.Entry.named bytes) c.loop.invariant.so_far
-    (g.met.E.Entry.named bytes c.loop.offset read.after read.entry read.ensures.found))
+    AllAt-first (g.E.Entry.stands bytes) (NamedAt bytes) (g.met.E.Entry.named bytes) c.loop.invariant.so_far
+    (c.refusal_at.ensures.memory is)

@@ -1,11 +1,10 @@
 use Rattle.std.proofs.Common.{◌≡◌, length, slice_range, sym, ap, ◌∙◌}
 use Rattle.std.proofs.lemmas.Result.{err_from_is_err_and}
 use Rattle.dns_message.specs.Data.{data_format}
-use Rattle.dns_message.specs.Refusals.{refusal_of_name}
-use Rattle.dns_message.specs.declared.rdata.Rdata.TheVariants.{Addr4, Addr6, Srv, Naptr, Cname, Soa}
+use Rattle.dns_message.specs.declared.rdata.Rdata.TheVariants.{Addr4, Addr6, Soa}
 use Rattle.dns_message.proofs.Layouts.{format_goes_on, format_within}
-use Rattle.dns_message.proofs.rdata.rdata_at.Goals as goal
-use Rattle.dns_message.proofs.rdata.rdata_at.Goals.{In_ok-octets}
+use Rattle.dns_message.proofs.rdata.read_rdata.Goals as goal
+use Rattle.dns_message.proofs.rdata.read_rdata.Goals.{In_ok-octets}
 
 -- the octets between the two offsets
 between : (c : In_ok-octets) → c.in_ok-octets.octets.now ≡ slice_range c.args.bytes.now c.args.offset c.args.end
@@ -35,53 +34,38 @@ returns-in_ok-address_of-in-Aaaa-clause-read c = λ data' x.
     let octets = between (goal.at.returns-in_ok-address_of-in-Aaaa-clause-read c).In_ok-octets ∙ there.2.stands.are in
     ap Addr6 (c.in_ok-address_of-in-Aaaa.ensures.0 ∙ octets) ∙ sym there.1
 
-pub returns-in_err-srv_at-in-Srv-clause-read : goal.returns-in_err-srv_at-in-Srv-clause-read
-returns-in_err-srv_at-in-Srv-clause-read c = λ data' x.
+pub returns-in_err-read_server-in-Srv-clause-read : goal.returns-in_err-read_server-in-Srv-clause-read
+returns-in_err-read_server-in-Srv-clause-read c = λ data' x.
     let there = rw (sym c.data_format.ensures ∙ c.in-Srv.is) at x in
-    let p = err_from_is_err_and c.from_residual-in_err-srv_at-in-Srv.result c.from_residual-in_err-srv_at-in-Srv.ensures.1 in
-    rw p.1 (p.2 ∙ c.in_err-srv_at-in-Srv.ensures.read there.0 c.args.end there.2)
+    let p = err_from_is_err_and c.from_residual-in_err-read_server-in-Srv.result c.from_residual-in_err-read_server-in-Srv.ensures.1 in
+    rw p.1 (p.2 ∙ c.in_err-read_server-in-Srv.ensures.read there.0 there.2)
 
-pub returns-in_err-ending_at-in-Srv-clause-read : goal.returns-in_err-ending_at-in-Srv-clause-read
-returns-in_err-ending_at-in-Srv-clause-read c = λ data' x.
+pub returns-in_ok-read_server-in-Srv-clause-read : goal.returns-in_ok-read_server-in-Srv-clause-read
+returns-in_ok-read_server-in-Srv-clause-read c = λ data' x.
     let there = rw (sym c.data_format.ensures ∙ c.in-Srv.is) at x in
-    absurd (c.in_err-ending_at-in-Srv.ensures.1 (c.in_ok-srv_at-in-Srv.ensures.read there.0 c.args.end there.2).1)
+    c.in_ok-read_server-in-Srv.ensures.read there.0 there.2 ∙ sym there.1
 
-pub returns-in_ok-ending_at-in-Srv-clause-read : goal.returns-in_ok-ending_at-in-Srv-clause-read
-returns-in_ok-ending_at-in-Srv-clause-read c = λ data' x.
-    let there = rw (sym c.data_format.ensures ∙ c.in-Srv.is) at x in
-    ap Srv (c.in_ok-ending_at-in-Srv.ensures.0 ∙ (c.in_ok-srv_at-in-Srv.ensures.read there.0 c.args.end there.2).0) ∙ sym there.1
-
-pub returns-in_err-naptr_at-in-Naptr-clause-read : goal.returns-in_err-naptr_at-in-Naptr-clause-read
-returns-in_err-naptr_at-in-Naptr-clause-read c = λ data' x.
+pub returns-in_err-read_rule-in-Naptr-clause-read : goal.returns-in_err-read_rule-in-Naptr-clause-read
+returns-in_err-read_rule-in-Naptr-clause-read c = λ data' x.
     let there = rw (sym c.data_format.ensures ∙ c.in-Naptr.is) at x in
-    let p = err_from_is_err_and c.from_residual-in_err-naptr_at-in-Naptr.result c.from_residual-in_err-naptr_at-in-Naptr.ensures.1 in
-    rw p.1 (p.2 ∙ c.in_err-naptr_at-in-Naptr.ensures.read there.0 c.args.end there.2)
+    let p = err_from_is_err_and c.from_residual-in_err-read_rule-in-Naptr.result c.from_residual-in_err-read_rule-in-Naptr.ensures.1 in
+    rw p.1 (p.2 ∙ c.in_err-read_rule-in-Naptr.ensures.read there.0 there.2)
 
-pub returns-in_err-ending_at-in-Naptr-clause-read : goal.returns-in_err-ending_at-in-Naptr-clause-read
-returns-in_err-ending_at-in-Naptr-clause-read c = λ data' x.
+pub returns-in_ok-read_rule-in-Naptr-clause-read : goal.returns-in_ok-read_rule-in-Naptr-clause-read
+returns-in_ok-read_rule-in-Naptr-clause-read c = λ data' x.
     let there = rw (sym c.data_format.ensures ∙ c.in-Naptr.is) at x in
-    absurd (c.in_err-ending_at-in-Naptr.ensures.1 (c.in_ok-naptr_at-in-Naptr.ensures.read there.0 c.args.end there.2).1)
+    c.in_ok-read_rule-in-Naptr.ensures.read there.0 there.2 ∙ sym there.1
 
-pub returns-in_ok-ending_at-in-Naptr-clause-read : goal.returns-in_ok-ending_at-in-Naptr-clause-read
-returns-in_ok-ending_at-in-Naptr-clause-read c = λ data' x.
-    let there = rw (sym c.data_format.ensures ∙ c.in-Naptr.is) at x in
-    ap Naptr (c.in_ok-ending_at-in-Naptr.ensures.0 ∙ (c.in_ok-naptr_at-in-Naptr.ensures.read there.0 c.args.end there.2).0) ∙ sym there.1
-
-pub returns-in_err-read_name-in-Cname-clause-read : goal.returns-in_err-read_name-in-Cname-clause-read
-returns-in_err-read_name-in-Cname-clause-read c = λ data' x.
+pub returns-in_err-read_alias-in-Cname-clause-read : goal.returns-in_err-read_alias-in-Cname-clause-read
+returns-in_err-read_alias-in-Cname-clause-read c = λ data' x.
     let there = rw (sym c.data_format.ensures ∙ c.in-Cname.is) at x in
-    let p = err_from_is_err_and c.from_residual-in_err-read_name-in-Cname.result c.from_residual-in_err-read_name-in-Cname.ensures.1 in
-    rw p.1 (p.2 ∙ ap refusal_of_name (c.in_err-read_name-in-Cname.ensures.read there.0 c.args.end there.2))
+    let p = err_from_is_err_and c.from_residual-in_err-read_alias-in-Cname.result c.from_residual-in_err-read_alias-in-Cname.ensures.1 in
+    rw p.1 (p.2 ∙ c.in_err-read_alias-in-Cname.ensures.read there.0 there.2)
 
-pub returns-in_err-ending_at-in-Cname-clause-read : goal.returns-in_err-ending_at-in-Cname-clause-read
-returns-in_err-ending_at-in-Cname-clause-read c = λ data' x.
+pub returns-in_ok-read_alias-in-Cname-clause-read : goal.returns-in_ok-read_alias-in-Cname-clause-read
+returns-in_ok-read_alias-in-Cname-clause-read c = λ data' x.
     let there = rw (sym c.data_format.ensures ∙ c.in-Cname.is) at x in
-    absurd (c.in_err-ending_at-in-Cname.ensures.1 (c.in_ok-read_name-in-Cname.ensures.read there.0 c.args.end there.2).1)
-
-pub returns-in_ok-ending_at-in-Cname-clause-read : goal.returns-in_ok-ending_at-in-Cname-clause-read
-returns-in_ok-ending_at-in-Cname-clause-read c = λ data' x.
-    let there = rw (sym c.data_format.ensures ∙ c.in-Cname.is) at x in
-    ap Cname (c.in_ok-ending_at-in-Cname.ensures.0 ∙ (c.in_ok-read_name-in-Cname.ensures.read there.0 c.args.end there.2).0) ∙ sym there.1
+    c.in_ok-read_alias-in-Cname.ensures.read there.0 there.2 ∙ sym there.1
 
 pub returns-in_err-soa_at-in-Soa-clause-read : goal.returns-in_err-soa_at-in-Soa-clause-read
 returns-in_err-soa_at-in-Soa-clause-read c = λ data' x.

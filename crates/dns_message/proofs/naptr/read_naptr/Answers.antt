@@ -4,31 +4,31 @@ use Rattle.dns_message.specs.Layouts.{NaptrAt}
 use Rattle.dns_message.specs.Refusals.{refusal_of_name}
 use Rattle.dns_message.specs.declared.naptr.NaptrRecord.{NaptrRecord}
 use Rattle.dns_message.proofs.Layouts.{one_naptr}
-use Rattle.dns_message.proofs.naptr.naptr_at.Goals as goal
-use Rattle.dns_message.proofs.naptr.naptr_at.Goals.{In_ok-replacement}
+use Rattle.dns_message.proofs.naptr.read_naptr.Goals as goal
+use Rattle.dns_message.proofs.naptr.read_naptr.Goals.{In_ok-end}
 
-abbrev rule_read : In_ok-replacement → NaptrRecord
+abbrev rule_read : In_ok-end → NaptrRecord
 rule_read c = record {
-  order = c.in_ok-order.order;
-  preference = c.in_ok-preference.preference;
+  order = c.in_ok-rule.field-0;
+  preference = c.in_ok-rule-2.field-0;
   flags = c.in_ok-flags.flags;
   services = c.in_ok-services.services;
   regexp = c.in_ok-regexp.regexp;
-  replacement = c.in_ok-replacement.replacement;
+  replacement = c.read_name_into.new.name;
 }
 
 -- what was read stands there
-this : (c : In_ok-replacement) → NaptrAt c.args.bytes.now c.args.offset (rule_read c) c.in_ok-replacement.end
+this : (c : In_ok-end) → NaptrAt c.args.bytes.now c.args.offset (rule_read c) c.in_ok-end.end
 this c = record {
   services_start = c.in_ok-flags.offset;
   regexp_start = c.in_ok-services.offset;
   replacement_start = c.in_ok-regexp.offset;
-  order = rw c.in_ok-order.ensures.ok_part at c.u16_at.ensures;
-  preference = rw c.in_ok-preference.ensures.ok_part at c.u16_at-2.ensures;
+  order = rw c.in_ok-rule.ensures.ok_part at c.u16_at.ensures;
+  preference = rw c.in_ok-rule-2.ensures.ok_part at c.u16_at-2.ensures;
   flags = c.in_ok-flags.ensures.found;
   services = c.in_ok-services.ensures.found;
   regexp = c.in_ok-regexp.ensures.found;
-  replacement = c.in_ok-replacement.ensures.found;
+  replacement = c.in_ok-end.ensures.found;
 }
 
 pub returns-clause-found : goal.returns-clause-found
@@ -36,7 +36,7 @@ returns-clause-found c = this c
 
 pub returns-clause-read : goal.returns-clause-read
 returns-clause-read c = λ rule end there.
-    one_naptr c.law_one_name_at_an_offset.ensures c.args.bytes.now c.args.offset c.in_ok-replacement.end end (rule_read c) rule (this c)
+    one_naptr c.law_one_name_at_an_offset.ensures c.args.bytes.now c.args.offset c.in_ok-end.end end (rule_read c) rule (this c)
     there
 
 -- ---- where reading stops, it stops for want of memory
@@ -59,10 +59,10 @@ returns-in_err-regexp-clause-read c = λ rule end there.
     let p = err_from_is_err_and c.from_residual-in_err-regexp.result c.from_residual-in_err-regexp.ensures.1 in
     rw p.1 (p.2 ∙ c.in_err-regexp.ensures.read rule.regexp there.replacement_start (rw e1.1 there.regexp))
 
-pub returns-in_err-replacement-clause-read : goal.returns-in_err-replacement-clause-read
-returns-in_err-replacement-clause-read c = λ rule end there.
+pub returns-in_err-end-clause-read : goal.returns-in_err-end-clause-read
+returns-in_err-end-clause-read c = λ rule end there.
     let e0 = c.in_ok-flags.ensures.read rule.flags there.services_start there.flags in
     let e1 = c.in_ok-services.ensures.read rule.services there.regexp_start (rw e0.1 there.services) in
     let e2 = c.in_ok-regexp.ensures.read rule.regexp there.replacement_start (rw e1.1 there.regexp) in
-    let p = err_from_is_err_and c.from_residual-in_err-replacement.result c.from_residual-in_err-replacement.ensures.1 in
-    rw p.1 (p.2 ∙ ap refusal_of_name (c.in_err-replacement.ensures.read rule.replacement end (rw e2.1 there.replacement)))
+    let p = err_from_is_err_and c.from_residual-in_err-end.result c.from_residual-in_err-end.ensures.1 in
+    rw p.1 (p.2 ∙ ap refusal_of_name (c.in_err-end.ensures.read rule.replacement end (rw e2.1 there.replacement)))
