@@ -1,5 +1,5 @@
 //! The example of the page of `sip_uri`.
-use sip_uri::{SipUri, Spoken, Transport, UriRefusal, read_uri};
+use sip_uri::{HostPart, SipUri, Spoken, Transport, UriParts, UriRefusal, read_uri, view_uri};
 use std::alloc::Global;
 use std::test::Fail;
 
@@ -15,5 +15,19 @@ fn uri_is_read(rt: HostRuntime) -> Result<(), Fail> {
     assert!(rt; uri.secure);
     assert_eq!(rt; uri.port, Some(5061));
     assert_eq!(rt; uri.transport, Some(Spoken::Known(Transport::Tcp)));
+    Ok(())
+}
+
+/// The view of the example.
+fn parts_of() -> Result<UriParts<'static>, UriRefusal> {
+    let parts = view_uri(b"sip:b.example:5070;maddr=192.0.2.7")?;
+    Ok(parts)
+}
+
+#[test]
+fn uri_is_seen(rt: HostRuntime) -> Result<(), Fail> {
+    let parts = parts_of()?;
+    assert_eq!(rt; parts.port, Some(5070));
+    assert!(rt; matches!(parts.target(), HostPart::V4([192, 0, 2, 7])));
     Ok(())
 }

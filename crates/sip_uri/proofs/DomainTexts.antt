@@ -11,7 +11,7 @@ use Rattle.dns_name.specs.Texts.{is_text_octet, IsTextLabel, TextOf, dotted, wit
 use Rattle.ip_text.specs.Parts.{parted}
 use Rattle.sip_uri.specs.Hosts.{is_label_octet, HostLabel, AreHostLabels, DomainText}
 use Rattle.sip_uri.specs.Readers.Hostnames.{is_label, are_labels, is_hostname}
-use Rattle.sip_uri.specs.Readers.Hosts.{name_of}
+use Rattle.sip_uri.specs.Views.{name_of}
 use Rattle.ip_text.proofs.Lists.{all_weaker}
 
 pub both_of : (a b : Bool) → a && b ≡ true → (a ≡ true) × (b ≡ true)

@@ -1,6 +1,6 @@
 -- The faults of a text's parts: those of its octets are neither of its length nor want of memory, and those behind its
 -- front are not of the front.
-use Rattle.std.proofs.Common.{◌≡◌, ℕ, ◌<◌, ◌≤◌, length, arith, List, [], ◌∷◌, ◌++◌, Option, Some, None, Result, Ok, Err, ◌⊎◌, inl, inr}
+use Rattle.std.proofs.Common.{◌≡◌, ℕ, List, [], ◌∷◌, ◌++◌, Option, Some, None, Result, Ok, Err, ◌⊎◌, inl, inr}
 use Rattle.std.specs.Prelude.{⊤}
 use Rattle.std.specs.Option.{option_map, ok_or}
 use Rattle.std.specs.List.{list_all}
@@ -160,10 +160,3 @@ handed_is r x fault other e same e' = cc
 
 pub same_Err : {A : Type 0} (fault other : UriRefusal) → ◌≡◌ {A = Result A UriRefusal} (Err fault) (Err other) → fault ≡ other
 same_Err fault other e = cc
-
--- the text is as long as its octets
-pub short_text : (octets text : List ℕ) → length octets ≡ length text → length octets ≤ 1024 → length text ≤ 1024
-short_text octets text e short = rw (← e) short
-
-pub no_long_text : (octets text : List ℕ) → length octets ≡ length text → length octets ≤ 1024 → 1024 < length text → ⊥
-no_long_text octets text e short long = omega arith

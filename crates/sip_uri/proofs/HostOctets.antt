@@ -11,7 +11,7 @@ use Rattle.sip_uri.specs.Hosts.{HostLabel, AreHostLabels, DomainText, is_label_o
 use Rattle.sip_uri.specs.Readers.Hostnames.{is_hostname}
 use Rattle.ip_text.proofs.Lists.{all_weaker, all-append}
 use Rattle.sip_uri.proofs.DomainTexts.{hostname_read}
-use Rattle.sip_uri.specs.Readers.Hosts.{name_of}
+use Rattle.sip_uri.specs.Views.{name_of}
 
 -- a letter, a digit or one of `-.:[]`
 unfoldable pub is_host_octet : ℕ → Bool

@@ -16,6 +16,7 @@ mod ParamBlocks
 mod UriPieces
 mod UriHeaders
 mod UriTexts
+mod UriViews
 mod Faults
 mod ViaRows
 mod ViaSteps

@@ -12,7 +12,8 @@ use Rattle.ip_text.specs.Addresses.{V4Text}
 use Rattle.sip_uri.specs.Hosts.{HostLabel, AreHostLabels, DomainText, HostText, is_label_octet}
 use Rattle.ip_text.specs.Readers.{ipv4, ipv6}
 use Rattle.sip_uri.specs.Readers.Hostnames.{is_hostname}
-use Rattle.sip_uri.specs.Readers.Hosts.{name_of, plain_host, port_part, host_in_brackets, host_in_front, without_port, host}
+use Rattle.sip_uri.specs.Readers.Hosts.{plain_host, port_part, host_in_brackets, host_in_front, without_port, host}
+use Rattle.sip_uri.specs.Views.{name_of}
 use Rattle.sip_uri.specs.declared.host.Host.{Host}
 use Rattle.sip_uri.specs.declared.host.Host.TheVariants.{V4, V6, Domain}
 use Rattle.ip_text.proofs.Cutting.{lacks, back, joined, cut_back, at_first}

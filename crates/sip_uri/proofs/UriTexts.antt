@@ -1,15 +1,14 @@
 -- A text spells a URI exactly where its reader reads that URI.
 use Rattle.std.proofs.Common.{◌≡◌, ℕ, ◌≤◌, Bool, true, false, not, List, ◌∷◌, ◌++◌, length, Option, Some, None, Result, Ok, Err, refl, sym, ap, ◌∙◌, inl, inr, eqb, append_assoc}
 use Rattle.std.specs.Char.{is_ascii_digit}
-use Rattle.std.specs.Prelude.{MatchResult, IfOk}
 use Rattle.ip_text.specs.Parts.{before, behind}
-use Rattle.sip_uri.specs.Uris.{params_text, headers_text, UriText, HasScheme, IsNamedUri}
+use Rattle.sip_uri.specs.Uris.{params_text, headers_text, UriText, HasScheme}
 use Rattle.sip_uri.specs.Readers.Uris.{is_secure, both, behind_scheme, behind_user, place_of, said_by, check_headers, uri_parts}
 use Rattle.sip_uri.specs.declared.host.Host.{Host}
 use Rattle.sip_uri.specs.declared.transport.Spoken.{Spoken}
 use Rattle.sip_uri.specs.declared.uri.SipUri.{SipUri}
 use Rattle.sip_uri.specs.declared.refusal.UriRefusal.{UriRefusal}
-use Rattle.sip_uri.specs.declared.refusal.UriRefusal.TheVariants.{BadScheme, Memory}
+use Rattle.sip_uri.specs.declared.refusal.UriRefusal.TheVariants.{BadScheme}
 use Rattle.ip_text.proofs.Cutting.{lacks, joined, cut_back}
 use Rattle.ip_text.proofs.Lists.{all-append, same_Ok}
 use Rattle.sip_uri.proofs.HostOctets.{is_host_octet}
@@ -196,33 +195,3 @@ scheme_lacks text none (Some found) is =
 pub bad_scheme_again : (text : List ℕ) → (HasScheme text → ⊥) → uri_parts text ≡ Err BadScheme
 unfolding uri_parts
 bad_scheme_again text none = rw (scheme_lacks text none (both (is_secure (before 58 text)) (behind 58 text)) refl) refl
-
--- ---- what the reader answers, with memory for names or without
-
-module _ (text : List ℕ) (parts : SipUri) (read : uri_parts text ≡ Ok parts) where
-  -- the answer: the URI, or want of memory for a name in it
-  abbrev Answer : Result SipUri UriRefusal → Type 0
-  Answer r = MatchResult r (λ uri. uri ≡ parts) (λ refusal. (refusal ≡ Memory) × IsNamedUri parts)
-
-  pub found_is : (r : Result SipUri UriRefusal) → Answer r → length text ≤ 1024 → IfOk r (λ uri. UriText text uri)
-  found_is (Ok uri) is short = rw is (uri_read text parts short read)
-  found_is (Err refusal) is short = tt
-
-  pub read_is : (r : Result SipUri UriRefusal) → Answer r → (uri : SipUri) → UriText text uri
-      → MatchResult r (λ found. found ≡ uri) (λ refusal. refusal ≡ Memory)
-  read_is (Ok found) is uri spells = is ∙ same_Ok parts uri (sym read ∙ uri_again text uri spells)
-  read_is (Err refusal) is uri spells = is.0
-
-  pub memory_is : (r : Result SipUri UriRefusal) → Answer r → length text ≤ 1024 → r ≡ Err Memory → (uri : SipUri) × UriText text uri
-      × IsNamedUri uri
-  memory_is (Ok found) is short e = absurd cc
-  memory_is (Err refusal) is short e = (parts, uri_read text parts short read, is.1)
-
-  pub scheme_there : length text ≤ 1024 → HasScheme text
-  scheme_there short =
-      let is = uri_read text parts short read in
-      record { scheme = is.scheme; rest = _; secure = parts.secure; joined = is.joined; is_scheme = is.is_scheme }
-
-  pub scheme_is : (r : Result SipUri UriRefusal) → Answer r → r ≡ Err BadScheme → ⊥
-  scheme_is (Ok found) is e = cc
-  scheme_is (Err refusal) is e = let wanted = is.0 in cc

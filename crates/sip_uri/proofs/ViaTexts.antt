@@ -2,13 +2,13 @@
 use Rattle.std.proofs.Common.{◌≡◌, ℕ, ◌≤◌, List, ◌++◌, length, Option, Some, None, Result, Ok, Err, ◌⊎◌, inl, inr, refl, sym, ap, ◌∙◌, arith}
 use Rattle.std.specs.Option.{option_map, ok_or}
 use Rattle.std.proofs.lemmas.Bool.Decides.{nat_tests}
-use Rattle.sip_uri.specs.Hosts.{HostText, IsNamed}
-use Rattle.sip_uri.specs.Readers.Hosts.{host_of}
+use Rattle.sip_uri.specs.Hosts.{HostText}
+use Rattle.sip_uri.specs.Views.{via_of}
 use Rattle.sip_uri.specs.Transports.{spoken_of}
 use Rattle.sip_uri.specs.Readers.Uris.{port_number}
 use Rattle.sip_uri.specs.ViaClasses.{is_blank, is_in_port, row, behind_row}
 use Rattle.sip_uri.specs.Readers.Vias.{behind_mark}
-use Rattle.sip_uri.specs.Readers.ViaFronts.{behind_protocol, via_host, port_in, via_port, via_of, via_parts}
+use Rattle.sip_uri.specs.Readers.ViaFronts.{behind_protocol, via_host, port_in, via_port, via_parts}
 use Rattle.sip_uri.specs.Vias.{ViaParams, ViaText, HasProtocol}
 use Rattle.sip_uri.specs.declared.host.Host.{Host}
 use Rattle.sip_uri.specs.declared.via.Via.{Via}
@@ -152,17 +152,6 @@ module _ (text : List ℕ) (parts : ViaParts) (rest : List ℕ) (read : via_part
   spells_no_more via is =
       let same = same_Ok (via_of parts, rest) (via, is.params) (sym read ∙ via_again text via is) in
       (ap (λ (p : Via × List ℕ). p.0) same, params_at is.params rest (ap (λ (p : Via × List ℕ). p.1) same) is.are_params)
-
-  -- memory is wanted for a name in a Via that is spelled
-  pub via_wanted : length text ≤ 1024 → ViaParams rest → IsNamed (host_of parts.host) → (via : Via) × ViaText text via × IsNamed via.host
-  via_wanted short params named = (via_of parts, via_read text (via_of parts) rest short read params, named)
-
-  module _ (h : Host) (named : h ≡ host_of parts.host) where
-    pub via_found : length text ≤ 1024 → ViaParams rest → ViaText text (record { transport = parts.transport; host = h; port = parts.port })
-    via_found short params = rw named (via_read text (via_of parts) rest short read params)
-
-    pub via_only : (via : Via) → ViaText text via → ◌≡◌ {A = Via} (record { transport = parts.transport; host = h; port = parts.port }) via
-    via_only via is = rw named (spells_no_more via is).0
 
 pub none_spelled : (text : List ℕ) (fault : UriRefusal) → via_parts text ≡ Err fault → (via : Via) → ViaText text via → ⊥
 none_spelled text fault e via is = fault_apart fault (via, is.params) (sym e ∙ via_again text via is)

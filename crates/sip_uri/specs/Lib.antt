@@ -6,3 +6,4 @@ pub mod Transports
 pub mod Uris
 pub mod ViaClasses
 pub mod Vias
+pub mod Views

@@ -1,35 +1,68 @@
-//! Hosts in a text, before memory is taken for their names (RFC 3261 25.1).
+//! Views of hosts: hosts as they stand in a text (RFC 3261 25.1).
 //!
 //! What gives or takes a `HostPart` is inlined: in memory it is written in pieces and read as a
 //! whole, for which a processor waits. That took a third of the time of reading a URI.
-ghost use Rattle.std.specs.Prelude.{◌≡◌, IfSome, MatchResult};
+ghost use Rattle.std.specs.Prelude.{◌≡◌, IfOk, IfSome, OnErr};
 ghost use Rattle.std.specs.Option.{option_map};
-ghost use Rattle.sip_uri.specs.Hosts.{IsNamed};
+ghost use Rattle.sip_uri.specs.Hosts.{DomainText, IsNamed};
 ghost use Rattle.sip_uri.specs.Readers.Hosts as spec;
+ghost use Rattle.sip_uri.specs.Views.{name_of, host_of, IsHostView};
 
 use crate::host::Host;
 use crate::hostname::is_hostname;
-use crate::refusal::UriRefusal;
 use dns_name::Name;
 use ip_text::{behind_front, ipv4_octets, ipv6_octets, next_part};
-use std::alloc::Global;
+use std::alloc::{AllocError, Global};
 use std::str;
 
 /// A host as it stands in a text.
-#[derive(Clone, Copy)]
-pub(crate) enum HostPart<'a> {
+#[derive(Clone, Copy, Debug)]
+pub enum HostPart<'a> {
     /// An IPv4 address.
     V4([u8; 4]),
     /// An IPv6 address.
     V6([u8; 16]),
-    /// A hostname.
-    Domain(&'a str),
+    /// A hostname, in letters of any case.
+    Domain(&'a [u8]),
+}
+
+/// The name of a hostname.
+fn name_of_hostname(alloc: Global, hostname: &[u8]) -> Result<Name, AllocError>
+    requires { DomainText hostname.now (name_of hostname.now) }
+    ensures { IfOk result (λ name. name ≡ name_of hostname.now) }
+{
+    // A hostname is ASCII, and its name is refused for want of memory alone.
+    let Ok(text) = str::from_utf8(hostname) else {
+        return Err(AllocError);
+    };
+    match Name::from_text(alloc, text) {
+        Ok(name) => Ok(name),
+        Err(_) => Err(AllocError),
+    }
+}
+
+impl HostPart<'_> {
+    /// The host, with memory for its name.
+    #[inline(always)]
+    pub fn to_host(self, alloc: Global) -> Result<Host, AllocError>
+        requires { IsHostView self }
+        // It is the host that the view means.
+        ensures host { IfOk result (λ host. host ≡ host_of self.entry) }
+        // Memory is needed for a name alone.
+        ensures memory { OnErr result (IsNamed (host_of self.entry)) }
+    {
+        match self {
+            HostPart::V4(octets) => Ok(Host::V4(octets)),
+            HostPart::V6(octets) => Ok(Host::V6(octets)),
+            HostPart::Domain(hostname) => Ok(Host::Domain(name_of_hostname(alloc, hostname)?)),
+        }
+    }
 }
 
 /// The host of a text that is an IPv4 address or a hostname.
 #[inline(always)]
 pub(crate) fn plain_host(text: &[u8]) -> Option<HostPart<'_>>
-    ensures host { option_map spec.host_of result ≡ spec.plain_host text.now }
+    ensures host { option_map host_of result ≡ spec.plain_host text.now }
     ensures hostname { IfSome result spec.IsHostPart }
 {
     if let Some(octets) = ipv4_octets(text) {
@@ -38,10 +71,7 @@ pub(crate) fn plain_host(text: &[u8]) -> Option<HostPart<'_>>
     if !is_hostname(text) {
         return None;
     }
-    match str::from_utf8(text) {
-        Ok(text) => Some(HostPart::Domain(text)),
-        Err(_) => None,
-    }
+    Some(HostPart::Domain(text))
 }
 
 /// The port after a host, where a colon stands in front of it; nothing else may stand there.
@@ -60,7 +90,7 @@ fn port_part(text: &[u8]) -> Option<Option<&[u8]>>
 #[inline(always)]
 fn host_in_brackets(text: &[u8]) -> Option<(HostPart<'_>, Option<&[u8]>)>
     ensures host { option_map
-        (λ found. (spec.host_of found.0, option_map (λ digits. digits.now) found.1)) result
+        (λ found. (host_of found.0, option_map (λ digits. digits.now) found.1)) result
         ≡ spec.host_in_brackets text.now }
     ensures hostname { IfSome result (λ found. spec.IsHostPart found.0) }
 {
@@ -73,7 +103,7 @@ fn host_in_brackets(text: &[u8]) -> Option<(HostPart<'_>, Option<&[u8]>)>
 #[inline(always)]
 pub(crate) fn host_in_front(text: &[u8]) -> Option<(HostPart<'_>, Option<&[u8]>)>
     ensures host { option_map
-        (λ found. (spec.host_of found.0, option_map (λ digits. digits.now) found.1)) result
+        (λ found. (host_of found.0, option_map (λ digits. digits.now) found.1)) result
         ≡ spec.host_in_front text.now }
     ensures hostname { IfSome result (λ found. spec.IsHostPart found.0) }
 {
@@ -89,29 +119,11 @@ pub(crate) fn host_in_front(text: &[u8]) -> Option<(HostPart<'_>, Option<&[u8]>)
 /// The host of a text.
 #[inline(always)]
 pub(crate) fn host_part(text: &[u8]) -> Option<HostPart<'_>>
-    ensures host { option_map spec.host_of result ≡ spec.host text.now }
+    ensures host { option_map host_of result ≡ spec.host text.now }
     ensures hostname { IfSome result spec.IsHostPart }
 {
     match host_in_front(text)? {
         (host, None) => Some(host),
         _ => None,
-    }
-}
-
-/// The host, with memory for its name.
-#[inline(always)]
-pub(crate) fn with_name(alloc: Global, part: HostPart<'_>) -> Result<Host, UriRefusal>
-    requires { spec.IsHostPart part }
-    ensures { MatchResult result (λ host. host ≡ spec.host_of part.entry)
-        (λ refusal. (refusal ≡ UriRefusal.Memory) × IsNamed (spec.host_of part.entry)) }
-{
-    match part {
-        HostPart::V4(octets) => Ok(Host::V4(octets)),
-        HostPart::V6(octets) => Ok(Host::V6(octets)),
-        HostPart::Domain(text) => match Name::from_text(alloc, text) {
-            Ok(name) => Ok(Host::Domain(name)),
-            // The name of a hostname is refused for want of memory alone.
-            Err(_) => Err(UriRefusal::Memory),
-        },
     }
 }

@@ -4,13 +4,19 @@
 //! one by the profile of RFC 3261 25.1 below, and of one text at most one. Else the first fault
 //! from the left is named. Escapes are checked and never undone; parameters and headers that say
 //! nothing of where a request goes are checked and dropped. Memory is taken for the names of hosts
-//! alone. What `ip_text` has of addresses and numbers is exported here too.
+//! alone. `view_uri` and `view_via` do the same over octets and take no memory: what they give has
+//! a hostname as it stands in the text, and `to_uri`, `to_via` and `to_host` make names of it. What
+//! `ip_text` has of addresses and numbers is exported here too.
 //!
 //! ```
 //! let uri = read_uri(alloc, "sips:alice@c.example:5061;transport=tcp")?;
 //! assert!(rt; uri.secure);
 //! assert_eq!(rt; uri.port, Some(5061));
 //! assert_eq!(rt; uri.transport, Some(Spoken::Known(Transport::Tcp)));
+//!
+//! let parts = view_uri(b"sip:b.example:5070;maddr=192.0.2.7")?;
+//! assert_eq!(rt; parts.port, Some(5070));
+//! assert!(rt; matches!(parts.target(), HostPart::V4([192, 0, 2, 7])));
 //! ```
 //!
 //! # The profile
@@ -65,11 +71,14 @@ mod via_parts;
 mod via_text;
 
 pub use host::Host;
+pub use host_part::HostPart;
 pub use ip_text::{Address, address_from_text, address_text, decimal, law_written_address_is_read};
 pub use laws::{law_one_uri_of_a_text, law_one_via_of_a_text, law_same_exactly_where_equal};
 pub use refusal::UriRefusal;
 pub use transport::{Spoken, Transport};
 pub use uri::SipUri;
-pub use uri_text::read_uri;
+pub use uri_parts::UriParts;
+pub use uri_text::{read_uri, view_uri};
 pub use via::Via;
-pub use via_text::read_via;
+pub use via_parts::ViaParts;
+pub use via_text::{read_via, view_via};

@@ -5,6 +5,7 @@ ghost use Rattle.std.specs.Result.{result_err};
 ghost use Rattle.ip_text.specs.Parts.{parted};
 ghost use Rattle.sip_uri.specs.Readers.Hosts as host;
 ghost use Rattle.sip_uri.specs.Readers.Params as spec;
+ghost use Rattle.sip_uri.specs.Views.{host_of};
 
 use crate::classes::{Class, is_some_run};
 use crate::host_part::{HostPart, host_part};
@@ -37,7 +38,7 @@ pub(crate) fn is_same(name: &[u8], other: &[u8]) -> bool
 /// The host that a value spells, where its name is `maddr`.
 #[inline(always)]
 fn maddr_of<'a>(name: &[u8], value: Option<&'a [u8]>) -> Option<HostPart<'a>>
-    ensures host { option_map host.host_of result
+    ensures host { option_map host_of result
         ≡ spec.maddr_of name.now (option_map (λ text. text.now) value.entry) }
     ensures hostname { IfSome result host.IsHostPart }
 {
@@ -126,7 +127,7 @@ pub(crate) fn check_params(params: &[u8]) -> Result<Values<'_>, UriRefusal>
     ensures fault { result_err result ≡ spec.params_fault (parted 59 params.now) }
     ensures transport { IfOk result (λ values. option_map (λ text. text.now) values.transport
         ≡ spec.value_of spec.transport_name (parted 59 params.now)) }
-    ensures maddr { IfOk result (λ values. option_map host.host_of values.maddr
+    ensures maddr { IfOk result (λ values. option_map host_of values.maddr
         ≡ option_and_then host.host (spec.value_of spec.maddr_name (parted 59 params.now))) }
     ensures hostname { IfOk result (λ values. IfSome values.maddr host.IsHostPart) }
 {

@@ -1,30 +1,68 @@
-//! The parts of a URI, before memory is taken for the names in it (RFC 3261 19.1.1, 25.1).
-ghost use Rattle.std.specs.Prelude.{◌≡◌, IfOk, IfSome};
+//! Views of URIs: URIs as they stand in a text (RFC 3261 19.1.1, 25.1).
+ghost use Rattle.std.specs.Prelude.{◌≡◌, IfOk, IfSome, OnErr, unwrap_or};
 ghost use Rattle.std.specs.Option.{option_map};
 ghost use Rattle.sip_uri.specs.Readers.Hosts as host;
 ghost use Rattle.sip_uri.specs.Readers.Uris as spec;
+ghost use Rattle.sip_uri.specs.Uris.{IsNamedUri};
+ghost use Rattle.sip_uri.specs.Views.{host_of, uri_of, IsHostView, IsUriView};
 
 use crate::headers::are_headers;
 use crate::host_part::{HostPart, host_in_front};
 use crate::params::check_params;
 use crate::refusal::UriRefusal;
 use crate::transport::{Spoken, spoken_of};
+use crate::uri::SipUri;
 use crate::userinfo::is_userinfo;
 use ip_text::{decimal, next_part};
+use std::alloc::{AllocError, Global};
 
-/// A URI as it stands in a text.
-#[derive(Clone, Copy)]
-pub(crate) struct UriParts<'a> {
+/// A URI as it stands in a text: what it says of where a request goes (RFC 3261 19.1.1).
+#[derive(Clone, Copy, Debug)]
+pub struct UriParts<'a> {
     /// Whether it is a SIPS URI.
-    pub(crate) secure: bool,
+    pub secure: bool,
     /// The host.
-    pub(crate) host: HostPart<'a>,
-    /// The port.
-    pub(crate) port: Option<u16>,
-    /// The parameter `transport`.
-    pub(crate) transport: Option<Spoken>,
-    /// The parameter `maddr`.
-    pub(crate) maddr: Option<HostPart<'a>>,
+    pub host: HostPart<'a>,
+    /// The port, where it is written.
+    pub port: Option<u16>,
+    /// The parameter `transport`, where it is written.
+    pub transport: Option<Spoken>,
+    /// The parameter `maddr`, where it is written.
+    pub maddr: Option<HostPart<'a>>,
+}
+
+impl<'a> UriParts<'a> {
+    /// The host whose addresses are needed: the parameter `maddr`, where there is one (RFC 3263 4).
+    #[inline(always)]
+    pub fn target(self) -> HostPart<'a>
+        ensures target { result ≡ unwrap_or self.entry.maddr self.entry.host }
+        // A name can be made of it.
+        ensures host { IsUriView self.entry → IsHostView result }
+    {
+        self.maddr.unwrap_or(self.host)
+    }
+
+    /// The URI, with memory for the names of its hosts.
+    pub fn to_uri(self, alloc: Global) -> Result<SipUri, AllocError>
+        requires { IsUriView self }
+        // It is the URI that the view means.
+        ensures uri { IfOk result (λ uri. uri ≡ uri_of self.entry) }
+        // Memory is needed for names alone.
+        ensures memory { OnErr result (IsNamedUri (uri_of self.entry)) }
+    {
+        let host = self.host.to_host(alloc)?;
+        let maddr = match self.maddr {
+            None => None,
+            Some(maddr) => Some(maddr.to_host(alloc)?),
+        };
+        Ok(SipUri {
+            secure: self.secure,
+            host,
+            port: self.port,
+            transport: self.transport,
+            maddr,
+        })
+    }
 }
 
 /// Whether a scheme is that of SIPS, if it is one of SIP or SIPS.
@@ -97,7 +135,7 @@ pub(crate) fn port_of(text: Option<&[u8]>) -> Result<Option<u16>, UriRefusal>
 /// The host and the port.
 #[tactic(auto, unfolding(crate::specs::Readers::Uris::place_of))]
 fn place_of(text: &[u8]) -> Result<(HostPart<'_>, Option<u16>), UriRefusal>
-    ensures value { spec.seen (λ found. (host.host_of found.0, found.1)) result
+    ensures value { spec.seen (λ found. (host_of found.0, found.1)) result
         ≡ spec.place_of text.now }
     ensures hostname { IfOk result (λ found. host.IsHostPart found.0) }
 {
@@ -108,7 +146,7 @@ fn place_of(text: &[u8]) -> Result<(HostPart<'_>, Option<u16>), UriRefusal>
 /// What the parameters say of the transport and of the host.
 #[tactic(auto, unfolding(crate::specs::Readers::Uris::said_by))]
 fn said_by(params: Option<&[u8]>) -> Result<(Option<Spoken>, Option<HostPart<'_>>), UriRefusal>
-    ensures value { spec.seen (λ said. (said.0, option_map host.host_of said.1)) result
+    ensures value { spec.seen (λ said. (said.0, option_map host_of said.1)) result
         ≡ spec.said_by (option_map (λ text. text.now) params.entry) }
     ensures hostname { IfOk result (λ said. IfSome said.1 host.IsHostPart) }
 {
@@ -140,7 +178,7 @@ fn check_headers(headers: Option<&[u8]>) -> Result<(), UriRefusal>
 /// The parts of a URI, or its first fault from the left.
 #[tactic(auto, unfolding(crate::specs::Readers::Uris::uri_parts))]
 pub(crate) fn uri_parts(text: &[u8]) -> Result<UriParts<'_>, UriRefusal>
-    ensures value { spec.seen spec.uri_of result ≡ spec.uri_parts text.now }
+    ensures value { spec.seen uri_of result ≡ spec.uri_parts text.now }
     ensures host { IfOk result (λ parts. host.IsHostPart parts.host) }
     ensures maddr { IfOk result (λ parts. IfSome parts.maddr host.IsHostPart) }
 {

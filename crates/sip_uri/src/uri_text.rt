@@ -1,11 +1,9 @@
 //! The reader of URIs (RFC 3261 19.1.1, 25.1).
-ghost use Rattle.std.specs.Prelude.{◌≡◌, ◌↔◌, ◌<◌, ◌≤◌, length, IfOk, IfSome, MatchResult, Err};
-ghost use Rattle.sip_uri.specs.Readers.Hosts.{IsHostPart};
-ghost use Rattle.sip_uri.specs.Readers.Uris.{uri_of};
+ghost use Rattle.std.specs.Prelude.{◌≡◌, ◌↔◌, ◌<◌, ◌≤◌, length, IfOk, IsOkAnd, MatchResult, Err};
 ghost use Rattle.sip_uri.specs.Uris.{UriText, HasScheme, IsNamedUri};
+ghost use Rattle.sip_uri.specs.Views.{uri_of, IsUriView};
 ghost use Rattle.sip_uri.specs.declared.uri.SipUri.{SipUri};
 
-use crate::host_part::with_name;
 use crate::refusal::UriRefusal;
 use crate::uri::SipUri;
 use crate::uri_parts::{UriParts, uri_parts};
@@ -14,25 +12,30 @@ use std::alloc::Global;
 /// The most octets of a text that is read.
 pub(crate) const TEXT_LIMIT: usize = 1024;
 
-/// The URI, with memory for the names in it.
-fn with_names(alloc: Global, parts: UriParts<'_>) -> Result<SipUri, UriRefusal>
-    requires host { IsHostPart parts.host }
-    requires maddr { IfSome parts.maddr IsHostPart }
-    ensures { MatchResult result (λ uri. uri ≡ uri_of parts.entry)
-        (λ refusal. (refusal ≡ UriRefusal.Memory) × IsNamedUri (uri_of parts.entry)) }
+/// The view of the URI that octets spell, or its first fault from the left: the scheme, the user,
+/// the host, the port, each parameter, each header. More than 1,024 octets are refused before all
+/// else. No memory is taken.
+pub fn view_uri(octets: &[u8]) -> Result<UriParts<'_>, UriRefusal>
+    // What is seen is the URI of the octets.
+    ensures found { IfOk result (λ parts. UriText octets.now (uri_of parts)) }
+    // The URI of octets is seen: so a refusal comes only where none is spelled.
+    ensures seen { (uri : SipUri) → UriText octets.now uri
+        → IsOkAnd result (λ parts. uri_of parts ≡ uri) }
+    // Names can be made of its hosts.
+    ensures hosts { IfOk result IsUriView }
+    // Memory is wanted nowhere.
+    ensures memory { result ≡ Err UriRefusal.Memory → ⊥ }
+    // Octets are too many exactly above 1,024.
+    ensures long { result ≡ Err UriRefusal.TooLong ↔ 1024 < length octets.now }
+    // Their scheme is bad exactly where they are not too many, and neither `sip:` nor `sips:` is in
+    // front.
+    ensures scheme { result ≡ Err UriRefusal.BadScheme
+        ↔ (length octets.now ≤ 1024) × (HasScheme octets.now → ⊥) }
 {
-    let host = with_name(alloc, parts.host)?;
-    let maddr = match parts.maddr {
-        None => None,
-        Some(maddr) => Some(with_name(alloc, maddr)?),
-    };
-    Ok(SipUri {
-        secure: parts.secure,
-        host,
-        port: parts.port,
-        transport: parts.transport,
-        maddr,
-    })
+    if octets.len() > TEXT_LIMIT {
+        return Err(UriRefusal::TooLong);
+    }
+    uri_parts(octets)
 }
 
 /// The URI that a text spells, or its first fault from the left: the scheme, the user, the host,
@@ -55,10 +58,9 @@ pub fn read_uri(alloc: Global, text: &str) -> Result<SipUri, UriRefusal>
     ensures scheme { result ≡ Err UriRefusal.BadScheme
         ↔ (length text.now ≤ 1024) × (HasScheme text.now → ⊥) }
 {
-    let text = text.as_bytes();
-    if text.len() > TEXT_LIMIT {
-        return Err(UriRefusal::TooLong);
+    let parts = view_uri(text.as_bytes())?;
+    match parts.to_uri(alloc) {
+        Ok(uri) => Ok(uri),
+        Err(_) => Err(UriRefusal::Memory),
     }
-    let parts = uri_parts(text)?;
-    with_names(alloc, parts)
 }

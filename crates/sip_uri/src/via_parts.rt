@@ -1,27 +1,49 @@
-//! The parts of a Via, before memory is taken for the name in it (RFC 3261 20.42, 25.1).
-ghost use Rattle.std.specs.Prelude.{◌≡◌, IfOk, IfSome};
+//! Views of Vias: Vias as they stand in a text (RFC 3261 20.42, 25.1).
+ghost use Rattle.std.specs.Prelude.{◌≡◌, IfOk, IfSome, OnErr};
 ghost use Rattle.std.specs.Option.{option_map};
 ghost use Rattle.sip_uri.specs.Readers.Hosts as host;
 ghost use Rattle.sip_uri.specs.Readers.Uris.{seen};
 ghost use Rattle.sip_uri.specs.Readers.ViaFronts as spec;
+ghost use Rattle.sip_uri.specs.Hosts.{IsNamed};
+ghost use Rattle.sip_uri.specs.Views.{host_of, via_of, IsHostView};
 
 use crate::host_part::{HostPart, plain_host};
 use crate::refusal::UriRefusal;
 use crate::runs::cut;
 use crate::transport::{Spoken, spoken_of};
 use crate::uri_parts::port_number;
+use crate::via::Via;
 use crate::via_classes::{Row, behind_blanks, behind_mark};
 use ip_text::{behind_front, ipv6_octets, next_part};
+use std::alloc::{AllocError, Global};
 
-/// A Via as it stands in a text, without its parameters.
-#[derive(Clone, Copy)]
-pub(crate) struct ViaParts<'a> {
+/// A Via as it stands in a text: what it says of where a response goes (RFC 3261 18.2.2, 20.42).
+#[derive(Clone, Copy, Debug)]
+pub struct ViaParts<'a> {
     /// The transport.
-    pub(crate) transport: Spoken,
+    pub transport: Spoken,
     /// The host.
-    pub(crate) host: HostPart<'a>,
-    /// The port.
-    pub(crate) port: Option<u16>,
+    pub host: HostPart<'a>,
+    /// The port, where it is written.
+    pub port: Option<u16>,
+}
+
+impl ViaParts<'_> {
+    /// The Via, with memory for the name of its host.
+    pub fn to_via(self, alloc: Global) -> Result<Via, AllocError>
+        requires { IsHostView self.host }
+        // It is the Via that the view means.
+        ensures via { IfOk result (λ via. via ≡ via_of self.entry) }
+        // Memory is needed for a name alone.
+        ensures memory { OnErr result (IsNamed (host_of self.entry.host)) }
+    {
+        let host = self.host.to_host(alloc)?;
+        Ok(Via {
+            transport: self.transport,
+            host,
+            port: self.port,
+        })
+    }
 }
 
 /// What follows a token and a slash, if the token is the one that is wanted, in letters of any
@@ -56,7 +78,7 @@ fn behind_protocol(text: &[u8]) -> Option<(&[u8], &[u8])>
 /// The host up to a closing bracket, and what follows it.
 #[tactic(auto, unfolding(crate::specs::Readers::ViaFronts::host_in_brackets))]
 fn via_host_in_brackets(text: &[u8]) -> Option<(HostPart<'_>, &[u8])>
-    ensures host { option_map (λ found. (host.host_of found.0, found.1.now)) result
+    ensures host { option_map (λ found. (host_of found.0, found.1.now)) result
         ≡ spec.host_in_brackets text.now }
     ensures hostname { IfSome result (λ found. host.IsHostPart found.0) }
 {
@@ -71,7 +93,7 @@ fn via_host_in_brackets(text: &[u8]) -> Option<(HostPart<'_>, &[u8])>
 /// The host in front, and what follows it.
 #[tactic(auto, unfolding(crate::specs::Readers::ViaFronts::via_host))]
 fn via_host(text: &[u8]) -> Option<(HostPart<'_>, &[u8])>
-    ensures host { option_map (λ found. (host.host_of found.0, found.1.now)) result
+    ensures host { option_map (λ found. (host_of found.0, found.1.now)) result
         ≡ spec.via_host text.now }
     ensures hostname { IfSome result (λ found. host.IsHostPart found.0) }
 {
@@ -104,7 +126,7 @@ fn via_port(text: &[u8]) -> Result<(Option<u16>, &[u8]), UriRefusal>
 /// The parts of a Via and what follows its port, or the first fault from the left.
 #[tactic(auto, unfolding(crate::specs::Readers::ViaFronts::via_parts))]
 pub(crate) fn via_parts(text: &[u8]) -> Result<(ViaParts<'_>, &[u8]), UriRefusal>
-    ensures value { seen (λ found. (spec.via_of found.0, found.1.now)) result
+    ensures value { seen (λ found. (via_of found.0, found.1.now)) result
         ≡ spec.via_parts text.now }
     ensures host { IfOk result (λ found. host.IsHostPart found.0.host) }
 {

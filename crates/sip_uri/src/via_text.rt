@@ -1,16 +1,44 @@
 //! Vias as texts (RFC 3261 20.42, 25.1).
-ghost use Rattle.std.specs.Prelude.{◌≡◌, ◌↔◌, ◌<◌, ◌≤◌, length, IfOk, MatchResult, Err};
+ghost use Rattle.std.specs.Prelude.{◌≡◌, ◌↔◌, ◌<◌, ◌≤◌, length, IfOk, IsOkAnd, MatchResult, Err};
 ghost use Rattle.sip_uri.specs.Hosts.{IsNamed};
 ghost use Rattle.sip_uri.specs.Vias.{ViaText, HasProtocol};
+ghost use Rattle.sip_uri.specs.Views.{via_of, IsHostView};
 ghost use Rattle.sip_uri.specs.declared.via.Via.{Via};
 
-use crate::host_part::with_name;
 use crate::refusal::UriRefusal;
 use crate::uri_text::TEXT_LIMIT;
 use crate::via::Via;
 use crate::via_params::check_via_params;
-use crate::via_parts::via_parts;
+use crate::via_parts::{ViaParts, via_parts};
 use std::alloc::Global;
+
+/// The view of the Via that octets spell, or its first fault from the left: the protocol and the
+/// transport, the host, the port, each parameter. More than 1,024 octets are refused before all
+/// else. No memory is taken.
+pub fn view_via(octets: &[u8]) -> Result<ViaParts<'_>, UriRefusal>
+    // What is seen is the Via of the octets.
+    ensures found { IfOk result (λ parts. ViaText octets.now (via_of parts)) }
+    // The Via of octets is seen: so a refusal comes only where none is spelled.
+    ensures seen { (via : Via) → ViaText octets.now via
+        → IsOkAnd result (λ parts. via_of parts ≡ via) }
+    // A name can be made of its host.
+    ensures host { IfOk result (λ parts. IsHostView parts.host) }
+    // Memory is wanted nowhere.
+    ensures memory { result ≡ Err UriRefusal.Memory → ⊥ }
+    // Octets are too many exactly above 1,024.
+    ensures long { result ≡ Err UriRefusal.TooLong ↔ 1024 < length octets.now }
+    // Their protocol is bad exactly where they are not too many, and no protocol and transport are
+    // in front.
+    ensures protocol { result ≡ Err UriRefusal.BadVia
+        ↔ (length octets.now ≤ 1024) × (HasProtocol octets.now → ⊥) }
+{
+    if octets.len() > TEXT_LIMIT {
+        return Err(UriRefusal::TooLong);
+    }
+    let (parts, params) = via_parts(octets)?;
+    check_via_params(params)?;
+    Ok(parts)
+}
 
 /// The Via that a text spells, or its first fault from the left: the protocol and the transport,
 /// the host, the port, each parameter. A text of more than 1,024 octets is refused before all else.
@@ -32,16 +60,9 @@ pub fn read_via(alloc: Global, text: &str) -> Result<Via, UriRefusal>
     ensures protocol { result ≡ Err UriRefusal.BadVia
         ↔ (length text.now ≤ 1024) × (HasProtocol text.now → ⊥) }
 {
-    let text = text.as_bytes();
-    if text.len() > TEXT_LIMIT {
-        return Err(UriRefusal::TooLong);
+    let parts = view_via(text.as_bytes())?;
+    match parts.to_via(alloc) {
+        Ok(via) => Ok(via),
+        Err(_) => Err(UriRefusal::Memory),
     }
-    let (parts, params) = via_parts(text)?;
-    check_via_params(params)?;
-    let host = with_name(alloc, parts.host)?;
-    Ok(Via {
-        transport: parts.transport,
-        host,
-        port: parts.port,
-    })
 }

@@ -1,7 +1,10 @@
 //! Calls of `sip_uri`.
 use crate::shown::{push_address, push_name};
 use row_fields::{Fault, Output, only_line, split_word, text};
-use sip_uri::{Address, Host, SipUri, Spoken, Transport, UriRefusal, Via, read_uri, read_via};
+use sip_uri::{
+    Address, Host, SipUri, Spoken, Transport, UriRefusal, Via, read_uri, read_via, view_uri,
+    view_via,
+};
 use std::alloc::Global;
 
 /// What a call gives for a row's lines.
@@ -85,11 +88,28 @@ fn push_uri_copy(output: &mut Output, uri: &SipUri) -> Result<(), Fault> {
     Ok(())
 }
 
-/// A field with a text gives its URI, or the refusal.
+/// Whether the view of a text means what was read, or has its refusal.
+fn is_uri_seen(
+    alloc: Global,
+    text: &str,
+    read: &Result<SipUri, UriRefusal>,
+) -> Result<bool, Fault> {
+    match (view_uri(text.as_bytes()), read) {
+        (Ok(parts), Ok(uri)) => Ok(parts.to_uri(alloc)? == *uri),
+        (Err(refusal), Err(other)) => Ok(refusal == *other),
+        _ => Ok(false),
+    }
+}
+
+/// A field with a text gives its URI, or the refusal, which its view has to have too.
 fn uri(output: &mut Output, line: &str) -> Result<(), Fault> {
     let alloc = output.alloc();
     let text = text(alloc, line)?;
-    match read_uri(alloc, &text) {
+    let read = read_uri(alloc, &text);
+    if !is_uri_seen(alloc, &text, &read)? {
+        output.push("another view ");
+    }
+    match read {
         Ok(uri) => push_uri_copy(output, &uri),
         Err(refusal) => {
             push_refusal(output, refusal);
@@ -117,11 +137,24 @@ fn push_via_copy(output: &mut Output, via: &Via) -> Result<(), Fault> {
     Ok(())
 }
 
-/// A field with a text gives its Via, or the refusal.
+/// Whether the view of a text means what was read, or has its refusal.
+fn is_via_seen(alloc: Global, text: &str, read: &Result<Via, UriRefusal>) -> Result<bool, Fault> {
+    match (view_via(text.as_bytes()), read) {
+        (Ok(parts), Ok(via)) => Ok(parts.to_via(alloc)? == *via),
+        (Err(refusal), Err(other)) => Ok(refusal == *other),
+        _ => Ok(false),
+    }
+}
+
+/// A field with a text gives its Via, or the refusal, which its view has to have too.
 fn via(output: &mut Output, line: &str) -> Result<(), Fault> {
     let alloc = output.alloc();
     let text = text(alloc, line)?;
-    match read_via(alloc, &text) {
+    let read = read_via(alloc, &text);
+    if !is_via_seen(alloc, &text, &read)? {
+        output.push("another view ");
+    }
+    match read {
         Ok(via) => push_via_copy(output, &via),
         Err(refusal) => {
             push_refusal(output, refusal);

@@ -1,24 +1,14 @@
 -- What the readers of hosts give, as functions on lists.
-use Rattle.std.specs.Prelude.{◌≡◌, ℕ, ◌==◌, true, List, [], ◌∷◌, map, slice_index, drop, Option, Some, None, if◌then◌else◌, ⊤}
+use Rattle.std.specs.Prelude.{◌≡◌, ℕ, ◌==◌, true, List, [], ◌∷◌, slice_index, drop, Option, Some, None, if◌then◌else◌, ⊤}
 use Rattle.std.specs.Option.{option_map, option_or}
-use Rattle.dns_name.specs.Labels.{small_letters}
-use Rattle.dns_name.specs.Texts.{without_closing_dot}
-use Rattle.ip_text.specs.Parts.{before, behind, parted}
+use Rattle.ip_text.specs.Parts.{before, behind}
 use Rattle.ip_text.specs.Readers.{◌>>=◌, ipv4, ipv6}
 use Rattle.sip_uri.specs.Readers.Hostnames.{is_hostname}
+use Rattle.sip_uri.specs.Views.{name_of}
 use Rattle.sip_uri.specs.declared.host.Host.{Host}
 use Rattle.sip_uri.specs.declared.host.Host.TheVariants.{V4, V6, Domain}
 use Rattle.sip_uri.specs.declared.host_part.HostPart.{HostPart}
 use Rattle.sip_uri.specs.declared.host_part.HostPart.TheVariants as part
-
--- the name that a hostname spells
-abbrev pub name_of : List ℕ → List (List ℕ)
-name_of text = map small_letters (parted 46 (without_closing_dot text))
-
-abbrev pub host_of : HostPart → Host
-host_of (part.V4 octets) = V4 octets
-host_of (part.V6 octets) = V6 octets
-host_of (part.Domain text) = Domain (name_of text.now)
 
 abbrev pub IsHostPart : HostPart → Type 0
 IsHostPart (part.V4 octets) = ⊤

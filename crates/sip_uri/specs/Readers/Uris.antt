@@ -7,13 +7,12 @@ use Rattle.ip_text.specs.Parts.{before, behind, parted}
 use Rattle.sip_uri.specs.Classes.{is_user_octet, is_password_octet, is_header_octet}
 use Rattle.sip_uri.specs.Readers.Runs.{is_run, is_some_run}
 use Rattle.ip_text.specs.Numbers.{decimal_within}
-use Rattle.sip_uri.specs.Readers.Hosts.{host_of, host, host_in_front}
+use Rattle.sip_uri.specs.Readers.Hosts.{host, host_in_front}
 use Rattle.sip_uri.specs.Readers.Params.{transport_name, maddr_name, params_fault, value_of}
 use Rattle.sip_uri.specs.Transports.{spoken_of}
 use Rattle.sip_uri.specs.declared.host.Host.{Host}
 use Rattle.sip_uri.specs.declared.transport.Spoken.{Spoken}
 use Rattle.sip_uri.specs.declared.uri.SipUri.{SipUri}
-use Rattle.sip_uri.specs.declared.uri_parts.UriParts.{UriParts}
 use Rattle.sip_uri.specs.declared.refusal.UriRefusal.{UriRefusal}
 use Rattle.sip_uri.specs.declared.refusal.UriRefusal.TheVariants.{BadScheme, BadUser, BadHost, BadPort, BadHeader}
 
@@ -97,15 +96,6 @@ said_by (Some text) = said_unless (parted 59 text) (params_fault (parted 59 text
 unfoldable pub check_headers : Option (List ℕ) → Result (Unit {0}) UriRefusal
 check_headers None = Ok tt
 check_headers (Some text) = if list_all is_header (parted 38 text) then Ok tt else Err BadHeader
-
-abbrev pub uri_of : UriParts → SipUri
-uri_of parts = record {
-  secure = parts.secure;
-  host = host_of parts.host;
-  port = parts.port;
-  transport = parts.transport;
-  maddr = option_map host_of parts.maddr;
-}
 
 -- the URI of a text, or its first fault from the left
 unfoldable pub uri_parts : List ℕ → Result SipUri UriRefusal

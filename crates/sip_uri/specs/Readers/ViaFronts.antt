@@ -4,7 +4,7 @@ use Rattle.std.specs.Option.{option_map, option_and_then, ok_or}
 use Rattle.std.specs.Str.{str_eq_ignore_ascii_case}
 use Rattle.ip_text.specs.Parts.{before, behind}
 use Rattle.ip_text.specs.Readers.{ipv6}
-use Rattle.sip_uri.specs.Readers.Hosts.{host_of, plain_host}
+use Rattle.sip_uri.specs.Readers.Hosts.{plain_host}
 use Rattle.sip_uri.specs.Transports.{spoken_of}
 use Rattle.sip_uri.specs.Readers.Uris.{port_number, ◌>>=◌}
 use Rattle.sip_uri.specs.ViaClasses.{is_blank, is_token_octet, is_in_host, is_in_port, row, behind_row}
@@ -12,7 +12,6 @@ use Rattle.sip_uri.specs.Readers.Vias.{behind_mark}
 use Rattle.sip_uri.specs.declared.host.Host.{Host}
 use Rattle.sip_uri.specs.declared.host.Host.TheVariants.{V6}
 use Rattle.sip_uri.specs.declared.via.Via.{Via}
-use Rattle.sip_uri.specs.declared.via_parts.ViaParts.{ViaParts}
 use Rattle.sip_uri.specs.declared.refusal.UriRefusal.{UriRefusal}
 use Rattle.sip_uri.specs.declared.refusal.UriRefusal.TheVariants.{BadVia, BadHost, BadPort}
 
@@ -64,9 +63,6 @@ port_in text (Some digits) =
 
 unfoldable pub via_port : List ℕ → Result (Option ℕ × List ℕ) UriRefusal
 via_port text = port_in text (behind_mark 58 text)
-
-abbrev pub via_of : ViaParts → Via
-via_of parts = record { transport = parts.transport; host = host_of parts.host; port = parts.port }
 
 unfoldable pub via_parts : List ℕ → Result (Via × List ℕ) UriRefusal
 via_parts text = do

@@ -1,6 +1,7 @@
 use Rattle.std.proofs.Common.{◌≡◌, Some, None, sym, ◌∙◌}
 use Rattle.ip_text.specs.Parts.{before, behind_front}
-use Rattle.sip_uri.specs.Readers.Hosts.{host_of, plain_host}
+use Rattle.sip_uri.specs.Readers.Hosts.{plain_host}
+use Rattle.sip_uri.specs.Views.{host_of}
 use Rattle.sip_uri.proofs.Fronts.{bracketed, no_host, host_there}
 use Rattle.sip_uri.proofs.host_part.host_in_front.Goals as goal
 use Rattle.sip_uri.proofs.host_part.host_in_front.Goals.{In-None}

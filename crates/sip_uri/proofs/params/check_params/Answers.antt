@@ -4,7 +4,8 @@ use Rattle.std.specs.Option.{option_map, option_or}
 use Rattle.ip_text.specs.Parts.{before, behind, parted}
 use Rattle.sip_uri.specs.Readers.Params.{name_of, is_param, stands_in, value_so_far, transport_name, maddr_of}
 use Rattle.ip_text.proofs.Cutting.{length_behind}
-use Rattle.sip_uri.specs.Readers.Hosts.{host_of, IsHostPart}
+use Rattle.sip_uri.specs.Readers.Hosts.{IsHostPart}
+use Rattle.sip_uri.specs.Views.{host_of}
 use Rattle.sip_uri.proofs.MaddrSteps.{maddr_whole, maddr_more, same_is_some, map_or, either_some}
 use Rattle.sip_uri.proofs.ParamSteps.{bad_here, repeated_here, none_bad, checked_more, taken_more, marked_more, kept_whole, kept_more, transport_valued}
 use Rattle.sip_uri.proofs.params.check_params.Goals as goal

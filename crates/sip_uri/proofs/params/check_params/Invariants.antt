@@ -2,7 +2,8 @@ use Rattle.std.proofs.Common.{◌≡◌, length, take, IfSome}
 use Rattle.std.specs.Option.{option_map}
 use Rattle.ip_text.specs.Parts.{parted}
 use Rattle.sip_uri.specs.Readers.Params.{AreMarked, transport_name}
-use Rattle.sip_uri.specs.Readers.Hosts.{host_of, IsHostPart}
+use Rattle.sip_uri.specs.Readers.Hosts.{IsHostPart}
+use Rattle.sip_uri.specs.Views.{host_of}
 use Rattle.sip_uri.proofs.MaddrSteps.{MaddrKept}
 use Rattle.sip_uri.proofs.ParamSteps.{CheckedSoFar, ValueKept}
 use Rattle.sip_uri.proofs.params.check_params.Given as goal

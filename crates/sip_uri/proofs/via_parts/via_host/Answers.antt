@@ -1,6 +1,7 @@
 use Rattle.std.proofs.Common.{◌≡◌, Some, None, sym, ◌∙◌}
 use Rattle.ip_text.specs.Parts.{behind_front}
-use Rattle.sip_uri.specs.Readers.Hosts.{host_of, plain_host}
+use Rattle.sip_uri.specs.Readers.Hosts.{plain_host}
+use Rattle.sip_uri.specs.Views.{host_of}
 use Rattle.sip_uri.specs.ViaClasses.{is_in_host, row}
 use Rattle.sip_uri.proofs.Fronts.{via_bracketed, no_via_host, via_host_there}
 use Rattle.sip_uri.proofs.via_parts.via_host.Goals as goal

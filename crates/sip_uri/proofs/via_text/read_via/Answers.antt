@@ -1,105 +1,16 @@
-use Rattle.std.proofs.Common.{◌≡◌, ℕ, List, Ok, Err, sym, ap, ◌∙◌}
-use Rattle.std.proofs.lemmas.Result.{err_from_is_err_and}
-use Rattle.sip_uri.specs.Readers.ViaFronts.{via_of, via_parts}
-use Rattle.sip_uri.specs.declared.refusal.UriRefusal.{UriRefusal}
-use Rattle.sip_uri.specs.declared.refusal.UriRefusal.TheVariants.{TooLong, BadVia, Memory}
+use Rattle.std.proofs.Common.{◌≡◌, ◌∙◌}
+use Rattle.sip_uri.specs.Vias.{ViaText}
+use Rattle.sip_uri.specs.Views.{via_of}
 use Rattle.sip_uri.specs.declared.via.Via.{Via}
-use Rattle.sip_uri.proofs.Faults.{IsOfOctets, IsLater, param_later, handed_on, handed_is, same_Err, short_text, no_long_text}
-use Rattle.sip_uri.proofs.ViaTexts.{none_spelled, via_octets, bad_protocol, bad_protocol_again, protocol_there, spells_no_more, via_wanted, via_found, via_only}
 use Rattle.sip_uri.proofs.via_text.read_via.Goals as goal
-use Rattle.sip_uri.proofs.via_text.read_via.Goals.{In_err-parts, In_ok-parts}
-
-refused : (c : In_err-parts) → via_parts c.args.text.now ≡ Err c.in_err-parts.field-0.0
-refused c = rw c.as_bytes-text.ensures.value at (sym c.in_err-parts.ensures.value)
 
 pub returns-in_err-parts-clause-read : goal.returns-in_err-parts-clause-read
-returns-in_err-parts-clause-read c = λ via is.
-    absurd (none_spelled c.args.text.now c.in_err-parts.field-0.0
-    (refused (goal.at.returns-in_err-parts-clause-read c).In_err-parts) via is)
+returns-in_err-parts-clause-read c =
+    let none : (via : Via) → ViaText c.args.text.now via → ⊥ = rw c.as_bytes.ensures.value at c.in_err-parts.ensures.seen in
+    λ via spells. absurd (none via spells)
 
-fault_of : (c : In_err-parts) → IsOfOctets c.in_err-parts.field-0.0
-fault_of c = via_octets c.args.text.now c.in_err-parts.field-0.0 (refused c)
-
-pub returns-in_err-parts-clause-memory : goal.returns-in_err-parts-clause-memory
-returns-in_err-parts-clause-memory c = λ wanted.
-    let e = err_from_is_err_and c.from_residual.result c.from_residual.ensures.1 in
-    absurd (handed_on IsOfOctets c.from_residual.result e.0 c.in_err-parts.field-0.0 Memory e.1 e.2
-    (fault_of (goal.at.returns-in_err-parts-clause-memory c).In_err-parts) (λ no. no) wanted)
-
-pub returns-in_err-parts-clause-long : goal.returns-in_err-parts-clause-long
-returns-in_err-parts-clause-long c =
-    let e = err_from_is_err_and c.from_residual.result c.from_residual.ensures.1 in (
-      λ long. absurd
-          (handed_on IsOfOctets c.from_residual.result e.0 c.in_err-parts.field-0.0 TooLong e.1 e.2
-          (fault_of (goal.at.returns-in_err-parts-clause-long c).In_err-parts) (λ no. no) long),
-      λ more. absurd (no_long_text _ _ c.as_bytes-text.ensures.len c.if-text-gt-TEXT_LIMIT.false more),
-    )
-
-pub returns-in_err-parts-clause-protocol : goal.returns-in_err-parts-clause-protocol
-returns-in_err-parts-clause-protocol c =
-    let e = err_from_is_err_and c.from_residual.result c.from_residual.ensures.1 in
-    let is = refused (goal.at.returns-in_err-parts-clause-protocol c).In_err-parts in (
-      λ bad. (
-        short_text _ _ c.as_bytes-text.ensures.len c.if-text-gt-TEXT_LIMIT.false,
-        bad_protocol c.args.text.now
-            (is ∙ ap (λ (x : UriRefusal). Err x) (handed_is c.from_residual.result e.0 c.in_err-parts.field-0.0 BadVia e.1 e.2 bad)),
-      ),
-      λ none. (
-          let again = bad_protocol_again c.args.text.now none.1 in
-          let same : c.in_err-parts.field-0.0 ≡ BadVia = same_Err {A = Via × List ℕ} c.in_err-parts.field-0.0 BadVia (sym is ∙ again) in
-          e.1 ∙ ap (λ (x : UriRefusal). Err x) (e.2 ∙ same)),
-    )
-
-parsed : (c : In_ok-parts) → via_parts c.args.text.now ≡ Ok (via_of c.in_ok-parts.parts, c.in_ok-parts.params.now)
-parsed c = rw c.as_bytes-text.ensures.value at (sym c.in_ok-parts.ensures.value)
-
-pub returns-in_err-check_via_params-clause-read : goal.returns-in_err-check_via_params-clause-read
-returns-in_err-check_via_params-clause-read c = λ via is.
-    absurd (c.in_err-check_via_params.ensures.err
-    (spells_no_more c.args.text.now c.in_ok-parts.parts c.in_ok-parts.params.now
-    (parsed (goal.at.returns-in_err-check_via_params-clause-read c).In_ok-parts) via is).1)
-
-pub returns-in_err-host-clause-memory : goal.returns-in_err-host-clause-memory
-returns-in_err-host-clause-memory c = λ _.
-    via_wanted c.args.text.now c.in_ok-parts.parts c.in_ok-parts.params.now
-    (parsed (goal.at.returns-in_err-host-clause-memory c).In_ok-parts)
-    (short_text _ _ c.as_bytes-text.ensures.len c.if-text-gt-TEXT_LIMIT.false) c.in_ok-check_via_params.ensures.ok
-    c.in_err-host.ensures.1
-
-pub returns-clause-found : goal.returns-clause-found
-returns-clause-found c =
-    via_found c.args.text.now c.in_ok-parts.parts c.in_ok-parts.params.now
-    (parsed (goal.at.returns-clause-found c).In_ok-parts) c.in_ok-host.host c.in_ok-host.ensures
-    (short_text _ _ c.as_bytes-text.ensures.len c.if-text-gt-TEXT_LIMIT.false) c.in_ok-check_via_params.ensures.ok
-
-pub returns-clause-read : goal.returns-clause-read
-returns-clause-read c = λ via is.
-    via_only c.args.text.now c.in_ok-parts.parts c.in_ok-parts.params.now
-    (parsed (goal.at.returns-clause-read c).In_ok-parts) c.in_ok-host.host c.in_ok-host.ensures via is
-
-pub returns-in_err-check_via_params-clause-protocol : goal.returns-in_err-check_via_params-clause-protocol
-returns-in_err-check_via_params-clause-protocol c =
-    let e = err_from_is_err_and c.from_residual-in_err-check_via_params.result c.from_residual-in_err-check_via_params.ensures.1 in
-    let read = parsed (goal.at.returns-in_err-check_via_params-clause-protocol c).In_ok-parts in (
-      λ bad. absurd
-          (handed_on IsLater c.from_residual-in_err-check_via_params.result e.0 c.in_err-check_via_params.field-0.0 BadVia e.1 e.2
-          (param_later c.in_err-check_via_params.field-0.0 c.in_err-check_via_params.ensures.fault) (λ no. no) bad),
-      λ none. absurd (none.1 (protocol_there c.args.text.now (via_of c.in_ok-parts.parts) c.in_ok-parts.params.now read)),
-    )
-
-pub returns-in_err-host-clause-protocol : goal.returns-in_err-host-clause-protocol
-returns-in_err-host-clause-protocol c =
-    let e = err_from_is_err_and c.from_residual-in_err-host.result c.from_residual-in_err-host.ensures.1 in
-    let read = parsed (goal.at.returns-in_err-host-clause-protocol c).In_ok-parts in (
-      λ bad. absurd
-          (handed_on (λ (fault : UriRefusal). fault
-          ≡ Memory) c.from_residual-in_err-host.result e.0 c.in_err-host.field-0.0 BadVia e.1 e.2 c.in_err-host.ensures.0 (λ no. cc) bad),
-      λ none. absurd (none.1 (protocol_there c.args.text.now (via_of c.in_ok-parts.parts) c.in_ok-parts.params.now read)),
-    )
-
-pub returns-clause-protocol : goal.returns-clause-protocol
-returns-clause-protocol c =
-    let read = parsed (goal.at.returns-clause-protocol c).In_ok-parts in (
-      λ bad. absurd cc,
-      λ none. absurd (none.1 (protocol_there c.args.text.now (via_of c.in_ok-parts.parts) c.in_ok-parts.params.now read)),
-    )
+pub returns-in-Ok-clause-read : goal.returns-in-Ok-clause-read
+returns-in-Ok-clause-read c =
+    let seen : (via : Via) → ViaText c.args.text.now via → via_of c.in_ok-parts.parts ≡ via =
+    rw c.as_bytes.ensures.value at c.in_ok-parts.ensures.seen in
+    λ via spells. c.in-Ok.ensures.via ∙ seen via spells
