@@ -9,6 +9,7 @@ mod RunSteps
 mod RunTexts
 mod HostTexts
 mod Places
+mod PlaceRows
 mod ParamTexts
 mod MaddrSteps
 mod ParamLists

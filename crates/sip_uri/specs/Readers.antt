@@ -4,6 +4,7 @@
 pub mod Hostnames
 pub mod Hosts
 pub mod Params
+pub mod Places
 pub mod Runs
 pub mod Uris
 pub mod ViaFronts

@@ -88,7 +88,7 @@ fn port_part(text: &[u8]) -> Option<Option<&[u8]>>
 
 /// The host up to a closing bracket, and the port after it.
 #[inline(always)]
-fn host_in_brackets(text: &[u8]) -> Option<(HostPart<'_>, Option<&[u8]>)>
+pub(crate) fn host_in_brackets(text: &[u8]) -> Option<(HostPart<'_>, Option<&[u8]>)>
     ensures host { option_map
         (λ found. (host_of found.0, option_map (λ digits. digits.now) found.1)) result
         ≡ spec.host_in_brackets text.now }

@@ -57,6 +57,7 @@ mod host_part;
 mod hostname;
 mod laws;
 mod params;
+mod place;
 mod refusal;
 mod runs;
 mod transport;

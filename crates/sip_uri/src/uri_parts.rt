@@ -7,13 +7,14 @@ ghost use Rattle.sip_uri.specs.Uris.{IsNamedUri};
 ghost use Rattle.sip_uri.specs.Views.{host_of, uri_of, IsHostView, IsUriView};
 
 use crate::headers::are_headers;
-use crate::host_part::{HostPart, host_in_front};
+use crate::host_part::HostPart;
 use crate::params::check_params;
+use crate::place::{behind_place, place_of};
 use crate::refusal::UriRefusal;
 use crate::transport::{Spoken, spoken_of};
 use crate::uri::SipUri;
 use crate::userinfo::is_userinfo;
-use ip_text::{decimal, next_part};
+use ip_text::next_part;
 use std::alloc::{AllocError, Global};
 
 /// A URI as it stands in a text: what it says of where a request goes (RFC 3261 19.1.1).
@@ -107,42 +108,6 @@ fn behind_user(text: &[u8]) -> Result<&[u8], UriRefusal>
     }
 }
 
-/// A port from 1 to 65535.
-#[tactic(auto, unfolding(crate::specs::Readers::Uris::port_number))]
-pub(crate) fn port_number(text: &[u8]) -> Option<u16>
-    ensures { result ≡ spec.port_number text.now }
-{
-    match decimal(text, 65535)? {
-        0 => None,
-        port => Some(port as u16),
-    }
-}
-
-/// The port of its digits, where a colon stands before them.
-#[tactic(auto, unfolding(crate::specs::Readers::Uris::port_of))]
-pub(crate) fn port_of(text: Option<&[u8]>) -> Result<Option<u16>, UriRefusal>
-    ensures { result ≡ spec.port_of (option_map (λ digits. digits.now) text.entry) }
-{
-    match text {
-        None => Ok(None),
-        Some(text) => match port_number(text) {
-            None => Err(UriRefusal::BadPort),
-            port => Ok(port),
-        },
-    }
-}
-
-/// The host and the port.
-#[tactic(auto, unfolding(crate::specs::Readers::Uris::place_of))]
-fn place_of(text: &[u8]) -> Result<(HostPart<'_>, Option<u16>), UriRefusal>
-    ensures value { spec.seen (λ found. (host_of found.0, found.1)) result
-        ≡ spec.place_of text.now }
-    ensures hostname { IfOk result (λ found. host.IsHostPart found.0) }
-{
-    let (host, port) = host_in_front(text).ok_or(UriRefusal::BadHost)?;
-    Ok((host, port_of(port)?))
-}
-
 /// What the parameters say of the transport and of the host.
 #[tactic(auto, unfolding(crate::specs::Readers::Uris::said_by))]
 fn said_by(params: Option<&[u8]>) -> Result<(Option<Spoken>, Option<HostPart<'_>>), UriRefusal>
@@ -177,6 +142,7 @@ fn check_headers(headers: Option<&[u8]>) -> Result<(), UriRefusal>
 
 /// The parts of a URI, or its first fault from the left.
 #[tactic(auto, unfolding(crate::specs::Readers::Uris::uri_parts))]
+#[inline(always)]
 pub(crate) fn uri_parts(text: &[u8]) -> Result<UriParts<'_>, UriRefusal>
     ensures value { spec.seen uri_of result ≡ spec.uri_parts text.now }
     ensures host { IfOk result (λ parts. host.IsHostPart parts.host) }
@@ -184,9 +150,8 @@ pub(crate) fn uri_parts(text: &[u8]) -> Result<UriParts<'_>, UriRefusal>
 {
     let (secure, rest) = behind_scheme(text)?;
     let rest = behind_user(rest)?;
-    let (front, headers) = next_part(rest, b'?');
-    let (place, params) = next_part(front, b';');
-    let (host, port) = place_of(place)?;
+    let (host, port, rest) = place_of(rest)?;
+    let (params, headers) = behind_place(rest);
     let (transport, maddr) = said_by(params)?;
     check_headers(headers)?;
     Ok(UriParts {

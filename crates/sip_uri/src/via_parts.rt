@@ -8,10 +8,10 @@ ghost use Rattle.sip_uri.specs.Hosts.{IsNamed};
 ghost use Rattle.sip_uri.specs.Views.{host_of, via_of, IsHostView};
 
 use crate::host_part::{HostPart, plain_host};
+use crate::place::port_number;
 use crate::refusal::UriRefusal;
 use crate::runs::cut;
 use crate::transport::{Spoken, spoken_of};
-use crate::uri_parts::port_number;
 use crate::via::Via;
 use crate::via_classes::{Row, behind_blanks, behind_mark};
 use ip_text::{behind_front, ipv6_octets, next_part};
