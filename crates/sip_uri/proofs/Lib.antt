@@ -7,9 +7,12 @@ mod HostOctets
 mod ParamSteps
 mod RunSteps
 mod RunTexts
+mod RunFronts
 mod HostTexts
 mod Places
 mod PlaceRows
+mod PairFronts
+mod ParamRuns
 mod ParamTexts
 mod MaddrSteps
 mod ParamLists

@@ -48,7 +48,7 @@ no_digits true true false after text none = refl
 no_digits true false low after text none = refl
 no_digits false high low after text none = refl
 
-two_digits : (percent high low : Bool) (text more : List ℕ) → cond (percent && high && low) (Some text) None ≡ Some more
+pub two_digits : (percent high low : Bool) (text more : List ℕ) → cond (percent && high && low) (Some text) None ≡ Some more
     → (percent ≡ true) × (high ≡ true) × (low ≡ true) × (text ≡ more)
 two_digits true true true text more e = (refl, refl, refl, same_Some text more e)
 two_digits true true false text more e = absurd cc

@@ -3,6 +3,7 @@
 -- proofs tie both together, in both directions.
 pub mod Hostnames
 pub mod Hosts
+pub mod Pairs
 pub mod Params
 pub mod Places
 pub mod Runs

@@ -1,5 +1,5 @@
 //! Classes of octets, and runs of them (RFC 3261 25.1).
-ghost use Rattle.std.specs.Prelude.{◌≡◌};
+ghost use Rattle.std.specs.Prelude.{◌≡◌, ◌++◌, true};
 ghost use Rattle.std.specs.Option.{option_map};
 ghost use Rattle.sip_uri.specs.Readers.Runs as spec;
 
@@ -90,4 +90,21 @@ pub(crate) fn is_some_run(class: Class, text: &[u8]) -> bool
     ensures { result ≡ spec.is_some_run (spec.octets_of class) text.now }
 {
     !text.is_empty() && is_run(class, text)
+}
+
+/// The run of octets of a class and of escaped ones in front, and what follows it.
+#[inline(always)]
+pub(crate) fn run_in_front(class: Class, text: &[u8]) -> (&[u8], &[u8])
+    ensures joined { result.0.now ++ result.1.now ≡ text.now }
+    ensures run { spec.is_run (spec.octets_of class) result.0.now ≡ true }
+    ensures ends { spec.RunEnds (spec.octets_of class) result.1.now }
+{
+    let mut rest = text;
+    loop {
+        let (_, behind) = cut(class, rest);
+        match behind_escaped(behind) {
+            None => return (&text[..text.len() - behind.len()], behind),
+            Some(behind) => rest = behind,
+        }
+    }
 }

@@ -1,24 +1,24 @@
 //! Headers of a URI (RFC 3261 19.1.1, 25.1).
-ghost use Rattle.std.specs.Prelude.{◌≡◌};
+ghost use Rattle.std.specs.Prelude.{◌≡◌, ◌&&◌, true};
 ghost use Rattle.std.specs.List.{list_all};
+ghost use Rattle.std.specs.Option.{option_map};
 ghost use Rattle.ip_text.specs.Parts.{parted};
+ghost use Rattle.sip_uri.specs.Classes.{is_header_octet};
+ghost use Rattle.sip_uri.specs.Readers.Pairs.{is_value_run};
+ghost use Rattle.sip_uri.specs.Readers.Runs.{is_run, is_some_run};
 ghost use Rattle.sip_uri.specs.Readers.Uris as spec;
 
-use crate::classes::{Class, is_run, is_some_run};
-use ip_text::next_part;
+use crate::classes::Class;
+use crate::pairs::{Pair, pair_in_front};
 
-/// Whether a text is a header: a name, `=` and a value.
-fn is_header(text: &[u8]) -> bool
-    ensures { result ≡ spec.is_header text.now }
+/// Whether a name and a value, or none, are a header. Both are runs.
+fn is_header(name: &[u8], value: Option<&[u8]>) -> bool
+    requires name { is_run is_header_octet name.now ≡ true }
+    requires value { is_value_run is_header_octet (option_map (λ text. text.now) value) ≡ true }
+    ensures { result ≡ is_some_run is_header_octet name.now
+        && spec.is_header_value (option_map (λ text. text.now) value.entry) }
 {
-    let (name, value) = next_part(text, b'=');
-    if !is_some_run(Class::Header, name) {
-        return false;
-    }
-    match value {
-        None => false,
-        Some(value) => is_run(Class::Header, value),
-    }
+    !name.is_empty() && value.is_some()
 }
 
 /// Whether a text is one or more headers with `&` between them.
@@ -27,8 +27,17 @@ pub(crate) fn are_headers(text: &[u8]) -> bool
 {
     let mut rest = text;
     loop {
-        let (header, behind) = next_part(rest, b'&');
-        if !is_header(header) {
+        let Some(
+            Pair {
+                name,
+                value,
+                behind,
+            },
+        ) = pair_in_front(Class::Header, b'&', rest)
+        else {
+            return false;
+        };
+        if !is_header(name, value) {
             return false;
         }
         match behind {

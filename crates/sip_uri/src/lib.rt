@@ -56,6 +56,7 @@ mod host;
 mod host_part;
 mod hostname;
 mod laws;
+mod pairs;
 mod params;
 mod place;
 mod refusal;

@@ -1,14 +1,18 @@
 //! Parameters of a URI (RFC 3261 19.1.1, 25.1).
-ghost use Rattle.std.specs.Prelude.{◌≡◌, take, IfOk, IfSome, Some, is_some};
+ghost use Rattle.std.specs.Prelude.{◌≡◌, true, take, IfOk, IfSome, Some, is_some};
 ghost use Rattle.std.specs.Option.{option_map, option_and_then};
 ghost use Rattle.std.specs.Result.{result_err};
 ghost use Rattle.ip_text.specs.Parts.{parted};
+ghost use Rattle.sip_uri.specs.Classes.{is_param_octet};
 ghost use Rattle.sip_uri.specs.Readers.Hosts as host;
+ghost use Rattle.sip_uri.specs.Readers.Pairs.{is_value_run};
+ghost use Rattle.sip_uri.specs.Readers.Runs.{is_run};
 ghost use Rattle.sip_uri.specs.Readers.Params as spec;
 ghost use Rattle.sip_uri.specs.Views.{host_of};
 
-use crate::classes::{Class, is_some_run};
+use crate::classes::Class;
 use crate::host_part::{HostPart, host_part};
+use crate::pairs::{Pair, pair_in_front};
 use crate::refusal::UriRefusal;
 use ip_text::next_part;
 
@@ -48,25 +52,29 @@ fn maddr_of<'a>(name: &[u8], value: Option<&'a [u8]>) -> Option<HostPart<'a>>
     host_part(value?)
 }
 
-/// Whether a value may stand after a name. The value of `maddr` has to be a host.
+/// Whether a value, which is a run, may stand after a name. That of `maddr` has to be a host.
 #[tactic(auto, unfolding(crate::specs::Readers::Params::is_value_of))]
 fn is_value_of(name: &[u8], value: &[u8], is_hosted: bool) -> bool
-    requires { is_hosted ≡ is_some (spec.maddr_of name.now (Some value.now)) }
+    requires hosted { is_hosted ≡ is_some (spec.maddr_of name.now (Some value.now)) }
+    requires run { is_run is_param_octet value.now ≡ true }
     ensures { result ≡ spec.is_value_of name.now value.now }
 {
-    if !is_some_run(Class::Param, value) {
+    if value.is_empty() {
         return false;
     }
     !is_same(name, b"maddr") || is_hosted
 }
 
-/// Whether a name and a value, or none, are a parameter. The value of `maddr` has to be a host.
+/// Whether a name and a value, or none, are a parameter. Both are runs. The value of `maddr` has to
+/// be a host.
 fn is_param(name: &[u8], value: Option<&[u8]>, is_hosted: bool) -> bool
-    requires { is_hosted
+    requires hosted { is_hosted
         ≡ is_some (spec.maddr_of name.now (option_map (λ text. text.now) value)) }
+    requires name { is_run is_param_octet name.now ≡ true }
+    requires value { is_value_run is_param_octet (option_map (λ text. text.now) value) ≡ true }
     ensures { result ≡ spec.is_param_of name.now (option_map (λ text. text.now) value.entry) }
 {
-    if !is_some_run(Class::Param, name) {
+    if name.is_empty() {
         return false;
     }
     match value {
@@ -137,8 +145,16 @@ pub(crate) fn check_params(params: &[u8]) -> Result<Values<'_>, UriRefusal>
     let mut rest = params;
     let mut count = 0;
     loop {
-        let (param, behind) = next_part(rest, b';');
-        let (name, value) = next_part(param, b'=');
+        let Some(
+            Pair {
+                name,
+                value,
+                behind,
+            },
+        ) = pair_in_front(Class::Param, b';', rest)
+        else {
+            return Err(UriRefusal::BadParam);
+        };
         let host = maddr_of(name, value);
         if !is_param(name, value, host.is_some()) {
             return Err(UriRefusal::BadParam);

@@ -1,5 +1,5 @@
 -- What the readers of runs give, as functions on lists.
-use Rattle.std.specs.Prelude.{ℕ, zero, suc, ◌==◌, Bool, not, ◌&&◌, List, [], ◌∷◌, length, Option, Some, None, if◌then◌else◌}
+use Rattle.std.specs.Prelude.{◌≡◌, ℕ, zero, suc, ◌==◌, Bool, false, not, ◌&&◌, List, [], ◌∷◌, length, Option, Some, None, if◌then◌else◌, ⊤}
 use Rattle.std.specs.Char.{is_ascii_hexdigit}
 use Rattle.sip_uri.specs.Classes.{is_user_octet, is_password_octet, is_param_octet, is_header_octet}
 use Rattle.sip_uri.specs.Hosts.{is_label_octet}
@@ -41,3 +41,8 @@ is_run class text = run_from class 0 text
 
 abbrev pub is_some_run : (ℕ → Bool) → List ℕ → Bool
 is_some_run class text = not (length text == 0) && is_run class text
+
+-- neither an octet of the class nor an escaped one stands in front
+abbrev pub RunEnds : (ℕ → Bool) → List ℕ → Type 0
+RunEnds class [] = ⊤
+RunEnds class (x ∷ text) = (class x ≡ false) × (behind_escaped (x ∷ text) ≡ None)

@@ -8,8 +8,8 @@ use Rattle.sip_uri.proofs.MaddrSteps.{MaddrKept}
 use Rattle.sip_uri.proofs.ParamSteps.{CheckedSoFar, ValueKept}
 use Rattle.sip_uri.proofs.params.check_params.Given as goal
 
-abbrev pub invariant-loop-transport : goal.invariant-loop-transport
-invariant-loop-transport l = record {
+abbrev pub invariant-loop-name : goal.invariant-loop-name
+invariant-loop-name l = record {
   checked : CheckedSoFar l.params l.rest l.count;
   size : length l.lengths ≡ 64;
   marked : AreMarked l.lengths (take l.count (parted 59 l.params));
@@ -18,5 +18,5 @@ invariant-loop-transport l = record {
   hostname : IfSome l.maddr IsHostPart;
 }
 
-abbrev pub decreases-loop-transport : goal.decreases-loop-transport
-decreases-loop-transport l = length l.rest
+abbrev pub decreases-loop-name : goal.decreases-loop-name
+decreases-loop-name l = length l.rest

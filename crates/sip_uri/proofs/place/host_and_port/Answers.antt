@@ -1,9 +1,9 @@
-use Rattle.std.proofs.Common.{◌≡◌, List, ℕ, Option, Some, None, sym, ◌∙◌}
+use Rattle.std.proofs.Common.{◌≡◌, Some, None, sym, ◌∙◌}
 use Rattle.std.specs.Option.{option_map}
 use Rattle.ip_text.specs.Parts.{before, behind, behind_front}
 use Rattle.sip_uri.specs.Readers.Hosts.{plain_host}
-use Rattle.sip_uri.specs.Readers.Places.{is_in_host, is_in_place}
-use Rattle.sip_uri.specs.ViaClasses.{row, behind_row}
+use Rattle.sip_uri.specs.Readers.Places.{is_in_place}
+use Rattle.sip_uri.specs.ViaClasses.{row}
 use Rattle.sip_uri.specs.Views.{host_of}
 use Rattle.sip_uri.proofs.Fronts.{no_host, host_there}
 use Rattle.sip_uri.proofs.PlaceRows.{host_row, port_row, behind_rows, front_row}

@@ -1,4 +1,4 @@
-use Rattle.std.proofs.Common.{◌≡◌, ℕ, List, Option, rules, ◌∙◌}
+use Rattle.std.proofs.Common.{◌≡◌, rules, ◌∙◌}
 use Rattle.std.specs.Option.{option_map}
 use Rattle.ip_text.specs.Parts.{before, behind}
 use Rattle.sip_uri.specs.Readers.Uris.{uri_parts}
