@@ -1,6 +1,7 @@
 //! Names and their values in front of a text (RFC 3261 25.1).
 ghost use Rattle.std.specs.Prelude.{◌≡◌, false, MatchOption};
 ghost use Rattle.std.specs.Option.{option_map};
+ghost use Rattle.ip_text.specs.Parts.{before};
 ghost use Rattle.sip_uri.specs.Readers.Pairs as spec;
 ghost use Rattle.sip_uri.specs.Readers.Runs.{octets_of};
 
@@ -18,7 +19,7 @@ pub(crate) struct Pair<'a> {
     pub(crate) behind: Option<&'a [u8]>,
 }
 
-/// What follows a mark, which has to be in front of all that is left.
+/// What follows a mark in front, or nothing at the end of the text; no other octet may stand there.
 fn behind_end(text: &[u8], mark: u8) -> Option<Option<&[u8]>>
     ensures { option_map (λ found. option_map (λ rest. rest.now) found) result
         ≡ spec.behind_end mark text.now }
@@ -30,12 +31,13 @@ fn behind_end(text: &[u8], mark: u8) -> Option<Option<&[u8]>>
     }
 }
 
-/// The runs up to a mark: a name, and its value where `=` stands between them.
+/// The name in front, its value where `=` stands between them, and what follows the mark behind
+/// them. Both are runs.
 #[inline(always)]
 pub(crate) fn pair_in_front(class: Class, mark: u8, text: &[u8]) -> Option<Pair<'_>>
     requires { spec.IsMark (octets_of class) mark }
     ensures { MatchOption result
-        (spec.are_runs (octets_of class) (spec.first mark text.now) ≡ false)
+        (spec.are_runs (octets_of class) (before mark text.now) ≡ false)
         (λ pair. spec.IsPair (octets_of class) mark text.now pair) }
 {
     let (name, rest) = run_in_front(class, text);

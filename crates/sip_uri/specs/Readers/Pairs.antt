@@ -14,13 +14,10 @@ pub record IsMark (class : ℕ → Bool) (mark : ℕ) : Type 0 where
   pub percent : (37 == mark) ≡ false
   pub apart : (61 == mark) ≡ false
 
+-- what follows a mark in front, or nothing at the end
 abbrev pub behind_end : ℕ → List ℕ → Option (Option (List ℕ))
 behind_end mark [] = Some None
 behind_end mark (x ∷ text) = if x == mark then Some (Some text) else None
-
--- the text of the first pair
-abbrev pub first : ℕ → List ℕ → List ℕ
-first mark text = before mark text
 
 abbrev pub is_value_run : (ℕ → Bool) → Option (List ℕ) → Bool
 is_value_run class None = true
@@ -30,6 +27,7 @@ is_value_run class (Some value) = is_run class value
 abbrev pub are_runs : (ℕ → Bool) → List ℕ → Bool
 are_runs class text = is_run class (before 61 text) && is_value_run class (behind 61 text)
 
+-- what stands before a mark, parted at `=`, and what stands behind the mark
 pub record IsPair (class : ℕ → Bool) (mark : ℕ) (text : List ℕ) (pair : Pair) : Type 0 where
   pub name : pair.name.now ≡ before 61 (before mark text)
   pub value : option_map (λ (value : _). value.now) pair.value ≡ behind 61 (before mark text)
