@@ -13,6 +13,7 @@ mod Places
 mod PlaceRows
 mod PairFronts
 mod ParamRuns
+mod UserRuns
 mod ParamTexts
 mod MaddrSteps
 mod ParamLists

@@ -47,7 +47,7 @@ still_none octet x (high ∷ low ∷ text) none =
     ]
 
 -- what follows a run, and does not end the part
-no_run : (class : ℕ → Bool) (octet : ℕ) (run : List ℕ) (x : ℕ) (text : List ℕ) → is_run class run ≡ true → RunEnds class (x ∷ text)
+pub no_run : (class : ℕ → Bool) (octet : ℕ) (run : List ℕ) (x : ℕ) (text : List ℕ) → is_run class run ≡ true → RunEnds class (x ∷ text)
     → is_run class (run ++ x ∷ before octet text) ≡ false
 no_run class octet run x text is ends =
     run_append class 0 run (x ∷ before octet text) is
@@ -71,49 +71,56 @@ front_there (x ∷ text) rest e =
       | inr no' ↦ (let no : None ≡ Some rest = rw no' at e in absurd cc)
     ]
 
-module _ (class : ℕ → Bool) (mark : ℕ) (is : IsMark class mark) where
-  before_mark : (run rest : List ℕ) → is_run class run ≡ true
+pub end_found : (mark : ℕ) (rest : List ℕ) (found : Option (List ℕ)) → behind_end mark rest ≡ Some found
+    → (before mark rest ≡ []) × (behind mark rest ≡ found)
+end_found mark [] found e = (refl, same_Some None found e)
+end_found mark (x ∷ rest) found e =
+    elim (cases_Bool (eqb x mark)) [
+      | inl same ↦ rw same (refl, same_Some (Some rest) found (rw same at e))
+      | inr other ↦ (let no : ◌≡◌ {A = Option (Option (List ℕ))} None (Some found) = rw other at e in absurd cc)
+    ]
+
+-- what ends a run, and is no mark
+pub record Stops (class : ℕ → Bool) (mark : ℕ) (rest : List ℕ) : Type 0 where
+  pub octet : ℕ
+  pub more : List ℕ
+  pub rest_is : rest ≡ octet ∷ more
+  pub front : before mark rest ≡ octet ∷ before mark more
+  pub ends : RunEnds class (octet ∷ more)
+
+pub stops : (class : ℕ → Bool) (mark : ℕ) (rest : List ℕ) → behind_end mark rest ≡ None → RunEnds class rest
+    → Stops class mark rest
+stops class mark [] e ends = absurd (let no : ◌≡◌ {A = Option (Option (List ℕ))} (Some None) None = e in cc)
+stops class mark (x ∷ rest) e ends =
+    elim (cases_Bool (eqb x mark)) [
+      | inl same ↦ (let no : ◌≡◌ {A = Option (Option (List ℕ))} (Some (Some rest)) None = rw same at e in absurd cc)
+      | inr other ↦ record { octet = x; more = rest; rest_is = refl; front = rw other refl; ends = ends }
+    ]
+
+module _ (class : ℕ → Bool) (mark : ℕ) (other : class mark ≡ false) (digit : is_ascii_hexdigit mark ≡ false)
+    (percent : eqb 37 mark ≡ false) where
+  pub before_mark : (run rest : List ℕ) → is_run class run ≡ true
       → (before mark (run ++ rest) ≡ run ++ before mark rest) × (behind mark (run ++ rest) ≡ behind mark rest)
-  before_mark run rest good = past mark run rest (run_lacks class mark is.other is.digit is.percent run (run_read class run good))
+  before_mark run rest good = past mark run rest (run_lacks class mark other digit percent run (run_read class run good))
+
+module _ (class : ℕ → Bool) (mark : ℕ) (is : IsMark class mark) where
+  at_mark : (run rest : List ℕ) → is_run class run ≡ true
+      → (before mark (run ++ rest) ≡ run ++ before mark rest) × (behind mark (run ++ rest) ≡ behind mark rest)
+  at_mark = before_mark class mark is.other is.digit is.percent
 
   no_equals : (run : List ℕ) → is_run class run ≡ true → lacks 61 run ≡ true
   no_equals run good = run_lacks class 61 is.equals refl refl run (run_read class run good)
 
-  pub end_found : (rest : List ℕ) (found : Option (List ℕ)) → behind_end mark rest ≡ Some found
-      → (before mark rest ≡ []) × (behind mark rest ≡ found)
-  end_found [] found e = (refl, same_Some None found e)
-  end_found (x ∷ rest) found e =
-      elim (cases_Bool (eqb x mark)) [
-        | inl same ↦ rw same (refl, same_Some (Some rest) found (rw same at e))
-        | inr other ↦ (let no : ◌≡◌ {A = Option (Option (List ℕ))} None (Some found) = rw other at e in absurd cc)
-      ]
-
-  -- what ends a run, and is no mark
-  record Stops (rest : List ℕ) : Type 0 where
-    octet : ℕ
-    more : List ℕ
-    rest_is : rest ≡ octet ∷ more
-    front : before mark rest ≡ octet ∷ before mark more
-    ends : RunEnds class (octet ∷ more)
-
-  stops : (rest : List ℕ) → behind_end mark rest ≡ None → RunEnds class rest → Stops rest
-  stops [] e ends = absurd (let no : ◌≡◌ {A = Option (Option (List ℕ))} (Some None) None = e in cc)
-  stops (x ∷ rest) e ends =
-      elim (cases_Bool (eqb x mark)) [
-        | inl same ↦ (let no : ◌≡◌ {A = Option (Option (List ℕ))} (Some (Some rest)) None = rw same at e in absurd cc)
-        | inr other ↦ record { octet = x; more = rest; rest_is = refl; front = rw other refl; ends = ends }
-      ]
-
   module _ (text name rest : List ℕ) (joined : name ++ rest ≡ text) (named : is_run class name ≡ true) where
     text_front : before mark text ≡ name ++ before mark rest
-    text_front = rw (← joined) (before_mark name rest named).0
+    text_front = rw (← joined) (at_mark name rest named).0
 
     text_behind : behind mark text ≡ behind mark rest
-    text_behind = rw (← joined) (before_mark name rest named).1
+    text_behind = rw (← joined) (at_mark name rest named).1
 
     module _ (found : Option (List ℕ)) (e : behind_end mark rest ≡ Some found) where
       pub bare_front : before mark text ≡ name
-      bare_front = text_front ∙ ap (λ (t : List ℕ). name ++ t) (end_found rest found e).0 ∙ append-nil name
+      bare_front = text_front ∙ ap (λ (t : List ℕ). name ++ t) (end_found mark rest found e).0 ∙ append-nil name
 
       bare_parts : (before 61 (name ++ []) ≡ name ++ []) × (behind 61 (name ++ []) ≡ None)
       bare_parts = past 61 name [] (no_equals name named)
@@ -125,7 +132,7 @@ module _ (class : ℕ → Bool) (mark : ℕ) (is : IsMark class mark) where
       bare_value = ap (behind 61) bare_front ∙ rw append-nil at bare_parts.1
 
       pub bare_behind : behind mark text ≡ found
-      bare_behind = text_behind ∙ (end_found rest found e).1
+      bare_behind = text_behind ∙ (end_found mark rest found e).1
 
       pub bare_runs : are_runs class (before mark text) ≡ true
       bare_runs = rw (bare_name, bare_value, named) refl
@@ -133,7 +140,7 @@ module _ (class : ℕ → Bool) (mark : ℕ) (is : IsMark class mark) where
     pub bare_bad : behind_front 61 rest ≡ None → behind_end mark rest ≡ None → RunEnds class rest
         → are_runs class (before mark text) ≡ false
     bare_bad none e ends =
-        let it = stops rest e ends in
+        let it = stops class mark rest e ends in
         let equals : eqb it.octet 61 ≡ false = no_front it.octet it.more (rw it.rest_is at none) in
         let parted : before 61 (before mark text) ≡ name ++ it.octet ∷ before 61 (before mark it.more) =
         ap (before 61) (text_front ∙ ap (λ (t : List ℕ). name ++ t) it.front)
@@ -145,7 +152,7 @@ module _ (class : ℕ → Bool) (mark : ℕ) (is : IsMark class mark) where
   module _ (text name valued value rest : List ℕ) (joined : name ++ 61 ∷ valued ≡ text) (named : is_run class name ≡ true)
       (with_value : value ++ rest ≡ valued) (good : is_run class value ≡ true) where
     value_front : before mark valued ≡ value ++ before mark rest
-    value_front = rw (← with_value) (before_mark value rest good).0
+    value_front = rw (← with_value) (at_mark value rest good).0
 
     valued_front : before mark text ≡ name ++ 61 ∷ before mark valued
     valued_front = text_front text name (61 ∷ valued) joined named ∙ rw is.apart refl
@@ -158,7 +165,7 @@ module _ (class : ℕ → Bool) (mark : ℕ) (is : IsMark class mark) where
 
     module _ (found : Option (List ℕ)) (e : behind_end mark rest ≡ Some found) where
       whole : before mark valued ≡ value
-      whole = value_front ∙ ap (λ (t : List ℕ). value ++ t) (end_found rest found e).0 ∙ append-nil value
+      whole = value_front ∙ ap (λ (t : List ℕ). value ++ t) (end_found mark rest found e).0 ∙ append-nil value
 
       pub valued_value : behind 61 (before mark text) ≡ Some value
       valued_value = valued_parts.1 ∙ ap (λ (t : List ℕ). Some t) whole
@@ -166,14 +173,14 @@ module _ (class : ℕ → Bool) (mark : ℕ) (is : IsMark class mark) where
       pub valued_behind : behind mark text ≡ found
       valued_behind =
           text_behind text name (61 ∷ valued) joined named
-          ∙ rw is.apart (rw (← with_value) (before_mark value rest good).1) ∙ (end_found rest found e).1
+          ∙ rw is.apart (rw (← with_value) (at_mark value rest good).1) ∙ (end_found mark rest found e).1
 
       pub valued_runs : are_runs class (before mark text) ≡ true
       valued_runs = rw (valued_parts.0, valued_value, named, good) refl
 
     pub valued_bad : behind_end mark rest ≡ None → RunEnds class rest → are_runs class (before mark text) ≡ false
     valued_bad e ends =
-        let it = stops rest e ends in
+        let it = stops class mark rest e ends in
         let bad : is_run class (before mark valued) ≡ false =
         ap (is_run class) (value_front ∙ ap (λ (t : List ℕ). value ++ t) it.front)
         ∙ no_run class mark value it.octet it.more good it.ends in

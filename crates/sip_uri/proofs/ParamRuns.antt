@@ -8,7 +8,7 @@ use Rattle.sip_uri.specs.Readers.Params.{is_value_of, is_valued, is_param}
 use Rattle.sip_uri.specs.Readers.Runs.{is_run, is_some_run}
 use Rattle.sip_uri.specs.Readers.Uris.{is_header, is_header_value}
 
-no_some_run : (class : ℕ → Bool) (text : List ℕ) → is_run class text ≡ false → is_some_run class text ≡ false
+pub no_some_run : (class : ℕ → Bool) (text : List ℕ) → is_run class text ≡ false → is_some_run class text ≡ false
 no_some_run class text bad =
     elim (cases_Bool (eqb (length text) 0)) [
       | inl none ↦ rw none refl

@@ -85,13 +85,6 @@ pub(crate) fn is_run(class: Class, text: &[u8]) -> bool
     }
 }
 
-/// Whether a text is a run as above of at least one octet.
-pub(crate) fn is_some_run(class: Class, text: &[u8]) -> bool
-    ensures { result ≡ spec.is_some_run (spec.octets_of class) text.now }
-{
-    !text.is_empty() && is_run(class, text)
-}
-
 /// The run of octets of a class and of escaped ones in front, and what follows it.
 #[inline(always)]
 pub(crate) fn run_in_front(class: Class, text: &[u8]) -> (&[u8], &[u8])

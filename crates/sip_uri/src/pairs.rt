@@ -20,7 +20,7 @@ pub(crate) struct Pair<'a> {
 }
 
 /// What follows a mark in front, or nothing at the end of the text; no other octet may stand there.
-fn behind_end(text: &[u8], mark: u8) -> Option<Option<&[u8]>>
+pub(crate) fn behind_end(text: &[u8], mark: u8) -> Option<Option<&[u8]>>
     ensures { option_map (λ found. option_map (λ rest. rest.now) found) result
         ≡ spec.behind_end mark text.now }
 {
