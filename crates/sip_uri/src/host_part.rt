@@ -13,7 +13,6 @@ use crate::hostname::is_hostname;
 use dns_name::Name;
 use ip_text::{behind_front, ipv4_octets, ipv6_octets, next_part};
 use std::alloc::{AllocError, Global};
-use std::str;
 
 /// A host as it stands in a text.
 #[derive(Clone, Copy, Debug)]
@@ -26,19 +25,12 @@ pub enum HostPart<'a> {
     Domain(&'a [u8]),
 }
 
-/// The name of a hostname.
+/// The name of a hostname. It is refused for want of memory alone.
 fn name_of_hostname(alloc: Global, hostname: &[u8]) -> Result<Name, AllocError>
     requires { DomainText hostname.now (name_of hostname.now) }
     ensures { IfOk result (λ name. name ≡ name_of hostname.now) }
 {
-    // A hostname is ASCII, and its name is refused for want of memory alone.
-    let Ok(text) = str::from_utf8(hostname) else {
-        return Err(AllocError);
-    };
-    match Name::from_text(alloc, text) {
-        Ok(name) => Ok(name),
-        Err(_) => Err(AllocError),
-    }
+    Name::of_hostname(alloc, hostname)
 }
 
 impl HostPart<'_> {
