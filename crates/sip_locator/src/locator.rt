@@ -60,26 +60,27 @@ pub enum Located<B> {
 /// The choice of a request over what a book has at a moment.
 fn choose_at<B: AnswerBook>(
     alloc: Global,
-    source: &BookAt<'_, B>,
+    book: &B,
     seat: &mut B::Seat,
     request: &Request,
     caps: &Caps,
     words: &Words,
+    now: Moment,
 ) -> Result<Choice, AllocError>
-    requires { B.belongs source.now.book.now seat.old }
-    ensures stays { B.belongs source.now.book.now seat.new }
+    requires { B.belongs book.now seat.old }
+    ensures stays { B.belongs book.now seat.new }
     ensures goes_on { GoesOn (B.shown seat.old) (B.shown seat.new) }
     ensures stores_nothing { StoresNothing (B.shown seat.old) (B.shown seat.new) }
     ensures chosen { (new : SelectionValue)
-        × Gains (B.shown seat.new).seen source.now.now (B.shown seat.old).seen
+        × Gains (B.shown seat.new).seen now (B.shown seat.old).seen
         (begun request.now caps.now words.now.0) new
         × IfOk result (ChoiceIs new) }
     ensures lacks { IfOk result (ChoiceLacks
-        (λ question found. found ≡ cached (B.shown seat.new).seen question source.now.now)) }
+        (λ question found. found ≡ cached (B.shown seat.new).seen question now)) }
     ensures memory { OnErr result
         (IsNotRefused (now_of (begun request.now caps.now words.now.0))) }
 {
-    choose(alloc, request, caps, words, source, seat)
+    choose(alloc, request, caps, words, &BookAt { book, now }, seat)
 }
 
 /// Where a request goes: as `Locator::new` and one `step`, but the request and the words are copied
@@ -102,8 +103,7 @@ pub fn locate<B: AnswerBook>(
     ensures memory { OnErr result
         (IsNotRefused (now_of (begun request.now caps.now words.now.0))) }
 {
-    let source = BookAt { book, now };
-    match choose_at(alloc, &source, seat, request, caps, words)? {
+    match choose_at(alloc, book, seat, request, caps, words, now)? {
         Choice::Targets(targets) => Ok(Located::Targets(targets)),
         Choice::Refused(reason) => Ok(Located::Refused(reason)),
         Choice::Asks(selection) => Ok(Located::Missing(Locator {

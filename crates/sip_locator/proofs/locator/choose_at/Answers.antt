@@ -6,19 +6,19 @@ use Rattle.sip_locator.proofs.locator.choose_at.Goals as goal
 pub returns-clause-stays : goal.returns-clause-stays
 returns-clause-stays g c =
     let a = c.args in
-    is-ready g.B.AnswerBook.shown (g.B.AnswerBook.belongs a.source.now.book.now) a.source.now.now
+    is-ready g.B.AnswerBook.shown (g.B.AnswerBook.belongs a.book.now) a.now
     (begun a.request.now a.caps.now a.words.now.0) a.seat.now c.choose.ensures.chosen.1
 
 pub returns-clause-goes_on : goal.returns-clause-goes_on
 returns-clause-goes_on g c =
     let a = c.args in
-    (progress g.B.AnswerBook.shown (g.B.AnswerBook.belongs a.source.now.book.now) a.source.now.now
+    (progress g.B.AnswerBook.shown (g.B.AnswerBook.belongs a.book.now) a.now
     (begun a.request.now a.caps.now a.words.now.0) a.seat.now c.choose.ensures.chosen.1).1.goes_on
 
 pub returns-clause-stores_nothing : goal.returns-clause-stores_nothing
 returns-clause-stores_nothing g c =
     let a = c.args in
-    (progress g.B.AnswerBook.shown (g.B.AnswerBook.belongs a.source.now.book.now) a.source.now.now
+    (progress g.B.AnswerBook.shown (g.B.AnswerBook.belongs a.book.now) a.now
     (begun a.request.now a.caps.now a.words.now.0) a.seat.now c.choose.ensures.chosen.1).1.stores_nothing
 
 pub returns-clause-chosen : goal.returns-clause-chosen
@@ -26,7 +26,7 @@ returns-clause-chosen g c =
     let a = c.args in
     let chosen = c.choose.ensures.chosen in (
       with_given (begun a.request.now a.caps.now a.words.now.0) chosen.0,
-      (progress g.B.AnswerBook.shown (g.B.AnswerBook.belongs a.source.now.book.now) a.source.now.now
+      (progress g.B.AnswerBook.shown (g.B.AnswerBook.belongs a.book.now) a.now
           (begun a.request.now a.caps.now a.words.now.0) a.seat.now chosen.1).1.gains,
       chosen.2,
     )
