@@ -22,7 +22,7 @@ fn servers_of(alloc: Global, message: Message) -> Result<Vec<SrvRecord>, AllocEr
 
 /// Puts the records in order so many times, each time from another word on, and gives the last
 /// order.
-fn last_order(alloc: Global, servers: &[SrvRecord], words: &Words, rounds: usize) -> Option<Indexes>
+fn last_order(servers: &[SrvRecord], words: &Words, rounds: usize) -> Option<Indexes>
     requires { length servers.now ≤ RECORD_LIMIT }
     ensures { IfSome result (λ places. (from : ℕ) × (next : ℕ)
         × (order_from servers.now words.now.0 from ≡ Listed places next)) }
@@ -30,8 +30,8 @@ fn last_order(alloc: Global, servers: &[SrvRecord], words: &Words, rounds: usize
     let mut last = None;
     for round in 0..rounds {
         let from = round % (WORD_COUNT - RECORD_LIMIT);
-        last = match order(alloc, servers, words, from) {
-            Ok(SrvOutcome::Listed(places, _)) => Some(places),
+        last = match order(servers, words, from) {
+            SrvOutcome::Listed(places, _) => Some(places),
             _ => None,
         };
     }
@@ -65,11 +65,11 @@ pub extern "C" fn bench_order(
     if servers.len() > RECORD_LIMIT {
         return 0;
     }
-    let Some(last) = last_order(alloc, servers.as_slice(), &Words(words), rounds) else {
+    let Some(last) = last_order(servers.as_slice(), &Words(words), rounds) else {
         return 0;
     };
     for (to, place) in places.iter_mut().zip(last.as_slice()) {
-        *to = *place;
+        *to = usize::from(*place);
     }
     last.len()
 }

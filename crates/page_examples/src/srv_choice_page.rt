@@ -36,7 +36,7 @@ fn records_are_put_in_order(rt: HostRuntime) -> Result<(), Fail> {
     let words = Words([0; WORD_COUNT]);
     assert!(rt; records.len() <= RECORD_LIMIT);
     // records of priority 20 and 10
-    match order(alloc, records.as_slice(), &words, 0)? {
+    match order(records.as_slice(), &words, 0) {
         // the indexes of the records, and how many words are used
         SrvOutcome::Listed(indexes, used) => {
             assert_eq!(rt; (indexes.as_slice(), used), ([1, 0].as_slice(), 2));

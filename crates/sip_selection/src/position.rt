@@ -165,12 +165,7 @@ fn push_answer<S: AnswerSource>(
     ensures lacks { IfOk result
         (consult.ServiceStepLacks (S.says context.now.source.now seat.new)) }
 {
-    let outcome = order(
-        context.alloc,
-        servers_in(&answer),
-        context.words,
-        position.word,
-    )?;
+    let outcome = order(servers_in(&answer), context.words, position.word);
     let behind = position.behind(&outcome);
     match outcome {
         SrvOutcome::Absent | SrvOutcome::Denied => Ok(ServiceStep::Position(behind)),

@@ -17,6 +17,19 @@ use dns_name::Name;
 use sip_uri::{Address, Transport};
 use std::alloc::AllocError;
 
+/// How many targets there is room for once there is one.
+const FIRST_ROOM: usize = 8;
+
+/// Makes room for the first targets.
+fn make_room(targets: &mut Vec<Target>) -> Result<(), AllocError>
+    ensures { targets.new.items ≡ targets.old.items }
+{
+    if targets.is_empty() {
+        targets.reserve(FIRST_ROOM)?;
+    }
+    Ok(())
+}
+
 /// Adds these addresses of IPv4 at a port.
 fn push_v4(
     targets: &mut Vec<Target>,
@@ -27,6 +40,7 @@ fn push_v4(
     ensures { OnOk result (targets.new.items ≡ targets.old.items
         ++ map (spec.target_at transport port) (map Address.V4 addresses.now)) }
 {
+    make_room(targets)?;
     for octets in addresses {
         targets.push(Target {
             transport,
@@ -47,6 +61,7 @@ fn push_v6(
     ensures { OnOk result (targets.new.items ≡ targets.old.items
         ++ map (spec.target_at transport port) (map Address.V6 addresses.now)) }
 {
+    make_room(targets)?;
     for octets in addresses {
         targets.push(Target {
             transport,
@@ -190,7 +205,7 @@ pub(crate) fn push_indexes<S: AnswerSource>(
     context: &Context<'_, S>,
     transport: Transport,
     servers: &[SrvRecord],
-    indexes: &[usize],
+    indexes: &[u8],
     from: Cursor,
 ) -> Result<Option<(Cursor, Question)>, AllocError>
     requires needs { consult.Needs (consult.inquiry context.now) walk.old.known
@@ -215,7 +230,7 @@ pub(crate) fn push_indexes<S: AnswerSource>(
 {
     let mut kind = from.kind;
     for server in from.server..indexes.len() {
-        let index = indexes[server];
+        let index = usize::from(indexes[server]);
         if let Some((kind, question)) = push_index(
             walk, seat, context, transport, servers, index, kind,
         )? {

@@ -1,14 +1,14 @@
 //! Lists of indexes of records.
 ghost use Rattle.std.specs.Prelude.{◌≡◌, ◌↔◌, [], length, IsTrue};
 
+use crate::next_index::RECORD_LIMIT;
+use arrayvec::ArrayVec;
 use std::marker::Model;
 
 /// Indexes of records, from 0, in the order in which the records are to be tried.
-///
-/// It gives its `Vec` back without memory.
 #[derive(Debug, Drop)]
 pub struct Indexes {
-    items: Vec<usize>,
+    items: ArrayVec<u8, RECORD_LIMIT>,
 }
 
 impl Model for Indexes {
@@ -21,22 +21,14 @@ impl Model for Indexes {
 
 impl Indexes {
     /// These indexes.
-    pub(crate) fn from_vec(items: Vec<usize>) -> Indexes
+    pub(crate) fn from_items(items: ArrayVec<u8, RECORD_LIMIT>) -> Indexes
         ensures { result ≡ items.items }
     {
         Indexes { items }
     }
 
-    /// The indexes, as a `Vec`.
-    pub fn into_vec(self) -> Vec<usize>
-        ensures { result.items ≡ self }
-    {
-        let Indexes { items } = self;
-        items
-    }
-
     /// The indexes, as a slice.
-    pub fn as_slice(&self) -> &[usize]
+    pub fn as_slice(&self) -> &[u8]
         ensures { result.now ≡ self.now }
     {
         self.items.as_slice()

@@ -45,14 +45,9 @@ pub(crate) fn servers_of(
 }
 
 /// The outcome for records, by words from an index on.
-fn outcome(
-    alloc: Global,
-    records: &[SrvRecord],
-    words: &Words,
-    from: usize,
-) -> Result<SrvOutcome, Fault> {
+fn outcome(records: &[SrvRecord], words: &Words, from: usize) -> Result<SrvOutcome, Fault> {
     if records.len() <= RECORD_LIMIT && from <= WORD_COUNT - records.len() {
-        Ok(order(alloc, records, words, from)?)
+        Ok(order(records, words, from))
     } else {
         Err(Fault::Form)
     }
@@ -61,7 +56,7 @@ fn outcome(
 /// Writes indexes, and the index of the next word.
 fn push_listed(output: &mut Output, indexes: &Indexes, next: usize) {
     for index in indexes.as_slice() {
-        output.push_length(*index);
+        output.push_length(usize::from(*index));
         output.push(" ");
     }
     output.push("next word ");
@@ -86,7 +81,7 @@ fn ordered(output: &mut Output, input: &str) -> Result<(), Fault> {
     let from = count(from)?;
     let words = words_from(from, words)?;
     let records = servers_of(output.alloc(), only_line(lines), "\n")?;
-    let outcome = outcome(output.alloc(), &records, &words, from)?;
+    let outcome = outcome(&records, &words, from)?;
     push_outcome(output, &outcome);
     Ok(())
 }

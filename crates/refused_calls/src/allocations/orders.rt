@@ -31,11 +31,11 @@ fn server(alloc: Global, priority: u16, target: &str) -> Option<SrvRecord> {
 }
 
 /// `order`
-fn outcome(alloc: Global, records: &[SrvRecord]) -> Option<SrvOutcome> {
+fn outcome(records: &[SrvRecord]) -> SrvOutcome {
     if records.len() > RECORD_LIMIT {
-        return Some(SrvOutcome::Absent);
+        return SrvOutcome::Absent;
     }
-    order(alloc, records, &WORDS, 0).ok()
+    order(records, &WORDS, 0)
 }
 
 /// Whether of two records the second comes first.
@@ -46,20 +46,20 @@ fn is_turned(outcome: &SrvOutcome) -> bool {
     }
 }
 
-/// Two servers, whose order takes memory.
+/// Two servers.
 fn two(alloc: Global) -> Option<bool> {
     let mut records = Vec::new(alloc);
     records.push(server(alloc, 20, HOST)?).ok()?;
     records.push(server(alloc, 10, HOST)?).ok()?;
-    Some(is_turned(&outcome(alloc, &records)?))
+    Some(is_turned(&outcome(&records)))
 }
 
-/// Whether the answer takes no memory: no `None` comes of the call.
-fn is_said(outcome: Option<SrvOutcome>, denied: bool) -> bool {
+/// Whether the service is denied, or else absent.
+fn is_said(outcome: &SrvOutcome, denied: bool) -> bool {
     match outcome {
-        Some(SrvOutcome::Denied) => denied,
-        Some(SrvOutcome::Absent) => !denied,
-        _ => false,
+        SrvOutcome::Denied => denied,
+        SrvOutcome::Absent => !denied,
+        SrvOutcome::Listed(_, _) => false,
     }
 }
 
@@ -67,7 +67,7 @@ fn is_said(outcome: Option<SrvOutcome>, denied: bool) -> bool {
 fn denied(alloc: Global) -> Option<bool> {
     let mut records = Vec::new(alloc);
     records.push(server(alloc, 0, ".")?).ok()?;
-    Some(is_said(outcome(alloc, &records), true))
+    Some(is_said(&outcome(&records), true))
 }
 
 /// What a call says.
@@ -75,7 +75,7 @@ fn says(alloc: Global, call: Call) -> Option<bool> {
     match call {
         Call::Two => two(alloc),
         Call::Denied => denied(alloc),
-        Call::Absent => Some(is_said(outcome(alloc, &[]), false)),
+        Call::Absent => Some(is_said(&outcome(&[]), false)),
     }
 }
 

@@ -1,4 +1,3 @@
-use Rattle.std.proofs.Common.{get_or, refl}
 use Rattle.sip_selection.specs.Consulting.{inquiry}
 use Rattle.sip_selection.specs.Stages.{index_left, servers_left}
 use Rattle.sip_selection.proofs.Consulting.{came-grown, came-needs, extends-on, needs-of}
@@ -13,9 +12,9 @@ push_index-requires-clause-needs g c =
     let it = inquiry a.context.now in
     needs-of it l.walk.known
     (λ all. servers_left caps all a.transport a.servers.now a.indexes.now (record { server = l.server; kind = l.kind }))
-    (λ all. index_left caps all a.transport a.servers.now (get_or a.indexes.now l.server 0) l.kind)
+    (λ all. index_left caps all a.transport a.servers.now c.from-index.result l.kind)
     (λ all question extends is. index-stops caps a.transport a.servers.now a.indexes.now l.server l.kind
-    (get_or a.indexes.now l.server 0) c.loop-server-test.true refl all question is)
+    c.from-index.result c.loop-server-test.true c.from-index.ensures all question is)
     (came-needs it a.walk.now.known l.walk.known (λ all. servers_left caps all a.transport a.servers.now a.indexes.now) a.from
     a.walk.now.targets.items _ l.walk.targets.items l.invariant.more l.invariant.came c.requires.needs)
 
@@ -26,7 +25,7 @@ returns-in-Some-clause-reaches g c =
     let caps = a.context.now.caps.now in
     let then = c.push_index.new.walk.known in
     let part = rw c.in-Some.is at c.in_ok-kind.ensures.reaches in
-    let index = get_or a.indexes.now l.server 0 in
+    let index = c.from-index.result in
     let came = came-grown l.walk.known then (λ all. servers_left caps all a.transport a.servers.now a.indexes.now) a.from
     a.walk.now.targets.items _ l.walk.targets.items c.in_ok-kind.ensures.extends l.invariant.came in
     came-stop then (λ all. servers_left caps all a.transport a.servers.now a.indexes.now) a.from a.walk.now.targets.items _ _
@@ -34,10 +33,10 @@ returns-in-Some-clause-reaches g c =
     (came-more then
     (λ all. servers_left caps all a.transport a.servers.now a.indexes.now) a.from a.walk.now.targets.items _ _ l.walk.targets.items _
     part.0 came part.1
-    (server-part caps a.transport a.servers.now a.indexes.now l.server l.kind index c.loop-server-test.true refl then c.in-Some.kind
-    c.in-Some.question part.0 part.2))
-    (server-stops caps a.transport a.servers.now a.indexes.now l.server l.kind index c.loop-server-test.true refl then c.in-Some.kind
-    c.in-Some.question part.0 part.2)
+    (server-part caps a.transport a.servers.now a.indexes.now l.server l.kind index c.loop-server-test.true c.from-index.ensures then
+    c.in-Some.kind c.in-Some.question part.0 part.2))
+    (server-stops caps a.transport a.servers.now a.indexes.now l.server l.kind index c.loop-server-test.true c.from-index.ensures then
+    c.in-Some.kind c.in-Some.question part.0 part.2)
 
 pub returns-in-Some-clause-extends : goal.returns-in-Some-clause-extends
 returns-in-Some-clause-extends g c =
@@ -51,13 +50,14 @@ loop-server-preserved g c =
     let caps = a.context.now.caps.now in
     let then = c.push_index.new.walk.known in
     let part = rw c.in_default.is at c.in_ok-kind.ensures.reaches in
-    let index = get_or a.indexes.now l.server 0 in
+    let index = c.from-index.result in
     let came = came-grown l.walk.known then (λ all. servers_left caps all a.transport a.servers.now a.indexes.now) a.from
     a.walk.now.targets.items _ l.walk.targets.items c.in_ok-kind.ensures.extends l.invariant.came in
     record {
       came = came-more then (λ all. servers_left caps all a.transport a.servers.now a.indexes.now) a.from a.walk.now.targets.items _ _
           l.walk.targets.items _ part.0 came part.1
-          (server-done caps a.transport a.servers.now a.indexes.now l.server l.kind index c.loop-server-test.true refl then part.0 part.2);
+          (server-done caps a.transport a.servers.now a.indexes.now l.server l.kind index c.loop-server-test.true c.from-index.ensures then
+          part.0 part.2);
       more = extends-on a.walk.now.known l.walk.known then l.invariant.more c.in_ok-kind.ensures.extends;
       consulted = c.push_index.ensures.consulted;
     }
