@@ -8,12 +8,12 @@ mod Sources
 mod Outcomes
 mod ChoiceLaws
 mod Counting
+mod Answered
 mod Asking
 mod Beginning
 mod Runs
 mod Needings
 mod Reaching
-mod Answered
 mod Walking
 mod Choosing
 mod Steps

@@ -1,16 +1,16 @@
 -- How what the code keeps is seen in the definitions.
-use Rattle.std.specs.Prelude.{◌≡◌, ⊤, Err, Option, None}
-use Rattle.std.specs.Arc.{arc_value}
-use Rattle.std.specs.declared.sync.Arc.{Arc}
+use Rattle.std.specs.Prelude.{◌≡◌, ⊤, ℕ, List, Err, Option, None}
+use Rattle.std.specs.Hash.FoldHasher as folding
+use Rattle.dns_name.specs.Labels.{wire_of}
 use Rattle.dns_message.specs.declared.question.Question.{Question}
 use Rattle.dns_answers.specs.Values.{AnswerValue}
-use Rattle.sip_selection.specs.Known.{Given, Needing}
+use Rattle.sip_selection.specs.Known.{Needing}
 use Rattle.sip_selection.specs.declared.known.Stop.{Stop}
 use Rattle.sip_selection.specs.declared.known.Stop.TheVariants.{Need, Memory}
 
--- a question with its answer
-abbrev pub given_of : {Z : Type 0} → Question × Arc AnswerValue Z → Given
-given_of answered = record { question = answered.0; answer = arc_value answered.1 }
+-- the hash of a name: equal names have one hash
+abbrev pub hash_of_name : List (List ℕ) → ℕ
+hash_of_name name = folding.finish (folding.write folding.initial (wire_of name))
 
 -- where a value needs a question, it stops there; memory can be refused anywhere
 abbrev pub StopsAt : {X : Type 0} → Stop → Needing X → Type 0

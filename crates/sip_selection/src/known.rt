@@ -1,16 +1,18 @@
 //! The answers that were given (RFC 3263 4), and the question that comes first where one lacks.
-ghost use Rattle.std.specs.Prelude.{◌≡◌, ◌<◌, ◌∷◌, ◌++◌, [], List, length, take, IfErr, IfSome, MatchResult, OnOk, OnErr, Ok, Err};
+ghost use Rattle.std.specs.Prelude.{◌≡◌, ◌<◌, ◌∷◌, ◌++◌, [], List, length, take, IfErr, MatchResult, OnOk, OnErr, Ok, Err};
 ghost use Rattle.std.specs.Arc.{arc_value};
+ghost use Rattle.std.specs.List.{find};
+ghost use Rattle.std.specs.Option.{option_map};
+ghost use Rattle.dns_message.specs.Questions.{same_question};
 ghost use Rattle.sip_selection.specs.Known.{Given, answer_to};
-ghost use Rattle.sip_selection.specs.Views.{StopsAt};
+ghost use Rattle.sip_selection.specs.Views.{StopsAt, hash_of_name};
 ghost use Rattle.sip_selection.specs.declared.known.Stop.TheVariants as stop;
 
-use crate::question_key::QuestionKey;
 use dns_answers::Answer;
 use dns_message::{Kind, Question};
 use dns_name::Name;
-use indexmap::IndexMap;
 use std::alloc::{AllocError, Global};
+use std::hash::{FoldHasher, Hasher};
 use std::marker::Model;
 use std::sync::Arc;
 
@@ -31,24 +33,69 @@ impl From<AllocError> for Stop {
     }
 }
 
-/// The answers that were given, in the order in which they came, and by their questions.
+/// The hash of a name.
+fn hash_of_name(name: &Name) -> u64
+    ensures { result ≡ hash_of_name name.now }
+{
+    let mut hasher = FoldHasher::default();
+    hasher.write(name.wire());
+    hasher.finish()
+}
+
+/// An answer that was given to a question.
+#[derive(Drop)]
+struct Entry {
+    /// The hash of the name of the question.
+    name_hash: u64,
+    question: Question,
+    answer: Arc<Answer>,
+}
+
+impl Model for Entry {
+    ghost use Rattle.std.specs.Prelude.{◌≡◌};
+    ghost use Rattle.std.specs.Arc.{arc_value};
+    ghost use Rattle.sip_selection.specs.Known.{Given};
+    ghost use Rattle.sip_selection.specs.Views.{hash_of_name};
+
+    ghost Value = { Given };
+
+    ghost view = { λ it. record { question = it.question; answer = arc_value it.answer } };
+
+    ghost invariant = { λ it. it.name_hash ≡ hash_of_name it.question.name };
+}
+
+impl Entry {
+    /// Whether it is of the question for this kind of records of a name, which has this hash. Names
+    /// are compared only where their hashes are the same.
+    fn is_of(&self, name_hash: u64, name: &Name, kind: Kind) -> bool
+        requires { name_hash ≡ hash_of_name name.now }
+        ensures { result ≡ same_question self.now.question
+            (record { name = name.now; kind = kind }) }
+    {
+        if self.name_hash != name_hash {
+            return false;
+        }
+        self.question.kind == kind && self.question.name == *name
+    }
+}
+
+/// The answers that were given, in the order in which they came.
 #[derive(Drop)]
 pub(crate) struct Known {
-    answers: IndexMap<QuestionKey, Arc<Answer>>,
+    entries: Vec<Entry>,
 }
 
 impl Model for Known {
-    ghost use Rattle.std.specs.Prelude.{List, map};
+    ghost use Rattle.std.specs.Prelude.{List};
     ghost use Rattle.sip_selection.specs.Known.{Given};
-    ghost use Rattle.sip_selection.specs.Views.{given_of};
 
     ghost Value = { List Given };
 
-    ghost view = { λ it. map given_of it.answers.entries };
+    ghost view = { λ it. it.entries.items };
 }
 
 /// How many answers there is room for once there is one: few requests use more.
-const FIRST_ROOM: usize = 16;
+const FIRST_ROOM: usize = 12;
 
 impl Known {
     /// None.
@@ -56,7 +103,7 @@ impl Known {
         ensures { result ≡ [] }
     {
         Known {
-            answers: IndexMap::new(alloc),
+            entries: Vec::new(alloc),
         }
     }
 
@@ -67,31 +114,22 @@ impl Known {
             ≡ Ok (arc_value answer.now))
             (λ it. StopsAt it (answer_to self.now (record { name = name.now; kind = kind }))) }
     {
-        if let Some(answer) = self.last_answer_to(name, kind) {
-            return Ok(answer);
+        if let Some(entry) = self.entry_of(name, kind) {
+            return Ok(&entry.answer);
         }
         let name = name.try_clone()?;
-        let asked = QuestionKey {
-            question: Question { name, kind },
-        };
-        match self.answers.get(&asked) {
-            Some(answer) => Ok(answer),
-            None => Err(Stop::Need(asked.question)),
-        }
+        Err(Stop::Need(Question { name, kind }))
     }
 
-    /// The last answer, if it is to the question for this kind of records of a name: a choice that
-    /// goes on asks first for the answer that was just given.
-    fn last_answer_to(&self, name: &Name, kind: Kind) -> Option<&Arc<Answer>>
-        ensures { IfSome result (λ answer. answer_to self.now
-            (record { name = name.now; kind = kind }) ≡ Ok (arc_value answer.now)) }
+    /// The first entry of the question for this kind of records of a name.
+    fn entry_of(&self, name: &Name, kind: Kind) -> Option<&Entry>
+        ensures { option_map (λ entry. entry.now) result ≡ find (λ it. same_question it.question
+            (record { name = name.now; kind = kind })) self.now }
     {
-        let last = self.answers.len().checked_sub(1)?;
-        let (asked, answer) = self.answers.get_index(last)?;
-        if !asked.is_for(name, kind) {
-            return None;
-        }
-        Some(answer)
+        let name_hash = hash_of_name(name);
+        self.entries
+            .iter()
+            .find(|entry| entry.is_of(name_hash, name, kind))
     }
 
     /// Adds the answer to a question that had none, or gives the question back.
@@ -105,9 +143,15 @@ impl Known {
         if self.make_room().is_err() {
             return Err(question);
         }
-        match self.answers.insert(QuestionKey { question }, answer) {
-            Ok(_) => Ok(()),
-            Err(failed) => Err(failed.value.0.question),
+        let name_hash = hash_of_name(&question.name);
+        let entry = Entry {
+            name_hash,
+            question,
+            answer,
+        };
+        match self.entries.push(entry) {
+            Ok(()) => Ok(()),
+            Err(failed) => Err(failed.value.question),
         }
     }
 
@@ -115,8 +159,8 @@ impl Known {
     fn make_room(&mut self) -> Result<(), AllocError>
         ensures { self.new ≡ self.old }
     {
-        if self.answers.is_empty() {
-            self.answers.reserve(FIRST_ROOM)?;
+        if self.entries.is_empty() {
+            self.entries.reserve(FIRST_ROOM)?;
         }
         Ok(())
     }
@@ -125,14 +169,14 @@ impl Known {
     pub(crate) fn count(&self) -> usize
         ensures { result ≡ length self.now }
     {
-        self.answers.len()
+        self.entries.len()
     }
 
     /// Takes all but the first ones away.
     pub(crate) fn truncate(&mut self, count: usize)
         ensures { self.new ≡ take count self.old }
     {
-        self.answers.truncate(count);
+        self.entries.truncate(count);
     }
 
     /// Takes the last one away, and gives its question.
@@ -141,8 +185,8 @@ impl Known {
         ensures { (others : List Given) (last : Given) → self.old ≡ others ++ last ∷ []
             → (self.new ≡ others) × (result ≡ last.question) }
     {
-        match self.answers.pop() {
-            Some((asked, _)) => asked.question,
+        match self.entries.pop() {
+            Some(entry) => entry.question,
             None => unreachable!(),
         }
     }

@@ -64,7 +64,6 @@ mod failover;
 mod known;
 mod laws;
 mod position;
-mod question_key;
 mod reason;
 mod request;
 mod request_line;
