@@ -244,6 +244,7 @@ fn candidates_by<S: AnswerSource>(
     context: &Context<'_, S>,
     rules: &[NaptrRecord],
 ) -> Result<Candidates, AllocError>
+    requires { length rules.now ≤ 32 }
     ensures few { IfOk result left_of.CandidatesFits }
     ensures is { IfOk result (λ candidates. (all : List known_as.Given)
         → spec.by_rules context.now.secure context.now.caps.now context.now.words.now.0 all
