@@ -22,8 +22,8 @@ use crate::requests::known::Known;
 use crate::requests::rows::{Row, large_row, small_rows};
 use answer_cache::{AnswerBook, ListCache};
 use dns_answers::Moment;
-use sip_locator::Locator;
-use sip_selection::{Caps, Next, Request};
+use sip_locator::{Located, locate};
+use sip_selection::{Caps, Request};
 use sip_uri::Transport::{Sctp, Tcp, Tls, Udp};
 use srv_choice::{WORD_COUNT, Words};
 use std::alloc::Global;
@@ -37,28 +37,12 @@ const SLICES: usize = 101;
 /// How many questions the large requests have about: 9 and 16 for each of these servers.
 const SERVERS: [usize; 4] = [4, 8, 16, 32];
 
-/// How many targets a request has.
-fn targets_of<B: AnswerBook>(
-    alloc: Global,
-    row: &Row,
-    request: Request,
-    book: &B,
-    seat: &mut B::Seat,
-    now: Moment,
-) -> usize
-    requires { B.belongs book.now seat.old }
-    ensures { B.belongs book.now seat.new }
-{
-    let Some(caps) = Caps::new(&[Udp, Tcp, Tls, Sctp], row.families) else {
-        return 0;
-    };
-    let Ok(mut locator) = Locator::<B>::new(alloc, request, caps, Words([7; WORD_COUNT])) else {
-        return 0;
-    };
-    match locator.step(book, seat, now) {
-        Ok(Next::Targets(found)) => found.len(),
-        _ => 0,
-    }
+/// The random words of each choice.
+const WORDS: Words = Words([7; WORD_COUNT]);
+
+/// What the sender of a request can do.
+fn caps_of(row: &Row) -> Option<Caps> {
+    Caps::new(&[Udp, Tcp, Tls, Sctp], row.families)
 }
 
 /// Whether a request is read anew each time.
@@ -68,17 +52,56 @@ enum Form {
     Request,
 }
 
-/// What is measured: a request, in a form, at one moment.
+/// What is measured: a request, in a form, at one moment, with what its sender has at hand.
 #[derive(Clone, Copy)]
 struct Load<'a> {
     row: &'a Row,
     form: Form,
     read: &'a Request,
+    caps: &'a Caps,
+    words: &'a Words,
     now: Moment,
 }
 
+/// How many targets a request has.
+fn targets_of<B: AnswerBook>(
+    alloc: Global,
+    load: &Load<'_>,
+    request: &Request,
+    book: &B,
+    seat: &mut B::Seat,
+) -> usize
+    requires { B.belongs book.now seat.old }
+    ensures { B.belongs book.now seat.new }
+{
+    let (caps, words, now) = (load.caps, load.words, load.now);
+    match locate(alloc, book, seat, request, caps, words, now) {
+        Ok(Located::Targets(found)) => found.len(),
+        _ => 0,
+    }
+}
+
+/// How many targets the request of a load has. In the form of text it is read first.
+fn targets_of_load<B: AnswerBook>(
+    alloc: Global,
+    load: &Load<'_>,
+    book: &B,
+    seat: &mut B::Seat,
+) -> Option<usize>
+    requires { B.belongs book.now seat.old }
+    ensures { B.belongs book.now seat.new }
+{
+    if load.form == Form::Request {
+        return Some(targets_of(alloc, load, load.read, book, seat));
+    }
+    match load.row.request(alloc) {
+        Some(request) => Some(targets_of(alloc, load, &request, book, seat)),
+        None => None,
+    }
+}
+
 /// Locates a request so many times, and gives how many targets it has.
-fn locate<B: AnswerBook>(
+fn locate_times<B: AnswerBook>(
     alloc: Global,
     load: &Load<'_>,
     book: &B,
@@ -90,14 +113,10 @@ fn locate<B: AnswerBook>(
 {
     let mut found = 0;
     'rounds: for _round in 0..rounds {
-        let request = match load.form {
-            Form::Text => load.row.request(alloc),
-            Form::Request => load.read.try_clone().ok(),
-        };
-        let Some(request) = request else {
+        let Some(count) = targets_of_load(alloc, load, book, seat) else {
             return None;
         };
-        found = targets_of(alloc, load.row, request, book, seat, load.now);
+        found = count;
     }
     Some(found)
 }
@@ -116,7 +135,7 @@ fn slice<R: Clock + AllocGlobal, B: AnswerBook>(
     let Ok(start) = Instant::now(rt) else {
         return None;
     };
-    let _ = locate(rt.alloc(), load, book, seat, rounds);
+    let _ = locate_times(rt.alloc(), load, book, seat, rounds);
     let Ok(time) = start.elapsed(rt) else {
         return None;
     };
@@ -171,7 +190,7 @@ fn measure<R: Clock + AllocGlobal, B: AnswerBook>(
     requires { B.belongs book.now seat.old }
     ensures { B.belongs book.now seat.new }
 {
-    let Some(targets) = locate(rt.alloc(), load, book, seat, 1) else {
+    let Some(targets) = locate_times(rt.alloc(), load, book, seat, 1) else {
         return None;
     };
     let Some(once) = slice(rt, load, book, seat, 1) else {
@@ -265,6 +284,8 @@ fn print_books<R: Clock + Print + Wait + AllocGlobal>(
         row,
         form: Form::Text,
         read,
+        caps: &caps_of(row)?,
+        words: &WORDS,
         now: Moment::new(100)?,
     };
     print_shared(rt, &load, known)?;
@@ -299,7 +320,7 @@ fn locate_shared<R: Wait + AllocGlobal>(
     match one_seat(rt.alloc()) {
         Some((cache, mut seat)) => {
             fill(rt, &cache, &mut seat, known, load.now);
-            locate(rt.alloc(), load, &cache, &mut seat, rounds)
+            locate_times(rt.alloc(), load, &cache, &mut seat, rounds)
         }
         None => None,
     }
@@ -314,6 +335,8 @@ fn locate_row<R: Wait + AllocGlobal>(rt: &R, row: &Row, rounds: u64) -> Option<u
         row,
         form: Form::Text,
         read: &read,
+        caps: &caps_of(row)?,
+        words: &WORDS,
         now,
     };
     locate_shared(rt, &load, known.as_slice(), rounds)
