@@ -129,7 +129,7 @@ struct Sent {
 }
 
 /// The request.
-fn sent(alloc: Global) -> Option<Sent> {
+fn request_sent(alloc: Global) -> Option<Sent> {
     Some(Sent {
         request: request(alloc)?,
         caps: caps()?,
@@ -177,7 +177,7 @@ fn locates<B: AnswerBook>(
 fn locate_both<R: Wait>(rt: &R, alloc: Global) -> Option<bool> {
     let question = question(alloc)?;
     let answer = answer(alloc, 60)?;
-    let sent = sent(alloc)?;
+    let sent = request_sent(alloc)?;
     let (book, mut seat) = ListCache::new(alloc);
     let asks_first = locates(alloc, &book, &mut seat, &sent, false);
     if !is_stored(rt, &book, &mut seat, &question, &answer) {

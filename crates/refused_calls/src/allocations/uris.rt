@@ -1,6 +1,8 @@
 //! SIP URIs and the top Via (RFC 3261 19.1 and 20.42).
 use super::are_right;
-use sip_uri::{Host, SipUri, Spoken, Transport, UriRefusal, Via, read_uri, read_via};
+use sip_uri::{
+    Host, SipUri, Spoken, Transport, UriRefusal, Via, read_uri, read_via, view_uri, view_via,
+};
 use std::alloc::Global;
 
 /// A call, and the port of its text.
@@ -8,21 +10,29 @@ use std::alloc::Global;
 enum Call {
     ReadUri(&'static str, Option<u16>),
     ReadVia(&'static str, Option<u16>),
+    UriOfView(&'static str, Option<u16>),
+    ViaOfView(&'static str, Option<u16>),
     UriCopy(&'static str, Option<u16>),
     ViaCopy(&'static str, Option<u16>),
     HostCopy,
+    HostOfView,
 }
 
-const CALLS: [Call; 9] = [
+const CALLS: [Call; 14] = [
     Call::ReadUri(URI, Some(5071)),
     Call::ReadUri(PLAIN_URI, None),
     Call::ReadVia(VIA, Some(5062)),
     Call::ReadVia(PLAIN_VIA, None),
+    Call::UriOfView(URI, Some(5071)),
+    Call::UriOfView(PLAIN_URI, None),
+    Call::ViaOfView(VIA, Some(5062)),
+    Call::ViaOfView(PLAIN_VIA, None),
     Call::UriCopy(URI, Some(5071)),
     Call::UriCopy(PLAIN_URI, None),
     Call::ViaCopy(VIA, Some(5062)),
     Call::ViaCopy(PLAIN_VIA, None),
     Call::HostCopy,
+    Call::HostOfView,
 ];
 
 /// A URI with a port and another host as `maddr`, each too long to lie in the value itself.
@@ -65,6 +75,28 @@ fn via(alloc: Global, text: &str, port: Option<u16>) -> Option<bool> {
     }
 }
 
+/// `UriParts::to_uri`
+fn uri_of_view(alloc: Global, text: &str, port: Option<u16>) -> Option<bool> {
+    match view_uri(text.as_bytes()) {
+        Ok(parts) => {
+            let uri = parts.to_uri(alloc).ok()?;
+            Some(is_uri(&uri, port))
+        }
+        Err(_) => Some(false),
+    }
+}
+
+/// `ViaParts::to_via`
+fn via_of_view(alloc: Global, text: &str, port: Option<u16>) -> Option<bool> {
+    match view_via(text.as_bytes()) {
+        Ok(parts) => {
+            let via = parts.to_via(alloc).ok()?;
+            Some(is_via(&via, port))
+        }
+        Err(_) => Some(false),
+    }
+}
+
 /// `SipUri::try_clone`
 fn uri_copy(alloc: Global, text: &str, port: Option<u16>) -> Option<bool> {
     let copy = read_uri(alloc, text).ok()?.try_clone().ok()?;
@@ -84,14 +116,28 @@ fn host_copy(alloc: Global) -> Option<bool> {
     Some(copy == uri.host && matches!(copy, Host::Domain(_)))
 }
 
+/// `HostPart::to_host`
+fn host_of_view(alloc: Global) -> Option<bool> {
+    match view_via(VIA.as_bytes()) {
+        Ok(parts) => {
+            let host = parts.host.to_host(alloc).ok()?;
+            Some(matches!(host, Host::Domain(_)))
+        }
+        Err(_) => Some(false),
+    }
+}
+
 /// What a call says.
 fn says(alloc: Global, call: Call) -> Option<bool> {
     match call {
         Call::ReadUri(text, port) => uri(alloc, text, port),
         Call::ReadVia(text, port) => via(alloc, text, port),
+        Call::UriOfView(text, port) => uri_of_view(alloc, text, port),
+        Call::ViaOfView(text, port) => via_of_view(alloc, text, port),
         Call::UriCopy(text, port) => uri_copy(alloc, text, port),
         Call::ViaCopy(text, port) => via_copy(alloc, text, port),
         Call::HostCopy => host_copy(alloc),
+        Call::HostOfView => host_of_view(alloc),
     }
 }
 
