@@ -24,4 +24,6 @@ IsLeft new (Missing locator) = (locator ≡ new) × IsAsking (now_of new)
 abbrev pub IsLocated : {Book : Type 0} → SelectionValue → List Store → List Store → ℕ
     → Located Book → Type 0
 IsLocated old first last now located =
-    (new : SelectionValue) × IsNext old new first last now (resolution_of located) × IsLeft new located
+    (new : SelectionValue)
+    × IsNext old new first last now (resolution_of located)
+    × IsLeft new located

@@ -29,9 +29,9 @@
 //! the book had no answer to it. `step` stores nothing. Where memory is refused, the answers found
 //! before it stay used, and `step` can be called again.
 //!
-//! `locate` is `Locator::new` and one `step`, for a request whose answers are likely in the book: it
-//! gives the targets, or the reason why there are none, and makes a locator only where an answer is
-//! missing.
+//! `locate` is `Locator::new` and one `step`, for a request whose answers are likely in the book.
+//! It gives the targets, or the reason why there are none, and makes a locator only where an answer
+//! is missing.
 //!
 //! `reply` takes the octets of one DNS message. Where the message answers the question that is
 //! asked, the answer counts for this request, and the book is then told to store it. `Kept` says

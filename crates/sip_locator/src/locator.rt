@@ -205,8 +205,8 @@ impl<B: AnswerBook> Locator<B> {
         }
     }
 
-    /// Looks up each question that is asked, until one is not answered or none is asked. Where memory
-    /// is refused they are looked up in turn, so that the answers found before stay used.
+    /// Looks up each question that is asked, until one is not answered or none is asked. Where
+    /// memory is refused they are looked up in turn, so that the answers found before stay used.
     fn look_all_up(&mut self, book: &B, seat: &mut B::Seat, now: Moment) -> Result<(), AllocError>
         requires { B.belongs book.now seat.old }
         ensures stays { B.belongs book.now seat.new }

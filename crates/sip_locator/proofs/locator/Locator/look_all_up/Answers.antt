@@ -43,12 +43,14 @@ look_up_in_turn-requires g c =
 
 pub returns-in-Err-clause-goes_on : goal.returns-in-Err-clause-goes_on
 returns-in-Err-clause-goes_on g c =
-    on-through _ _ _ (progress g.B.AnswerBook.shown (g.B.AnswerBook.belongs c.args.book.now) c.args.now c.self.inside.selection c.args.seat.now
+    on-through _ _ _
+    (progress g.B.AnswerBook.shown (g.B.AnswerBook.belongs c.args.book.now) c.args.now c.self.inside.selection c.args.seat.now
     c.in-Err.ensures.goes_on.1).1.goes_on c.look_up_in_turn.ensures.goes_on
 
 pub returns-in-Err-clause-stores_nothing : goal.returns-in-Err-clause-stores_nothing
 returns-in-Err-clause-stores_nothing g c =
-    nothing-through _ _ _ (progress g.B.AnswerBook.shown (g.B.AnswerBook.belongs c.args.book.now) c.args.now c.self.inside.selection c.args.seat.now
+    nothing-through _ _ _
+    (progress g.B.AnswerBook.shown (g.B.AnswerBook.belongs c.args.book.now) c.args.now c.self.inside.selection c.args.seat.now
     c.in-Err.ensures.goes_on.1).1.stores_nothing c.look_up_in_turn.ensures.stores_nothing
 
 pub returns-in-Err-clause-gains : goal.returns-in-Err-clause-gains
