@@ -210,7 +210,7 @@ struct Timed {
 }
 
 /// The moment and the request of a line.
-fn timed(alloc: Global, line: &str) -> Result<Timed, Fault> {
+fn timed_request(alloc: Global, line: &str) -> Result<Timed, Fault> {
     let (now, rest) = split_word(line);
     match moment(now) {
         Ok(now) => match read_sending(alloc, rest) {
@@ -264,7 +264,7 @@ fn locate_at<B: AnswerBook>(
     requires { B.belongs book.now seat.old }
     ensures { B.belongs book.now seat.new }
 {
-    match timed(output.alloc(), line) {
+    match timed_request(output.alloc(), line) {
         Ok(it) => {
             let located = located(output.alloc(), book, seat, &it);
             push_located(output, locators, located);
