@@ -24,10 +24,20 @@ fn parts_of() -> Result<UriParts<'static>, UriRefusal> {
     Ok(parts)
 }
 
+/// Whether a host is this address of IPv4.
+fn is_v4(host: HostPart<'_>, octets: [u8; 4]) -> bool {
+    match host {
+        HostPart::V4(found) => found == octets,
+        HostPart::V6(_) | HostPart::Domain(_) => false,
+    }
+}
+
 #[test]
 fn uri_is_seen(rt: HostRuntime) -> Result<(), Fail> {
     let parts = parts_of()?;
     assert_eq!(rt; parts.port, Some(5070));
-    assert!(rt; matches!(parts.target(), HostPart::V4([192, 0, 2, 7])));
+    // by a call, as the toolchain does not cover a pattern of octets within a variant:
+    // assert!(rt; matches!(parts.target(), HostPart::V4([192, 0, 2, 7])));
+    assert!(rt; is_v4(parts.target(), [192, 0, 2, 7]));
     Ok(())
 }
