@@ -4,14 +4,11 @@ use Rattle.std.specs.List.{join_with_byte}
 use Rattle.std.proofs.lemmas.Option.{same_Some}
 use Rattle.ip_text.specs.declared.address.Address.{Address}
 use Rattle.ip_text.specs.declared.address.Address.TheVariants.{V4, V6}
-use Rattle.ip_text.specs.Addresses.{V4Text, numbers, AreGroups, V6Text, whole, shortened, AddressText}
+use Rattle.ip_text.specs.Addresses.{V4Text, AreGroups, V6Text, whole, shortened, AddressText}
 use Rattle.ip_text.specs.Readers.{ipv4, ipv6}
 use Rattle.ip_text.proofs.Lists.{all_of-append}
-use Rattle.ip_text.proofs.V4Texts.{ipv4_read, ipv4_again, is_dotted_octet, ipv4_octets}
+use Rattle.ip_text.proofs.V4Texts.{ipv4_read, ipv4_again, is_dotted_octet, ipv4_octets, four_octets}
 use Rattle.ip_text.proofs.V6Texts.{ipv6_read, ipv6_again}
-
-four_octets : (text octets : List ℕ) → V4Text text octets → length octets ≡ 4
-four_octets text octets (numbers first second third fourth a b c d is one two three four octets-is) = ap length octets-is
 
 -- a text with a colon in it is no IPv4 text
 colon_in : (text front rest octets : List ℕ) → text ≡ front ++ 58 ∷ rest → V4Text text octets → ⊥

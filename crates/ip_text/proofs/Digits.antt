@@ -5,11 +5,11 @@ use Rattle.std.specs.Char.{is_ascii_digit, is_ascii_hexdigit, digit_value}
 use Rattle.std.proofs.lemmas.Bool.{cases_Bool}
 use Rattle.std.proofs.lemmas.Bool.Decides.{nat_tests}
 use Rattle.std.proofs.lemmas.Option.{same_Some}
-use Rattle.std.proofs.lemmas.List.{drop_more, drop_all}
-use Rattle.ip_text.specs.Numbers.{decimal_from, decimal, decimal_within, hexadecimal_from, hexadecimal}
-use Rattle.ip_text.specs.Readers.{hexadecimal_digit, hexadecimal_group}
+use Rattle.std.proofs.lemmas.List.{drop_more}
+use Rattle.ip_text.specs.Numbers.{decimal_from, decimal, decimal_within}
+use Rattle.ip_text.specs.Readers.{hexadecimal_digit}
 
-decimal_grows : (number : ℕ) (digits : List ℕ) → number ≤ decimal_from number digits
+pub decimal_grows : (number : ℕ) (digits : List ℕ) → number ≤ decimal_from number digits
 decimal_grows number [] = omega arith
 decimal_grows number (digit ∷ digits) = omega (arith, decimal_grows (10 * number + (digit - 48)) digits)
 
@@ -42,17 +42,8 @@ abbrev pub below_digits : ℕ → ℕ → Type 0
 below_digits at number = (at ≡ 0 → number < 1) × (at ≡ 1 → number < 16) × (at ≡ 2 → number < 256) × (at ≡ 3 → number < 4096)
     × (number < 65536)
 
-pub record HexadecimalSoFar (text : List ℕ) (at number : ℕ) : Type 0 where
-  pub low : below_digits at number
-  pub digits : list_all is_ascii_hexdigit (drop at text) ≡ list_all is_ascii_hexdigit text
-  pub value : hexadecimal_from number (drop at text) ≡ hexadecimal text
-
-pub none_read : (text : List ℕ) → HexadecimalSoFar text 0 0
-none_read text =
-    record { low = (λ _. omega arith, λ _. omega arith, λ _. omega arith, λ _. omega arith, omega arith); digits = refl; value = refl }
-
 -- one more digit
-low_more : (at number digit : ℕ) → at < 4 → digit < 16 → below_digits at number → below_digits (at + 1) (16 * number + digit)
+pub low_more : (at number digit : ℕ) → at < 4 → digit < 16 → below_digits at number → below_digits (at + 1) (16 * number + digit)
 low_more zero number digit within small low = let k =
     low.0 refl in (λ no. omega arith, λ _. omega arith, λ no. omega arith, λ no. omega arith, omega arith)
 low_more (suc zero) number digit within small low = let k =
@@ -63,12 +54,12 @@ low_more (suc (suc (suc zero))) number digit within small low = let k =
     low.3 refl in (λ no. omega arith, λ no. omega arith, λ no. omega arith, λ no. omega arith, omega arith)
 low_more (suc (suc (suc (suc at)))) number digit within small low = absurd (omega arith)
 
-record Digit (octet digit : ℕ) : Type 0 where
-  good : is_ascii_hexdigit octet ≡ true
-  value : digit_value octet ≡ digit
-  low : digit < 16
+pub record Digit (octet digit : ℕ) : Type 0 where
+  pub good : is_ascii_hexdigit octet ≡ true
+  pub value : digit_value octet ≡ digit
+  pub low : digit < 16
 
-digit_read : (octet digit : ℕ) → hexadecimal_digit octet ≡ Some digit → Digit octet digit
+pub digit_read : (octet digit : ℕ) → hexadecimal_digit octet ≡ Some digit → Digit octet digit
 digit_read octet digit e =
     elim (cases_Bool (is_ascii_hexdigit octet)) [
       | inl good ↦ (
@@ -87,33 +78,9 @@ number_fits number low = omega arith
 pub plus_fits : (octet number digit : ℕ) → number < 65536 → hexadecimal_digit octet ≡ Some digit → Fits w32 (16 * number + digit)
 plus_fits octet number digit low e = let k : digit < 16 = (digit_read octet digit e).low in omega arith
 
-module _ (text : List ℕ) (at number : ℕ) (so_far : HexadecimalSoFar text at number) (short : length text ≤ 4) where
-  module _ (within : at < length text) where
-    digits_are : (is_ascii_hexdigit (get_or text at 0) && list_all is_ascii_hexdigit (drop (at + 1) text)) ≡ list_all is_ascii_hexdigit text
-    digits_are = rw (drop_more text at 0 within) at so_far.digits
-
-    pub digit_more : (digit : ℕ) → hexadecimal_digit (get_or text at 0) ≡ Some digit → HexadecimalSoFar text (at + 1) (16 * number + digit)
-    digit_more digit e =
-        let k = digit_read (get_or text at 0) digit e in
-        let value : hexadecimal_from (16 * number + digit_value (get_or text at 0)) (drop (at + 1) text) ≡ hexadecimal text =
-        rw (drop_more text at 0 within) at so_far.value in
-        record {
-          low = low_more at number digit (omega arith) k.low so_far.low;
-          digits = rw k.good at digits_are;
-          value =
-              rw k.value at value;
-        }
-
-    pub no_digit : hexadecimal_digit (get_or text at 0) ≡ None → None ≡ hexadecimal_group text
-    no_digit e =
-        elim (cases_Bool (is_ascii_hexdigit (get_or text at 0))) [
-          | inl good ↦ (let no : Some (digit_value (get_or text at 0)) ≡ None = rw good at e in absurd cc)
-          | inr bad ↦ (let none : false ≡ list_all is_ascii_hexdigit text = rw bad at digits_are in grind (arith, nat_tests, none))
-        ]
-
-  pub all_digits : 0 < length text → length text ≤ at → Some number ≡ hexadecimal_group text
-  all_digits some end =
-      let left : drop at text ≡ [] = drop_all at text end in
-      let digits : true ≡ list_all is_ascii_hexdigit text = rw left at so_far.digits in
-      let value : number ≡ hexadecimal text = rw left at so_far.value in
-      grind (arith, nat_tests, digits, value)
+pub no_digit_read : (octet : ℕ) → hexadecimal_digit octet ≡ None → is_ascii_hexdigit octet ≡ false
+no_digit_read octet e =
+    elim (cases_Bool (is_ascii_hexdigit octet)) [
+      | inl good ↦ (let no : Some (digit_value octet) ≡ None = rw good at e in absurd cc)
+      | inr bad ↦ bad
+    ]

@@ -12,7 +12,7 @@ abbrev pub Complete : Bool → List ℕ → List ℕ → List ℕ → Type 0
 Complete closing text octets rest =
     groups closing (parted 58 text) ≡ option_map (λ (more : List ℕ). octets ++ more) (groups closing (parted 58 rest))
 
-first_group : (closing : Bool) (rest more : List ℕ) → behind 58 rest ≡ Some more
+pub first_group : (closing : Bool) (rest more : List ℕ) → behind 58 rest ≡ Some more
     → groups closing (parted 58 rest)
     ≡ option_and_then
     (λ (octets : List ℕ). option_map (λ (more : List ℕ). octets ++ more) (groups closing (parted 58 more))) (group (before 58 rest))
@@ -21,17 +21,18 @@ first_group closing rest more e =
     parts_are 58 rest ∙ rw e (ap (λ (l : List (List ℕ)). before 58 rest ∷ l) (parts_are 58 more)) in
     rw (parts, parts_are 58 more) refl
 
-one_group : (closing : Bool) (rest : List ℕ) → behind 58 rest ≡ None → groups closing (parted 58 rest) ≡ last_group closing (before 58 rest)
+pub one_group : (closing : Bool) (rest : List ℕ) → behind 58 rest ≡ None → groups closing (parted 58 rest)
+    ≡ last_group closing (before 58 rest)
 one_group closing rest e =
     let parts : parted 58 rest ≡ before 58 rest ∷ [] = parts_are 58 rest ∙ rw e refl in
     rw parts refl
 
-longer : (octets : List ℕ) (r : Option (List ℕ)) (all : List ℕ) → option_map (λ (more : List ℕ). octets ++ more) r ≡ Some all
+pub longer : (octets : List ℕ) (r : Option (List ℕ)) (all : List ℕ) → option_map (λ (more : List ℕ). octets ++ more) r ≡ Some all
     → (more : List ℕ) × (r ≡ Some more) × (octets ++ more ≡ all)
 longer octets None all e = absurd cc
 longer octets (Some more) all e = (more, refl, cc)
 
-appended : (a b : List ℕ) (r : Option (List ℕ))
+pub appended : (a b : List ℕ) (r : Option (List ℕ))
     → option_map (λ (more : List ℕ). a ++ more) (option_map (λ (more : List ℕ). b ++ more) r)
     ≡ option_map (λ (more : List ℕ). (a ++ b) ++ more) r
 appended a b None = refl

@@ -11,7 +11,7 @@ use Rattle.ip_text.specs.Readers.{ipv4_number, ipv4}
 use Rattle.ip_text.proofs.Cutting.{lacks, joined, at_first}
 use Rattle.ip_text.proofs.Lists.{steps_of, all_weaker, all-append}
 
-number_read : (text : List ℕ) (number : ℕ) → ipv4_number text ≡ Some number → NumberText text number
+pub number_read : (text : List ℕ) (number : ℕ) → ipv4_number text ≡ Some number → NumberText text number
 number_read text number e = record {
   some = grind (arith, nat_tests);
   short = grind (arith, nat_tests);
@@ -20,7 +20,7 @@ number_read text number e = record {
   low = grind (arith, nat_tests);
 }
 
-number_again : (text : List ℕ) (number : ℕ) → NumberText text number → ipv4_number text ≡ Some number
+pub number_again : (text : List ℕ) (number : ℕ) → NumberText text number → ipv4_number text ≡ Some number
 number_again text number is = grind (arith, nat_tests, is.some, is.short, is.digits, is.is, is.low)
 
 digits_lack : (octet : ℕ) (text : List ℕ) → is_ascii_digit octet ≡ false → list_all is_ascii_digit text ≡ true → lacks octet text ≡ true
@@ -79,3 +79,6 @@ ipv4_octets text octets (numbers first second third fourth a b c d is one two th
 pub some_in_ipv4 : (text octets : List ℕ) → V4Text text octets → 0 < length text
 some_in_ipv4 text octets (numbers first second third fourth a b c d is one two three four octets-is) =
     omega (arith, ap length is, length-append first (46 ∷ (second ++ 46 ∷ (third ++ 46 ∷ fourth))))
+
+pub four_octets : (text octets : List ℕ) → V4Text text octets → length octets ≡ 4
+four_octets text octets (numbers first second third fourth a b c d is one two three four octets-is) = ap length octets-is

@@ -19,7 +19,7 @@ use Rattle.ip_text.proofs.V4Texts.{ipv4_read, ipv4_again, is_dotted_octet, ipv4_
 
 -- ---- groups
 
-group_read : (text octets : List ℕ) → group text ≡ Some octets → GroupText text octets
+pub group_read : (text octets : List ℕ) → group text ≡ Some octets → GroupText text octets
 group_read text octets e =
     let k = mapped_from (λ (number : ℕ). number / 256 ∷ number % 256 ∷ []) (hexadecimal_group text) octets e in
     let read = k.1 in
@@ -36,16 +36,16 @@ group_again text octets is =
     let read : hexadecimal_group text ≡ Some (hexadecimal text) = grind (arith, nat_tests, is.some, is.short, is.digits) in
     rw (read, is.is) refl
 
-digits_lack : (octet : ℕ) (text : List ℕ) → is_ascii_hexdigit octet ≡ false → list_all is_ascii_hexdigit text ≡ true
+pub digits_lack : (octet : ℕ) (text : List ℕ) → is_ascii_hexdigit octet ≡ false → list_all is_ascii_hexdigit text ≡ true
     → lacks octet text ≡ true
 digits_lack octet text other digits =
     all_weaker is_ascii_hexdigit (λ (x : ℕ). not (eqb x octet)) (λ x e. grind (arith, nat_tests)) text digits
 
-no_ipv4 : (text octets : List ℕ) → GroupText text octets → ipv4 text ≡ None
+pub no_ipv4 : (text octets : List ℕ) → GroupText text octets → ipv4 text ≡ None
 unfolding ipv4
 no_ipv4 text octets is = rw ((alone 46 text (digits_lack 46 text refl is.digits)).1) refl
 
-last_read : (closing : Bool) (text octets : List ℕ) → last_group closing text ≡ Some octets → AreGroups closing (text ∷ []) octets
+pub last_read : (closing : Bool) (text octets : List ℕ) → last_group closing text ≡ Some octets → AreGroups closing (text ∷ []) octets
 last_read false text octets e = inl (group_read text octets e)
 last_read true text octets e =
     elim (either_of (ipv4 text) (group text) octets e) [
@@ -53,13 +53,13 @@ last_read true text octets e =
       | inr none ↦ inl (group_read text octets none.1)
     ]
 
-last_again : (closing : Bool) (text octets : List ℕ) → AreGroups closing (text ∷ []) octets → last_group closing text ≡ Some octets
+pub last_again : (closing : Bool) (text octets : List ℕ) → AreGroups closing (text ∷ []) octets → last_group closing text ≡ Some octets
 last_again false text octets (inl is) = group_again text octets is
 last_again false text octets (inr four) = absurd (let no : false ≡ true = four.0 in cc)
 last_again true text octets (inl is) = rw (no_ipv4 text octets is) (group_again text octets is)
 last_again true text octets (inr four) = rw (ipv4_again text octets four.1) refl
 
-groups_read : (closing : Bool) (texts : List (List ℕ)) (octets : List ℕ) → groups closing texts ≡ Some octets
+pub groups_read : (closing : Bool) (texts : List (List ℕ)) (octets : List ℕ) → groups closing texts ≡ Some octets
     → AreGroups closing texts octets
 groups_read closing [] octets e = absurd cc
 groups_read closing (text ∷ []) octets e = last_read closing text octets e
@@ -78,10 +78,10 @@ groups_again closing (text ∷ next ∷ texts) octets are =
 -- ---- groups with colons between them
 
 -- what stands between colons
-abbrev IsPart : List ℕ → Type 0
+abbrev pub IsPart : List ℕ → Type 0
 IsPart text = (0 < length text) × (lacks 58 text ≡ true)
 
-part_of_ipv4 : (text octets : List ℕ) → V4Text text octets → IsPart text
+pub part_of_ipv4 : (text octets : List ℕ) → V4Text text octets → IsPart text
 unfolding is_dotted_octet
 part_of_ipv4 text octets four = (
   some_in_ipv4 text octets four,
@@ -103,20 +103,20 @@ lack_colons : (texts : List (List ℕ)) → AllByRecursion IsPart texts → AllB
 lack_colons [] each = tt
 lack_colons (text ∷ texts) each = (each.0.1, lack_colons texts each.1)
 
-text_read : (closing : Bool) (text octets : List ℕ) → groups closing (parted 58 text) ≡ Some octets → GroupsText closing text octets
+pub text_read : (closing : Bool) (text octets : List ℕ) → groups closing (parted 58 text) ≡ Some octets → GroupsText closing text octets
 text_read closing text octets e = record {
   groups = parted 58 text;
   joined = sym (join_with_byte-slice_split 58 text);
   are = groups_read closing (parted 58 text) octets e;
 }
 
-text_again : (closing : Bool) (text octets : List ℕ) → GroupsText closing text octets → groups closing (parted 58 text) ≡ Some octets
+pub text_again : (closing : Bool) (text octets : List ℕ) → GroupsText closing text octets → groups closing (parted 58 text) ≡ Some octets
 text_again closing text octets is =
     let parts = are_parts closing is.groups octets is.are in
     let cut : parted 58 text ≡ is.groups = ap (parted 58) is.joined ∙ parts-joined 58 is.groups parts.0 (lack_colons is.groups parts.1) in
     rw cut (groups_again closing is.groups octets is.are)
 
-side_read : (closing : Bool) (text octets : List ℕ) → side closing text ≡ Some octets → SideText closing text octets
+pub side_read : (closing : Bool) (text octets : List ℕ) → side closing text ≡ Some octets → SideText closing text octets
 side_read closing [] octets e = inl (refl, sym (same_Some [] octets e))
 side_read closing (x ∷ text) octets e =
     let some : eqb (length (x ∷ text)) 0 ≡ false = grind (arith, nat_tests) in
@@ -127,7 +127,7 @@ unfolding ipv4
 last_nothing false = refl
 last_nothing true = refl
 
-side_again : (closing : Bool) (text octets : List ℕ) → SideText closing text octets → side closing text ≡ Some octets
+pub side_again : (closing : Bool) (text octets : List ℕ) → SideText closing text octets → side closing text ≡ Some octets
 side_again closing text octets (inl none) = rw (none.0, none.1) refl
 side_again closing [] octets (inr is) =
     absurd (let no : None ≡ Some octets = sym (last_nothing closing) ∙ text_again closing [] octets is in cc)
@@ -137,7 +137,7 @@ side_again closing (x ∷ text) octets (inr is) =
 
 -- ---- two colons in a row
 
-behind_read : (text right : List ℕ) → behind_colons text ≡ Some right → text ≡ 58 ∷ 58 ∷ right
+pub behind_read : (text right : List ℕ) → behind_colons text ≡ Some right → text ≡ 58 ∷ 58 ∷ right
 behind_read [] right e = absurd cc
 behind_read (x ∷ []) right e = absurd cc
 behind_read (x ∷ y ∷ text) right e =
@@ -150,7 +150,7 @@ no_colon : (x : ℕ) (text : List ℕ) → eqb x 58 ≡ false → behind_colons 
 no_colon x [] e = refl
 no_colon x (y ∷ text) e = rw e refl
 
-colon_alone : (y : ℕ) (text : List ℕ) → eqb y 58 ≡ false → behind_colons (58 ∷ y ∷ text) ≡ None
+pub colon_alone : (y : ℕ) (text : List ℕ) → eqb y 58 ≡ false → behind_colons (58 ∷ y ∷ text) ≡ None
 colon_alone y text e = rw e refl
 
 moved : (x : ℕ) (text l r left right : List ℕ) → x ∷ l ≡ left → r ≡ right → text ≡ l ++ 58 ∷ 58 ∷ r → x ∷ text ≡ left ++ 58 ∷ 58 ∷ right
@@ -171,14 +171,15 @@ module _ (x : ℕ) (text left right : List ℕ) (further : (l r : List ℕ) → 
       found_here (x ∷ text) found left right (ap (λ (s : List ℕ × List ℕ). s.0) same) (ap (λ (s : List ℕ × List ℕ). s.1) same)
       (behind_read (x ∷ text) found is)
 
-colons_read : (text left right : List ℕ) → around_colons text ≡ Some (left, right) → text ≡ left ++ 58 ∷ 58 ∷ right
+pub colons_read : (text left right : List ℕ) → around_colons text ≡ Some (left, right) → text ≡ left ++ 58 ∷ 58 ∷ right
 colons_read [] left right e = absurd cc
 colons_read (x ∷ text) left right e =
     colons_here x text left right (λ l r k. colons_read text l r k) (behind_colons (x ∷ text)) refl (sym (colons_are x text) ∙ e)
 
 -- ---- a text of parts has no two colons in a row
 
-past_part : (part rest : List ℕ) → lacks 58 part ≡ true → around_colons (part ++ rest) ≡ option_map (with_front part) (around_colons rest)
+pub past_part : (part rest : List ℕ) → lacks 58 part ≡ true
+    → around_colons (part ++ rest) ≡ option_map (with_front part) (around_colons rest)
 past_part [] rest e = sym (front_nothing (around_colons rest))
 past_part (x ∷ part) rest e =
     elim (cases_Bool (eqb x 58)) [
@@ -220,13 +221,13 @@ past_parts (text ∷ next ∷ texts) rest some each =
       rw whole' (past_part text (58 ∷ (others ++ rest)) each.0.1 ∙ rw after (front_twice text (58 ∷ others) (around_colons rest))),
     )
 
-no_colons : (closing : Bool) (text octets : List ℕ) → GroupsText closing text octets → around_colons text ≡ None
+pub no_colons : (closing : Bool) (text octets : List ℕ) → GroupsText closing text octets → around_colons text ≡ None
 no_colons closing text octets is =
     let parts = are_parts closing is.groups octets is.are in
     let k = (past_parts is.groups [] parts.0 parts.1).1 in
     rw is.joined (rw append-nil at k)
 
-colons_again : (left front right : List ℕ) → SideText false left front → around_colons (left ++ 58 ∷ 58 ∷ right) ≡ Some (left, right)
+pub colons_again : (left front right : List ℕ) → SideText false left front → around_colons (left ++ 58 ∷ 58 ∷ right) ≡ Some (left, right)
 colons_again left front right (inl none) = rw (none.0) refl
 colons_again left front right (inr is) =
     let parts = are_parts false is.groups front is.are in

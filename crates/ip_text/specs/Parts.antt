@@ -1,5 +1,5 @@
 -- A text, cut at an octet.
-use Rattle.std.specs.Prelude.{ℕ, ◌==◌, cond, List, [], ◌∷◌, Option, Some, None}
+use Rattle.std.specs.Prelude.{ℕ, ◌==◌, Bool, cond, List, [], ◌∷◌, Option, Some, None}
 use Rattle.std.specs.List.{slice_split}
 
 -- what stands before the first octet of a kind
@@ -20,3 +20,12 @@ behind_front octet (x ∷ xs) = cond (x == octet) (Some xs) None
 -- all the parts between octets of a kind
 abbrev pub parted : ℕ → List ℕ → List (List ℕ)
 parted octet text = slice_split (λ (x : ℕ). x == octet) text
+
+-- the octets of a class in front, and what follows them
+abbrev pub row : (ℕ → Bool) → List ℕ → List ℕ
+row class [] = []
+row class (x ∷ xs) = cond (class x) (x ∷ row class xs) []
+
+abbrev pub behind_row : (ℕ → Bool) → List ℕ → List ℕ
+behind_row class [] = []
+behind_row class (x ∷ xs) = cond (class x) (behind_row class xs) (x ∷ xs)

@@ -1,10 +1,10 @@
 -- What the readers of addresses and numbers give, as functions on lists.
-use Rattle.std.specs.Prelude.{ℕ, ◌+◌, ◌-◌, ◌/◌, ◌%◌, ◌==◌, nat_lt, Bool, true, false, not, ◌||◌, ◌&&◌, List, [], ◌∷◌, ◌++◌, length, replicate, Option, Some, None, if◌then◌else◌}
+use Rattle.std.specs.Prelude.{◌≡◌, ℕ, ◌+◌, ◌<◌, ◌-◌, ◌/◌, ◌%◌, ◌==◌, nat_lt, Bool, true, false, not, ◌||◌, ◌&&◌, List, [], ◌∷◌, ◌++◌, length, replicate, Option, Some, None, if◌then◌else◌}
 use Rattle.std.specs.List.{list_all}
 use Rattle.std.specs.Option.{option_map, option_and_then, option_or}
-use Rattle.std.specs.Char.{digit_value, is_ascii_hexdigit}
+use Rattle.std.specs.Char.{digit_value, is_ascii_digit, is_ascii_hexdigit}
 use Rattle.ip_text.specs.Numbers.{decimal_within, hexadecimal}
-use Rattle.ip_text.specs.Parts.{before, behind, parted}
+use Rattle.ip_text.specs.Parts.{before, behind, behind_front, parted, row, behind_row}
 
 infixl 10 ◌>>=◌
 abbrev pub ◌>>=◌ : {A B : Type 0} → Option A → (A → Option B) → Option B
@@ -20,6 +20,22 @@ hexadecimal_group text =
 
 abbrev pub ipv4_number : List ℕ → Option ℕ
 ipv4_number text = if nat_lt 3 (length text) then None else decimal_within 255 text
+
+-- the number of the decimal digits in front, and what follows them
+abbrev pub number_in_front : List ℕ → Option (ℕ × List ℕ)
+number_in_front text =
+    option_map (λ (number : ℕ). (number, behind_row is_ascii_digit text))
+    (ipv4_number (row is_ascii_digit text))
+
+-- the number behind a dot in front, and what follows it
+abbrev pub dotted_number : List ℕ → Option (ℕ × List ℕ)
+dotted_number text = behind_front 46 text >>= number_in_front
+
+-- the number of the hexadecimal digits in front, and what follows them
+abbrev pub group_in_front : List ℕ → Option (ℕ × List ℕ)
+group_in_front text =
+    option_map (λ (number : ℕ). (number, behind_row is_ascii_hexdigit text))
+    (hexadecimal_group (row is_ascii_hexdigit text))
 
 unfoldable pub ipv4 : List ℕ → Option (List ℕ)
 ipv4 text = do
@@ -62,6 +78,19 @@ groups closing (text ∷ []) = last_group closing text
 groups closing (text ∷ next ∷ texts) =
     group text >>= λ (octets : List ℕ). option_map
     (λ (more : List ℕ). octets ++ more) (groups closing (next ∷ texts))
+
+-- a text is groups, or has them before two colons, behind which this stands
+abbrev pub IsFront : List ℕ → List ℕ → Option (List ℕ) → Type 0
+IsFront text octets None = groups true (parted 58 text) ≡ Some octets
+IsFront text octets (Some right) =
+    (left : List ℕ) × (text ≡ left ++ 58 ∷ 58 ∷ right)
+    × (groups false (parted 58 left) ≡ Some octets)
+
+-- a text has no such groups, or more than eight
+pub record NoFront (text : List ℕ) : Type 0 where
+  pub whole : (octets : List ℕ) → groups true (parted 58 text) ≡ Some octets → 16 < length octets
+  pub left : (left right octets : List ℕ) → text ≡ left ++ 58 ∷ 58 ∷ right
+      → groups false (parted 58 left) ≡ Some octets → 16 < length octets
 
 abbrev pub side : Bool → List ℕ → Option (List ℕ)
 side closing text = if length text == 0 then Some [] else groups closing (parted 58 text)

@@ -1,48 +1,58 @@
 //! IPv4 addresses as texts (RFC 3261 25.1).
-ghost use Rattle.std.specs.Prelude.{◌≡◌, slice_index};
-ghost use Rattle.std.specs.Char.{is_ascii_digit};
+ghost use Rattle.std.specs.Prelude.{◌≡◌};
+ghost use Rattle.std.specs.Option.{option_map};
 ghost use Rattle.ip_text.specs.Readers as spec;
 
-use crate::numbers::decimal;
-use crate::parts::next_part;
+use crate::parts::behind_front;
 
-/// One of the four numbers: one to three digits, at most 255.
-fn ipv4_number(text: &[u8]) -> Option<u8>
-    ensures { result ≡ spec.ipv4_number text.now }
+/// The number of the digits in front, one to three and at most 255, and what follows them.
+#[inline(always)]
+fn number_in_front(text: &[u8]) -> Option<(u8, &[u8])>
+    ensures { option_map (λ found. (found.0, found.1.now)) result ≡ spec.number_in_front text.now }
 {
-    if text.len() > 3 {
-        return None;
+    let mut number = 0u32;
+    for (at, octet) in text.iter().enumerate() {
+        if !octet.is_ascii_digit() {
+            return if at == 0 {
+                None
+            } else {
+                Some((number as u8, &text[at..]))
+            };
+        }
+        if at > 2 {
+            return None;
+        }
+        number = 10 * number + u32::from(*octet - b'0');
+        if number > 255 {
+            return None;
+        }
     }
-    Some(decimal(text, 255)? as u8)
+    if text.is_empty() {
+        None
+    } else {
+        Some((number as u8, &text[text.len()..]))
+    }
 }
 
-/// Whether a digit stands in front.
-fn begins_with_digit(text: &[u8]) -> bool
-    ensures { result ≡ is_ascii_digit (slice_index text.now 0) }
+/// The number behind a dot in front, and what follows it.
+#[inline(always)]
+fn dotted_number(text: &[u8]) -> Option<(u8, &[u8])>
+    ensures { option_map (λ found. (found.0, found.1.now)) result ≡ spec.dotted_number text.now }
 {
-    match text {
-        [first, ..] => first.is_ascii_digit(),
-        [] => false,
-    }
+    number_in_front(behind_front(text, b'.')?)
 }
 
 /// The address of four numbers with dots between them.
-#[tactic(auto, unfolding(crate::specs::Readers::ipv4))]
+#[inline(always)]
 pub(crate) fn ipv4(text: &[u8]) -> Option<[u8; 4]>
     ensures { result ≡ spec.ipv4 text.now }
 {
-    // So most names are told apart at once.
-    if !begins_with_digit(text) {
+    let (first, rest) = number_in_front(text)?;
+    let (second, rest) = dotted_number(rest)?;
+    let (third, rest) = dotted_number(rest)?;
+    let (fourth, rest) = dotted_number(rest)?;
+    if !rest.is_empty() {
         return None;
     }
-    let (first, behind) = next_part(text, b'.');
-    let (second, behind) = next_part(behind?, b'.');
-    let (third, behind) = next_part(behind?, b'.');
-    let fourth = behind?;
-    Some([
-        ipv4_number(first)?,
-        ipv4_number(second)?,
-        ipv4_number(third)?,
-        ipv4_number(fourth)?,
-    ])
+    Some([first, second, third, fourth])
 }

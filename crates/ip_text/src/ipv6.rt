@@ -1,32 +1,19 @@
 //! IPv6 addresses as texts (RFC 3261 25.1, RFC 4291 2.2).
-ghost use Rattle.std.specs.Prelude.{◌≡◌, ◌<◌, ◌+◌, ◌++◌, ℕ, List, length, None, Some, MatchOption};
+ghost use Rattle.std.specs.Prelude.{◌≡◌, ◌<◌, ◌+◌, ◌++◌, ℕ, List, [], length, true, Some, MatchOption};
 ghost use Rattle.std.specs.Option.{option_map};
-ghost use Rattle.ip_text.specs.Parts.{parted};
 ghost use Rattle.ip_text.specs.Readers as spec;
 
 use crate::ipv4::ipv4;
-use crate::numbers::hexadecimal;
-use crate::parts::{behind_front, next_part};
+use crate::numbers::hexadecimal_digit;
+use crate::parts::behind_front;
 use arrayvec::ArrayVec;
 
 /// What follows two colons in front.
+#[inline(always)]
 fn behind_colons(text: &[u8]) -> Option<&[u8]>
     ensures { option_map (λ rest. rest.now) result ≡ spec.behind_colons text.now }
 {
     behind_front(behind_front(text, b':')?, b':')
-}
-
-/// What stands before the first two colons in a row, and what stands after them.
-fn around_colons(text: &[u8]) -> Option<(&[u8], &[u8])>
-    ensures { option_map (λ sides. (sides.0.now, sides.1.now)) result
-        ≡ spec.around_colons text.now }
-{
-    for at in 0..text.len() {
-        if let Some(right) = behind_colons(&text[at..]) {
-            return Some((&text[..at], right));
-        }
-    }
-    None
 }
 
 /// Adds octets, where there is room for them.
@@ -37,62 +24,77 @@ fn push_octets(octets: &mut ArrayVec<u8, 16>, more: &[u8]) -> Option<()>
     octets.try_extend_from_slice(more).ok()
 }
 
-/// The two octets of a group: one to four hexadecimal digits.
-fn group(text: &[u8]) -> Option<[u8; 2]>
-    ensures { result ≡ spec.group text.now }
+/// The number of the hexadecimal digits in front, one to four, and what follows them.
+#[inline(always)]
+fn group_in_front(text: &[u8]) -> Option<(u16, &[u8])>
+    ensures { option_map (λ found. (found.0, found.1.now)) result ≡ spec.group_in_front text.now }
 {
-    let number = hexadecimal(text)?;
-    Some([(number / 256) as u8, (number % 256) as u8])
-}
-
-/// Adds the octets of the last group, or of an IPv4 text that may stand for the last two.
-fn push_last(octets: &mut ArrayVec<u8, 16>, text: &[u8], closing: bool) -> Option<()>
-    ensures { MatchOption result
-        ((more : List ℕ) → spec.last_group closing text.now ≡ Some more
-        → 16 < length octets.old.items + length more)
-        (λ _. option_map (λ more. octets.old.items ++ more) (spec.last_group closing text.now)
-        ≡ Some octets.new.items) }
-{
-    if closing && let Some(address) = ipv4(text) {
-        return push_octets(octets, &address);
-    }
-    push_octets(octets, &group(text)?)
-}
-
-/// The octets of groups with colons between them, at most sixteen.
-fn groups(text: &[u8], closing: bool) -> Option<ArrayVec<u8, 16>>
-    ensures { MatchOption result
-        ((octets : List ℕ) → spec.groups closing (parted 58 text.now) ≡ Some octets
-        → 16 < length octets)
-        (λ octets. spec.groups closing (parted 58 text.now) ≡ Some octets.items) }
-{
-    let mut octets = ArrayVec::new();
-    let mut rest = text;
-    loop {
-        let (text, behind) = next_part(rest, b':');
-        match behind {
+    let mut number = 0u32;
+    for (at, octet) in text.iter().enumerate() {
+        match hexadecimal_digit(*octet) {
             None => {
-                push_last(&mut octets, text, closing)?;
-                return Some(octets);
+                return if at == 0 {
+                    None
+                } else {
+                    Some((number as u16, &text[at..]))
+                };
             }
-            Some(behind) => {
-                push_octets(&mut octets, &group(text)?)?;
-                rest = behind;
+            Some(digit) => {
+                if at > 3 {
+                    return None;
+                }
+                number = 16 * number + u32::from(digit);
             }
         }
     }
+    if text.is_empty() {
+        None
+    } else {
+        Some((number as u16, &text[text.len()..]))
+    }
 }
 
-/// The octets of what stands on one side of two colons: groups, or nothing.
-fn side(text: &[u8], closing: bool) -> Option<ArrayVec<u8, 16>>
+/// Puts the octets of groups with colons between them where there are none, at most sixteen. What
+/// is given is what follows the first two colons in a row, if there are some.
+#[inline(always)]
+fn groups_in_front<'a>(octets: &mut ArrayVec<u8, 16>, text: &'a [u8]) -> Option<Option<&'a [u8]>>
+    requires { octets.old.items ≡ [] }
+    ensures { MatchOption result (spec.NoFront text.now)
+        (λ found. spec.IsFront text.now octets.new.items (option_map (λ right. right.now) found)) }
+{
+    let mut rest = text;
+    loop {
+        let (number, behind) = group_in_front(rest)?;
+        if let Some(_) = behind_front(behind, b'.') {
+            push_octets(octets, &ipv4(rest)?)?;
+            return Some(None);
+        }
+        push_octets(octets, &[(number / 256) as u8, (number % 256) as u8])?;
+        if behind.is_empty() {
+            return Some(None);
+        }
+        if let Some(right) = behind_colons(behind) {
+            return Some(Some(right));
+        }
+        rest = behind_front(behind, b':')?;
+    }
+}
+
+/// The octets of what stands behind two colons: groups, or nothing.
+#[inline(always)]
+fn side(text: &[u8]) -> Option<ArrayVec<u8, 16>>
     ensures { MatchOption result
-        ((octets : List ℕ) → spec.side closing text.now ≡ Some octets → 16 < length octets)
-        (λ octets. spec.side closing text.now ≡ Some octets.items) }
+        ((octets : List ℕ) → spec.side true text.now ≡ Some octets → 16 < length octets)
+        (λ octets. spec.side true text.now ≡ Some octets.items) }
 {
     if text.is_empty() {
         return Some(ArrayVec::new());
     }
-    groups(text, closing)
+    let mut octets = ArrayVec::new();
+    match groups_in_front(&mut octets, text)? {
+        None => Some(octets),
+        Some(_) => None,
+    }
 }
 
 /// Sixteen octets, with zeros between those in front and those at the end, which lack a group at
@@ -110,26 +112,23 @@ fn filled(front: ArrayVec<u8, 16>, end: &[u8]) -> Option<[u8; 16]>
     octets.into_inner().ok()
 }
 
-/// The address of eight groups.
-fn whole(text: &[u8]) -> Option<[u8; 16]>
-    ensures { result ≡ spec.whole text.now }
+/// The sixteen octets of eight groups.
+fn whole(octets: ArrayVec<u8, 16>) -> Option<[u8; 16]>
+    ensures { result ≡ spec.sixteen octets.items }
 {
-    groups(text, true)?.into_inner().ok()
-}
-
-/// The address of at most seven groups around two colons, which stand for the others.
-fn shortened(left: &[u8], right: &[u8]) -> Option<[u8; 16]>
-    ensures { result ≡ spec.shortened left.now right.now }
-{
-    filled(side(left, false)?, side(right, true)?.as_slice())
+    octets.into_inner().ok()
 }
 
 /// The address of an IPv6 text.
 pub(crate) fn ipv6(text: &[u8]) -> Option<[u8; 16]>
     ensures { result ≡ spec.ipv6 text.now }
 {
-    match around_colons(text) {
-        None => whole(text),
-        Some((left, right)) => shortened(left, right),
+    if let Some(right) = behind_colons(text) {
+        return filled(ArrayVec::new(), side(right)?.as_slice());
+    }
+    let mut front = ArrayVec::new();
+    match groups_in_front(&mut front, text)? {
+        None => whole(front),
+        Some(right) => filled(front, side(right)?.as_slice()),
     }
 }

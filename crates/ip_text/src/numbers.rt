@@ -24,7 +24,7 @@ pub fn decimal(text: &[u8], limit: u32) -> Option<u32>
 }
 
 /// The value of a hexadecimal digit.
-fn hexadecimal_digit(octet: u8) -> Option<u8>
+pub(crate) fn hexadecimal_digit(octet: u8) -> Option<u8>
     ensures { result ≡ spec.hexadecimal_digit octet }
 {
     match octet {
@@ -33,18 +33,4 @@ fn hexadecimal_digit(octet: u8) -> Option<u8>
         b'A'..=b'F' => Some(octet - b'A' + 10),
         _ => None,
     }
-}
-
-/// The number that one to four hexadecimal digits spell.
-pub(crate) fn hexadecimal(text: &[u8]) -> Option<u16>
-    ensures { result ≡ spec.hexadecimal_group text.now }
-{
-    if text.is_empty() || text.len() > 4 {
-        return None;
-    }
-    let mut number = 0u32;
-    for octet in text {
-        number = 16 * number + u32::from(hexadecimal_digit(*octet)?);
-    }
-    Some(number as u16)
 }

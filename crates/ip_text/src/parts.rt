@@ -17,6 +17,7 @@ pub fn next_part(text: &[u8], octet: u8) -> (&[u8], Option<&[u8]>)
 }
 
 /// What follows an octet, where it stands in front.
+#[inline(always)]
 pub fn behind_front(text: &[u8], octet: u8) -> Option<&[u8]>
     ensures { option_map (λ rest. rest.now) result ≡ behind_front octet text.now }
 {
