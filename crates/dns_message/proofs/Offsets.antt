@@ -110,6 +110,10 @@ module _ {X : Type 0} (At : ℕ → X → ℕ → Type 0) where
   AllAt-push after x (none e) at = next after (rw (← e) at) (none refl)
   AllAt-push after x (next between first others) at = next between first (AllAt-push after x others at)
 
+  pub AllAt-none : {p end : ℕ} {xs : List X} → AllAt At p xs end → length xs ≡ 0 → (xs ≡ []) × (end ≡ p)
+  AllAt-none (none e) zero = (refl, e)
+  AllAt-none (next after first others) zero = absurd (omega (arith, zero))
+
   -- what is so where each begins, and where they end, is so where they all begin
   pub AllAt-first : (P : ℕ → Type 0) → ((p end : ℕ) (x : X) → At p x end → P p) → {p end : ℕ} {xs : List X} → AllAt At p xs end → P end
       → P p

@@ -1,11 +1,13 @@
 //! What a section of a message has, one after the other: questions or records (RFC 1035 4.1).
 ghost use Rattle.std.specs.Prelude.{◌≡◌, ℕ, List, [], length, IfOk, IfErr, IfSome, MatchResult};
+ghost use Rattle.dns_name.specs.Landings.{AreLandings};
 ghost use Rattle.dns_message.specs.Owners.{IsAskedName};
 ghost use Rattle.dns_message.specs.Offsets.{NamedAt, AllAt};
 ghost use Rattle.dns_message.specs.Refusals.{IsOfPart};
 
 use crate::owner::AskedName;
 use crate::refusal::{EntryRefusal, MessageRefusal, Part};
+use dns_name::Landings;
 use std::alloc::Global;
 
 /// A question or a record.
@@ -22,10 +24,12 @@ pub(crate) trait Entry: Sized + Drop {
         &mut self,
         alloc: Global,
         bytes: &[u8],
+        landings: &Landings,
         offset: usize,
         asked: Option<AskedName<'_>>,
     ) -> Result<usize, EntryRefusal>
-        requires { IfSome asked (IsAskedName bytes.now) }
+        requires asked { IfSome asked (IsAskedName bytes.now) }
+        requires known { AreLandings bytes.now landings.now }
         ensures found { IfOk result (λ end. stands bytes.now offset self.new end) }
         ensures read { (entry : Self) (end : ℕ) → stands bytes.now offset entry end
             → MatchResult result (λ found. (self.new ≡ entry) × (found ≡ end))
@@ -42,18 +46,31 @@ pub(crate) trait Entry: Sized + Drop {
 fn refusal_at<E: Entry>(
     alloc: Global,
     bytes: &[u8],
+    landings: &Landings,
     offset: usize,
     asked: Option<AskedName<'_>>,
 ) -> EntryRefusal
-    requires { IfSome asked (IsAskedName bytes.now) }
+    requires asked { IfSome asked (IsAskedName bytes.now) }
+    requires known { AreLandings bytes.now landings.now }
     ensures read { (entry : E) (end : ℕ) → E.stands bytes.now offset entry end
         → result ≡ EntryRefusal.Memory }
     ensures memory { result ≡ EntryRefusal.Memory → NamedAt bytes.now offset }
 {
     let mut entry = E::unread(alloc);
-    match entry.read_over(alloc, bytes, offset, asked) {
+    match entry.read_over(alloc, bytes, landings, offset, asked) {
         Ok(_) => EntryRefusal::Memory,
         Err(refusal) => refusal,
+    }
+}
+
+/// Finds out where the pointers of a message lead, where a name had many of them.
+#[inline(always)]
+fn settle(alloc: Global, bytes: &[u8], landings: &mut Landings)
+    requires { AreLandings bytes.now landings.old }
+    ensures { AreLandings bytes.now landings.new }
+{
+    if landings.are_wanted() {
+        landings.find(alloc, bytes);
     }
 }
 
@@ -61,6 +78,7 @@ fn refusal_at<E: Entry>(
 fn read_entries<E: Entry>(
     alloc: Global,
     bytes: &[u8],
+    landings: &mut Landings,
     offset: usize,
     count: u16,
     asked: Option<AskedName<'_>>,
@@ -68,6 +86,8 @@ fn read_entries<E: Entry>(
 ) -> Result<usize, EntryRefusal>
     requires empty { entries.old.items ≡ [] }
     requires asked { IfSome asked (IsAskedName bytes.now) }
+    requires known { AreLandings bytes.now landings.old }
+    ensures known { AreLandings bytes.now landings.new }
     ensures found { IfOk result (λ end. AllAt (E.stands bytes.now) offset entries.new.items end
         × (length entries.new.items ≡ count)) }
     ensures read { (all : List E) (end : ℕ) → AllAt (E.stands bytes.now) offset all end
@@ -81,18 +101,21 @@ fn read_entries<E: Entry>(
     for _ in 0..count {
         let place = entries.len();
         let Ok(()) = entries.push(E::unread(alloc)) else {
-            return Err(refusal_at::<E>(alloc, bytes, offset, asked));
+            return Err(refusal_at::<E>(alloc, bytes, landings, offset, asked));
         };
-        offset = entries[place].read_over(alloc, bytes, offset, asked)?;
+        offset = entries[place].read_over(alloc, bytes, landings, offset, asked)?;
+        settle(alloc, bytes, landings);
     }
     Ok(offset)
 }
 
 /// Reads the section of so many, as this part of the message, into an empty list, and gives the
 /// offset after it.
+#[inline(always)]
 pub(crate) fn read_section<E: Entry>(
     alloc: Global,
     bytes: &[u8],
+    landings: &mut Landings,
     offset: usize,
     count: u16,
     part: Part,
@@ -101,6 +124,8 @@ pub(crate) fn read_section<E: Entry>(
 ) -> Result<usize, MessageRefusal>
     requires empty { entries.old.items ≡ [] }
     requires asked { IfSome asked (IsAskedName bytes.now) }
+    requires known { AreLandings bytes.now landings.old }
+    ensures known { AreLandings bytes.now landings.new }
     ensures found { IfOk result (λ end. AllAt (E.stands bytes.now) offset entries.new.items end
         × (length entries.new.items ≡ count)) }
     ensures read { (all : List E) (end : ℕ) → AllAt (E.stands bytes.now) offset all end
@@ -111,7 +136,10 @@ pub(crate) fn read_section<E: Entry>(
     ensures memory { IfErr result
         (λ refusal. refusal ≡ MessageRefusal.Memory → NamedAt bytes.now offset) }
 {
-    match read_entries(alloc, bytes, offset, count, asked, entries) {
+    if count == 0 {
+        return Ok(offset);
+    }
+    match read_entries(alloc, bytes, landings, offset, count, asked, entries) {
         Ok(after) => Ok(after),
         Err(refusal) => Err(refusal.of_part(part)),
     }

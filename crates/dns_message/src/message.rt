@@ -12,7 +12,7 @@ use crate::question::Asked;
 use crate::refusal::{MessageRefusal, Part};
 use crate::resource::Record;
 use crate::section::Section;
-use dns_name::{law_name_rests_before_its_end, law_one_name_at_an_offset};
+use dns_name::{Landings, law_name_rests_before_its_end, law_one_name_at_an_offset};
 use std::alloc::{AllocError, Global};
 
 /// The most octets of a message (RFC 1035 4.2.2).
@@ -64,10 +64,12 @@ pub fn read_message(alloc: Global, bytes: &[u8]) -> Result<Message, MessageRefus
         return Err(MessageRefusal::TooLong);
     }
     let (header, counts) = header_at(bytes).ok_or(MessageRefusal::Malformed(Part::Header))?;
+    let mut landings = Landings::none(alloc);
     let mut questions = Vec::new(alloc);
     let offset = read_section(
         alloc,
         bytes,
+        &mut landings,
         HEADER_END,
         counts.questions,
         Part::Questions,
@@ -79,6 +81,7 @@ pub fn read_message(alloc: Global, bytes: &[u8]) -> Result<Message, MessageRefus
     let offset = read_section(
         alloc,
         bytes,
+        &mut landings,
         offset,
         counts.answers,
         Part::Answers,
@@ -89,6 +92,7 @@ pub fn read_message(alloc: Global, bytes: &[u8]) -> Result<Message, MessageRefus
     let offset = read_section(
         alloc,
         bytes,
+        &mut landings,
         offset,
         counts.authority,
         Part::Authority,
@@ -99,6 +103,7 @@ pub fn read_message(alloc: Global, bytes: &[u8]) -> Result<Message, MessageRefus
     let _ = read_section(
         alloc,
         bytes,
+        &mut landings,
         offset,
         counts.additional,
         Part::Additional,

@@ -1,5 +1,6 @@
 //! NAPTR records (RFC 3403 4.1).
 ghost use Rattle.std.specs.Prelude.{◌≡◌, ◌<◌, ◌≤◌, ℕ, length, ◌+◌, List, IfOk, IfErr, MatchResult, ◌++◌, OnOk, OnErr};
+ghost use Rattle.dns_name.specs.Landings.{AreLandings};
 ghost use Rattle.dns_message.specs.Layouts.{CharStringAt, NaptrAt};
 ghost use Rattle.dns_message.specs.Written.{naptr_octets};
 ghost use Rattle.dns_message.specs.Fits.{NaptrFits};
@@ -10,7 +11,7 @@ use crate::datagram::{Datagram, TooLong};
 use crate::name::push_name;
 use crate::number::{push_u16, u16_at};
 use crate::refusal::EntryRefusal;
-use dns_name::{Name, law_one_name_at_an_offset, read_name_into};
+use dns_name::{Landings, Name, law_one_name_at_an_offset, read_name_into_by};
 use std::alloc::{AllocError, Global};
 
 /// A rule that leads from a name to a service (RFC 3403 4.1).
@@ -62,10 +63,12 @@ impl NaptrRecord {
 pub(crate) fn read_naptr(
     alloc: Global,
     bytes: &[u8],
+    landings: &Landings,
     offset: usize,
     rule: &mut NaptrRecord,
 ) -> Result<usize, EntryRefusal>
-    requires { offset ≤ length bytes.now }
+    requires within { offset ≤ length bytes.now }
+    requires known { AreLandings bytes.now landings.now }
     ensures found { IfOk result (λ end. NaptrAt bytes.now offset rule.new end) }
     ensures read { (rule' : naptr.NaptrRecord) (end : ℕ) → NaptrAt bytes.now offset rule' end
         → MatchResult result (λ found. (rule.new ≡ rule') × (found ≡ end))
@@ -82,7 +85,7 @@ pub(crate) fn read_naptr(
     rule.services = services;
     let (regexp, offset) = char_string_at(alloc, bytes, offset)?;
     rule.regexp = regexp;
-    let end = read_name_into(alloc, bytes, offset, &mut rule.replacement)?;
+    let end = read_name_into_by(alloc, bytes, landings, offset, &mut rule.replacement)?;
     Ok(end)
 }
 

@@ -1,5 +1,6 @@
 //! The owners of records, most of which are the name of the question (RFC 1035 4.1.4).
 ghost use Rattle.std.specs.Prelude.{◌≡◌, ◌+◌, ℕ, List, Err, IfOk, IfSome, IsTrue, MatchResult};
+ghost use Rattle.dns_name.specs.Landings.{AreLandings};
 ghost use Rattle.dns_name.specs.Offsets.{NameAt, OctetAt};
 ghost use Rattle.dns_message.specs.Owners.{IsAskedName};
 ghost use Rattle.dns_message.specs.Offsets.{AllAt, NamedAt};
@@ -7,7 +8,8 @@ ghost use Rattle.dns_message.specs.Questions.{QuestionAt};
 
 use crate::question::Asked;
 use dns_name::{
-    Name, NameReadRefusal, law_name_rests_before_its_end, law_one_name_at_an_offset, read_name_into,
+    Landings, Name, NameReadRefusal, law_name_rests_before_its_end, law_one_name_at_an_offset,
+    read_name_into_by,
 };
 use std::alloc::Global;
 
@@ -48,11 +50,13 @@ fn is_pointer_to_asked(bytes: &[u8], offset: usize) -> bool
 pub(crate) fn read_owner(
     alloc: Global,
     bytes: &[u8],
+    landings: &Landings,
     offset: usize,
     asked: Option<AskedName<'_>>,
     owner: &mut Name,
 ) -> Result<usize, NameReadRefusal>
-    requires { IfSome asked (IsAskedName bytes.now) }
+    requires asked { IfSome asked (IsAskedName bytes.now) }
+    requires known { AreLandings bytes.now landings.now }
     ensures found { IfOk result (λ end. NameAt bytes.now offset offset owner.new end) }
     ensures read { (name : List (List ℕ)) (end : ℕ) → NameAt bytes.now offset offset name end
         → MatchResult result (λ found. (owner.new ≡ name) × (found ≡ end))
@@ -68,5 +72,5 @@ pub(crate) fn read_owner(
         owner.copy_from(asked.name)?;
         return Ok(offset + 2);
     }
-    read_name_into(alloc, bytes, offset, owner)
+    read_name_into_by(alloc, bytes, landings, offset, owner)
 }

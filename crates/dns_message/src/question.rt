@@ -12,7 +12,9 @@ use crate::name::push_name;
 use crate::number::{push_u16, u16_at};
 use crate::owner::AskedName;
 use crate::refusal::EntryRefusal;
-use dns_name::{Name, law_name_rests_before_its_end, law_one_name_at_an_offset, read_name_into};
+use dns_name::{
+    Landings, Name, law_name_rests_before_its_end, law_one_name_at_an_offset, read_name_into_by,
+};
 use std::alloc::{AllocError, Global};
 use std::hash::{Hash, Hasher};
 
@@ -133,12 +135,13 @@ impl Entry for Asked {
         &mut self,
         alloc: Global,
         bytes: &[u8],
+        landings: &Landings,
         offset: usize,
         _asked: Option<AskedName<'_>>,
     ) -> Result<usize, EntryRefusal> {
         law_name_rests_before_its_end();
         law_one_name_at_an_offset();
-        let offset = read_name_into(alloc, bytes, offset, &mut self.name)?;
+        let offset = read_name_into_by(alloc, bytes, landings, offset, &mut self.name)?;
         self.type_number = u16_at(bytes, offset).ok_or(EntryRefusal::Malformed)?;
         self.class_number = u16_at(bytes, offset + 2).ok_or(EntryRefusal::Malformed)?;
         Ok(offset + 4)

@@ -1,5 +1,6 @@
 //! The data of records (RFC 1035 3.2.1, 3.3, 3.4).
 ghost use Rattle.std.specs.Prelude.{◌≡◌, ◌≢◌, ◌+◌, ◌<◌, ◌≤◌, List, ℕ, length, IfOk, MatchResult, ◌++◌, OnOk, OnErr};
+ghost use Rattle.dns_name.specs.Landings.{AreLandings};
 ghost use Rattle.dns_name.specs.Offsets.{NameAt};
 ghost use Rattle.dns_message.specs.Layouts.{SrvAt, NaptrAt, RdataAt};
 ghost use Rattle.dns_message.specs.Written.{type_of_rdata, rdata_class, rdata_octets};
@@ -18,7 +19,9 @@ use crate::other_data::OtherData;
 use crate::refusal::EntryRefusal;
 use crate::soa::{SoaRecord, push_soa, soa_at};
 use crate::srv::{SrvRecord, push_srv, read_srv};
-use dns_name::{Name, law_name_rests_before_its_end, law_one_name_at_an_offset, read_name_into};
+use dns_name::{
+    Landings, Name, law_name_rests_before_its_end, law_one_name_at_an_offset, read_name_into_by,
+};
 use std::alloc::{AllocError, Global};
 
 /// The data of a record.
@@ -159,11 +162,13 @@ fn check_end(found: usize, end: usize) -> Result<(), EntryRefusal>
 fn read_server(
     alloc: Global,
     bytes: &[u8],
+    landings: &Landings,
     offset: usize,
     end: usize,
     rdata: &mut Rdata,
 ) -> Result<(), EntryRefusal>
-    requires { offset ≤ length bytes.now }
+    requires within { offset ≤ length bytes.now }
+    requires known { AreLandings bytes.now landings.now }
     ensures found { OnOk result ((server : srv.SrvRecord) × (rdata.new ≡ variant.Srv server)
         × SrvAt bytes.now offset server end) }
     ensures read { (server : srv.SrvRecord) → SrvAt bytes.now offset server end
@@ -174,7 +179,7 @@ fn read_server(
     let Rdata::Srv(server) = rdata else {
         return Err(EntryRefusal::Malformed);
     };
-    let found = read_srv(alloc, bytes, offset, server)?;
+    let found = read_srv(alloc, bytes, landings, offset, server)?;
     check_end(found, end)
 }
 
@@ -182,11 +187,13 @@ fn read_server(
 fn read_rule(
     alloc: Global,
     bytes: &[u8],
+    landings: &Landings,
     offset: usize,
     end: usize,
     rdata: &mut Rdata,
 ) -> Result<(), EntryRefusal>
-    requires { offset ≤ length bytes.now }
+    requires within { offset ≤ length bytes.now }
+    requires known { AreLandings bytes.now landings.now }
     ensures found { OnOk result ((rule : naptr.NaptrRecord) × (rdata.new ≡ variant.Naptr rule)
         × NaptrAt bytes.now offset rule end) }
     ensures read { (rule : naptr.NaptrRecord) → NaptrAt bytes.now offset rule end
@@ -197,7 +204,7 @@ fn read_rule(
     let Rdata::Naptr(rule) = rdata else {
         return Err(EntryRefusal::Malformed);
     };
-    let found = read_naptr(alloc, bytes, offset, rule)?;
+    let found = read_naptr(alloc, bytes, landings, offset, rule)?;
     check_end(found, end)
 }
 
@@ -205,10 +212,12 @@ fn read_rule(
 fn read_alias(
     alloc: Global,
     bytes: &[u8],
+    landings: &Landings,
     offset: usize,
     end: usize,
     rdata: &mut Rdata,
 ) -> Result<(), EntryRefusal>
+    requires { AreLandings bytes.now landings.now }
     ensures found { OnOk result ((name : List (List ℕ)) × (rdata.new ≡ variant.Cname name)
         × NameAt bytes.now offset offset name end) }
     ensures read { (name : List (List ℕ)) → NameAt bytes.now offset offset name end
@@ -219,7 +228,7 @@ fn read_alias(
     let Rdata::Cname(name) = rdata else {
         return Err(EntryRefusal::Malformed);
     };
-    let found = read_name_into(alloc, bytes, offset, name)?;
+    let found = read_name_into_by(alloc, bytes, landings, offset, name)?;
     check_end(found, end)
 }
 
@@ -227,12 +236,14 @@ fn read_alias(
 pub(crate) fn read_rdata(
     alloc: Global,
     bytes: &[u8],
+    landings: &Landings,
     offset: usize,
     end: usize,
     type_number: u16,
     class_number: u16,
     rdata: &mut Rdata,
 ) -> Result<(), EntryRefusal>
+    requires { AreLandings bytes.now landings.now }
     ensures found { OnOk result (RdataAt bytes.now offset type_number class_number rdata.new end) }
     ensures read { (data' : declared.Rdata)
         → RdataAt bytes.now offset type_number class_number data' end
@@ -245,10 +256,13 @@ pub(crate) fn read_rdata(
     match data_format(type_number, class_number) {
         DataFormat::A => *rdata = Rdata::Addr4(address_of(octets)?),
         DataFormat::Aaaa => *rdata = Rdata::Addr6(address_of(octets)?),
-        DataFormat::Srv => read_server(alloc, bytes, offset, end, rdata)?,
-        DataFormat::Naptr => read_rule(alloc, bytes, offset, end, rdata)?,
-        DataFormat::Cname => read_alias(alloc, bytes, offset, end, rdata)?,
-        DataFormat::Soa => *rdata = Rdata::Soa(ending_at(soa_at(alloc, bytes, offset)?, end)?),
+        DataFormat::Srv => read_server(alloc, bytes, landings, offset, end, rdata)?,
+        DataFormat::Naptr => read_rule(alloc, bytes, landings, offset, end, rdata)?,
+        DataFormat::Cname => read_alias(alloc, bytes, landings, offset, end, rdata)?,
+        DataFormat::Soa => *rdata = Rdata::Soa(ending_at(
+            soa_at(alloc, bytes, landings, offset)?,
+            end,
+        )?),
         DataFormat::Other => {
             let octets = Vec::from_slice(alloc, octets)?;
             *rdata = OtherData::new(type_number, class_number, octets)

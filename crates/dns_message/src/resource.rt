@@ -12,7 +12,7 @@ use crate::number::{push_u16, push_u32, u16_at, u32_at};
 use crate::owner::{AskedName, read_owner};
 use crate::rdata::{Rdata, push_rdata, read_rdata};
 use crate::refusal::EntryRefusal;
-use dns_name::{Name, law_name_rests_before_its_end, law_one_name_at_an_offset};
+use dns_name::{Landings, Name, law_name_rests_before_its_end, law_one_name_at_an_offset};
 use std::alloc::{AllocError, Global};
 
 /// A resource record.
@@ -81,12 +81,13 @@ impl Entry for Record {
         &mut self,
         alloc: Global,
         bytes: &[u8],
+        landings: &Landings,
         offset: usize,
         asked: Option<AskedName<'_>>,
     ) -> Result<usize, EntryRefusal> {
         law_name_rests_before_its_end();
         law_one_name_at_an_offset();
-        let offset = read_owner(alloc, bytes, offset, asked, &mut self.owner)?;
+        let offset = read_owner(alloc, bytes, landings, offset, asked, &mut self.owner)?;
         let fixed = fixed_at(bytes, offset).ok_or(EntryRefusal::Malformed)?;
         self.ttl = fixed.ttl;
         let start = offset + 10;
@@ -94,6 +95,7 @@ impl Entry for Record {
         read_rdata(
             alloc,
             bytes,
+            landings,
             start,
             end,
             fixed.type_number,

@@ -1,5 +1,6 @@
 //! SOA records (RFC 1035 3.3.13).
 ghost use Rattle.std.specs.Prelude.{◌≡◌, ◌+◌, ◌<◌, ◌≤◌, ℕ, length, IfOk, IfErr, MatchOption, MatchResult, ◌++◌, OnOk, OnErr};
+ghost use Rattle.dns_name.specs.Landings.{AreLandings};
 ghost use Rattle.std.specs.Int.{w32};
 ghost use Rattle.dns_message.specs.Layouts.{SoaAt};
 ghost use Rattle.dns_message.specs.Offsets.{NumberAt, NamedAt};
@@ -11,7 +12,9 @@ use crate::datagram::{Datagram, TooLong};
 use crate::name::push_name;
 use crate::number::{push_u32, u32_at};
 use crate::refusal::EntryRefusal;
-use dns_name::{Name, law_name_rests_before_its_end, law_one_name_at_an_offset, read_name};
+use dns_name::{
+    Landings, Name, law_name_rests_before_its_end, law_one_name_at_an_offset, read_name_by,
+};
 use std::alloc::{AllocError, Global};
 
 /// The start of a zone of authority (RFC 1035 3.3.13).
@@ -83,8 +86,10 @@ fn numbers_at(bytes: &[u8], offset: usize) -> Option<Numbers>
 pub(crate) fn soa_at(
     alloc: Global,
     bytes: &[u8],
+    landings: &Landings,
     offset: usize,
 ) -> Result<(SoaRecord, usize), EntryRefusal>
+    requires { AreLandings bytes.now landings.now }
     ensures found { IfOk result (λ found. SoaAt bytes.now offset found.0 found.1) }
     ensures read { (authority : soa.SoaRecord) (end : ℕ) → SoaAt bytes.now offset authority end
         → MatchResult result (λ found. (found.0 ≡ authority) × (found.1 ≡ end))
@@ -94,8 +99,8 @@ pub(crate) fn soa_at(
 {
     law_one_name_at_an_offset();
     law_name_rests_before_its_end();
-    let (mname, offset) = read_name(alloc, bytes, offset)?;
-    let (rname, offset) = read_name(alloc, bytes, offset)?;
+    let (mname, offset) = read_name_by(alloc, bytes, landings, offset)?;
+    let (rname, offset) = read_name_by(alloc, bytes, landings, offset)?;
     let numbers = numbers_at(bytes, offset).ok_or(EntryRefusal::Malformed)?;
     Ok((
         SoaRecord {

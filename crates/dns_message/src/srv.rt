@@ -1,5 +1,6 @@
 //! SRV records (RFC 2782).
 ghost use Rattle.std.specs.Prelude.{◌≡◌, ◌<◌, ◌≤◌, ℕ, length, ◌+◌, IfOk, IfErr, MatchResult, ◌++◌, OnOk, OnErr};
+ghost use Rattle.dns_name.specs.Landings.{AreLandings};
 ghost use Rattle.dns_message.specs.Layouts.{SrvAt};
 ghost use Rattle.dns_message.specs.Offsets.{NamedAt};
 ghost use Rattle.dns_message.specs.Written.{srv_octets};
@@ -10,7 +11,7 @@ use crate::datagram::{Datagram, TooLong};
 use crate::name::push_name;
 use crate::number::{push_u16, u16_at};
 use crate::refusal::EntryRefusal;
-use dns_name::{Name, law_one_name_at_an_offset, read_name_into};
+use dns_name::{Landings, Name, law_one_name_at_an_offset, read_name_into_by};
 use std::alloc::{AllocError, Global};
 
 /// A server of a service (RFC 2782).
@@ -54,10 +55,12 @@ impl SrvRecord {
 pub(crate) fn read_srv(
     alloc: Global,
     bytes: &[u8],
+    landings: &Landings,
     offset: usize,
     server: &mut SrvRecord,
 ) -> Result<usize, EntryRefusal>
-    requires { offset ≤ length bytes.now }
+    requires within { offset ≤ length bytes.now }
+    requires known { AreLandings bytes.now landings.now }
     ensures found { IfOk result (λ end. SrvAt bytes.now offset server.new end) }
     ensures read { (server' : srv.SrvRecord) (end : ℕ) → SrvAt bytes.now offset server' end
         → MatchResult result (λ found. (server.new ≡ server') × (found ≡ end))
@@ -69,7 +72,7 @@ pub(crate) fn read_srv(
     server.priority = u16_at(bytes, offset).ok_or(EntryRefusal::Malformed)?;
     server.weight = u16_at(bytes, offset + 2).ok_or(EntryRefusal::Malformed)?;
     server.port = u16_at(bytes, offset + 4).ok_or(EntryRefusal::Malformed)?;
-    let end = read_name_into(alloc, bytes, offset + 6, &mut server.target)?;
+    let end = read_name_into_by(alloc, bytes, landings, offset + 6, &mut server.target)?;
     Ok(end)
 }
 

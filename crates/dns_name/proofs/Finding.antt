@@ -4,6 +4,8 @@ use Rattle.std.specs.Prelude.{unwrap_or}
 use Rattle.std.proofs.lemmas.List.{length-append}
 use Rattle.dns_name.specs.Labels.{small_letters, wire_of}
 use Rattle.dns_name.specs.Offsets.{OctetAt, LabelsAt, root, label, pointer, NameAt}
+use Rattle.dns_name.specs.Pieces.{PointerPiece}
+use Rattle.dns_name.specs.Landings.{LeadsTo, LeadsNowhere}
 use Rattle.dns_name.proofs.Wire.{wire_of-some, same_labels}
 use Rattle.dns_name.proofs.Runs.{ends_later, ends_within, length-label, from_label, from_pointer}
 
@@ -51,15 +53,22 @@ module _ (message : List ℕ) (at p s limit : ℕ) (octets : List ℕ) (after : 
             (h.0, k.1, h.2, k.3, e, k.5);
       }
 
-  pub past_pointer : (high low : ℕ) → OctetAt message p (192 + high) → OctetAt message (p + 1) low → 256 * high + low < s → p + 2 ≤ limit
-      → Finding message at (256 * high + low) (256 * high + low) s octets (Some (unwrap_or after (p + 2)))
-  past_pointer high low here here' back within = record {
-    forth = λ labels end rest le. so_far.forth labels (p + 2) (pointer high low end here here' back rest le refl) within;
-    back = λ name end there.
-        let k = so_far.back name end there in
-        let h = from_pointer message p s high low here here' k.2 in
-        (k.0, h.0, h.2, h.3, k.4, rw (← h.4) k.5);
-  }
+  pub past_pointer : (target there last : ℕ) → PointerPiece message p target → LeadsTo message target s there last → p + 2 ≤ limit
+      → Finding message at there there last octets (Some (unwrap_or after (p + 2)))
+  past_pointer target there last piece leads within =
+      record {
+        forth = λ labels end rest le.
+            let k = leads.forth labels end rest le in
+            let here = rw piece.leads at k.1 in
+            let back : 256 * piece.high + piece.low < s = omega (arith, ends_later message here, k.2) in
+            so_far.forth labels (p + 2) (pointer piece.high piece.low k.0 piece.first piece.second back here k.2 refl) within;
+        back = λ name end there.
+            let k = so_far.back name end there in
+            let h = from_pointer message p s piece.high piece.low piece.first piece.second k.2 in
+            let here : LabelsAt message target target k.0 h.0 = rw piece.leads h.2 in
+            let l = leads.back k.0 h.0 here h.3 in
+            (k.0, l.0, l.1, l.2, k.4, rw (← h.4) k.5);
+      }
 
   -- the name ends here
   pub found : OctetAt message p 0 → p + 1 ≤ limit → length octets ≤ 254
@@ -76,12 +85,13 @@ module _ (message : List ℕ) (at p s limit : ℕ) (octets : List ℕ) (after : 
       let k = so_far.back name end there.labels in
       omega (arith, none k.0 k.1 k.2, k.3)
 
-  pub no_offset : (high low : ℕ) → OctetAt message p (192 + high) → OctetAt message (p + 1) low → s ≤ 256 * high + low
-      → (name : List (List ℕ)) (end : ℕ) → NameAt message at at name end → ⊥
-  no_offset high low here here' forward name end there =
+  pub no_offset : (target : ℕ) → PointerPiece message p target → LeadsNowhere message target s → (name : List (List ℕ)) (end : ℕ)
+      → NameAt message at at name end → ⊥
+  no_offset target piece nowhere name end there =
       let k = so_far.back name end there.labels in
-      let h = from_pointer message p s high low here here' k.2 in
-      omega (arith, h.1)
+      let h = from_pointer message p s piece.high piece.low piece.first piece.second k.2 in
+      let here : LabelsAt message target target k.0 h.0 = rw piece.leads h.2 in
+      omega (arith, nowhere k.0 h.0 here, h.3)
 
   pub no_room : (n : ℕ) → OctetAt message p n → 0 < n → n ≤ 63 → 255 < length octets + n + 2 → (name : List (List ℕ)) (end : ℕ)
       → NameAt message at at name end → ⊥

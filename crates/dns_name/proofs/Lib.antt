@@ -5,6 +5,7 @@ mod SmallRuns
 mod ShortRuns
 mod Finding
 mod Pieces
+mod Leads
 mod Offsets
 mod TextLabels
 pub mod ClosingDots

@@ -3,7 +3,7 @@ use Rattle.std.proofs.Common.{◌≡◌, ℕ, ◌+◌, ◌-◌, ◌<◌, ◌≤�
 use Rattle.std.proofs.lemmas.List.{length-take, length-take-le, length-drop, get_or-take, get_or-drop, drop-drop, take-take}
 use Rattle.std.proofs.lemmas.Slice.{between_to_end, between_is}
 use Rattle.dns_name.specs.Offsets.{OctetAt, LabelsAt, root, label, pointer}
-use Rattle.dns_name.specs.Pieces.{LabelPiece, NothingAt}
+use Rattle.dns_name.specs.Pieces.{LabelPiece, PointerPiece, NothingAt}
 use Rattle.dns_name.proofs.Runs.{ends_later, from_label}
 
 pub OctetAt-longer : (octets message : List ℕ) (p octet : ℕ) → octets ≡ take (length octets) message → OctetAt octets p octet
@@ -120,6 +120,18 @@ module _ (message : List ℕ) (limit p : ℕ) (le : limit ≤ length message) wh
         behind = (OctetAt-front n piece.behind).0;
         is = piece.is ∙ longer;
       }
+
+  pub PointerPiece-front : (target : ℕ) → PointerPiece (take limit message) p target → PointerPiece message p target × (p + 2 ≤ limit)
+  PointerPiece-front target piece = (
+    record {
+      high = piece.high;
+      low = piece.low;
+      first = OctetAt-longer (take limit message) message p (192 + piece.high) (front_of message limit le) piece.first;
+      second = OctetAt-longer (take limit message) message (p + 1) piece.low (front_of message limit le) piece.second;
+      leads = piece.leads;
+    },
+    omega (arith, piece.second.within, length-take limit message),
+  )
 
   pub nothing_within : NothingAt (take limit message) p → (s end : ℕ) (labels : List (List ℕ)) → LabelsAt message p s labels end
       → limit < end

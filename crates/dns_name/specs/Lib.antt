@@ -3,4 +3,5 @@ pub mod Octets
 pub mod Pieces
 pub mod Offsets
 pub mod ShortNames
+pub mod Landings
 pub mod Texts

@@ -16,6 +16,7 @@
 #![tactic(auto)]
 
 mod builder;
+mod landing;
 mod laws;
 mod message;
 mod name;
@@ -23,10 +24,11 @@ mod octets;
 mod refusal;
 mod text;
 
+pub use landing::Landings;
 pub use laws::{
     law_name_rests_before_its_end, law_octets_determine_name, law_one_name_at_an_offset,
     law_same_names_are_equal, law_written_name_is_read, law_written_text_is_read,
 };
-pub use message::{read_name, read_name_into, write_name};
+pub use message::{read_name, read_name_by, read_name_into, read_name_into_by, write_name};
 pub use name::Name;
 pub use refusal::{NameReadRefusal, NameRefusal};

@@ -5,8 +5,10 @@ ghost use Rattle.dns_name.specs.Pieces.{PieceAt, NothingAt};
 ghost use Rattle.dns_name.specs.Offsets.{NameAt};
 ghost use Rattle.dns_name.specs.Octets.{IsPadded};
 ghost use Rattle.dns_name.specs.ShortNames.{ShortNameAt};
+ghost use Rattle.dns_name.specs.Landings.{AreLandings};
 
 use crate::builder::NAME_LIMIT;
+use crate::landing::Landings;
 use crate::name::Name;
 use crate::octets::{INLINE_LIMIT, Octets};
 use crate::refusal::NameReadRefusal;
@@ -14,7 +16,7 @@ use std::alloc::{AllocError, Global};
 
 /// What stands at an offset of a run of labels.
 #[derive(Clone, Copy)]
-enum Piece<'a> {
+pub(crate) enum Piece<'a> {
     /// The 0 that closes a name.
     Root,
     /// A label, without its length.
@@ -24,7 +26,7 @@ enum Piece<'a> {
 }
 
 /// What stands at an offset of these octets, if it is whole.
-fn piece_at(octets: &[u8], offset: usize) -> Option<Piece<'_>>
+pub(crate) fn piece_at(octets: &[u8], offset: usize) -> Option<Piece<'_>>
     ensures { MatchOption result (NothingAt octets.now offset) (PieceAt octets.now offset) }
 {
     let behind = octets.get(offset..)?;
@@ -97,10 +99,15 @@ fn small_name(alloc: Global, passed: &[u8], last: &[u8]) -> Result<Name, AllocEr
     Ok(Name::from_wire(small_octets(alloc, passed, last)?))
 }
 
-/// Reads the name at offset `at` of a message, and gives the offset after it: after its closing 0,
-/// or after its first pointer. A pointer leads to a run of labels that lies, its closing 0 or
-/// pointer included, before the run that the pointer closes.
-pub fn read_name(alloc: Global, bytes: &[u8], at: usize) -> Result<(Name, usize), NameReadRefusal>
+/// Reads the name at offset `at` of a message, as `read_name` says, by what is known of where its
+/// pointers lead.
+pub fn read_name_by(
+    alloc: Global,
+    bytes: &[u8],
+    landings: &Landings,
+    at: usize,
+) -> Result<(Name, usize), NameReadRefusal>
+    requires { AreLandings bytes.now landings.now }
     // What is read is the name that stands there.
     ensures found { IfOk result (λ found. NameAt bytes.now at at found.0 found.1) }
     // A name that stands there is read, unless memory is refused: so `Malformed` comes only where
@@ -119,10 +126,12 @@ pub fn read_name(alloc: Global, bytes: &[u8], at: usize) -> Result<(Name, usize)
     let mut limit = bytes.len();
     let mut offset = at;
     let mut after = None;
+    let mut followed = 0u32;
     loop {
         match piece_at(&bytes[..limit], offset) {
             None => return Err(NameReadRefusal::Malformed),
             Some(Piece::Root) => {
+                landings.note(followed);
                 let name = small_name(alloc, &front[..passed], &bytes[start..offset + 1])?;
                 return Ok((name, after.unwrap_or(offset + 1)));
             }
@@ -134,18 +143,37 @@ pub fn read_name(alloc: Global, bytes: &[u8], at: usize) -> Result<(Name, usize)
                 offset += 1 + label.len();
             }
             Some(Piece::Pointer(target)) => {
-                if target >= start {
+                let Some(run) = landings.run_at(bytes, target, start) else {
                     return Err(NameReadRefusal::Malformed);
-                }
+                };
                 put_run(&mut front, passed, &bytes[start..offset]);
                 passed = count;
                 after = Some(after.unwrap_or(offset + 2));
-                limit = start;
-                start = target;
-                offset = target;
+                followed = followed.wrapping_add(1);
+                limit = run.limit;
+                start = run.start;
+                offset = run.start;
             }
         }
     }
+}
+
+/// Reads the name at offset `at` of a message, and gives the offset after it: after its closing 0,
+/// or after its first pointer. A pointer leads to a run of labels that lies, its closing 0 or
+/// pointer included, before the run that the pointer closes.
+pub fn read_name(alloc: Global, bytes: &[u8], at: usize) -> Result<(Name, usize), NameReadRefusal>
+    // What is read is the name that stands there.
+    ensures found { IfOk result (λ found. NameAt bytes.now at at found.0 found.1) }
+    // A name that stands there is read, unless memory is refused: so `Malformed` comes only where
+    // none does.
+    ensures read { (name : List (List ℕ)) (end : ℕ) → NameAt bytes.now at at name end
+        → MatchResult result (λ found. (found.0 ≡ name) × (found.1 ≡ end))
+        (λ refusal. refusal ≡ NameReadRefusal.Memory) }
+    // Memory is asked for where a name stands, and nowhere else.
+    ensures memory { result ≡ Err NameReadRefusal.Memory
+        → (name : List (List ℕ)) × (end : ℕ) × NameAt bytes.now at at name end }
+{
+    read_name_by(alloc, bytes, &Landings::none(alloc), at)
 }
 
 /// A name in the first octets of others, and the offset after it in its message.
@@ -165,8 +193,14 @@ fn put_small(octets: &mut [u8; INLINE_LIMIT], passed: usize, run: &[u8])
 }
 
 /// Reads the name at offset `at` of a message over zeros, if one of at most 31 octets is there.
-fn read_short(bytes: &[u8], at: usize, octets: &mut [u8; INLINE_LIMIT]) -> Option<ShortName>
-    requires { IsPadded octets.old 0 }
+fn read_short(
+    bytes: &[u8],
+    landings: &Landings,
+    at: usize,
+    octets: &mut [u8; INLINE_LIMIT],
+) -> Option<ShortName>
+    requires known { AreLandings bytes.now landings.now }
+    requires zeros { IsPadded octets.old 0 }
     ensures { IfSome result
         (λ short. ShortNameAt bytes.now at octets.new short.length short.after) }
 {
@@ -176,9 +210,11 @@ fn read_short(bytes: &[u8], at: usize, octets: &mut [u8; INLINE_LIMIT]) -> Optio
     let mut limit = bytes.len();
     let mut offset = at;
     let mut end = None;
+    let mut followed = 0u32;
     loop {
         match piece_at(&bytes[..limit], offset)? {
             Piece::Root => {
+                landings.note(followed);
                 put_small(octets, passed, &bytes[run_start..offset + 1]);
                 return Some(ShortName {
                     length: count + 1,
@@ -193,15 +229,14 @@ fn read_short(bytes: &[u8], at: usize, octets: &mut [u8; INLINE_LIMIT]) -> Optio
                 offset += 1 + label.len();
             }
             Piece::Pointer(target) => {
-                if target >= run_start {
-                    return None;
-                }
+                let run = landings.run_at(bytes, target, run_start)?;
                 put_small(octets, passed, &bytes[run_start..offset]);
                 passed = count;
                 end = Some(end.unwrap_or(offset + 2));
-                limit = run_start;
-                run_start = target;
-                offset = target;
+                followed = followed.wrapping_add(1);
+                limit = run.limit;
+                run_start = run.start;
+                offset = run.start;
             }
         }
     }
@@ -209,14 +244,21 @@ fn read_short(bytes: &[u8], at: usize, octets: &mut [u8; INLINE_LIMIT]) -> Optio
 
 /// Reads the name at offset `at` of a message over the octets of another name, if one of at most 31
 /// octets is there, and gives the offset after it. Else the octets are those of the root.
-fn read_short_over(alloc: Global, bytes: &[u8], at: usize, octets: &mut Octets) -> Option<usize>
+fn read_short_over(
+    alloc: Global,
+    bytes: &[u8],
+    landings: &Landings,
+    at: usize,
+    octets: &mut Octets,
+) -> Option<usize>
+    requires { AreLandings bytes.now landings.now }
     ensures some { IfSome result (λ end. (name : List (List ℕ)) × NameAt bytes.now at at name end
         × (octets.new ≡ wire_of name)) }
     ensures none { result ≡ None → octets.new ≡ wire_of [] }
 {
     octets.heap = Vec::new(alloc);
     octets.inline = [0; INLINE_LIMIT];
-    match read_short(bytes, at, &mut octets.inline) {
+    match read_short(bytes, landings, at, &mut octets.inline) {
         Some(short) => {
             octets.length = short.length as u8;
             Some(short.after)
@@ -227,6 +269,35 @@ fn read_short_over(alloc: Global, bytes: &[u8], at: usize, octets: &mut Octets) 
             None
         }
     }
+}
+
+/// Reads the name at offset `at` of a message over another name, as `read_name_into` says, by what
+/// is known of where its pointers lead.
+pub fn read_name_into_by(
+    alloc: Global,
+    bytes: &[u8],
+    landings: &Landings,
+    at: usize,
+    name: &mut Name,
+) -> Result<usize, NameReadRefusal>
+    requires { AreLandings bytes.now landings.now }
+    // What is read is the name that stands there.
+    ensures found { IfOk result (λ end. NameAt bytes.now at at name.new end) }
+    // A name that stands there is read, unless memory is refused.
+    ensures read { (labels : List (List ℕ)) (end : ℕ) → NameAt bytes.now at at labels end
+        → MatchResult result (λ found. (name.new ≡ labels) × (found ≡ end))
+        (λ refusal. refusal ≡ NameReadRefusal.Memory) }
+    // Memory is asked for where a name stands, and nowhere else.
+    ensures memory { result ≡ Err NameReadRefusal.Memory
+        → (labels : List (List ℕ)) × (end : ℕ) × NameAt bytes.now at at labels end }
+    ensures refused { OnErr result (name.new ≡ []) }
+{
+    if let Some(after) = read_short_over(alloc, bytes, landings, at, &mut name.octets) {
+        return Ok(after);
+    }
+    let (found, after) = read_name_by(alloc, bytes, landings, at)?;
+    *name = found;
+    Ok(after)
 }
 
 /// Reads the name at offset `at` of a message over another name, as `read_name` reads it, and gives
@@ -248,12 +319,7 @@ pub fn read_name_into(
         → (labels : List (List ℕ)) × (end : ℕ) × NameAt bytes.now at at labels end }
     ensures refused { OnErr result (name.new ≡ []) }
 {
-    if let Some(after) = read_short_over(alloc, bytes, at, &mut name.octets) {
-        return Ok(after);
-    }
-    let (found, after) = read_name(alloc, bytes, at)?;
-    *name = found;
-    Ok(after)
+    read_name_into_by(alloc, bytes, &Landings::none(alloc), at, name)
 }
 
 /// Appends the octets of a name without pointers. After an error `out` is as before; where it has

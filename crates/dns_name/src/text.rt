@@ -125,6 +125,17 @@ fn put_labels(octets: &mut [u8; INLINE_LIMIT], text: &[u8]) -> usize
     used + 1
 }
 
+/// The name of so many labels that it takes memory. By itself, since room for the longest name is
+/// filled with zeros where a function begins.
+#[inline(never)]
+fn long_name_of(alloc: Global, text: &[u8]) -> Result<Name, AllocError>
+    requires { spec.dotted_fault (spec.parted text.now) ≡ None }
+    ensures { IfOk result
+        (λ name. wire_of name ≡ wire_of (map small_letters (spec.parted text.now))) }
+{
+    builder_of(text).finish(alloc, &[0])
+}
+
 /// The name of the labels with dots between them.
 fn name_of(alloc: Global, text: &[u8]) -> Result<Name, AllocError>
     requires { spec.dotted_fault (spec.parted text.now) ≡ None }
@@ -132,7 +143,7 @@ fn name_of(alloc: Global, text: &[u8]) -> Result<Name, AllocError>
         (λ name. wire_of name ≡ wire_of (map small_letters (spec.parted text.now))) }
 {
     if text.len() + 2 > INLINE_LIMIT {
-        return builder_of(text).finish(alloc, &[0]);
+        return long_name_of(alloc, text);
     }
     let mut octets = [0; INLINE_LIMIT];
     let used = put_labels(&mut octets, text);

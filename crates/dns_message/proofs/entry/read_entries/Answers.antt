@@ -11,6 +11,7 @@ loop-init g c =
       so_far = none refl;
       follows = λ others end there size. (others, refl, there);
       count = refl;
+      known = c.requires.known;
     })
 
 pub loop-preserved : goal.loop-preserved
@@ -24,6 +25,7 @@ loop-preserved g c =
       so_far = AllAt-push stands read.offset entry l.invariant.so_far read.ensures.found;
       follows = Follows-push stands c.args.offset l.offset read.offset entry l.entries.items l.invariant.follows read.ensures.read;
       count = length_push l.entries.items entry ∙ omega arith;
+      known = c.settle.ensures;
     })
 
 pub returns-clause-read : goal.returns-clause-read

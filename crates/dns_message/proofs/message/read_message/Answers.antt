@@ -53,6 +53,10 @@ this c read =
       additional = additional.0;
     }
 
+-- nothing is known at first
+pub read_section-requires-clause-known : goal.read_section-requires-clause-known
+read_section-requires-clause-known c = c.none-landings.ensures c.args.bytes.now
+
 pub returns-clause-found : goal.returns-clause-found
 returns-clause-found c =
     let at = goal.at.returns-clause-found c in

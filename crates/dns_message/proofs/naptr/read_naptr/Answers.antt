@@ -14,7 +14,7 @@ rule_read c = record {
   flags = c.in_ok-flags.flags;
   services = c.in_ok-services.services;
   regexp = c.in_ok-regexp.regexp;
-  replacement = c.read_name_into.new.name;
+  replacement = c.read_name_into_by.new.name;
 }
 
 -- what was read stands there

@@ -7,7 +7,7 @@ use Rattle.dns_message.proofs.owner.read_owner.Goals.{Then-is_pointer_to_asked}
 -- the name of the question stands at the offset
 this : (c : Then-is_pointer_to_asked) → NameAt c.args.bytes.now c.args.offset c.args.offset c.in-Some.asked.name.now (c.args.offset + 2)
 this c =
-    let asked = rw c.in-Some.is at c.requires in
+    let asked = rw c.in-Some.is at c.requires.asked in
     name_pointed_to c.law_name_rests_before_its_end.ensures.within c.args.bytes.now c.args.offset c.in-Some.asked asked
     (omega (arith, c.if-asked-offset.true)) (c.is_pointer_to_asked.ensures c.if-is_pointer_to_asked.true)
 

@@ -14,7 +14,7 @@ server_read c =
       weight = c.in_ok-server-2.field-0;
       port = c.in_ok-server-3.field-0;
       target =
-          c.read_name_into.new.name;
+          c.read_name_into_by.new.name;
     }
 
 -- what was read stands there

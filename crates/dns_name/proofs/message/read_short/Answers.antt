@@ -5,7 +5,7 @@ use Rattle.dns_name.specs.Labels.{small_letters}
 use Rattle.dns_name.proofs.Padding.{IsPadded-more, take-more, used-length}
 use Rattle.dns_name.proofs.SmallRuns.{run_none, run_size, label_within}
 use Rattle.dns_name.proofs.ShortRuns.{short_grows, short_ends, short_length}
-use Rattle.dns_name.proofs.Pieces.{OctetAt-front, LabelPiece-front}
+use Rattle.dns_name.proofs.Pieces.{OctetAt-front, LabelPiece-front, PointerPiece-front}
 use Rattle.dns_name.proofs.Finding.{begun, past_label, past_pointer, found}
 use Rattle.dns_name.proofs.message.read_short.Goals as goal
 
@@ -17,7 +17,7 @@ loop-octets-init c =
       size = omega (arith, ap length none);
       counted = omega arith;
       short = omega arith;
-      padded = c.requires;
+      padded = c.requires.zeros;
       finding = rw none (begun c.args.bytes.now c.args.at);
     }
 
@@ -81,22 +81,22 @@ loop-octets-preserved c =
     let passed : List ℕ = take l.passed l.octets in
     let run : List ℕ = slice_range bytes l.run_start l.offset in
     let front = rw c.in-Pointer.is at c.in_ok-piece_at.ensures in
-    let first = OctetAt-front bytes l.limit l.offset l.invariant.within (192 + front.high) front.first in
-    let second = OctetAt-front bytes l.limit (l.offset + 1) l.invariant.within front.low front.second in
-    let next = past_pointer bytes c.args.at l.offset l.run_start l.limit (passed ++ small_letters run) l.end
-    l.invariant.finding front.high front.low first.0 second.0 (omega (arith, front.leads, c.if-target-run_start.false))
-    (omega (arith, second.1)) in
-    let none = run_none bytes c.in-Pointer.target in
+    let piece = PointerPiece-front bytes l.limit l.offset l.invariant.within c.in-Pointer.target front in
+    let to = c.in_ok-run-in-Pointer.run' in
+    let leads = c.in_ok-run-in-Pointer.ensures in
+    let next = past_pointer bytes c.args.at l.offset l.run_start l.limit (passed ++ small_letters run) l.end l.invariant.finding
+    c.in-Pointer.target to.start to.limit piece.0 leads piece.1 in
+    let none = run_none bytes to.start in
     let count : l.passed + length run ≡ l.count = omega (arith, l.invariant.size, l.invariant.counted) in
     let count' : l.passed + length (small_letters run) ≡ l.count = omega (arith, count, length-map run to_ascii_lowercase) in
     let few : l.count ≤ 31 = omega (arith, l.invariant.short) in
     let put = rw count at c.put_small-in-Pointer.ensures in
     let taken = take-more l.octets (small_letters run) l.passed l.count l.invariant.padded count' few in
     record {
-      within = omega (arith, l.invariant.size);
+      within = omega (arith, leads.within, l.invariant.size, l.invariant.within, piece.1);
       size = omega (arith, ap length none);
       counted = omega arith;
       short = l.invariant.short;
       padded = rw put (IsPadded-more l.octets (small_letters run) l.passed l.count l.invariant.padded count' few);
-      finding = rw (put, taken, none, append-nil (passed ++ small_letters run), front.leads, c.unwrap_or-in-Pointer.ensures) next;
+      finding = rw (put, taken, none, append-nil (passed ++ small_letters run), c.unwrap_or-in-Pointer.ensures) next;
     }

@@ -5,14 +5,6 @@ use Rattle.dns_name.proofs.Padding.{IsPadded-zeros}
 use Rattle.dns_name.proofs.TextNames.{IsName-small}
 use Rattle.dns_name.proofs.text.name_of.Goals as goal
 
-pub finish-requires : goal.finish-requires
-finish-requires c =
-    let parts : List (List ℕ) = parted c.args.text.now in
-    (map small_letters parts, IsName-small parts c.requires, c.builder_of.ensures)
-
-pub returns-then-text-gt-INLINE_LIMIT : goal.returns-then-text-gt-INLINE_LIMIT
-returns-then-text-gt-INLINE_LIMIT c = rw c.builder_of.ensures at c.finish.ensures
-
 pub put_labels-used-requires-clause-zeros : goal.put_labels-used-requires-clause-zeros
 put_labels-used-requires-clause-zeros c = IsPadded-zeros _ refl refl
 

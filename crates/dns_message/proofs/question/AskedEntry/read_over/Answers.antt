@@ -9,7 +9,7 @@ use Rattle.dns_message.proofs.question.AskedEntry.read_over.Goals.{In_ok-self-2}
 
 abbrev question_read : In_ok-self-2 → Asked
 question_read c = record {
-  name = c.read_name_into.new.name;
+  name = c.read_name_into_by.new.name;
   type_number = c.in_ok-self.field-0;
   class_number =
       c.in_ok-self-2.field-0;

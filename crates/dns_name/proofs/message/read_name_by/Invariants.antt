@@ -1,7 +1,7 @@
 use Rattle.std.proofs.Common.{◌≡◌, ◌+◌, ◌-◌, ◌≤◌, ◌++◌, length, take, slice_range}
 use Rattle.dns_name.specs.Labels.{small_letters}
 use Rattle.dns_name.proofs.Finding.{Finding}
-use Rattle.dns_name.proofs.message.read_name.Given as goal
+use Rattle.dns_name.proofs.message.read_name_by.Given as goal
 
 abbrev pub invariant-loop-front : goal.invariant-loop-front
 invariant-loop-front l = record {
