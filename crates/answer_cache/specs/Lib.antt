@@ -1,6 +1,5 @@
 pub mod Seats
 pub mod Chains
-pub mod Found
 pub mod Indexes
 pub mod Lists
 pub mod Nodes

@@ -4,13 +4,13 @@ ghost use Rattle.std.specs.Arc.{arc_value};
 ghost use Rattle.std.specs.Option.{option_map};
 ghost use Rattle.dns_answers.specs.Records.{kind_of};
 ghost use Rattle.answer_log.specs.Histories.{cached};
-ghost use Rattle.answer_cache.specs.Found.{answer_in};
+ghost use Rattle.dns_answers.specs.Found.{answer_in};
 ghost use Rattle.answer_cache.specs.Seats.{GoesOn, IsRefused, IsSeat, IsStored, SeatView};
 ghost use Rattle.answer_cache.specs.Seats.{StoresNothing, offer_of};
 
-use crate::found::{Found, kept};
+use crate::kept::kept;
 use crate::refusal::StoreRefusal;
-use dns_answers::{Answer, Moment};
+use dns_answers::{Answer, FoundAnswer, Moment};
 use dns_message::Question;
 use std::alloc::AllocError;
 use std::sync::{Arc, Wait};
@@ -41,7 +41,7 @@ pub trait AnswerBook {
         seat: &mut Self::Seat,
         question: &Question,
         now: Moment,
-    ) -> Result<Option<Found<'a>>, AllocError>
+    ) -> Result<Option<FoundAnswer<'a>>, AllocError>
         requires { belongs self.now seat.old }
         ensures stays { belongs self.now seat.new }
         ensures goes_on { GoesOn (shown seat.old) (shown seat.new) }

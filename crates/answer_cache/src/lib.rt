@@ -68,8 +68,8 @@
 mod book;
 mod carried;
 mod carry;
-mod found;
 mod index;
+mod kept;
 mod list_cache;
 mod node;
 mod notes;
@@ -83,7 +83,6 @@ mod successor;
 pub use answer_log::group;
 pub use book::AnswerBook;
 pub use carried::{Carried, law_carried_answers_as_before};
-pub use found::Found;
 pub use list_cache::{ListCache, ListSeat};
 pub use refusal::{CacheRefusal, StoreRefusal};
 pub use rival::Rival;

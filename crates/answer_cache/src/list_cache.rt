@@ -4,17 +4,16 @@ ghost use Rattle.std.specs.Arc.{arc_value};
 ghost use Rattle.std.specs.Option.{option_map};
 ghost use Rattle.dns_answers.specs.Records.{kind_of};
 ghost use Rattle.answer_log.specs.Histories.{cached};
-ghost use Rattle.answer_cache.specs.Found.{answer_in};
+ghost use Rattle.dns_answers.specs.Found.{answer_in};
 ghost use Rattle.answer_cache.specs.Lists.{IsListSeat, Refuses, Takes, offered_too, seat_at};
 ghost use Rattle.answer_cache.specs.Lists.{stored_too};
 ghost use Rattle.answer_cache.specs.Seats.{offer_of};
 
 use crate::book::AnswerBook;
-use crate::found::Found;
 use crate::notes::Notes;
 use crate::refusal::StoreRefusal;
 use crate::store_list::StoreList;
-use dns_answers::{Answer, Moment};
+use dns_answers::{Answer, FoundAnswer, Moment};
 use dns_message::Question;
 use std::alloc::{AllocError, Global};
 use std::marker::Model;
@@ -82,7 +81,7 @@ impl AnswerBook for ListCache {
         seat: &mut ListSeat,
         question: &Question,
         now: Moment,
-    ) -> Result<Option<Found<'a>>, AllocError>
+    ) -> Result<Option<FoundAnswer<'a>>, AllocError>
         ensures leaves { seat.new ≡ seat.old }
         ensures found { IfOk result
             (λ found. option_map answer_in found ≡ cached seat.old.seen question.now now) }
@@ -90,7 +89,7 @@ impl AnswerBook for ListCache {
         ensures wanted { OnErr result (cached seat.old.seen question.now now ≢ None) }
     {
         match self.lookup(seat, question, now)? {
-            Some(answer) => Ok(Some(Found::Owned(answer))),
+            Some(answer) => Ok(Some(FoundAnswer::Owned(answer))),
             None => Ok(None),
         }
     }

@@ -17,7 +17,7 @@ ghost use Rattle.answer_log.specs.Rules.{node_at};
 ghost use Rattle.answer_log.specs.Steps.{HadRoom, store_by};
 ghost use Rattle.answer_log.specs.declared.store.Store.{Store};
 ghost use Rattle.dns_answers.specs.Records.{kind_of};
-ghost use Rattle.answer_cache.specs.Found.{IsBorrowed, answer_in};
+ghost use Rattle.dns_answers.specs.Found.{IsBorrowed, answer_in};
 ghost use Rattle.answer_cache.specs.Indexes.{AreIndexes, IsIndex, TellsAll};
 ghost use Rattle.answer_cache.specs.Nodes.{Costs, Holds, IsLastOf, IsNode, IsReady, LeavesPlaces};
 ghost use Rattle.answer_cache.specs.Nodes.{Meets, Says};
@@ -30,8 +30,8 @@ ghost use Rattle.answer_log.specs.Cursors.{Ahead};
 ghost use Rattle.answer_log.specs.declared.event.Event.{Event as Noticed};
 
 use crate::book::AnswerBook;
-use crate::found::{Found, kept};
 use crate::index::{Index, IndexEntry};
+use crate::kept::kept;
 use crate::node::{ByBook, Hashed, Node, Shelf, ShelfRefusal, Shelved};
 use crate::notes::Notes;
 use crate::refusal::{CacheRefusal, StoreRefusal};
@@ -43,7 +43,7 @@ use answer_log::{
 };
 use boxcar::Pushed;
 use boxcar::tag::Tag;
-use dns_answers::{Answer, Moment};
+use dns_answers::{Answer, FoundAnswer, Moment};
 use dns_message::{Question, law_same_questions_are_equal};
 use std::alloc::{AllocError, Global};
 use std::marker::Model;
@@ -665,7 +665,7 @@ impl AnswerBook for SharedCache {
         seat: &mut Seat,
         question: &Question,
         now: Moment,
-    ) -> Result<Option<Found<'a>>, AllocError>
+    ) -> Result<Option<FoundAnswer<'a>>, AllocError>
         requires made_here { Belongs self.now seat.old }
         ensures stays { Belongs self.now seat.new }
         ensures goes_on { GoesOn seat.old.seat seat.new.seat }
@@ -684,7 +684,7 @@ impl AnswerBook for SharedCache {
         let found = self.last_of(&mut seat.handle, &mut seat.indexes, &asked);
         law_log_keeps_its_rule(&seat.handle.book);
         match found? {
-            Some(node) if node.lives_at(now) => Ok(Some(Found::Borrowed(&node.answer))),
+            Some(node) if node.lives_at(now) => Ok(Some(FoundAnswer::Borrowed(&node.answer))),
             _ => Ok(None),
         }
     }

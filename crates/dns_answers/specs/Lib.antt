@@ -7,3 +7,4 @@ pub mod Values
 pub mod Answers
 pub mod Views
 pub mod CutChains
+pub mod Found

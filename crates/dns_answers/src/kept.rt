@@ -1,5 +1,5 @@
 //! The records of an answer, kept as they stand in a section.
-ghost use Rattle.std.specs.Prelude.{◌≡◌, [], Option, IfOk};
+ghost use Rattle.std.specs.Prelude.{◌≡◌, [], ◌∷◌, ◌++◌, Option, IfOk, OnOk};
 ghost use Rattle.std.specs.Option.{option_copied};
 ghost use Rattle.dns_message.specs.declared.rdata.Rdata as rdata;
 ghost use Rattle.dns_answers.specs.Kept as spec;
@@ -97,6 +97,17 @@ fn data_for<'a, T: Wanted>(name: &Name, entry: &'a Record) -> Option<&'a T>
     }
 }
 
+/// Adds a copy of such data. Where it is the first, memory is taken for so many at once.
+fn push_copy<T: Wanted>(items: &mut Vec<T>, item: &T, room: usize) -> Result<(), AllocError>
+    ensures { OnOk result (items.new.items ≡ items.old.items ++ item.now ∷ []) }
+{
+    if items.is_empty() {
+        items.reserve_exact(room)?;
+    }
+    items.push(item.copied()?)?;
+    Ok(())
+}
+
 /// The first 32 records of a section that have such data for a name: their data, and the life of
 /// records that last so long together with these.
 fn kept<T: Wanted>(
@@ -109,6 +120,7 @@ fn kept<T: Wanted>(
         (found.0.items ≡ spec.data_of T.data_in (spec.kept_with T.data_in name.now section.now))
         × (found.1 ≡ least_from limit (ttls (spec.kept_with T.data_in name.now section.now)))) }
 {
+    let room = section.len().min(RECORD_LIMIT);
     let mut items = Vec::new(alloc);
     let mut life = limit;
     for entry in section {
@@ -116,7 +128,7 @@ fn kept<T: Wanted>(
             return Ok((items, life));
         }
         if let Some(data) = data_for::<T>(name, entry) {
-            items.push(data.copied()?)?;
+            push_copy(&mut items, data, room)?;
             life = life_with(life, entry.ttl);
         }
     }

@@ -27,6 +27,7 @@ mod absence;
 mod answer;
 mod chain;
 mod cut_chain;
+mod found;
 mod kept;
 mod laws;
 mod moment;
@@ -37,6 +38,7 @@ mod reply;
 pub use answer::Answer;
 pub use cut_chain::{FollowUp, follow_up, is_reply_to, join_replies};
 pub use dns_message::Section;
+pub use found::FoundAnswer;
 pub use laws::{
     law_absence_is_limited, law_answers_are_bounded, law_chain_follows_cnames,
     law_life_is_the_least, law_question_is_repeated,

@@ -6,7 +6,7 @@ ghost use Rattle.std.specs.List.{All};
 ghost use Rattle.std.specs.Option.{option_map};
 ghost use Rattle.dns_answers.specs.Records.{kind_of};
 ghost use Rattle.answer_log.specs.Histories.{cached};
-ghost use Rattle.answer_cache.specs.Found.{answer_in};
+ghost use Rattle.dns_answers.specs.Found.{answer_in};
 ghost use Rattle.answer_cache.specs.Seats.{GoesOn, IsRefused, IsStored, StoresNothing, offer_of};
 ghost use Rattle.answer_cache.specs.Shared.{Refuses};
 ghost use Rattle.rolling_cache.specs.Rolling.{Changes, IsAt, IsFirst, IsFresh, IsFreshAt, Waits};
@@ -14,8 +14,8 @@ ghost use Rattle.rolling_cache.specs.Rolling.{Changes, IsAt, IsFirst, IsFresh, I
 use crate::change::Change;
 use crate::generation::{Generation, Present};
 use crate::seat::RollingSeat;
-use answer_cache::{AnswerBook, CacheRefusal, Found, StoreRefusal};
-use dns_answers::{Answer, Moment};
+use answer_cache::{AnswerBook, CacheRefusal, StoreRefusal};
+use dns_answers::{Answer, FoundAnswer, Moment};
 use dns_message::Question;
 use std::alloc::{AllocError, Global};
 use std::sync::atomic::{AtomicU64, Ordering};
@@ -194,7 +194,7 @@ impl AnswerBook for RollingCache {
         seat: &mut RollingSeat,
         question: &Question,
         now: Moment,
-    ) -> Result<Option<Found<'a>>, AllocError>
+    ) -> Result<Option<FoundAnswer<'a>>, AllocError>
         requires { IsAt seat.old }
         ensures stays { IsAt seat.new }
         ensures generation { seat.new.generation ≡ seat.old.generation }
@@ -204,7 +204,7 @@ impl AnswerBook for RollingCache {
             ≡ cached seat.new.seat.seat.seen question.now now) }
     {
         match self.lookup(seat, question, now)? {
-            Some(answer) => Ok(Some(Found::Owned(answer))),
+            Some(answer) => Ok(Some(FoundAnswer::Owned(answer))),
             None => Ok(None),
         }
     }

@@ -2,8 +2,8 @@
 ghost use Rattle.std.specs.Prelude.{◌≡◌};
 ghost use Rattle.dns_transport.specs.WireCounts.{more, one_if};
 
-use answer_cache::{AnswerBook, Found, StoreRefusal};
-use dns_answers::{Answer, Moment};
+use answer_cache::{AnswerBook, StoreRefusal};
+use dns_answers::{Answer, FoundAnswer, Moment};
 use dns_message::Question;
 use std::alloc::AllocError;
 use std::sync::{Arc, Wait};
@@ -65,7 +65,7 @@ impl<B: AnswerBook> AnswerBook for CountingBook<B> {
         seat: &mut CountingSeat<B::Seat>,
         question: &Question,
         now: Moment,
-    ) -> Result<Option<Found<'a>>, AllocError> {
+    ) -> Result<Option<FoundAnswer<'a>>, AllocError> {
         let found = self.book.look(&mut seat.seat, question, now)?;
         seat.note(found.is_some());
         Ok(found)

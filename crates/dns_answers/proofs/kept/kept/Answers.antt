@@ -1,7 +1,7 @@
 use Rattle.std.proofs.Common.{arith}
 use Rattle.dns_answers.proofs.KeptRecords.{passes, keeps, full, over}
 use Rattle.dns_answers.proofs.kept.kept.Goals as goal
-use Rattle.dns_answers.proofs.kept.kept.Goals.{in-Some+in_ok-copied+in_ok-push, in_default}
+use Rattle.dns_answers.proofs.kept.kept.Goals.{in-Some+in_ok-push_copy, in_default}
 
 pub returns-then-len-eq-RECORD_LIMIT : goal.returns-then-len-eq-RECORD_LIMIT
 returns-then-len-eq-RECORD_LIMIT g c =
@@ -12,10 +12,9 @@ pub loop-entry-preserved : goal.loop-entry-preserved
 loop-entry-preserved g c =
     let l = c.loop-entry in
     elim c.match-data_for.branch [
-      | in-Some+in_ok-copied+in_ok-push w ↦ rw (
+      | in-Some+in_ok-push_copy w ↦ rw (
         w.items-is,
-        w.in_ok-push.ensures.items,
-        w.in_ok-copied.ensures,
+        w.in_ok-push_copy.ensures,
         w.life-is,
         w.life_with-life.ensures,
       )
