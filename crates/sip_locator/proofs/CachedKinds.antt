@@ -1,7 +1,7 @@
 -- The kind of an answer that a history has.
 use Rattle.std.specs.Prelude.{nat_lt, option_and_then, if◌then◌else◌, IsTrue, ◌↔◌}
 use Rattle.std.specs.List.{All, last_or}
-use Rattle.std.proofs.Common.{◌≡◌, ℕ, ◌+◌, Bool, true, false, List, [], ◌∷◌, Option, Some, None, refl, sym, ◌∙◌, ap}
+use Rattle.std.proofs.Common.{◌≡◌, ℕ, ◌+◌, Bool, true, false, List, [], ◌∷◌, Option, Some, None, refl, sym}
 use Rattle.std.proofs.lemmas.List.Elements.{All-filter, All-head, All-tail, filter_passes}
 use Rattle.dns_answers.specs.Records.{kind_of}
 use Rattle.dns_answers.specs.Values.{AnswerValue}

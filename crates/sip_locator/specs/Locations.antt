@@ -1,6 +1,5 @@
 -- Where a request goes, as far as a book has the answers.
 use Rattle.std.specs.Prelude.{◌≡◌, ⊤, ℕ, List}
-use Rattle.dns_message.specs.declared.question.Question.{Question}
 use Rattle.sip_selection.specs.Choice.{Resolution, targets, refused}
 use Rattle.sip_selection.specs.Selections.{SelectionValue, now_of}
 use Rattle.answer_log.specs.declared.store.Store.{Store}

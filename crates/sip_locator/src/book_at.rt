@@ -2,11 +2,10 @@
 ghost use Rattle.std.specs.Prelude.{◌≡◌};
 
 use answer_cache::AnswerBook;
-use dns_answers::{Answer, Moment};
+use dns_answers::{FoundAnswer, Moment};
 use dns_message::Question;
 use sip_selection::AnswerSource;
 use std::alloc::AllocError;
-use std::sync::Arc;
 
 /// What a book has at a moment.
 #[derive(Drop)]
@@ -30,11 +29,11 @@ impl<'a, B: AnswerBook> AnswerSource for BookAt<'a, B> {
     ghost says = { λ it seat question found.
         found ≡ cached (B.shown seat).seen question it.now };
 
-    fn answer(
-        &self,
+    fn answer<'s>(
+        &'s self,
         seat: &mut B::Seat,
         question: &Question,
-    ) -> Result<Option<Arc<Answer>>, AllocError> {
-        self.book.lookup(seat, question, self.now)
+    ) -> Result<Option<FoundAnswer<'s>>, AllocError> {
+        self.book.look(seat, question, self.now)
     }
 }

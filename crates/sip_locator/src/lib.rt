@@ -31,7 +31,7 @@
 //!
 //! `locate` is `Locator::new` and one `step`, for a request whose answers are likely in the book.
 //! It gives the targets, or the reason why there are none, and makes a locator only where an answer
-//! is missing.
+//! is missing. The request is a view, so a URI or a Via of a text need not be read first.
 //!
 //! `reply` takes the octets of one DNS message. Where the message answers the question that is
 //! asked, the answer counts for this request, and the book is then told to store it. `Kept` says

@@ -5,6 +5,7 @@ ghost use Rattle.dns_answers.specs.Records.{kind_of};
 ghost use Rattle.answer_cache.specs.Seats.{GoesOn, StoresNothing};
 ghost use Rattle.sip_selection.specs.Choice.{IsNotRefused, need};
 ghost use Rattle.sip_selection.specs.Nexts.{next_of};
+ghost use Rattle.sip_selection.specs.Requests.{IsRequestView, request_of};
 ghost use Rattle.sip_selection.specs.Choices.{ChoiceIs, ChoiceLacks};
 ghost use Rattle.sip_selection.specs.Selections.{SelectionValue, begun, given_too, now_of};
 ghost use Rattle.answer_log.specs.Histories.{cached};
@@ -20,7 +21,9 @@ use crate::refusal::LocatorRefusal;
 use answer_cache::AnswerBook;
 use dns_answers::{Answer, Moment};
 use dns_message::{Question, law_same_questions_are_equal};
-use sip_selection::{Caps, Choice, GiveRefusal, Next, Reason, Request, Selection, Target, choose};
+use sip_selection::{
+    Caps, Choice, GiveRefusal, Next, Reason, Request, RequestView, Selection, Target, choose,
+};
 use srv_choice::Words;
 use std::alloc::{AllocError, Global};
 use std::marker::{Model, PhantomData};
@@ -62,23 +65,24 @@ fn choose_at<B: AnswerBook>(
     alloc: Global,
     book: &B,
     seat: &mut B::Seat,
-    request: &Request,
+    request: &RequestView<'_>,
     caps: &Caps,
     words: &Words,
     now: Moment,
 ) -> Result<Choice, AllocError>
-    requires { B.belongs book.now seat.old }
+    requires made_here { B.belongs book.now seat.old }
+    requires view { IsRequestView request.now }
     ensures stays { B.belongs book.now seat.new }
     ensures goes_on { GoesOn (B.shown seat.old) (B.shown seat.new) }
     ensures stores_nothing { StoresNothing (B.shown seat.old) (B.shown seat.new) }
     ensures chosen { (new : SelectionValue)
         × Gains (B.shown seat.new).seen now (B.shown seat.old).seen
-        (begun request.now caps.now words.now.0) new
+        (begun (request_of request.now) caps.now words.now.0) new
         × IfOk result (ChoiceIs new) }
     ensures lacks { IfOk result (ChoiceLacks
         (λ question found. found ≡ cached (B.shown seat.new).seen question now)) }
     ensures memory { OnErr result
-        (IsNotRefused (now_of (begun request.now caps.now words.now.0))) }
+        (IsNotRefused (now_of (begun (request_of request.now) caps.now words.now.0))) }
 {
     choose(alloc, request, caps, words, &BookAt { book, now }, seat)
 }
@@ -89,19 +93,20 @@ pub fn locate<B: AnswerBook>(
     alloc: Global,
     book: &B,
     seat: &mut B::Seat,
-    request: &Request,
+    request: &RequestView<'_>,
     caps: &Caps,
     words: &Words,
     now: Moment,
 ) -> Result<Located<B>, AllocError>
-    requires { B.belongs book.now seat.old }
+    requires made_here { B.belongs book.now seat.old }
+    requires view { IsRequestView request.now }
     ensures stays { B.belongs book.now seat.new }
     ensures goes_on { GoesOn (B.shown seat.old) (B.shown seat.new) }
     ensures stores_nothing { StoresNothing (B.shown seat.old) (B.shown seat.new) }
-    ensures located { IfOk result (IsLocated (begun request.now caps.now words.now.0)
+    ensures located { IfOk result (IsLocated (begun (request_of request.now) caps.now words.now.0)
         (B.shown seat.old).seen (B.shown seat.new).seen now) }
     ensures memory { OnErr result
-        (IsNotRefused (now_of (begun request.now caps.now words.now.0))) }
+        (IsNotRefused (now_of (begun (request_of request.now) caps.now words.now.0))) }
 {
     match choose_at(alloc, book, seat, request, caps, words, now)? {
         Choice::Targets(targets) => Ok(Located::Targets(targets)),

@@ -1,22 +1,22 @@
 -- Answers that a source gives while a choice goes on.
-use Rattle.std.proofs.Common.{◌≡◌, ◌≤◌, ℕ, Bool, true, false, List, [], ◌∷◌, ◌++◌, Option, Some, None, Ok, Err, length, take, refl, sym, ap, ◌∙◌, append_assoc, arith}
+use Rattle.std.proofs.Common.{◌≡◌, ◌≤◌, ℕ, Bool, true, false, List, [], ◌∷◌, ◌++◌, Option, Some, None, Ok, Err, drop, length, refl, sym, ap, ◌∙◌, append_assoc, arith}
 use Rattle.std.proofs.lemmas.List.Elements.{All-nil}
-use Rattle.std.proofs.lemmas.List.{append-nil, take-append-le, take_all}
+use Rattle.std.proofs.lemmas.List.{append-nil}
+use Rattle.std.proofs.Math.Seq.{drop-append_seam}
 use Rattle.dns_answers.specs.Records.{count_of}
 use Rattle.dns_answers.specs.Values.{AnswerValue}
 use Rattle.dns_message.specs.Questions.{same_question}
 use Rattle.dns_message.specs.declared.question.Question.{Question}
-use Rattle.sip_selection.specs.Choice.{need}
-use Rattle.sip_selection.specs.Consulting.{Consulted, nothing, onward, one, Needs, with_given}
+use Rattle.sip_selection.specs.Consulting.{Consulted, nothing, onward, one, Needs}
 use Rattle.sip_selection.specs.Known.{Given, Needing, find_answer, answer_to, made}
-use Rattle.sip_selection.specs.Selections.{AreAskedOneByOne, SelectionValue, now_of}
+use Rattle.sip_selection.specs.Selections.{AreAskedOneByOne, SelectionValue}
 use Rattle.sip_selection.specs.Stages.{Extends}
 use Rattle.sip_selection.specs.declared.caps.Caps.{Caps}
 use Rattle.sip_selection.specs.declared.request.Request.{Request}
 use Rattle.sip_selection.specs.declared.target.Target.{Target}
 use Rattle.sip_selection.proofs.Answered.{question_equiv}
 use Rattle.sip_selection.proofs.Growth.{answer-grows}
-use Rattle.sip_selection.proofs.Reaching.{Came, extends-itself}
+use Rattle.sip_selection.proofs.Reaching.{Came}
 use Rattle.sip_selection.proofs.Steps.{asked-too}
 
 -- ---- answers that join those given
@@ -115,10 +115,11 @@ module _ {Seat : Type 0} {ready : Seat → Type 0} {goes : Seat → Seat → Typ
         ap (λ (l : List Given). l ++ last) front.1 ∙ append_assoc it.given front.0 last,
       )
 
-  pub consulted-cut : {seat : Seat} {given : List Given} → Consulted ready goes says it start seat given
-      → take (length it.given) given ≡ it.given
-  consulted-cut consulted = let front = consulted-front consulted in
-      rw front.1 (take-append-le (length it.given) it.given front.0 (omega arith) ∙ take_all (length it.given) it.given (omega arith))
+  -- what is behind those that were given stands behind them
+  pub consulted-behind : {seat : Seat} {given : List Given} → Consulted ready goes says it start seat given
+      → it.given ++ drop (length it.given) given ≡ given
+  consulted-behind consulted = let front = consulted-front consulted in
+      rw front.1 (ap (λ (more : List Given). it.given ++ more) (drop-append_seam it.given front.0))
 
   -- they were asked for one by one
   pub consulted-asked : {seat : Seat} {given : List Given} → Consulted ready goes says it start seat given

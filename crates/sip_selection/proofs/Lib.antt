@@ -23,4 +23,5 @@ mod Preferences
 mod LeastOrder
 mod Rising
 mod Kept
+mod Finding
 mod Colons

@@ -1,17 +1,14 @@
 -- What is next in a choice is where it goes by the answers so far.
-use Rattle.std.proofs.Common.{◌≡◌, ℕ, ◌≤◌, Bool, true, false, not, true≢false, sym, List, [], ◌∷◌, ◌++◌, length, Ok, Err, refl, ap, ◌∙◌, inl, inr, arith}
+use Rattle.std.proofs.Common.{◌≡◌, ℕ, ◌≤◌, sym, List, [], ◌∷◌, ◌++◌, length, Ok, Err, ap, ◌∙◌, inl, inr, arith}
 use Rattle.std.proofs.lemmas.Bool.{cases_lt}
 use Rattle.std.proofs.lemmas.List.{get_or_append_left, get_or_push, length_push, take-append-le, take_at}
 use Rattle.std.proofs.lemmas.List.Elements.{All-push}
 use Rattle.dns_answers.specs.Records.{count_of}
 use Rattle.dns_message.specs.declared.question.Question.{Question}
 use Rattle.std.specs.Prelude.{Option, Some}
-use Rattle.std.specs.Box.{box_value}
-use Rattle.std.specs.declared.boxed.Box.{Box}
-use Rattle.std.specs.Option.{option_map}
 use Rattle.srv_choice.specs.declared.words.Words.{Words}
 use Rattle.sip_selection.specs.Choice.{IsNotRefused, Settled, need, refused, settled, resolved, chosen, locate}
-use Rattle.sip_selection.specs.Known.{Given, Needing, answer_to}
+use Rattle.sip_selection.specs.Known.{Given, Needing}
 use Rattle.sip_selection.specs.Requests.{is_secure, target_of}
 use Rattle.sip_selection.specs.Selections.{AreAskedOneByOne}
 use Rattle.sip_selection.specs.Stages.{AreHeld, ComesTo, Extends, IsAsking, name_of, stage_left}
@@ -22,8 +19,6 @@ use Rattle.sip_selection.specs.declared.stage.Stage.{Stage}
 use Rattle.sip_selection.specs.declared.stage.Step.{Step}
 use Rattle.sip_selection.specs.declared.stage.Step.TheVariants.{Ask, Found, Refused}
 use Rattle.sip_selection.specs.declared.target.Target.{Target}
-use Rattle.sip_selection.proofs.ChoiceLaws.{missing_is}
-use Rattle.sip_selection.proofs.Growth.{answer-grows}
 use Rattle.sip_selection.proofs.Reaching.{extends-itself}
 
 nothing-needed : (settles : Settled) (question : Question) → settled settles ≡ need question → ⊥
@@ -49,9 +44,6 @@ module _ (request : Request) (caps : Caps) (words : List ℕ) (given : List Give
   not-refused (Ask question stage) asking comes = rw (asked-is question stage comes) tt
   not-refused Found asking comes = absurd asking
   not-refused (Refused reason) asking comes = absurd asking
-
-  pub unknown-is : (question : Question) (stage : Stage) → Stands (Ask question stage) → answer_to given question ≡ Err question
-  unknown-is question stage comes = rw (missing_is request caps words given question (asked-is question stage comes)).0 refl
 
   -- a question is needed where it is asked
   pub step-asks : (step : Step) (question : Question) → Stands step → locate request caps words given ≡ need question
@@ -99,16 +91,7 @@ module _ (request : Request) (caps : Caps) (words : List ℕ) (given : List Give
         ap resolved whole
 
 -- words that are in memory are so at each step
-pub held-by : {Z : Type 0} (step : Step) (held : Option (Box Words Z)) (words : Words)
-    → option_map box_value held ≡ Some words → AreHeld step held words
+pub held-by : (step : Step) (held : Option Words) (words : Words) → held ≡ Some words → AreHeld step held words
 held-by (Ask question stage) held words is = is
 held-by Found held words is = tt
 held-by (Refused reason) held words is = tt
-
-pub held-are : {Z : Type 0} (held : Option (Box Words Z)) (box : Box Words Z) (words : Words)
-    → held ≡ Some box → option_map box_value held ≡ Some words → box.value ≡ words
-held-are held box words is are = cc
-
-pub not-false : (b : Bool) → false ≡ not b → b ≡ true
-not-false true is = refl
-not-false false is = absurd (true≢false (sym is))

@@ -14,6 +14,12 @@ ChoiceIs it (Refused reason) = now_of it ≡ refused reason
 ChoiceIs it (Asks selection) =
     (selection ≡ it) × (question : Question) × (now_of it ≡ need question)
 
+-- a choice asks nothing
+abbrev pub IsSettled : Choice → Type 0
+IsSettled (Targets list) = ⊤
+IsSettled (Refused reason) = ⊤
+IsSettled (Asks selection) = ⊥
+
 -- a question that is asked is one that the source lacks
 abbrev pub ChoiceLacks : (Question → Option AnswerValue → Type 0) → Choice → Type 0
 ChoiceLacks says (Targets list) = ⊤

@@ -5,6 +5,7 @@ use Rattle.dns_answers.specs.Values.{AnswerValue}
 use Rattle.dns_message.specs.declared.question.Question.{Question}
 use Rattle.sip_selection.specs.Choice.{need}
 use Rattle.sip_selection.specs.Known.{Given, Needing}
+use Rattle.sip_selection.specs.Requests.{request_of}
 use Rattle.sip_selection.specs.Selections.{SelectionValue, now_of}
 use Rattle.sip_selection.specs.Stages.{Extends}
 use Rattle.sip_uri.specs.declared.transport.Transport.{Transport}
@@ -46,7 +47,8 @@ asked_with request caps words given =
 -- the choice that a walk is made for, with the answers that it began with
 abbrev pub inquiry : {Source Seat : Type 0} → Context Source Seat → SelectionValue
 inquiry context =
-    asked_with context.request.now context.caps.now context.words.now.0 context.given.value
+    asked_with (request_of context.request.now) context.caps.now context.words.now.0
+    context.given.value
 
 -- the first question that is left is the one that the choice needs, whatever else is answered
 abbrev pub Needs : {X : Type 0} → SelectionValue → List Given → (List Given → Needing X) → Type 0

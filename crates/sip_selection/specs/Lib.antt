@@ -12,3 +12,4 @@ pub mod Selections
 pub mod Consulting
 pub mod Nexts
 pub mod Choices
+pub mod Asked

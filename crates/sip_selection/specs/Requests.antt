@@ -1,8 +1,11 @@
 -- What a request says of where it goes (RFC 3263 4, 5).
-use Rattle.std.specs.Prelude.{ℕ, Bool, true, false, Option, Some, None, unwrap_or, Result, Ok, Err}
+use Rattle.std.specs.Prelude.{⊤, ℕ, Bool, true, false, Option, Some, None, unwrap_or, Result, Ok, Err}
 use Rattle.sip_uri.specs.Hosts as hosts
+use Rattle.sip_uri.specs.Hosts.{DomainText}
 use Rattle.sip_uri.specs.Uris.{IsNamedUri}
+use Rattle.sip_uri.specs.Views.{IsHostView, IsUriView, name_of, uri_of, via_of}
 use Rattle.sip_uri.specs.declared.host.Host.{Host}
+use Rattle.sip_uri.specs.declared.host.Host.TheVariants as host
 use Rattle.sip_uri.specs.declared.transport.Spoken.{Spoken}
 use Rattle.sip_uri.specs.declared.transport.Spoken.TheVariants as spoken
 use Rattle.sip_uri.specs.declared.transport.Transport.{Transport}
@@ -11,6 +14,40 @@ use Rattle.sip_selection.specs.declared.reason.Reason.{Reason}
 use Rattle.sip_selection.specs.declared.reason.Reason.TheVariants.{TransportUnsupported, TransportNotSecure}
 use Rattle.sip_selection.specs.declared.request.Request.{Request}
 use Rattle.sip_selection.specs.declared.request.Request.TheVariants.{Uri, Via}
+use Rattle.sip_selection.specs.declared.request_view.RequestView.{RequestView}
+use Rattle.sip_selection.specs.declared.request_view.RequestView.TheVariants as view
+use Rattle.sip_selection.specs.declared.request_view.TargetView.{TargetView}
+use Rattle.sip_selection.specs.declared.request_view.TargetView.TheVariants as part
+
+-- ---- requests as they stand in their text
+
+-- the request that a view means
+abbrev pub request_of : RequestView → Request
+request_of (view.Read request) = request.now
+request_of (view.Uri parts) = Uri (uri_of parts)
+request_of (view.Via parts) = Via (via_of parts)
+
+-- a view is one of a request: its hosts are views of hosts
+abbrev pub IsRequestView : RequestView → Type 0
+IsRequestView (view.Read request) = ⊤
+IsRequestView (view.Uri parts) = IsUriView parts
+IsRequestView (view.Via parts) = IsHostView parts.host
+
+-- the host whose addresses are needed
+abbrev pub host_in : TargetView → Host
+host_in (part.V4 octets) = host.V4 octets
+host_in (part.V6 octets) = host.V6 octets
+host_in (part.Name name) = host.Domain name.now
+host_in (part.Hostname text) = host.Domain (name_of text.now)
+
+-- where it is a text, that is a hostname
+abbrev pub IsTargetView : TargetView → Type 0
+IsTargetView (part.V4 octets) = ⊤
+IsTargetView (part.V6 octets) = ⊤
+IsTargetView (part.Name name) = ⊤
+IsTargetView (part.Hostname text) = DomainText text.now (name_of text.now)
+
+-- ---- what a request says
 
 -- a request has a host that is a name
 abbrev pub IsNamed : Request → Type 0

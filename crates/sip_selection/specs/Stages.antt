@@ -2,10 +2,8 @@
 -- found so far stands in front.
 use Rattle.std.specs.Prelude.{◌≡◌, ⊤, ℕ, ◌+◌, ◌*◌, ◌≤◌, Bool, true, false, ◌||◌, List, [], ◌∷◌, ◌++◌, length, drop, Option, Some, None, slice_get, Result, Ok, Err, if◌then◌else◌}
 use Rattle.std.specs.Arc.{arc_value}
-use Rattle.std.specs.Box.{box_value}
-use Rattle.std.specs.declared.boxed.Box.{Box}
 use Rattle.std.specs.List.{flat_map, list_any}
-use Rattle.std.specs.Option.{option_map, option_map_or}
+use Rattle.std.specs.Option.{option_map_or}
 use Rattle.dns_answers.specs.Values.{AnswerValue}
 use Rattle.dns_message.specs.declared.question.Question.{Question}
 use Rattle.dns_message.specs.declared.srv.SrvRecord.{SrvRecord}
@@ -227,8 +225,8 @@ IsAsking Found = ⊥
 IsAsking (Refused reason) = ⊥
 
 -- where a question is asked, these random words are in memory of their own
-abbrev pub AreHeld : {Z : Type 0} → Step → Option (Box Words Z) → Words → Type 0
-AreHeld (Ask question stage) held words = option_map box_value held ≡ Some words
+abbrev pub AreHeld : Step → Option Words → Words → Type 0
+AreHeld (Ask question stage) held words = held ≡ Some words
 AreHeld Found held words = ⊤
 AreHeld (Refused reason) held words = ⊤
 

@@ -5,8 +5,8 @@ use Rattle.dns_name.specs.Labels.{wire_of}
 use Rattle.dns_message.specs.declared.question.Question.{Question}
 use Rattle.dns_answers.specs.Values.{AnswerValue}
 use Rattle.sip_selection.specs.Known.{Needing}
-use Rattle.sip_selection.specs.declared.known.Stop.{Stop}
-use Rattle.sip_selection.specs.declared.known.Stop.TheVariants.{Need, Memory}
+use Rattle.sip_selection.specs.declared.source.Stop.{Stop}
+use Rattle.sip_selection.specs.declared.source.Stop.TheVariants.{Need, Memory}
 
 -- the hash of a name: equal names have one hash
 abbrev pub hash_of_name : List (List ℕ) → ℕ

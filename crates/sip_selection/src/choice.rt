@@ -5,36 +5,39 @@ ghost use Rattle.sip_selection.specs.Choice as spec;
 ghost use Rattle.sip_selection.specs.Consulting as consult;
 ghost use Rattle.sip_selection.specs.Known as known_as;
 ghost use Rattle.sip_selection.specs.Known.{made};
-ghost use Rattle.sip_selection.specs.Requests.{is_secure, target_of};
+ghost use Rattle.sip_uri.specs.Hosts.{DomainText};
+ghost use Rattle.sip_uri.specs.Views.{name_of};
+ghost use Rattle.sip_uri.specs.declared.host.Host.TheVariants as host;
+ghost use Rattle.sip_selection.specs.Requests.{IsRequestView, is_secure, request_of, target_of};
 ghost use Rattle.sip_selection.specs.Rules as rules;
 ghost use Rattle.sip_selection.specs.Stages as left_of;
 
+use crate::boxed::Boxed;
 use crate::caps::Caps;
-use crate::known::Stop;
 use crate::position::{push_from, push_services};
 use crate::reason::Reason;
-use crate::request::Request;
+use crate::request_view::{RequestView, TargetView};
 use crate::rules::usable_services;
 use crate::service::{Service, service_at};
-use crate::source::{AnswerSource, answer_from};
+use crate::source::{AnswerSource, Stop, answer_from};
 use crate::stage::{Candidates, Context, Position, ServiceStage, ServiceStep, Stage, Step, Walk};
 use crate::target::Target;
 use crate::targets::push_kinds;
-use crate::transports::{default_port, offered_default, transport_offered};
+use crate::transports::{default_port, offered_default, refused_at_once, transport_offered};
 use dns_answers::{Answer, Records};
 use dns_message::{Kind, NaptrRecord};
 use dns_name::Name;
-use sip_uri::{Address, Host, Spoken, Transport};
+use sip_uri::{Address, Spoken, Transport, name_of_hostname};
 use srv_choice::Words;
 use std::alloc::{AllocError, Global};
 use std::snapshot::Snapshot;
 use std::sync::Arc;
 
 /// The addresses of the domain by a transport at a port, from a kind on.
-fn to_domain<S: AnswerSource>(
-    walk: &mut Walk,
+fn to_domain<'s, S: AnswerSource>(
+    walk: &mut Walk<'s>,
     seat: &mut S::Seat,
-    context: &Context<'_, S>,
+    context: &Context<'_, 's, S>,
     transport: Transport,
     port: u16,
     from: usize,
@@ -60,16 +63,19 @@ fn to_domain<S: AnswerSource>(
     let stop = push_kinds(walk, seat, context, transport, port, context.name, from)?;
     Ok(match stop {
         None => Step::Found,
-        Some((kind, question)) => Step::Ask(question, Stage::Domain(transport, port, kind)),
+        Some((kind, question)) => {
+            let stage = Stage::Domain(transport, port, kind);
+            Step::Ask(question, Boxed::new(context.alloc, stage)?)
+        }
     })
 }
 
 /// Where all services are done: the targets of those that are listed; where none is, and none
 /// denied, those of the domain.
-fn ended<S: AnswerSource>(
-    walk: &mut Walk,
+fn ended<'s, S: AnswerSource>(
+    walk: &mut Walk<'s>,
     seat: &mut S::Seat,
-    context: &Context<'_, S>,
+    context: &Context<'_, 's, S>,
     fallback: Result<Transport, Reason>,
     position: Position,
 ) -> Result<Step, AllocError>
@@ -103,10 +109,10 @@ fn ended<S: AnswerSource>(
 }
 
 /// The services that are looked for, from a stage on.
-fn along<S: AnswerSource>(
-    walk: &mut Walk,
+fn along<'s, S: AnswerSource>(
+    walk: &mut Walk<'s>,
     seat: &mut S::Seat,
-    context: &Context<'_, S>,
+    context: &Context<'_, 's, S>,
     candidates: &Arc<Candidates>,
     service_stage: &ServiceStage,
 ) -> Result<Step, AllocError>
@@ -138,18 +144,18 @@ fn along<S: AnswerSource>(
         ServiceStep::Position(position) => {
             ended(walk, seat, context, candidates.fallback, position)
         }
-        ServiceStep::Stop(service_stage, question) => Ok(Step::Ask(
-            question,
-            Stage::Along(Arc::try_clone(candidates)?, service_stage),
-        )),
+        ServiceStep::Stop(service_stage, question) => {
+            let stage = Stage::Along(Arc::try_clone(candidates)?, service_stage);
+            Ok(Step::Ask(question, Boxed::new(context.alloc, stage)?))
+        }
     }
 }
 
 /// The services that are looked for, from the first on.
-fn along_all<S: AnswerSource>(
-    walk: &mut Walk,
+fn along_all<'s, S: AnswerSource>(
+    walk: &mut Walk<'s>,
     seat: &mut S::Seat,
-    context: &Context<'_, S>,
+    context: &Context<'_, 's, S>,
     candidates: Candidates,
 ) -> Result<Step, AllocError>
     requires few { left_of.CandidatesFits candidates }
@@ -176,10 +182,11 @@ fn along_all<S: AnswerSource>(
         ServiceStep::Position(position) => {
             ended(walk, seat, context, candidates.fallback, position)
         }
-        ServiceStep::Stop(service_stage, question) => Ok(Step::Ask(
-            question,
-            Stage::Along(Arc::new(context.alloc, candidates)?, service_stage),
-        )),
+        ServiceStep::Stop(service_stage, question) => {
+            let candidates = Arc::new(context.alloc, candidates)?;
+            let stage = Stage::Along(candidates, service_stage);
+            Ok(Step::Ask(question, Boxed::new(context.alloc, stage)?))
+        }
     }
 }
 
@@ -240,8 +247,8 @@ fn rules_in(answer: &Answer) -> &[NaptrRecord]
 }
 
 /// Where rules lead; without one that is kept, to the services of the domain.
-fn candidates_by<S: AnswerSource>(
-    context: &Context<'_, S>,
+fn candidates_by<'s, S: AnswerSource>(
+    context: &Context<'_, 's, S>,
     rules: &[NaptrRecord],
 ) -> Result<Candidates, AllocError>
     requires { length rules.now ≤ 32 }
@@ -267,10 +274,10 @@ fn candidates_by<S: AnswerSource>(
 }
 
 /// Where the NAPTR records of the domain lead.
-fn by_naptr<S: AnswerSource>(
-    walk: &mut Walk,
+fn by_naptr<'s, S: AnswerSource>(
+    walk: &mut Walk<'s>,
     seat: &mut S::Seat,
-    context: &Context<'_, S>,
+    context: &Context<'_, 's, S>,
 ) -> Result<Step, AllocError>
     requires needs { consult.Needs (consult.inquiry context.now) walk.old.known
         (λ all. spec.by_naptr context.now.secure context.now.caps.now context.now.words.now.0 all
@@ -292,19 +299,21 @@ fn by_naptr<S: AnswerSource>(
 {
     match answer_from(walk, seat, context, context.name, Kind::Naptr) {
         Ok(answer) => {
-            let candidates = candidates_by(context, rules_in(&answer))?;
+            let candidates = candidates_by(context, rules_in(answer.as_arc()))?;
             along_all(walk, seat, context, candidates)
         }
-        Err(Stop::Need(question)) => Ok(Step::Ask(question, Stage::Rules)),
+        Err(Stop::Need(question)) => {
+            Ok(Step::Ask(question, Boxed::new(context.alloc, Stage::Rules)?))
+        }
         Err(Stop::Memory) => Err(AllocError),
     }
 }
 
 /// The service of the domain by the transport that is named.
-fn to_service<S: AnswerSource>(
-    walk: &mut Walk,
+fn to_service<'s, S: AnswerSource>(
+    walk: &mut Walk<'s>,
     seat: &mut S::Seat,
-    context: &Context<'_, S>,
+    context: &Context<'_, 's, S>,
     transport: Transport,
 ) -> Result<Step, AllocError>
     requires needs { consult.Needs (consult.inquiry context.now) walk.old.known
@@ -359,10 +368,10 @@ fn to_address(
 
 /// Where the domain leads without a transport that is named. For SIPS, TLS has to be one of the
 /// caller's.
-fn discovered<S: AnswerSource>(
-    walk: &mut Walk,
+fn discovered<'s, S: AnswerSource>(
+    walk: &mut Walk<'s>,
     seat: &mut S::Seat,
-    context: &Context<'_, S>,
+    context: &Context<'_, 's, S>,
 ) -> Result<Step, AllocError>
     requires needs { consult.Needs (consult.inquiry context.now) walk.old.known
         (λ all. spec.discovered context.now.secure context.now.caps.now context.now.words.now.0 all
@@ -395,10 +404,10 @@ fn discovered<S: AnswerSource>(
 }
 
 /// The choice for a domain, from the beginning.
-fn for_domain<S: AnswerSource>(
-    walk: &mut Walk,
+fn for_domain<'s, S: AnswerSource>(
+    walk: &mut Walk<'s>,
     seat: &mut S::Seat,
-    context: &Context<'_, S>,
+    context: &Context<'_, 's, S>,
     port: Option<u16>,
     spoken: Option<Spoken>,
     transport: Result<Transport, Reason>,
@@ -434,57 +443,136 @@ fn for_domain<S: AnswerSource>(
     }
 }
 
-/// The choice for a request, from the beginning.
-pub(crate) fn begin<S: AnswerSource>(
-    walk: &mut Walk,
+/// The choice for a request to a name, from the beginning.
+fn for_name<'s, S: AnswerSource>(
+    walk: &mut Walk<'s>,
     seat: &mut S::Seat,
-    source: &S,
+    source: &'s S,
     alloc: Global,
-    request: &Request,
+    request: &RequestView<'_>,
+    caps: &Caps,
+    words: &Words,
+    name: &Name,
+) -> Result<Step, AllocError>
+    requires empty { walk.old.targets.items ≡ [] }
+    requires ready { S.ready source.now seat.old }
+    requires target { target_of (request_of request.now) ≡ host.Domain name.now }
+    ensures consulted { consult.Consulted (S.ready source.now) S.goes (S.says source.now)
+        (consult.asked_with (request_of request.now) caps.now words.now.0 walk.old.known) seat.old
+        seat.new walk.new.known }
+    ensures comes { IfOk result
+        (λ step. left_of.ComesTo (is_secure (request_of request.now)) caps.now words.now.0
+        (left_of.name_of (target_of (request_of request.now))) walk.new.known
+        (spec.chosen (request_of request.now) caps.now words.now.0) step walk.new.targets.items) }
+    ensures memory { OnErr result
+        (spec.IsNotRefused (spec.locate (request_of request.now) caps.now words.now.0 [])) }
+    ensures lacks { IfOk result (consult.StepLacks (S.says source.now seat.new)) }
+{
+    let context = Context {
+        alloc,
+        request,
+        secure: request.is_secure(),
+        caps,
+        words,
+        name,
+        source,
+        start: Snapshot::of(seat),
+        given: Snapshot::of(&walk.known),
+    };
+    let transport = transport_offered(request, caps);
+    for_domain(
+        walk,
+        seat,
+        &context,
+        request.port(),
+        request.spoken(),
+        transport,
+    )
+}
+
+/// The choice for a request to a hostname of its text, from the beginning.
+fn for_hostname<'s, S: AnswerSource>(
+    walk: &mut Walk<'s>,
+    seat: &mut S::Seat,
+    source: &'s S,
+    alloc: Global,
+    request: &RequestView<'_>,
+    caps: &Caps,
+    words: &Words,
+    hostname: &[u8],
+) -> Result<Step, AllocError>
+    requires empty { walk.old.targets.items ≡ [] }
+    requires ready { S.ready source.now seat.old }
+    requires hostname { DomainText hostname.now (name_of hostname.now) }
+    requires target { target_of (request_of request.now) ≡ host.Domain (name_of hostname.now) }
+    ensures consulted { consult.Consulted (S.ready source.now) S.goes (S.says source.now)
+        (consult.asked_with (request_of request.now) caps.now words.now.0 walk.old.known) seat.old
+        seat.new walk.new.known }
+    ensures comes { IfOk result
+        (λ step. left_of.ComesTo (is_secure (request_of request.now)) caps.now words.now.0
+        (left_of.name_of (target_of (request_of request.now))) walk.new.known
+        (spec.chosen (request_of request.now) caps.now words.now.0) step walk.new.targets.items) }
+    ensures memory { OnErr result
+        (spec.IsNotRefused (spec.locate (request_of request.now) caps.now words.now.0 [])) }
+    ensures lacks { IfOk result (consult.StepLacks (S.says source.now seat.new)) }
+{
+    let (secure, port, spoken) = (request.is_secure(), request.port(), request.spoken());
+    let transport = transport_offered(request, caps);
+    if let Some(reason) = refused_at_once(secure, caps, port, spoken, transport) {
+        return Ok(Step::Refused(reason));
+    }
+    let name = name_of_hostname(alloc, hostname)?;
+    for_name(walk, seat, source, alloc, request, caps, words, &name)
+}
+
+/// The choice for a request, from the beginning.
+pub(crate) fn begin<'s, S: AnswerSource>(
+    walk: &mut Walk<'s>,
+    seat: &mut S::Seat,
+    source: &'s S,
+    alloc: Global,
+    request: &RequestView<'_>,
     caps: &Caps,
     words: &Words,
 ) -> Result<Step, AllocError>
     requires empty { walk.old.targets.items ≡ [] }
     requires ready { S.ready source.now seat.old }
+    requires view { IsRequestView request.now }
     ensures consulted { consult.Consulted (S.ready source.now) S.goes (S.says source.now)
-        (consult.asked_with request.now caps.now words.now.0 walk.old.known) seat.old
+        (consult.asked_with (request_of request.now) caps.now words.now.0 walk.old.known) seat.old
         seat.new walk.new.known }
     ensures comes { IfOk result
-        (λ step. left_of.ComesTo (is_secure request.now) caps.now words.now.0
-        (left_of.name_of (target_of request.now)) walk.new.known
-        (spec.chosen request.now caps.now words.now.0) step walk.new.targets.items) }
+        (λ step. left_of.ComesTo (is_secure (request_of request.now)) caps.now words.now.0
+        (left_of.name_of (target_of (request_of request.now))) walk.new.known
+        (spec.chosen (request_of request.now) caps.now words.now.0) step walk.new.targets.items) }
     ensures memory { OnErr result
-        (spec.IsNotRefused (spec.locate request.now caps.now words.now.0 [])) }
+        (spec.IsNotRefused (spec.locate (request_of request.now) caps.now words.now.0 [])) }
     ensures lacks { IfOk result (consult.StepLacks (S.says source.now seat.new)) }
 {
-    let port = request.port();
-    let transport = transport_offered(request, caps);
     let targets = &mut walk.targets;
     match request.target() {
-        Host::V4(octets) => to_address(targets, Address::V4(*octets), port, transport),
-        Host::V6(octets) => to_address(targets, Address::V6(*octets), port, transport),
-        Host::Domain(name) => {
-            let context = Context {
-                alloc,
-                request,
-                secure: request.is_secure(),
-                caps,
-                words,
-                name,
-                source,
-                start: Snapshot::of(seat),
-                given: Snapshot::of(&walk.known),
-            };
-            for_domain(walk, seat, &context, port, request.spoken(), transport)
+        TargetView::V4(octets) => {
+            let transport = transport_offered(request, caps);
+            to_address(targets, Address::V4(octets), request.port(), transport)
+        }
+        TargetView::V6(octets) => {
+            let transport = transport_offered(request, caps);
+            to_address(targets, Address::V6(octets), request.port(), transport)
+        }
+        TargetView::Name(name) => {
+            for_name(walk, seat, source, alloc, request, caps, words, name)
+        }
+        TargetView::Hostname(hostname) => {
+            for_hostname(walk, seat, source, alloc, request, caps, words, hostname)
         }
     }
 }
 
 /// The choice for a domain, from a stage on.
-pub(crate) fn resume<S: AnswerSource>(
-    walk: &mut Walk,
+pub(crate) fn resume<'s, S: AnswerSource>(
+    walk: &mut Walk<'s>,
     seat: &mut S::Seat,
-    context: &Context<'_, S>,
+    context: &Context<'_, 's, S>,
     stage: &Stage,
 ) -> Result<Step, AllocError>
     requires fits { left_of.StageFits stage.now }
@@ -508,7 +596,7 @@ pub(crate) fn resume<S: AnswerSource>(
     match stage {
         Stage::Rules => by_naptr(walk, seat, context),
         Stage::Along(candidates, service_stage) => {
-            along(walk, seat, context, candidates, service_stage)
+            along(walk, seat, context, candidates, service_stage.as_ref())
         }
         Stage::Domain(transport, port, from) => {
             to_domain(walk, seat, context, *transport, *port, *from)

@@ -40,8 +40,10 @@
 //!
 //! Where answers are at hand, `choose` makes a choice at once: it asks an `AnswerSource` for the
 //! answer to each question that comes up, and copies the request and the random words only where
-//! one is missing. `Selection::consult` does so for a selection that waits. What a source is asked
-//! is the question that was needed with the answers before it (`specs/Consulting.antt`).
+//! one is missing. What the source lends is not copied either. The request is a `RequestView`: one
+//! that was read, or a URI or a Via as it stands in its text. `Selection::consult` asks a source
+//! for a selection that waits. What a source is asked is the question that was needed with the
+//! answers before it (`specs/Consulting.antt`).
 //!
 //! `specs/Choice.antt` says where a request goes, as one function `locate` of all this. Laws tell
 //! what follows from it: a numeric target asks nothing (`law_numeric_targets_ask_nothing`), a SIPS
@@ -57,6 +59,7 @@
 //! targets that it leads to and for the next question, and keeps what was found before.
 #![tactic(auto)]
 
+mod boxed;
 mod caps;
 mod choice;
 mod choice_laws;
@@ -67,6 +70,7 @@ mod position;
 mod reason;
 mod request;
 mod request_line;
+mod request_view;
 mod rules;
 mod selection;
 mod service;
@@ -89,6 +93,7 @@ pub use laws::{
 pub use reason::Reason;
 pub use request::Request;
 pub use request_line::read_request;
+pub use request_view::RequestView;
 pub use selection::{Choice, GiveRefusal, Next, Selection, choose};
 pub use source::AnswerSource;
 pub use target::Target;

@@ -1,22 +1,23 @@
 //! What services offer, one after the other (RFC 3263 4.1, 4.2, RFC 2782).
-ghost use Rattle.std.specs.Prelude.{◌≡◌, ◌+◌, ◌*◌, ◌<◌, ◌≤◌, ◌∷◌, drop, length, List, IfOk};
+ghost use Rattle.std.specs.Prelude.{◌≡◌, ◌+◌, ◌*◌, ◌<◌, ◌≤◌, ◌∷◌, ◌++◌, drop, length, List, IfOk};
 ghost use Rattle.std.specs.Arc.{arc_value};
+ghost use Rattle.dns_answers.specs.Found.{answer_in};
 ghost use Rattle.sip_selection.specs.Callers.{kinds_of};
 ghost use Rattle.sip_selection.specs.Consulting as consult;
-ghost use Rattle.sip_selection.specs.Known.{servers_in};
+ghost use Rattle.sip_selection.specs.Known.{after, servers_in};
 ghost use Rattle.sip_selection.specs.Services.{offer_along, offer_by};
 ghost use Rattle.sip_selection.specs.Stages as spec;
 ghost use Rattle.sip_selection.specs.declared.service.Service.{Service};
 
-use crate::known::Stop;
+use crate::boxed::Boxed;
 use crate::service::Service;
-use crate::source::{AnswerSource, answer_from};
+use crate::source::{AnswerSource, Stop, answer_from};
 use crate::stage::{Context, Cursor, Listing, Position, ServiceStage, ServiceStep, Walk};
 use crate::targets::push_indexes;
-use dns_answers::{Answer, Records};
+use dns_answers::{Answer, FoundAnswer, Records};
 use dns_message::{Kind, SrvRecord};
 use sip_uri::Transport;
-use srv_choice::{SrvOutcome, order};
+use srv_choice::{Indexes, SrvOutcome, order};
 use std::alloc::AllocError;
 use std::sync::Arc;
 
@@ -33,10 +34,10 @@ fn servers_in(answer: &Answer) -> &[SrvRecord]
 
 /// Adds the addresses of the servers of a listed service, from a cursor on. After them goes this
 /// walk.
-fn push_listing<S: AnswerSource>(
-    walk: &mut Walk,
+fn push_listing<'s, S: AnswerSource>(
+    walk: &mut Walk<'s>,
     seat: &mut S::Seat,
-    context: &Context<'_, S>,
+    context: &Context<'_, 's, S>,
     listing: &Arc<Listing>,
     from: Cursor,
     position: Position,
@@ -63,36 +64,32 @@ fn push_listing<S: AnswerSource>(
         (consult.ServiceStepLacks (S.says context.now.source.now seat.new)) }
 {
     let servers = servers_in(&listing.answer);
-    let indexes = listing.indexes.as_slice();
-    match push_indexes(
-        walk,
-        seat,
-        context,
-        listing.transport,
-        servers,
-        indexes,
-        from,
-    )? {
+    let (transport, indexes) = (listing.transport, listing.indexes.as_slice());
+    match push_indexes(walk, seat, context, transport, servers, indexes, from)? {
         None => Ok(ServiceStep::Position(position)),
-        Some((cursor, question)) => Ok(ServiceStep::Stop(
-            ServiceStage::Server(Arc::try_clone(listing)?, cursor, position),
-            question,
-        )),
+        Some((cursor, question)) => {
+            let listing = Arc::try_clone(listing)?;
+            let service_stage = ServiceStage::Server(listing, cursor, position);
+            Ok(ServiceStep::Stop(Boxed::new(context.alloc, service_stage)?, question))
+        }
     }
 }
 
 /// Adds the addresses of the servers of a listed service, from the first on. After them goes this
 /// walk.
-fn push_listed<S: AnswerSource>(
-    walk: &mut Walk,
+fn push_listed<'s, S: AnswerSource>(
+    walk: &mut Walk<'s>,
     seat: &mut S::Seat,
-    context: &Context<'_, S>,
-    listing: Listing,
+    context: &Context<'_, 's, S>,
+    transport: Transport,
+    answer: FoundAnswer<'s>,
+    indexes: Indexes,
     position: Position,
 ) -> Result<ServiceStep, AllocError>
     requires fits { position.word ≤ 32 * position.service }
     requires needs { consult.Needs (consult.inquiry context.now) walk.old.known
-        (λ all. spec.listing_left context.now.caps.now all listing spec.first_server) }
+        (λ all. spec.servers_left context.now.caps.now all transport
+        (servers_in (answer_in answer).records) indexes spec.first_server) }
     requires consulted { consult.Consulted (S.ready context.now.source.now) S.goes
         (S.says context.now.source.now) (consult.inquiry context.now) context.now.start.value
         seat.old walk.old.known }
@@ -102,49 +99,55 @@ fn push_listed<S: AnswerSource>(
     ensures extends { IfOk result (λ _. spec.Extends walk.old.known walk.new.known) }
     ensures left { IfOk result (λ service_step. (services : List Service)
         → spec.Walks context.now walk.new.known services
-        (λ all fallback found. spec.servers_first context.now.caps.now context.now.words.now.0
-        context.now.name.now all services fallback
-        listing spec.first_server position found)
+        (λ all fallback found. after (λ more. spec.position_left context.now.caps.now
+        context.now.words.now.0 context.now.name.now all services fallback position (found ++ more))
+        (spec.servers_left context.now.caps.now all transport
+        (servers_in (answer_in answer.entry).records) indexes spec.first_server))
         service_step walk.old.targets.items walk.new.targets.items) }
     ensures fits { IfOk result spec.ServiceStepFits }
     ensures goes_on { IfOk result (spec.GoesOnAt position.service) }
     ensures lacks { IfOk result
         (consult.ServiceStepLacks (S.says context.now.source.now seat.new)) }
 {
-    let servers = servers_in(&listing.answer);
-    let indexes = listing.indexes.as_slice();
+    let servers = servers_in(answer.as_arc());
     let from = Cursor { server: 0, kind: 0 };
     match push_indexes(
         walk,
         seat,
         context,
-        listing.transport,
+        transport,
         servers,
-        indexes,
+        indexes.as_slice(),
         from,
     )? {
         None => Ok(ServiceStep::Position(position)),
-        Some((cursor, question)) => Ok(ServiceStep::Stop(
-            ServiceStage::Server(Arc::new(context.alloc, listing)?, cursor, position),
-            question,
-        )),
+        Some((cursor, question)) => {
+            let listing = Listing {
+                transport,
+                answer: answer.into_arc()?,
+                indexes,
+            };
+            let listing = Arc::new(context.alloc, listing)?;
+            let service_stage = ServiceStage::Server(listing, cursor, position);
+            Ok(ServiceStep::Stop(Boxed::new(context.alloc, service_stage)?, question))
+        }
     }
 }
 
 /// What the SRV records of an answer offer.
-fn push_answer<S: AnswerSource>(
-    walk: &mut Walk,
+fn push_answer<'s, S: AnswerSource>(
+    walk: &mut Walk<'s>,
     seat: &mut S::Seat,
-    context: &Context<'_, S>,
+    context: &Context<'_, 's, S>,
     transport: Transport,
-    answer: Arc<Answer>,
+    answer: FoundAnswer<'s>,
     position: Position,
 ) -> Result<ServiceStep, AllocError>
     requires few { position.service < 8 }
     requires words { position.word ≤ 32 * position.service }
     requires needs { consult.Needs (consult.inquiry context.now) walk.old.known
         (λ all. offer_by all (kinds_of context.now.caps.now.families) context.now.words.now.0
-        transport position.word (arc_value answer)) }
+        transport position.word (answer_in answer)) }
     requires consulted { consult.Consulted (S.ready context.now.source.now) S.goes
         (S.says context.now.source.now) (consult.inquiry context.now) context.now.start.value
         seat.old walk.old.known }
@@ -158,33 +161,28 @@ fn push_answer<S: AnswerSource>(
         context.now.name.now all services fallback position found
         (offer_by all
         (kinds_of context.now.caps.now.families) context.now.words.now.0 transport position.word
-        (arc_value answer)))
+        (answer_in answer.entry)))
         service_step walk.old.targets.items walk.new.targets.items) }
     ensures fits { IfOk result spec.ServiceStepFits }
     ensures goes_on { IfOk result (spec.GoesOnAt (position.service + 1)) }
     ensures lacks { IfOk result
         (consult.ServiceStepLacks (S.says context.now.source.now seat.new)) }
 {
-    let outcome = order(servers_in(&answer), context.words, position.word);
+    let outcome = order(servers_in(answer.as_arc()), context.words, position.word);
     let behind = position.behind(&outcome);
     match outcome {
         SrvOutcome::Absent | SrvOutcome::Denied => Ok(ServiceStep::Position(behind)),
         SrvOutcome::Listed(indexes, _) => {
-            let listing = Listing {
-                transport,
-                answer,
-                indexes,
-            };
-            push_listed(walk, seat, context, listing, behind)
+            push_listed(walk, seat, context, transport, answer, indexes, behind)
         }
     }
 }
 
 /// What the next service offers. Without a name it offers nothing.
-fn push_service<S: AnswerSource>(
-    walk: &mut Walk,
+fn push_service<'s, S: AnswerSource>(
+    walk: &mut Walk<'s>,
     seat: &mut S::Seat,
-    context: &Context<'_, S>,
+    context: &Context<'_, 's, S>,
     service: &Service,
     position: Position,
 ) -> Result<ServiceStep, AllocError>
@@ -218,7 +216,7 @@ fn push_service<S: AnswerSource>(
     match answer_from(walk, seat, context, name, Kind::Srv) {
         Ok(answer) => push_answer(walk, seat, context, service.transport, answer, position),
         Err(Stop::Need(question)) => Ok(ServiceStep::Stop(
-            ServiceStage::ServiceRecords(position),
+            Boxed::new(context.alloc, ServiceStage::ServiceRecords(position))?,
             question,
         )),
         Err(Stop::Memory) => Err(AllocError),
@@ -227,10 +225,10 @@ fn push_service<S: AnswerSource>(
 
 /// What the services offer, one after the other, from a position on: all, or up to the first
 /// question without an answer.
-pub(crate) fn push_services<S: AnswerSource>(
-    walk: &mut Walk,
+pub(crate) fn push_services<'s, S: AnswerSource>(
+    walk: &mut Walk<'s>,
     seat: &mut S::Seat,
-    context: &Context<'_, S>,
+    context: &Context<'_, 's, S>,
     services: &[Service],
     from: Position,
 ) -> Result<ServiceStep, AllocError>
@@ -266,10 +264,10 @@ pub(crate) fn push_services<S: AnswerSource>(
 }
 
 /// What the services offer from a stage on.
-pub(crate) fn push_from<S: AnswerSource>(
-    walk: &mut Walk,
+pub(crate) fn push_from<'s, S: AnswerSource>(
+    walk: &mut Walk<'s>,
     seat: &mut S::Seat,
-    context: &Context<'_, S>,
+    context: &Context<'_, 's, S>,
     services: &[Service],
     service_stage: &ServiceStage,
 ) -> Result<ServiceStep, AllocError>

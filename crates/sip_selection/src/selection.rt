@@ -1,33 +1,37 @@
 //! The choice of one request, question by question (RFC 3263 4, 5).
-ghost use Rattle.std.specs.Prelude.{◌≡◌, ◌≢◌, ◌↔◌, ◌≤◌, ◌++◌, List, length, None, IfErr, IfOk, IsTrue, OnErr, OnOk};
+ghost use Rattle.std.specs.Prelude.{◌≡◌, ◌≢◌, ◌↔◌, ◌≤◌, ◌++◌, [], List, length, None, IfErr, IfOk, IsTrue, Ok, OnErr, OnOk};
 ghost use Rattle.std.specs.Arc.{arc_value};
 ghost use Rattle.dns_answers.specs.Records.{count_of, kind_of};
-ghost use Rattle.sip_selection.specs.Choice.{IsNotRefused, chosen, need, targets};
-ghost use Rattle.sip_selection.specs.Choices.{ChoiceIs, ChoiceLacks};
-ghost use Rattle.sip_selection.specs.Consulting.{Consulted, Needs, StepLacks, asked_with, inquiry, with_given};
+ghost use Rattle.sip_selection.specs.Choice.{IsNotRefused, need, settled, targets};
+ghost use Rattle.sip_selection.specs.Choices.{ChoiceIs, ChoiceLacks, IsSettled};
+ghost use Rattle.sip_selection.specs.Asked.{ComesAfter, StandsAt, asking, left_after};
+ghost use Rattle.sip_selection.specs.Consulting.{Consulted, Needs, StepLacks, asked_with, with_given};
 ghost use Rattle.sip_selection.specs.Known.{Given};
 ghost use Rattle.sip_selection.specs.Nexts.{next_of};
-ghost use Rattle.sip_selection.specs.Requests.{is_secure, target_of};
-ghost use Rattle.sip_selection.specs.Selections.{AreAskedOneByOne, begun, given_too, now_of};
-ghost use Rattle.sip_selection.specs.Stages.{AreHeld, Comes, ComesTo, Extends, IsAsking, StageFits, name_of, stage_left};
+ghost use Rattle.sip_selection.specs.Requests.{IsRequestView, is_secure, request_of, target_of};
+ghost use Rattle.sip_selection.specs.Selections.{AreAskedOneByOne, SelectionValue, begun, given_too, now_of};
+ghost use Rattle.sip_selection.specs.Stages.{AreHeld, ComesTo, Extends, IsAsking, StageFits, name_of};
 ghost use Rattle.sip_selection.specs.declared.target.Target.{Target};
 
+use crate::boxed::Boxed;
 use crate::caps::Caps;
 use crate::choice::{begin, resume};
 use crate::choice_laws::{
     law_numeric_targets_ask_nothing, law_questions_are_few, law_targets_are_few,
 };
+use crate::known::Known;
 use crate::reason::Reason;
 use crate::request::Request;
+use crate::request_view::RequestView;
 use crate::source::{AnswerSource, NoSource};
 use crate::stage::{Context, Stage, Step, Walk};
 use crate::target::Target;
 use dns_answers::Answer;
 use dns_message::{Question, law_same_questions_are_equal};
+use dns_name::Name;
 use sip_uri::Host;
 use srv_choice::Words;
 use std::alloc::{AllocError, Global};
-use std::boxed::Box;
 use std::marker::Model;
 use std::mem;
 use std::snapshot::Snapshot;
@@ -68,19 +72,19 @@ pub struct Selection {
     /// The random words, as contracts see them.
     drawn: Snapshot<Words>,
     /// The same in memory, where a question is asked.
-    words: Option<Box<Words>>,
+    words: Option<Boxed<Words>>,
     /// The targets that were found.
     targets: Vec<Target>,
-    /// The answers that were given, and what the last step found, kept for its memory.
-    walk: Walk,
+    /// The answers that were given.
+    known: Known,
     step: Step,
 }
 
 impl Model for Selection {
-    ghost use Rattle.sip_selection.specs.Choice.{chosen};
-    ghost use Rattle.sip_selection.specs.Requests.{is_secure, target_of};
+    ghost use Rattle.sip_selection.specs.Asked.{StandsAt};
+    ghost use Rattle.sip_selection.specs.Consulting.{asked_with};
     ghost use Rattle.sip_selection.specs.Selections.{AreAskedOneByOne, SelectionValue};
-    ghost use Rattle.sip_selection.specs.Stages.{AreHeld, ComesTo, name_of};
+    ghost use Rattle.sip_selection.specs.Stages.{AreHeld};
 
     ghost Value = { SelectionValue };
 
@@ -89,13 +93,12 @@ impl Model for Selection {
       caps = it.caps;
       words = it.drawn.value.0;
       given =
-          it.walk.known;
+          it.known;
     } };
 
-    ghost invariant = { λ it. ComesTo (is_secure it.request) it.caps it.drawn.value.0
-        (name_of (target_of it.request)) it.walk.known (chosen it.request it.caps it.drawn.value.0)
-        it.step it.targets.items
-        × AreAskedOneByOne it.request it.caps it.drawn.value.0 it.walk.known
+    ghost invariant = { λ it.
+        StandsAt (asked_with it.request it.caps it.drawn.value.0 it.known) it.step it.targets.items
+        × AreAskedOneByOne it.request it.caps it.drawn.value.0 it.known
         × AreHeld it.step it.words it.drawn.value };
 }
 
@@ -112,84 +115,111 @@ fn append(targets: &mut Vec<Target>, found: &mut Vec<Target>) -> Result<(), Allo
     Ok(())
 }
 
-/// Goes on from a stage, and adds the targets that are found. Where memory was refused the targets
-/// are as before.
-fn advance<S: AnswerSource>(
+/// Adds the targets and the answers that were found. Where memory was refused all is as before.
+fn keep(
     targets: &mut Vec<Target>,
-    walk: &mut Walk,
-    seat: &mut S::Seat,
-    context: &Context<'_, S>,
-    stage: &Stage,
-) -> Result<Step, AllocError>
-    requires fits { StageFits stage.now }
-    requires start { context.now.start.value ≡ seat.old }
-    requires given { context.now.given.value ≡ walk.old.known }
-    requires ready { S.ready context.now.source.now seat.old }
-    requires needs { Needs (inquiry context.now) walk.old.known
-        (stage_left context.now.secure context.now.caps.now context.now.words.now.0
-        context.now.name.now stage.now targets.old.items) }
-    ensures goes { IfOk result (λ step. Comes context.now walk.new.known
-        (stage_left context.now.secure context.now.caps.now context.now.words.now.0
-        context.now.name.now stage.now targets.old.items)
-        step targets.new.items) }
-    ensures consulted { Consulted (S.ready context.now.source.now) S.goes
-        (S.says context.now.source.now) (inquiry context.now) seat.old seat.new walk.new.known }
-    ensures extends { OnOk result (Extends walk.old.known walk.new.known) }
-    ensures lacks { IfOk result (StepLacks (S.says context.now.source.now seat.new)) }
-    ensures unchanged { OnErr result (targets.new.items ≡ targets.old.items) }
+    known: &mut Known,
+    found: Known,
+    mut found_targets: Vec<Target>,
+) -> Result<(), AllocError>
+    ensures targets { OnOk result
+        (targets.new.items ≡ targets.old.items ++ found_targets.items) }
+    ensures known { OnOk result (known.new ≡ known.old ++ found) }
+    ensures unchanged { OnErr result
+        ((targets.new.items ≡ targets.old.items) × (known.new ≡ known.old)) }
 {
-    walk.targets.clear();
-    let step = resume(walk, seat, context, stage)?;
-    append(targets, &mut walk.targets)?;
+    let count = targets.len();
+    append(targets, &mut found_targets)?;
+    if known.append(found).is_err() {
+        targets.truncate(count);
+        return Err(AllocError);
+    }
+    Ok(())
+}
+
+/// What a choice that asks a question goes on from.
+#[derive(Drop)]
+struct Asked<'a> {
+    alloc: Global,
+    request: RequestView<'a>,
+    caps: &'a Caps,
+    words: &'a Words,
+    name: &'a Name,
+    stage: &'a Stage,
+}
+
+/// What is next from a stage on, and the targets and the answers that are found.
+fn resumed<'a, 's, S: AnswerSource>(
+    known: &'s Known,
+    seat: &mut S::Seat,
+    source: &'s S,
+    asked: &'a Asked<'a>,
+) -> Result<(Step, Vec<Target>, Known), AllocError>
+    requires fits { StageFits asked.now.stage.now }
+    requires ready { S.ready source.now seat.old }
+    requires needs { Needs (asking asked.now known.now) known.now (left_after asked.now []) }
+    ensures goes { IfOk result (λ found. (front : List Target) → ComesAfter asked.now
+        (known.now ++ found.2) front found.0 (front ++ found.1.items)) }
+    ensures consulted { IfOk result (λ found. Consulted (S.ready source.now) S.goes
+        (S.says source.now) (asking asked.now known.now) seat.old seat.new
+        (known.now ++ found.2)) }
+    ensures lacks { IfOk result (λ found. StepLacks (S.says source.now seat.new) found.0) }
+    ensures goes_on { (given : List Given) × Consulted (S.ready source.now) S.goes
+        (S.says source.now) (asking asked.now known.now) seat.old seat.new given }
+{
+    let mut walk = Walk::after(asked.alloc, known);
+    let context = Context {
+        alloc: asked.alloc,
+        request: &asked.request,
+        secure: asked.request.is_secure(),
+        caps: asked.caps,
+        words: asked.words,
+        name: asked.name,
+        source,
+        start: Snapshot::of(seat),
+        given: Snapshot::of(&walk.known),
+    };
+    let step = resume(&mut walk, seat, &context, asked.stage)?;
+    let (targets, found) = walk.behind(known.count())?;
+    Ok((step, targets, found))
+}
+
+/// Goes on from a stage, and adds the targets and the answers that are found. Where memory was
+/// refused both are as before.
+fn go_on<'a, S: AnswerSource>(
+    targets: &mut Vec<Target>,
+    known: &mut Known,
+    seat: &mut S::Seat,
+    source: &S,
+    asked: &'a Asked<'a>,
+) -> Result<Step, AllocError>
+    requires fits { StageFits asked.now.stage.now }
+    requires ready { S.ready source.now seat.old }
+    requires needs { Needs (asking asked.now known.old) known.old
+        (left_after asked.now targets.old.items) }
+    ensures goes { IfOk result (λ step. ComesAfter asked.now known.new targets.old.items step
+        targets.new.items) }
+    ensures consulted { OnOk result (Consulted (S.ready source.now) S.goes (S.says source.now)
+        (asking asked.now known.old) seat.old seat.new known.new) }
+    ensures extends { OnOk result (Extends known.old known.new) }
+    ensures lacks { IfOk result (StepLacks (S.says source.now seat.new)) }
+    ensures goes_on { (given : List Given) × Consulted (S.ready source.now) S.goes
+        (S.says source.now) (asking asked.now known.old) seat.old seat.new given }
+    ensures unchanged { OnErr result
+        ((targets.new.items ≡ targets.old.items) × (known.new ≡ known.old)) }
+{
+    let (step, found_targets, found) = resumed(known, seat, source, asked)?;
+    keep(targets, known, found, found_targets)?;
     Ok(step)
 }
 
-/// The same. Where memory was refused the answers are as before too, and the stage is given back.
-fn go_on<S: AnswerSource>(
-    targets: &mut Vec<Target>,
-    walk: &mut Walk,
-    seat: &mut S::Seat,
-    context: &Context<'_, S>,
-    stage: Stage,
-) -> Result<Step, Stage>
-    requires fits { StageFits stage }
-    requires start { context.now.start.value ≡ seat.old }
-    requires given { context.now.given.value ≡ walk.old.known }
-    requires ready { S.ready context.now.source.now seat.old }
-    requires needs { Needs (inquiry context.now) walk.old.known
-        (stage_left context.now.secure context.now.caps.now context.now.words.now.0
-        context.now.name.now stage targets.old.items) }
-    ensures goes { IfOk result (λ step. Comes context.now walk.new.known
-        (stage_left context.now.secure context.now.caps.now context.now.words.now.0
-        context.now.name.now stage targets.old.items)
-        step targets.new.items) }
-    ensures consulted { OnOk result (Consulted (S.ready context.now.source.now) S.goes
-        (S.says context.now.source.now) (inquiry context.now) seat.old seat.new walk.new.known) }
-    ensures extends { OnOk result (Extends walk.old.known walk.new.known) }
-    ensures lacks { IfOk result (StepLacks (S.says context.now.source.now seat.new)) }
-    ensures goes_on { (given : List Given) × Consulted (S.ready context.now.source.now) S.goes
-        (S.says context.now.source.now) (inquiry context.now) seat.old seat.new given }
-    ensures unchanged { OnErr result
-        ((targets.new.items ≡ targets.old.items) × (walk.new.known ≡ walk.old.known)) }
-    ensures given_back { IfErr result (λ it. it ≡ stage) }
-{
-    let count = walk.known.count();
-    match advance(targets, walk, seat, context, &stage) {
-        Ok(step) => Ok(step),
-        Err(AllocError) => {
-            walk.known.truncate(count);
-            Err(stage)
-        }
-    }
-}
-
 /// The random words in memory of their own, where a question is asked.
-fn held_words(alloc: Global, step: &Step, words: &Words) -> Result<Option<Box<Words>>, AllocError>
+fn held_words(alloc: Global, step: &Step, words: &Words) -> Result<Option<Boxed<Words>>, AllocError>
     ensures held { IfOk result (λ held. AreHeld step.now held words.now) }
     ensures memory { OnErr result (IsAsking step.now) }
 {
     match step {
-        Step::Ask(_, _) => Ok(Some(Box::new(alloc, *words)?)),
+        Step::Ask(_, _) => Ok(Some(Boxed::new(alloc, *words)?)),
         Step::Found | Step::Refused(_) => Ok(None),
     }
 }
@@ -206,34 +236,81 @@ pub enum Choice {
     Asks(Selection),
 }
 
+/// What a choice over a source begins with, and the targets and the answers that are found.
+fn begun_over<'s, S: AnswerSource>(
+    known: &'s Known,
+    alloc: Global,
+    request: &RequestView<'_>,
+    caps: &Caps,
+    words: &Words,
+    source: &'s S,
+    seat: &mut S::Seat,
+) -> Result<(Step, Vec<Target>, Known), AllocError>
+    requires none { known.now ≡ [] }
+    requires ready { S.ready source.now seat.old }
+    requires view { IsRequestView request.now }
+    ensures begun { (given : List Given) × Consulted (S.ready source.now) S.goes
+        (S.says source.now) (begun (request_of request.now) caps.now words.now.0) seat.old seat.new
+        given
+        × IfOk result (λ found.
+        StandsAt (asked_with (request_of request.now) caps.now words.now.0 given) found.0
+        found.1.items × (IsAsking found.0 → found.2 ≡ given)) }
+    ensures lacks { IfOk result (λ found. StepLacks (S.says source.now seat.new) found.0) }
+    ensures memory { OnErr result
+        (IsNotRefused (now_of (begun (request_of request.now) caps.now words.now.0))) }
+{
+    let mut walk = Walk::after(alloc, known);
+    let step = begin(&mut walk, seat, source, alloc, request, caps, words)?;
+    match &step {
+        Step::Found | Step::Refused(_) => Ok((step, walk.targets, Known::new(alloc))),
+        Step::Ask(_, _) => {
+            let (targets, known) = walk.behind(0)?;
+            Ok((step, targets, known))
+        }
+    }
+}
+
+/// The choice where these targets are all that were found.
+fn choice_of(targets: Vec<Target>) -> Choice
+    ensures is { (it : SelectionValue) → now_of it ≡ settled (Ok targets.items)
+        → ChoiceIs it result }
+    ensures settled { IsSettled result }
+{
+    if targets.is_empty() {
+        return Choice::Refused(Reason::NoAddress);
+    }
+    Choice::Targets(targets)
+}
+
 /// The choice of a request over a source: it is asked for the answer to each question that comes
 /// up, until it has none to one, or no more are needed. The words are copied into memory of their
 /// own only where an answer is missing. No memory is needed for a request that is refused at once.
 pub fn choose<S: AnswerSource>(
     alloc: Global,
-    request: &Request,
+    request: &RequestView<'_>,
     caps: &Caps,
     words: &Words,
     source: &S,
     seat: &mut S::Seat,
 ) -> Result<Choice, AllocError>
-    requires { S.ready source.now seat.old }
+    requires ready { S.ready source.now seat.old }
+    requires view { IsRequestView request.now }
     ensures chosen { (given : List Given) × Consulted (S.ready source.now) S.goes
-        (S.says source.now) (begun request.now caps.now words.now.0) seat.old seat.new given
-        × IfOk result (ChoiceIs (asked_with request.now caps.now words.now.0 given)) }
+        (S.says source.now) (begun (request_of request.now) caps.now words.now.0) seat.old
+        seat.new given
+        × IfOk result (ChoiceIs (asked_with (request_of request.now) caps.now words.now.0 given)) }
     ensures lacks { IfOk result (ChoiceLacks (S.says source.now seat.new)) }
     ensures memory { OnErr result
-        (IsNotRefused (now_of (begun request.now caps.now words.now.0))) }
+        (IsNotRefused (now_of (begun (request_of request.now) caps.now words.now.0))) }
 {
-    let mut walk = Walk::new(alloc);
-    let step = begin(&mut walk, seat, source, alloc, request, caps, words)?;
+    let known = Known::new(alloc);
+    let (step, targets, known) = begun_over(&known, alloc, request, caps, words, source, seat)?;
     match step {
-        Step::Found if walk.targets.is_empty() => Ok(Choice::Refused(Reason::NoAddress)),
-        Step::Found => Ok(Choice::Targets(walk.targets)),
+        Step::Found => Ok(choice_of(targets)),
         Step::Refused(reason) => Ok(Choice::Refused(reason)),
         Step::Ask(_, _) => {
-            let request = request.try_clone()?;
-            let selection = Selection::at_step(alloc, request, *caps, words, walk, step)?;
+            let request = request.to_request(alloc)?;
+            let selection = Selection::at_step(alloc, request, *caps, words, targets, known, step)?;
             Ok(Choice::Asks(selection))
         }
     }
@@ -251,17 +328,17 @@ impl Selection {
         ensures is { IfOk result (λ it. it ≡ begun request caps words.0) }
         ensures memory { OnErr result (IsNotRefused (now_of (begun request caps words.0))) }
     {
-        let mut walk = Walk::new(alloc);
-        let step = begin(
-            &mut walk,
-            &mut (),
-            &NoSource,
+        let (view, none) = (RequestView::Read(&request), Known::new(alloc));
+        let (step, targets, _) = begun_over(
+            &none,
             alloc,
-            &request,
+            &view,
             &caps,
             &words,
+            &NoSource,
+            &mut (),
         )?;
-        Selection::at_step(alloc, request, caps, &words, walk, step)
+        Selection::at_step(alloc, request, caps, &words, targets, none, step)
     }
 
     /// The choice of a request that came to a step.
@@ -270,27 +347,22 @@ impl Selection {
         request: Request,
         caps: Caps,
         words: &Words,
-        walk: Walk,
+        targets: Vec<Target>,
+        known: Known,
         step: Step,
     ) -> Result<Selection, AllocError>
-        requires comes { ComesTo (is_secure request) caps words.now.0
-            (name_of (target_of request)) walk.known (chosen request caps words.now.0)
-            step walk.targets.items }
-        requires asked { AreAskedOneByOne request caps words.now.0 walk.known }
-        ensures is { IfOk result (λ it. it ≡ asked_with request caps words.now.0 walk.known) }
+        requires stands { StandsAt (asked_with request caps words.now.0 known) step targets.items }
+        requires asked { AreAskedOneByOne request caps words.now.0 known }
+        ensures is { IfOk result (λ it. it ≡ asked_with request caps words.now.0 known) }
         ensures memory { OnErr result (IsAsking step) }
     {
-        let known = walk.known;
         Ok(Selection {
             request,
             caps,
             drawn: Snapshot::of(words),
             words: held_words(alloc, &step, words)?,
-            targets: walk.targets,
-            walk: Walk {
-                targets: Vec::new(alloc),
-                known,
-            },
+            targets,
+            known,
             step,
         })
     }
@@ -302,7 +374,7 @@ impl Selection {
         ensures { next_of result ≡ now_of self.now }
     {
         match &self.step {
-            Step::Ask(question, _) => Next::Ask(question),
+            Step::Ask(question, _) => Next::Ask(question.as_ref()),
             Step::Refused(reason) => Next::Refused(*reason),
             Step::Found if self.targets.is_empty() => Next::Refused(Reason::NoAddress),
             Step::Found => Next::Targets(self.targets.as_slice()),
@@ -370,32 +442,34 @@ impl Selection {
         let Host::Domain(name) = self.request.target() else {
             unreachable!()
         };
+        let Step::Ask(question, stage) = &self.step else {
+            unreachable!()
+        };
         let Some(words) = &self.words else {
             unreachable!()
         };
-        let (asked, stage) = self.step.take_ask();
-        if let Err(asked) = self.walk.known.push(asked, answer) {
-            self.step = Step::Ask(asked, stage);
-            return Err(AllocError);
-        }
-        let context = Context {
+        self.known.push(question.as_ref(), answer)?;
+        let asked = Asked {
             alloc,
-            request: &self.request,
-            secure: self.request.is_secure(),
+            request: RequestView::Read(&self.request),
             caps: &self.caps,
-            words,
+            words: words.as_ref(),
             name,
-            source: &NoSource,
-            start: Snapshot::of(&()),
-            given: Snapshot::of(&self.walk.known),
+            stage: stage.as_ref(),
         };
-        match go_on(&mut self.targets, &mut self.walk, &mut (), &context, stage) {
+        match go_on(
+            &mut self.targets,
+            &mut self.known,
+            &mut (),
+            &NoSource,
+            &asked,
+        ) {
             Ok(step) => {
                 self.step = step;
                 Ok(())
             }
-            Err(stage) => {
-                self.step = Step::Ask(self.walk.known.pop(), stage);
+            Err(AllocError) => {
+                self.known.pop();
                 Err(AllocError)
             }
         }
@@ -429,31 +503,22 @@ impl Selection {
         let Host::Domain(name) = self.request.target() else {
             unreachable!()
         };
+        let Step::Ask(_, stage) = &self.step else {
+            unreachable!()
+        };
         let Some(words) = &self.words else {
             unreachable!()
         };
-        let (asked, stage) = self.step.take_ask();
-        let context = Context {
+        let asked = Asked {
             alloc,
-            request: &self.request,
-            secure: self.request.is_secure(),
+            request: RequestView::Read(&self.request),
             caps: &self.caps,
-            words,
+            words: words.as_ref(),
             name,
-            source,
-            start: Snapshot::of(seat),
-            given: Snapshot::of(&self.walk.known),
+            stage: stage.as_ref(),
         };
-        match go_on(&mut self.targets, &mut self.walk, seat, &context, stage) {
-            Ok(step) => {
-                self.step = step;
-                Ok(())
-            }
-            Err(stage) => {
-                self.step = Step::Ask(asked, stage);
-                Err(AllocError)
-            }
-        }
+        self.step = go_on(&mut self.targets, &mut self.known, seat, source, &asked)?;
+        Ok(())
     }
 
     /// Whether a question is asked.

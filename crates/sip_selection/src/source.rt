@@ -1,23 +1,22 @@
 //! Where answers come from that a choice was not given.
-ghost use Rattle.std.specs.Prelude.{◌≡◌, ⊤, IfOk, MatchResult, Ok, Option};
-ghost use Rattle.std.specs.Arc.{arc_value};
+ghost use Rattle.std.specs.Prelude.{◌≡◌, ⊤, IfOk, MatchResult, Ok, Option, Some, None};
 ghost use Rattle.std.specs.Option.{option_map};
+ghost use Rattle.dns_answers.specs.Found.{answer_in};
 ghost use Rattle.dns_answers.specs.Values.{AnswerValue};
 ghost use Rattle.sip_selection.specs.Consulting as spec;
 ghost use Rattle.sip_selection.specs.Known.{answer_to};
-ghost use Rattle.sip_selection.specs.Selections.{now_of};
-ghost use Rattle.sip_selection.specs.Choice.{need};
 ghost use Rattle.sip_selection.specs.Stages.{Extends};
 ghost use Rattle.sip_selection.specs.Views.{LacksAt, StopsAt};
+ghost use Rattle.sip_selection.specs.declared.source.Stop.TheVariants as stop;
 ghost use Rattle.dns_message.specs.declared.question.Question as question;
 
-use crate::known::Stop;
+use crate::boxed::Boxed;
+use crate::known::hash_of_name;
 use crate::stage::{Context, Walk};
-use dns_answers::Answer;
+use dns_answers::FoundAnswer;
 use dns_message::{Kind, Question};
 use dns_name::Name;
-use std::alloc::AllocError;
-use std::sync::Arc;
+use std::alloc::{AllocError, AllocFailed};
 
 /// A source of answers, which a choice asks for those that it was not given.
 pub trait AnswerSource {
@@ -34,16 +33,16 @@ pub trait AnswerSource {
     ghost says: { Self → Self.Seat → question.Question → Option AnswerValue → Type 0 };
 
     /// The answer to a question, if the source has one.
-    fn answer(
-        &self,
+    fn answer<'s>(
+        &'s self,
         seat: &mut Self::Seat,
         question: &Question,
-    ) -> Result<Option<Arc<Answer>>, AllocError>
+    ) -> Result<Option<FoundAnswer<'s>>, AllocError>
         requires { ready self.now seat.old }
         ensures ready { ready self.now seat.new }
         ensures goes { goes seat.old seat.new }
         ensures says { IfOk result
-            (λ found. says self.now seat.new question.now (option_map arc_value found)) };
+            (λ found. says self.now seat.new question.now (option_map answer_in found)) };
 }
 
 /// A source that has no answer.
@@ -61,24 +60,49 @@ impl AnswerSource for NoSource {
 
     ghost says = { λ _ _ _ found. found ≡ None };
 
-    fn answer(
-        &self,
+    fn answer<'s>(
+        &'s self,
         _seat: &mut (),
         _question: &Question,
-    ) -> Result<Option<Arc<Answer>>, AllocError> {
+    ) -> Result<Option<FoundAnswer<'s>>, AllocError> {
         Ok(None)
+    }
+}
+
+/// Why an answer is not known.
+#[derive(Drop)]
+pub(crate) enum Stop {
+    /// This question has none.
+    Need(Boxed<Question>),
+    /// Memory was refused.
+    Memory,
+}
+
+impl From<AllocError> for Stop {
+    ghost from_gives = { λ _ it. it ≡ stop.Memory };
+
+    fn from(_: AllocError) -> Stop {
+        Stop::Memory
+    }
+}
+
+impl<T: Drop> From<AllocFailed<T>> for Stop {
+    ghost from_gives = { λ _ it. it ≡ stop.Memory };
+
+    fn from(_: AllocFailed<T>) -> Stop {
+        Stop::Memory
     }
 }
 
 /// The answer to the question for this kind of records of a name: the one that was given, or else
 /// the one of the source, which is given from then on; or that question.
-pub(crate) fn answer_from<S: AnswerSource>(
-    walk: &mut Walk,
+pub(crate) fn answer_from<'s, S: AnswerSource>(
+    walk: &mut Walk<'s>,
     seat: &mut S::Seat,
-    context: &Context<'_, S>,
+    context: &Context<'_, 's, S>,
     name: &Name,
     kind: Kind,
-) -> Result<Arc<Answer>, Stop>
+) -> Result<FoundAnswer<'s>, Stop>
     requires needs { spec.Needs (spec.inquiry context.now) walk.old.known
         (λ all. answer_to all (record { name = name.now; kind = kind })) }
     requires consulted { spec.Consulted (S.ready context.now.source.now) S.goes
@@ -91,24 +115,23 @@ pub(crate) fn answer_from<S: AnswerSource>(
     ensures targets { walk.new.targets ≡ walk.old.targets }
     ensures answer { MatchResult result
         (λ answer. answer_to walk.new.known (record { name = name.now; kind = kind })
-        ≡ Ok (arc_value answer))
+        ≡ Ok (answer_in answer))
         (λ it. StopsAt it (answer_to walk.new.known (record { name = name.now; kind = kind }))) }
     ensures lacks { MatchResult result (λ _. ⊤)
         (LacksAt (S.says context.now.source.now seat.new)) }
 {
-    let question = match walk.known.answer_to(name, kind) {
-        Ok(answer) => return Ok(Arc::try_clone(answer)?),
-        Err(Stop::Memory) => return Err(Stop::Memory),
-        Err(Stop::Need(question)) => question,
-    };
+    let name_hash = hash_of_name(name);
+    if let Some(answer) = walk.known.answer_to(name_hash, name, kind)? {
+        return Ok(answer);
+    }
+    let name = name.try_clone()?;
+    let question = Question { name, kind };
     let Some(answer) = context.source.answer(seat, &question)? else {
-        return Err(Stop::Need(question));
+        return Err(Stop::Need(Boxed::new(context.alloc, question)?));
     };
     // an answer has few records
-    let _records = answer.records();
-    let given = Arc::try_clone(&answer)?;
-    match walk.known.push(question, answer) {
-        Ok(()) => Ok(given),
-        Err(_) => Err(Stop::Memory),
-    }
+    let _records = answer.as_arc().records();
+    let found = answer.try_clone()?;
+    walk.known.push(name_hash, question, answer)?;
+    Ok(found)
 }

@@ -1,12 +1,12 @@
 //! How far a choice has come (RFC 3263 4.1, 4.2).
-ghost use Rattle.std.specs.Prelude.{◌≡◌, ◌<◌, []};
+ghost use Rattle.std.specs.Prelude.{◌≡◌, ◌<◌, [], drop, IfOk};
 ghost use Rattle.sip_selection.specs.Stages as spec;
-ghost use Rattle.sip_selection.specs.declared.stage.Step.TheVariants as step;
 
+use crate::boxed::Boxed;
 use crate::caps::Caps;
-use crate::known::Known;
+use crate::known::{Answers, Known};
 use crate::reason::Reason;
-use crate::request::Request;
+use crate::request_view::RequestView;
 use crate::service::Service;
 use crate::source::AnswerSource;
 use crate::target::Target;
@@ -15,16 +15,15 @@ use dns_message::Question;
 use dns_name::Name;
 use sip_uri::Transport;
 use srv_choice::{Indexes, SrvOutcome, Words};
-use std::alloc::Global;
-use std::mem;
+use std::alloc::{AllocError, Global};
 use std::snapshot::Snapshot;
 use std::sync::Arc;
 
 /// What the choice for a domain goes by.
 #[derive(Drop)]
-pub(crate) struct Context<'a, S: AnswerSource> {
+pub(crate) struct Context<'a, 's, S: AnswerSource> {
     pub(crate) alloc: Global,
-    pub(crate) request: &'a Request,
+    pub(crate) request: &'a RequestView<'a>,
     /// For a SIPS URI.
     pub(crate) secure: bool,
     pub(crate) caps: &'a Caps,
@@ -32,30 +31,39 @@ pub(crate) struct Context<'a, S: AnswerSource> {
     /// The domain.
     pub(crate) name: &'a Name,
     /// Where answers come from that were not given.
-    pub(crate) source: &'a S,
+    pub(crate) source: &'s S,
     /// The seat as it was at first, and the answers that were given then, as contracts see them.
     pub(crate) start: Snapshot<S::Seat>,
-    pub(crate) given: Snapshot<Known>,
+    pub(crate) given: Snapshot<Answers<'s>>,
 }
 
 /// What a choice has found so far.
 #[derive(Drop)]
-pub(crate) struct Walk {
+pub(crate) struct Walk<'s> {
     pub(crate) targets: Vec<Target>,
     /// The answers that were given, with those of the source.
-    pub(crate) known: Known,
+    pub(crate) known: Answers<'s>,
 }
 
-impl Walk {
-    /// Nothing found, and no answer.
-    pub(crate) fn new(alloc: Global) -> Walk
+impl<'s> Walk<'s> {
+    /// Nothing found, after these answers.
+    pub(crate) fn after(alloc: Global, given: &'s Known) -> Walk<'s>
         ensures targets { result.targets.items ≡ [] }
-        ensures known { result.known ≡ [] }
+        ensures known { result.known ≡ given.now }
     {
         Walk {
             targets: Vec::new(alloc),
-            known: Known::new(alloc),
+            known: Answers::given(alloc, given),
         }
+    }
+
+    /// The targets that were found, and the answers behind so many of them, to keep.
+    pub(crate) fn behind(self, count: usize) -> Result<(Vec<Target>, Known), AllocError>
+        ensures targets { IfOk result (λ found. found.0 ≡ self.entry.targets) }
+        ensures known { IfOk result (λ found. found.1 ≡ drop count self.entry.known) }
+    {
+        let Walk { targets, known } = self;
+        Ok((targets, known.behind(count)?))
     }
 }
 
@@ -153,7 +161,7 @@ pub(crate) enum ServiceStep {
     /// It goes on from here.
     Position(Position),
     /// It stops here, where this question has no answer.
-    Stop(ServiceStage, Question),
+    Stop(Boxed<ServiceStage>, Boxed<Question>),
 }
 
 /// Where a question comes up in a choice.
@@ -162,7 +170,7 @@ pub(crate) enum Stage {
     /// The NAPTR records of the domain.
     Rules,
     /// One of its services.
-    Along(Arc<Candidates>, ServiceStage),
+    Along(Arc<Candidates>, Boxed<ServiceStage>),
     /// The addresses of the domain, by a transport at a port; so many kinds are done.
     Domain(Transport, u16, usize),
 }
@@ -171,23 +179,9 @@ pub(crate) enum Stage {
 #[derive(Drop)]
 pub(crate) enum Step {
     /// The answer to this question, at this stage.
-    Ask(Question, Stage),
+    Ask(Boxed<Question>, Boxed<Stage>),
     /// The targets that were found are all.
     Found,
     /// There is no target.
     Refused(Reason),
-}
-
-impl Step {
-    /// Takes out the question that is asked, and its stage.
-    pub(crate) fn take_ask(&mut self) -> (Question, Stage)
-        requires { (question : Question) × (stage : Stage) × (self.old ≡ step.Ask question stage) }
-        ensures taken { self.old ≡ step.Ask result.0 result.1 }
-        ensures left { self.new ≡ step.Found }
-    {
-        match mem::replace(self, Step::Found) {
-            Step::Ask(question, stage) => (question, stage),
-            Step::Found | Step::Refused(_) => unreachable!(),
-        }
-    }
 }

@@ -6,9 +6,9 @@ ghost use Rattle.sip_selection.specs.Services as spec;
 ghost use Rattle.sip_selection.specs.Stages as stage;
 ghost use Rattle.sip_selection.specs.declared.target.Target as target;
 
+use crate::boxed::Boxed;
 use crate::caps::kinds_of;
-use crate::known::Stop;
-use crate::source::{AnswerSource, answer_from};
+use crate::source::{AnswerSource, Stop, answer_from};
 use crate::stage::{Context, Cursor, Walk};
 use crate::target::Target;
 use dns_answers::Records;
@@ -91,15 +91,15 @@ fn push_addresses(
 
 /// Adds the addresses of a name at a port, from a kind on: all, or up to the kind whose question
 /// has no answer.
-pub(crate) fn push_kinds<S: AnswerSource>(
-    walk: &mut Walk,
+pub(crate) fn push_kinds<'s, S: AnswerSource>(
+    walk: &mut Walk<'s>,
     seat: &mut S::Seat,
-    context: &Context<'_, S>,
+    context: &Context<'_, 's, S>,
     transport: Transport,
     port: u16,
     name: &Name,
     from: usize,
-) -> Result<Option<(usize, Question)>, AllocError>
+) -> Result<Option<(usize, Boxed<Question>)>, AllocError>
     requires needs { consult.Needs (consult.inquiry context.now) walk.old.known
         (λ all. stage.kinds_left context.now.caps.now all transport port name.now from) }
     requires consulted { consult.Consulted (S.ready context.now.source.now) S.goes
@@ -121,7 +121,10 @@ pub(crate) fn push_kinds<S: AnswerSource>(
     let kinds = kinds_of(context.caps.families());
     for at in from..kinds.len() {
         match answer_from(walk, seat, context, name, kinds[at]) {
-            Ok(answer) => push_addresses(&mut walk.targets, transport, port, answer.records())?,
+            Ok(answer) => {
+                let records = answer.as_arc().records();
+                push_addresses(&mut walk.targets, transport, port, records)?;
+            }
             Err(Stop::Need(question)) => return Ok(Some((at, question))),
             Err(Stop::Memory) => return Err(AllocError),
         }
@@ -130,14 +133,14 @@ pub(crate) fn push_kinds<S: AnswerSource>(
 }
 
 /// Adds the addresses of a server at its port, from a kind on, unless its target is the root.
-fn push_server<S: AnswerSource>(
-    walk: &mut Walk,
+fn push_server<'s, S: AnswerSource>(
+    walk: &mut Walk<'s>,
     seat: &mut S::Seat,
-    context: &Context<'_, S>,
+    context: &Context<'_, 's, S>,
     transport: Transport,
     server: &SrvRecord,
     from: usize,
-) -> Result<Option<(usize, Question)>, AllocError>
+) -> Result<Option<(usize, Boxed<Question>)>, AllocError>
     requires needs { consult.Needs (consult.inquiry context.now) walk.old.known
         (λ all. stage.server_left context.now.caps.now all transport server.now from) }
     requires consulted { consult.Consulted (S.ready context.now.source.now) S.goes
@@ -164,15 +167,15 @@ fn push_server<S: AnswerSource>(
 }
 
 /// Adds the addresses of the server at an index, if there is one, from a kind on.
-fn push_index<S: AnswerSource>(
-    walk: &mut Walk,
+fn push_index<'s, S: AnswerSource>(
+    walk: &mut Walk<'s>,
     seat: &mut S::Seat,
-    context: &Context<'_, S>,
+    context: &Context<'_, 's, S>,
     transport: Transport,
     servers: &[SrvRecord],
     index: usize,
     from: usize,
-) -> Result<Option<(usize, Question)>, AllocError>
+) -> Result<Option<(usize, Boxed<Question>)>, AllocError>
     requires needs { consult.Needs (consult.inquiry context.now) walk.old.known
         (λ all. stage.index_left context.now.caps.now all transport servers.now index from) }
     requires consulted { consult.Consulted (S.ready context.now.source.now) S.goes
@@ -199,15 +202,15 @@ fn push_index<S: AnswerSource>(
 
 /// Adds the addresses of the servers at these indexes, in this order, from a cursor on: all, or up
 /// to the first question without an answer.
-pub(crate) fn push_indexes<S: AnswerSource>(
-    walk: &mut Walk,
+pub(crate) fn push_indexes<'s, S: AnswerSource>(
+    walk: &mut Walk<'s>,
     seat: &mut S::Seat,
-    context: &Context<'_, S>,
+    context: &Context<'_, 's, S>,
     transport: Transport,
     servers: &[SrvRecord],
     indexes: &[u8],
     from: Cursor,
-) -> Result<Option<(Cursor, Question)>, AllocError>
+) -> Result<Option<(Cursor, Boxed<Question>)>, AllocError>
     requires needs { consult.Needs (consult.inquiry context.now) walk.old.known
         (λ all. stage.servers_left context.now.caps.now all transport servers.now
         indexes.now from) }

@@ -1,11 +1,13 @@
 //! The transport of a request (RFC 3263 4.1, 5).
-ghost use Rattle.std.specs.Prelude.{◌≡◌};
+ghost use Rattle.std.specs.Prelude.{◌≡◌, ℕ, [], List, IfSome, None, Ok, Err};
 ghost use Rattle.sip_selection.specs.Choice as choice;
+ghost use Rattle.sip_selection.specs.Known.{Given};
 ghost use Rattle.sip_selection.specs.Requests as spec;
+ghost use Rattle.sip_selection.specs.Stages as stages;
 
 use crate::caps::Caps;
 use crate::reason::Reason;
-use crate::request::Request;
+use crate::request_view::RequestView;
 use sip_uri::{Spoken, Transport};
 
 /// The port of a transport where none is written (RFC 3261 18.1.1 and Table 1).
@@ -51,8 +53,8 @@ fn default_transport(secure: bool) -> Transport
 }
 
 /// The transport that a request means.
-fn transport_of(request: &Request) -> Result<Transport, Reason>
-    ensures { result ≡ spec.transport_of request.now }
+fn transport_of(request: &RequestView<'_>) -> Result<Transport, Reason>
+    ensures { result ≡ spec.transport_of (spec.request_of request.now) }
 {
     match request.spoken() {
         None => Ok(default_transport(request.is_secure())),
@@ -74,8 +76,8 @@ fn offered(caps: &Caps, transport: Result<Transport, Reason>) -> Result<Transpor
 }
 
 /// The transport that a request means, if it is one of the caller's.
-pub(crate) fn transport_offered(request: &Request, caps: &Caps) -> Result<Transport, Reason>
-    ensures { result ≡ choice.offered caps.now (spec.transport_of request.now) }
+pub(crate) fn transport_offered(request: &RequestView<'_>, caps: &Caps) -> Result<Transport, Reason>
+    ensures { result ≡ choice.offered caps.now (spec.transport_of (spec.request_of request.now)) }
 {
     offered(caps, transport_of(request))
 }
@@ -85,4 +87,28 @@ pub(crate) fn offered_default(secure: bool, caps: &Caps) -> Result<Transport, Re
     ensures { result ≡ choice.offered_default secure caps.now }
 {
     offered(caps, Ok(default_transport(secure)))
+}
+
+/// Why a request to a name is refused whatever is answered, if it is: by its port, the transport
+/// that it names and the one that it means.
+pub(crate) fn refused_at_once(
+    secure: bool,
+    caps: &Caps,
+    port: Option<u16>,
+    spoken: Option<Spoken>,
+    transport: Result<Transport, Reason>,
+) -> Option<Reason>
+    ensures refused { IfSome result (λ reason. (words : List ℕ) (name : List (List ℕ))
+        (all : List Given) → stages.domain_choice secure caps.now words name all port spoken
+        transport ≡ Ok (Err reason)) }
+    ensures asked { result ≡ None → (words : List ℕ) (name : List (List ℕ))
+        → choice.IsNotRefused (choice.resolved (stages.domain_choice secure caps.now words name []
+        port spoken transport)) }
+{
+    match (port, spoken, transport) {
+        (Some(_), _, transport) => transport.err(),
+        (None, Some(_), transport) => transport.err(),
+        (None, None, _) if secure => offered_default(secure, caps).err(),
+        (None, None, _) => None,
+    }
 }

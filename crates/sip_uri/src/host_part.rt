@@ -25,8 +25,8 @@ pub enum HostPart<'a> {
     Domain(&'a [u8]),
 }
 
-/// The name of a hostname. It is refused for want of memory alone.
-fn name_of_hostname(alloc: Global, hostname: &[u8]) -> Result<Name, AllocError>
+/// The name of a hostname of a text, as a view has it. It is refused for want of memory alone.
+pub fn name_of_hostname(alloc: Global, hostname: &[u8]) -> Result<Name, AllocError>
     requires { DomainText hostname.now (name_of hostname.now) }
     ensures { IfOk result (λ name. name ≡ name_of hostname.now) }
 {

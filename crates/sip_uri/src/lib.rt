@@ -73,7 +73,7 @@ mod via_parts;
 mod via_text;
 
 pub use host::Host;
-pub use host_part::HostPart;
+pub use host_part::{HostPart, name_of_hostname};
 pub use ip_text::{Address, address_from_text, address_text, decimal, law_written_address_is_read};
 pub use laws::{law_one_uri_of_a_text, law_one_via_of_a_text, law_same_exactly_where_equal};
 pub use refusal::UriRefusal;

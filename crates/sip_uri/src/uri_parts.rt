@@ -44,6 +44,7 @@ impl<'a> UriParts<'a> {
     }
 
     /// The URI, with memory for the names of its hosts.
+    #[inline(always)]
     pub fn to_uri(self, alloc: Global) -> Result<SipUri, AllocError>
         requires { IsUriView self }
         // It is the URI that the view means.

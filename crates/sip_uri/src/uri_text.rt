@@ -15,6 +15,7 @@ pub(crate) const TEXT_LIMIT: usize = 1024;
 /// The view of the URI that octets spell, or its first fault from the left: the scheme, the user,
 /// the host, the port, each parameter, each header. More than 1,024 octets are refused before all
 /// else. No memory is taken.
+#[inline(always)]
 pub fn view_uri(octets: &[u8]) -> Result<UriParts<'_>, UriRefusal>
     // What is seen is the URI of the octets.
     ensures found { IfOk result (λ parts. UriText octets.now (uri_of parts)) }

@@ -1,5 +1,4 @@
-use Rattle.std.proofs.Common.{[], ◌++◌, ◌∙◌, sym}
-use Rattle.std.specs.Arc.{arc_value}
+use Rattle.std.proofs.Common.{[], ◌++◌, ◌∙◌}
 use Rattle.sip_selection.specs.Choice.{along}
 use Rattle.sip_selection.specs.Known.{made}
 use Rattle.sip_selection.specs.Stages.{ended, in_front}
@@ -70,7 +69,7 @@ returns-in_ok-new-in-Stop-clause-goes g c = λ front.
     let candidates = a.candidates in
     let walks = rw (c.deref.ensures.value, c.start.ensures, c.in-Stop.is) at c.in_ok-position.ensures.left in
     let fits = rw c.in-Stop.is at c.in_ok-position.ensures.fits in
-    rw c.in_ok-new-in-Stop.ensures.ok (
+    rw (c.question.view_is, c.in_ok-new-in-Stop.ensures, c.in_ok-candidates-in-Stop.ensures.ok) (
       λ all extends. along-left b.caps.now b.words.now.0 b.name.now all candidates.fallback (front ++ a.walk.now.targets.items)
           candidates.services.items ∙ (walks candidates.fallback front).0 all extends,
       ((walks candidates.fallback front).1, (c.requires.few, fits)),

@@ -1,5 +1,5 @@
 use Rattle.std.proofs.Common.{◌∙◌, refl}
-use Rattle.std.specs.Arc.{arc_value}
+use Rattle.dns_answers.specs.Found.{answer_in}
 use Rattle.dns_message.specs.declared.kind.Kind.TheVariants.{Naptr}
 use Rattle.sip_selection.proofs.Choosing.{goes-too, by_services-left}
 use Rattle.sip_selection.proofs.Consulting.{extends-on}
@@ -13,8 +13,8 @@ pub along_all-requires-clause-needs : goal.along_all-requires-clause-needs
 along_all-requires-clause-needs g c = λ all question extends unknown.
     let a = c.args in
     let b = a.context.now in
-    let answer = arc_value c.in-Ok.answer in
-    let is = rw (c.rules_in.ensures.rules, c.deref.ensures) at c.in_ok-candidates-in-Ok.ensures.is in
+    let answer = answer_in c.in-Ok.answer in
+    let is = rw (c.rules_in.ensures.rules, c.deref.ensures, c.as_arc.ensures) at c.in_ok-candidates-in-Ok.ensures.is in
     c.requires.needs all question (extends-on a.walk.now.known c.answer_from.new.walk.known all c.answer_from.ensures.extends extends)
     (rw (extends (record { name = b.name.now; kind = Naptr }) answer c.in-Ok.ensures.answer) (is all ∙ unknown))
 
@@ -22,11 +22,11 @@ pub returns-in_ok-candidates-in-Ok-clause-goes : goal.returns-in_ok-candidates-i
 returns-in_ok-candidates-in-Ok-clause-goes g c =
     let a = c.args in
     let b = a.context.now in
-    let answer = arc_value c.in-Ok.answer in
+    let answer = answer_in c.in-Ok.answer in
     let candidates = c.in_ok-candidates-in-Ok.candidates in
     let then = c.answer_from.new.walk.known in
     let more = c.along_all.new.walk.known in
-    let is = rw (c.rules_in.ensures.rules, c.deref.ensures) at c.in_ok-candidates-in-Ok.ensures.is in
+    let is = rw (c.rules_in.ensures.rules, c.deref.ensures, c.as_arc.ensures) at c.in_ok-candidates-in-Ok.ensures.is in
     let left = rw c.answer_from.ensures.targets at c.along_all.ensures.goes in
     ok-both _ _ _ (λ step on goes. goes-too b more _ _ step a.walk.now.targets.items _
     (λ found all extends. by_services-left b.secure b.caps.now b.words.now.0 b.name.now all candidates.services.items candidates.fallback

@@ -8,7 +8,7 @@ by_naptr-requires-clause-needs g c = λ all question extends is.
     c.requires.needs all question extends (rw c.in-Rules.is (ap (made (in_front c.args.walk.now.targets.items)) is))
 
 pub along-requires-clause-needs : goal.along-requires-clause-needs
-along-requires-clause-needs g c = rw c.in-Along.is at c.requires.needs
+along-requires-clause-needs g c = rw (c.in-Along.is, ← c.as_ref.ensures) at c.requires.needs
 
 pub to_domain-requires-clause-needs : goal.to_domain-requires-clause-needs
 to_domain-requires-clause-needs g c = λ all question extends is.

@@ -1,5 +1,5 @@
 use Rattle.std.proofs.Common.{◌++◌, sym}
-use Rattle.std.specs.Arc.{arc_value}
+use Rattle.dns_answers.specs.Found.{answer_in}
 use Rattle.sip_selection.specs.Callers.{kinds_of}
 use Rattle.sip_selection.specs.Consulting.{inquiry}
 use Rattle.sip_selection.specs.Known.{servers_in}
@@ -13,8 +13,8 @@ pub push_listed-requires-clause-needs : goal.push_listed-requires-clause-needs
 push_listed-requires-clause-needs g c =
     let a = c.args in
     let b = a.context.now in
-    let answer = arc_value a.answer in
-    let is = rw (c.servers_in.ensures.servers, c.deref.ensures, c.in-Listed.is) at c.order-outcome.ensures in
+    let answer = answer_in a.answer in
+    let is = rw (c.servers_in.ensures.servers, c.deref.ensures, c.as_arc.ensures, c.in-Listed.is) at c.order-outcome.ensures in
     needs-of (inquiry b) a.walk.now.known
     (λ all. offer_by all (kinds_of b.caps.now.families) b.words.now.0 a.transport a.position.word answer)
     (λ all. servers_left b.caps.now all a.transport (servers_in answer.records) c.in-Listed.indexes first_server)
@@ -25,12 +25,12 @@ pub returns-in-Listed-clause-left : goal.returns-in-Listed-clause-left
 returns-in-Listed-clause-left g c =
     let a = c.args in
     let b = a.context.now in
-    let is = rw (c.servers_in.ensures.servers, c.deref.ensures, c.in-Listed.is) at c.order-outcome.ensures in
+    let is = rw (c.servers_in.ensures.servers, c.deref.ensures, c.as_arc.ensures, c.in-Listed.is) at c.order-outcome.ensures in
     let left = rw (c.behind-behind.ensures, c.in-Listed.is) at c.push_listed.ensures.left in
     ok-each _ _ (λ service_step walks services. walks-too b c.push_listed.new.walk.known services _ _ service_step
     a.walk.now.targets.items _
     (λ all extends fallback found. answer-listed b.caps.now b.words.now.0 b.name.now all services fallback a.position found a.transport
-    (arc_value a.answer) c.in-Listed.indexes c.in-Listed.field-1 (sym is))
+    (answer_in a.answer) c.in-Listed.indexes c.in-Listed.field-1 (sym is))
     (walks services)) c.push_listed.result left
 
 pub returns-in-Absent-clause-left : goal.returns-in-Absent-clause-left
@@ -38,10 +38,10 @@ returns-in-Absent-clause-left g c =
     let a = c.args in
     let b = a.context.now in
     let outcome = c.order-outcome.result in
-    let is = rw (c.servers_in.ensures.servers, c.deref.ensures) at c.order-outcome.ensures in
+    let is = rw (c.servers_in.ensures.servers, c.deref.ensures, c.as_arc.ensures) at c.order-outcome.ensures in
     rw c.behind-behind.ensures (λ services fallback front. (
       λ all extends. answer-unlisted b.caps.now b.words.now.0 b.name.now all services fallback a.position
-          (front ++ a.walk.now.targets.items) a.transport (arc_value a.answer) outcome c.in-Absent.is is,
+          (front ++ a.walk.now.targets.items) a.transport (answer_in a.answer) outcome c.in-Absent.is is,
       tt,
     ))
 

@@ -33,8 +33,8 @@ returns-in-None-clause-left g c = λ services fallback front.
       tt,
     )
 
-pub returns-in_ok-try_clone-in-Some-clause-left : goal.returns-in_ok-try_clone-in-Some-clause-left
-returns-in_ok-try_clone-in-Some-clause-left g c = λ services fallback front.
+pub returns-in_ok-new-in-Some-clause-left : goal.returns-in_ok-new-in-Some-clause-left
+returns-in_ok-new-in-Some-clause-left g c = λ services fallback front.
     let a = c.args in
     let b = a.context.now in
     let it = c.in-Some in
@@ -47,7 +47,7 @@ returns-in_ok-try_clone-in-Some-clause-left g c = λ services fallback front.
       c.deref-4.ensures,
       it.is,
     ) at c.in_ok-push_indexes.ensures.reaches in
-    rw (stop.1, c.in_ok-try_clone-in-Some.ensures) (
+    rw (stop.1, c.in_ok-new-in-Some.ensures, c.in_ok-listing-in-Some.ensures) (
       λ all extends. listing-more b.caps.now b.words.now.0 b.name.now services (arc_value a.listing.now) a.position
           a.walk.now.targets.items stop.0
           a.from it.cursor all (stop.2.0 all extends) fallback front,

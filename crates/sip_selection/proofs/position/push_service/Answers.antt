@@ -1,4 +1,4 @@
-use Rattle.std.specs.Arc.{arc_value}
+use Rattle.dns_answers.specs.Found.{answer_in}
 use Rattle.dns_message.specs.declared.kind.Kind.TheVariants.{Srv}
 use Rattle.std.proofs.Common.{refl}
 use Rattle.sip_selection.specs.Callers.{kinds_of}
@@ -23,7 +23,7 @@ push_answer-requires-clause-needs g c =
     let a = c.args in
     let b = a.context.now in
     let then = c.answer_from.new.walk.known in
-    let answer = arc_value c.in-Ok.answer in
+    let answer = answer_in c.in-Ok.answer in
     needs-of (inquiry b) then (λ all. offer_along all (kinds_of b.caps.now.families) b.words.now.0 a.service.now a.position.word)
     (λ all. offer_by all (kinds_of b.caps.now.families) b.words.now.0 a.service.now.transport a.position.word answer)
     (λ all question extends is. rw (c.in-Some.is, extends (record { name = c.in-Some.name; kind = Srv }) answer c.in-Ok.ensures.answer) is)
@@ -33,7 +33,7 @@ pub returns-in-Ok-clause-left : goal.returns-in-Ok-clause-left
 returns-in-Ok-clause-left g c =
     let a = c.args in
     let b = a.context.now in
-    let answer = arc_value c.in-Ok.answer in
+    let answer = answer_in c.in-Ok.answer in
     let then = c.answer_from.new.walk.known in
     let more = c.push_answer.new.walk.known in
     let left = rw c.answer_from.ensures.targets at c.push_answer.ensures.left in

@@ -1,5 +1,5 @@
 use Rattle.std.proofs.Common.{◌∙◌, ap}
-use Rattle.std.specs.Arc.{arc_value}
+use Rattle.dns_answers.specs.Found.{answer_in}
 use Rattle.dns_message.specs.declared.kind.Kind.TheVariants.{A}
 use Rattle.std.proofs.Common.{get_or}
 use Rattle.sip_selection.specs.Callers.{kinds_of}
@@ -36,9 +36,14 @@ loop-at-preserved g c =
           (λ all. kinds_left caps all a.transport a.port a.name.now) a.from a.walk.now.targets.items l.at _ l.walk.targets.items _ _
           (came-grown l.walk.known then (λ all. kinds_left caps all a.transport a.port a.name.now) a.from a.walk.now.targets.items l.at
           l.walk.targets.items c.answer_from.ensures.extends l.invariant.came)
-          (rw (← c.deref.ensures, ← c.records.ensures.records, ← c.answer_from.ensures.targets) c.in_ok-push_addresses-in-Ok.ensures)
+          (rw (
+            ← c.as_arc.ensures,
+            ← c.deref.ensures,
+            ← c.records-records.ensures.records,
+            ← c.answer_from.ensures.targets,
+          ) c.in_ok-push_addresses-in-Ok.ensures)
           (kind-more caps a.transport a.port a.name.now c.kinds_of-kinds.result.now l.at are c.loop-at-test.true then
-          (arc_value c.in-Ok.answer) c.in-Ok.ensures.answer);
+          (answer_in c.in-Ok.answer) c.in-Ok.ensures.answer);
       more = extends-on a.walk.now.known l.walk.known then l.invariant.more c.answer_from.ensures.extends;
       consulted = c.answer_from.ensures.consulted;
     }

@@ -1,4 +1,3 @@
-use Rattle.std.proofs.Common.{List}
 use Rattle.sip_selection.specs.Consulting.{Consulted, inquiry}
 use Rattle.sip_selection.specs.Stages.{Extends, kinds_left}
 use Rattle.sip_selection.proofs.Reaching.{Came}

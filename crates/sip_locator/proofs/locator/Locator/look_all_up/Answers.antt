@@ -1,4 +1,4 @@
-use Rattle.std.proofs.Common.{◌≡◌, subst, sym}
+use Rattle.std.proofs.Common.{subst, sym}
 use Rattle.sip_selection.specs.Selections.{SelectionValue}
 use Rattle.sip_locator.specs.Gains.{Gains}
 use Rattle.sip_locator.proofs.Gaining.{gains-earlier, lacks-earlier, on-through, nothing-through, ok-each, lacks-now}

@@ -1,6 +1,3 @@
-use Rattle.std.proofs.Common.{◌≡◌, Some, sym, ◌∙◌, ap}
-use Rattle.std.specs.Arc.{arc_value}
-use Rattle.std.specs.Option.{option_map}
 use Rattle.sip_locator.proofs.CachedKinds.{cached-kind}
 use Rattle.sip_locator.proofs.locator.Locator.look_up.Goals as goal
 

@@ -4,19 +4,17 @@ use Rattle.sip_selection.proofs.Consulting.{nobody-says, nothing-asked}
 use Rattle.sip_selection.proofs.Steps.{not-refused}
 use Rattle.sip_selection.proofs.selection.Selection.new.Goals as goal
 
-pub at_step-requires-clause-asked : goal.at_step-requires-clause-asked
-at_step-requires-clause-asked c =
-    let none = rw c.new-walk.ensures.known at (nobody-says c.begin.ensures.consulted) in
-    rw none (nothing-asked c.args.request c.args.caps c.args.words.0)
+pub at_step-requires-clause-stands : goal.at_step-requires-clause-stands
+at_step-requires-clause-stands c =
+    let begun = c.in_ok-step.ensures.begun in
+    rw c.new-none.ensures (rw (nobody-says begun.1) at begun.2.0)
 
-pub returns-clause-is : goal.returns-clause-is
-returns-clause-is c =
-    let none = rw c.new-walk.ensures.known at (nobody-says c.begin.ensures.consulted) in
-    rw none at c.at_step.ensures.is
+pub at_step-requires-clause-asked : goal.at_step-requires-clause-asked
+at_step-requires-clause-asked c = rw c.new-none.ensures (nothing-asked c.args.request c.args.caps c.args.words.0)
 
 pub returns-clause-memory : goal.returns-clause-memory
 returns-clause-memory c =
     let a = c.args in
-    let none = rw c.new-walk.ensures.known at (nobody-says c.begin.ensures.consulted) in
-    err-each (λ asking. not-refused a.request a.caps a.words.0 [] c.begin.new.walk.targets.items c.in_ok-step.step asking
-    (rw none at c.in_ok-step.ensures.comes)) c.at_step.result c.at_step.ensures.memory
+    let begun = c.in_ok-step.ensures.begun in
+    err-each (λ asking. not-refused a.request a.caps a.words.0 [] _ c.in_ok-step.step asking
+    (rw (nobody-says begun.1) at begun.2.0)) c.at_step.result c.at_step.ensures.memory

@@ -1,6 +1,6 @@
 use Rattle.std.proofs.Common.{sym, ◌∙◌}
 use Rattle.sip_selection.proofs.Answered.{other-question}
-use Rattle.sip_selection.proofs.known.Entry.is_of.Goals as goal
+use Rattle.sip_selection.proofs.known.Hashed.is.Goals as goal
 
 pub returns-then-self-name_hash : goal.returns-then-self-name_hash
 returns-then-self-name_hash c =
