@@ -12,4 +12,5 @@ pub mod WireTries
 pub mod CnameChains
 pub mod Steps
 pub mod Clocks
+pub mod BufferWires
 pub mod Datagrams

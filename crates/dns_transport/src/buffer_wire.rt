@@ -1,5 +1,6 @@
 //! A wire of whole messages as a wire of datagrams.
 ghost use Rattle.std.specs.Prelude.{◌≡◌, ◌≤◌, ◌<◌, IfNone, IfSome, length, take};
+ghost use Rattle.dns_transport.specs.BufferWires.{Carries};
 
 use dns_asker::{DATAGRAM_LIMIT, MessageWire, Received, Wire, WireFault};
 
@@ -39,6 +40,8 @@ impl<W: MessageWire> Wire for BufferWire<W> {
     ghost gives = { W.gives };
 
     ghost failed = { λ _. 0 };
+
+    ghost does = { λ old event new. Carries W.does old.wire event new.wire };
 
     fn send(&mut self, octets: &[u8]) -> Result<(), WireFault> {
         self.wire.send(octets);

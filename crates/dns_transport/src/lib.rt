@@ -14,8 +14,9 @@
 //!
 //! `open_wire` opens a `ServerWire` over the sockets of this host, whose ids and ports are drawn of
 //! a key (`random_draws`, `random_ports`). `RunClock` is a clock that counts from its start, and a
-//! `Timer`; `SystemClock` shows the time of the system. `UdpWire` and `UdpServerWire` are the wires
-//! of `dns_asker` over UDP, to one server and to many peers.
+//! `Timer`; `SystemClock` shows the time of the system. `BufferWire` makes a `MessageWire` a
+//! `Wire` (`dns_asker`), for what takes datagrams. `UdpServerWire` is a `PeerWire` over UDP, as a
+//! server has it.
 //!
 //! Read `specs/Replies.antt` first: which octets are a reply to a query (RFC 5452 9.1).
 //! `specs/Ends.antt` says what the end of a query says, `specs/Sends.antt` what goes out, and
@@ -47,7 +48,7 @@ mod system;
 mod system_clock;
 mod transport;
 mod try_log;
-mod udp_wire;
+mod udp_server_wire;
 mod wire_counts;
 mod wire_try;
 
@@ -63,6 +64,6 @@ pub use server_wire::{ServerWire, WireOptions};
 pub use system::{SystemLink, SystemSockets};
 pub use system_clock::SystemClock;
 pub use transport::{LINK_LIMIT, QUERY_LIMIT, Transport};
-pub use udp_wire::{UdpServerWire, UdpWire};
+pub use udp_server_wire::UdpServerWire;
 pub use wire_counts::WireCounts;
 pub use wire_try::{Tracer, TryRoute, WireReply, WireTry};

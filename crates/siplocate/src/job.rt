@@ -11,6 +11,7 @@ use sip_selection::Families;
 use std::alloc::{AllocError, Global};
 use std::io::{self, Write};
 use std::net::Net;
+use std::random::RandomSource;
 use std::sync::Wait;
 use std::thread::Threads;
 use std::time::Clock;
@@ -70,11 +71,9 @@ fn refused_output(refusal: InputRefusal) -> JobOutput
 }
 
 /// What the program prints for a job, and its status.
-pub fn output_of<R: Net + Threads + Wait + Clock + Sync>(
-    rt: &R,
-    alloc: Global,
-    job: &Job,
-) -> JobOutput
+pub fn output_of<
+    R: Net<Stream: Send, Listener: Send> + Threads + Wait + Clock + RandomSource + Sync,
+>(rt: &R, alloc: Global, job: &Job) -> JobOutput
     ensures told { spec.IsOutput job.now result }
     ensures range { spec.status result ≤ 5 }
 {

@@ -24,6 +24,7 @@ use std::alloc::AllocError;
 use std::io::ErrorKind;
 use std::net::Net;
 use std::process::ExitCode;
+use std::random::RandomSource;
 use std::rt::Env;
 use std::sync::Wait;
 use std::thread::Threads;
@@ -69,7 +70,18 @@ fn read_job<R: Env + Input + AllocGlobal>(rt: &R) -> Result<Job, AllocError> {
 }
 
 /// Does what the program is asked to do, and gives its status.
-fn perform<R: Env + Input + Print + Net + Threads + Wait + Clock + AllocGlobal + Sync>(rt: &R) -> u8
+fn perform<
+    R: Env
+        + Input
+        + Print
+        + Net<Stream: Send, Listener: Send>
+        + Threads
+        + Wait
+        + Clock
+        + RandomSource
+        + AllocGlobal
+        + Sync,
+>(rt: &R) -> u8
     ensures { result ≤ 5 }
 {
     let told = match read_job(rt) {

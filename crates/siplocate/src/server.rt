@@ -13,16 +13,20 @@ use crate::requests::parts;
 use crate::run::run_text;
 use answer_cache::{CacheRefusal, SharedCache};
 use dns_asker::{PeerWire, serve};
-use dns_transport::{SystemClock, UdpServerWire, UdpWire};
+use dns_transport::{
+    BufferWire, HostWire, QueryForm, SystemClock, UdpServerWire, WireOptions, open_wire,
+};
 use dns_zone::{Zone, ZoneRefusal};
+use sip_resolver::random_key;
 use sip_workers::{OpenGate, RunRefusal};
 use std::alloc::{AllocError, AllocFailed, Global};
 use std::io::{self, ErrorKind};
 use std::net::{Ipv4Addr, Net, SocketAddr};
+use std::random::RandomSource;
 use std::sync::Wait;
 use std::sync::atomic::{AtomicBool, Ordering};
 use std::thread::{self, Threads};
-use std::time::Clock;
+use std::time::{Clock, Duration};
 use thiserror::Error;
 
 /// The status where the zone is none.
@@ -120,25 +124,50 @@ pub(crate) fn local_wire<R: Net>(rt: &R) -> io::Result<UdpServerWire>
     UdpServerWire::bind(rt, SocketAddr::from((Ipv4Addr::LOCALHOST, 0)))
 }
 
+/// How a worker's wire asks: a query goes out over UDP as it was made, and over TCP where its reply
+/// was cut.
+const WIRE_OPTIONS: WireOptions = WireOptions {
+    over_tcp: false,
+    form: QueryForm::PLAIN,
+    keeps_tries: false,
+    total: Duration::MAX,
+};
+
+/// A worker's wire to a server, over the sockets of this host.
+type WorkerWire<'a, R> = BufferWire<HostWire<'a, R>>;
+
+/// A wire to a server. Its ids and ports are drawn of a key of its own.
+fn wire_to<'a, R: Net + Clock + RandomSource>(
+    rt: &'a R,
+    alloc: Global,
+    server: SocketAddr,
+) -> io::Result<WorkerWire<'a, R>> {
+    let key = random_key(rt)?;
+    let wire = open_wire(rt, alloc, &[server], None, WIRE_OPTIONS, key)?;
+    Ok(BufferWire::new(wire))
+}
+
 /// So many wires to a server.
-fn wires_to<R: Net>(
-    rt: &R,
+fn wires_to<'a, R: Net + Clock + RandomSource>(
+    rt: &'a R,
     alloc: Global,
     server: SocketAddr,
     count: usize,
-) -> Result<Vec<UdpWire>, RunFault>
+) -> Result<Vec<WorkerWire<'a, R>>, RunFault>
     ensures all { IfOk result (λ wires. length wires.items ≡ count) }
     ensures refused { IfErr result (λ fault. fault ≢ faults.Workers × fault ≢ faults.Requests) }
 {
     let mut wires = Vec::new(alloc);
     'wires: for _wire in 0..count {
-        wires.push(UdpWire::connect(rt, server)?)?;
+        wires.push(wire_to(rt, alloc, server)?)?;
     }
     Ok(wires)
 }
 
 /// What is printed of the requests of a text, and the status, where so many workers ask a server.
-pub(crate) fn run_to_server<R: Net + Threads + Wait + Clock + Sync>(
+pub(crate) fn run_to_server<
+    R: Net<Stream: Send, Listener: Send> + Threads + Wait + Clock + RandomSource + Sync,
+>(
     rt: &R,
     alloc: Global,
     server: SocketAddr,
@@ -157,7 +186,9 @@ pub(crate) fn run_to_server<R: Net + Threads + Wait + Clock + Sync>(
 
 /// What is printed of the requests of a text, and the status, where so many workers ask a server
 /// on this host, which answers from a zone as long as they run.
-fn run_over_zone<R: Net + Threads + Wait + Clock + Sync>(
+fn run_over_zone<
+    R: Net<Stream: Send, Listener: Send> + Threads + Wait + Clock + RandomSource + Sync,
+>(
     rt: &R,
     alloc: Global,
     workers: usize,
@@ -210,7 +241,7 @@ fn bad_zone_output(
 }
 
 /// What is printed of a zone and requests, and the status, with so many workers.
-fn run_both<R: Net + Threads + Wait + Clock + Sync>(
+fn run_both<R: Net<Stream: Send, Listener: Send> + Threads + Wait + Clock + RandomSource + Sync>(
     rt: &R,
     alloc: Global,
     workers: usize,
@@ -244,12 +275,9 @@ fn fault_output(fault: RunFault) -> JobOutput
 }
 
 /// What the program prints for a zone and requests, with this number of workers, and its status.
-pub fn run_output<R: Net + Threads + Wait + Clock + Sync>(
-    rt: &R,
-    alloc: Global,
-    workers: usize,
-    text: &str,
-) -> JobOutput
+pub fn run_output<
+    R: Net<Stream: Send, Listener: Send> + Threads + Wait + Clock + RandomSource + Sync,
+>(rt: &R, alloc: Global, workers: usize, text: &str) -> JobOutput
     ensures told { spec.IsRunOutput workers text.now result }
     ensures range { spec.status result ≤ 5 }
 {

@@ -3,12 +3,13 @@ use dns_answers::{Records, answer_of};
 use dns_asker::{DATAGRAM_LIMIT, PeerWire, Wire, Zone, serve};
 use dns_message::{Kind, Question, read_message};
 use dns_name::Name;
-use dns_transport::{UdpServerWire, UdpWire};
+use dns_transport::{BufferWire, HostWire, QueryForm, UdpServerWire, WireOptions, open_wire};
 use std::alloc::Global;
 use std::net::{Ipv4Addr, Ipv6Addr, Net, SocketAddr};
 use std::sync::Arc;
 use std::sync::atomic::{AtomicBool, Ordering};
 use std::test::Fail;
+use std::time::{Clock, Duration};
 use std::{io, thread};
 
 /// The query for the addresses of a.example.
@@ -46,9 +47,28 @@ fn is_right(alloc: Global, octets: &[u8]) -> Option<bool> {
     )
 }
 
+/// A wire that asks in the form of a query as it is made.
+const OPTIONS: WireOptions = WireOptions {
+    over_tcp: false,
+    form: QueryForm::PLAIN,
+    keeps_tries: false,
+    total: Duration::MAX,
+};
+
+/// A wire to a server, over the sockets of this host. Its ids, its ports and its letters are drawn
+/// of this key.
+pub(crate) fn wire_to<'a, R: Net + Clock + AllocGlobal>(
+    rt: &'a R,
+    server: SocketAddr,
+    key: [u8; 32],
+) -> io::Result<BufferWire<HostWire<'a, R>>> {
+    let wire = open_wire(rt, rt.alloc(), &[server], None, OPTIONS, key)?;
+    Ok(BufferWire::new(wire))
+}
+
 /// Asks a server until a reply comes, and gives that; of no reply no octets.
-fn reply_of<R: Net + AllocGlobal>(rt: &R, server: SocketAddr) -> io::Result<Vec<u8>> {
-    let mut wire = UdpWire::connect(rt, server)?;
+fn reply_of<R: Net + Clock + AllocGlobal>(rt: &R, server: SocketAddr) -> io::Result<Vec<u8>> {
+    let mut wire = wire_to(rt, server, [1; 32])?;
     let mut buffer = [0; DATAGRAM_LIMIT];
     for _ in 0..TRIES {
         if wire.failures() > TRIES {
@@ -88,56 +108,37 @@ fn answer_over_udp(rt: HostRuntime) -> Result<(), Fail> {
     Ok(())
 }
 
-/// What a wire gives of datagrams that a sender repeats until something is given.
+/// What a wire gives of a datagram that another one sends again and again until it is given.
 fn first_given(
-    wire: &mut UdpWire,
+    wire: &mut UdpServerWire,
+    own: SocketAddr,
     sender: &mut UdpServerWire,
     octets: &[u8],
-    client: SocketAddr,
-) -> Option<usize> {
+) -> Option<(usize, SocketAddr)> {
     let mut buffer = [0; DATAGRAM_LIMIT];
-    for _ in 0..3 {
+    for _ in 0..TRIES {
         if wire.failures() > TRIES || sender.failures() > TRIES {
             break;
         }
-        let _ = sender.send(octets, client);
-        if let Ok(Some(count)) = wire.receive(&mut buffer) {
-            return Some(count);
+        let _ = sender.send(octets, own);
+        if let Ok(Some(given)) = wire.receive(&mut buffer) {
+            return Some(given);
         }
     }
     None
 }
 
-/// The address of a wire, from which its server receives what it sends until something comes.
-fn address_of(wire: &mut UdpWire, server: &mut UdpServerWire) -> Option<SocketAddr> {
-    let mut buffer = [0; DATAGRAM_LIMIT];
-    for _ in 0..TRIES {
-        if wire.failures() > TRIES || server.failures() > TRIES {
-            break;
-        }
-        let _ = wire.send(QUERY);
-        if let Ok(Some((_, client))) = server.receive(&mut buffer) {
-            return Some(client);
-        }
-    }
-    None
-}
-
+/// A server is given how long a datagram is, and who sent it; a long one is cut.
 #[test]
-fn datagrams_of_the_server_alone(rt: HostRuntime) -> Result<(), Fail> {
+fn datagrams_and_their_senders(rt: HostRuntime) -> Result<(), Fail> {
     let local = SocketAddr::from((Ipv4Addr::LOCALHOST, 0));
     let mut server = UdpServerWire::bind(&rt, local)?;
-    let mut other = UdpServerWire::bind(&rt, local)?;
-    let mut wire = UdpWire::connect(&rt, server.address()?)?;
-    let Some(client) = address_of(&mut wire, &mut server) else {
-        return Err(Fail::new(format_args!("nothing came from the wire")));
-    };
-    let given = first_given(&mut wire, &mut other, b"other", client);
-    assert_eq!(rt; given, None);
+    let mut sender = UdpServerWire::bind(&rt, local)?;
+    let (own, peer) = (server.address()?, sender.address()?);
     let long = [7; 5000];
     for (octets, count) in [(b"".as_slice(), 0), (b"server", 6), (&long, DATAGRAM_LIMIT)] {
-        let given = first_given(&mut wire, &mut server, octets, client);
-        assert_eq!(rt; given, Some(count));
+        let given = first_given(&mut server, own, &mut sender, octets);
+        assert_eq!(rt; given, Some((count, peer)));
     }
     Ok(())
 }

@@ -1,9 +1,10 @@
 //! Runs over UDP to the server that the environment names, and to one to which the first query is
 //! lost.
+use crate::udp::wire_to;
 use crate::worker_jobs::{ZONE, goes_to, jobs_to};
 use answer_cache::{Notice, SharedCache};
 use dns_asker::{DATAGRAM_LIMIT, PeerWire, Zone, serve};
-use dns_transport::{SystemClock, UdpServerWire, UdpWire};
+use dns_transport::{BufferWire, HostWire, SystemClock, UdpServerWire};
 use sip_selection::Reason;
 use sip_workers::{OpenGate, Outcome, run_workers};
 use std::alloc::Global;
@@ -35,29 +36,29 @@ fn are_right(made: &[(Outcome, Notice)]) -> bool {
     }
 }
 
-/// So many wires to a server.
-fn wires_to<R: Net + AllocGlobal>(
-    rt: &R,
+/// So many wires to a server, each with a key of its own.
+fn wires_to<'a, R: Net + Clock + AllocGlobal>(
+    rt: &'a R,
     server: SocketAddr,
-    count: usize,
-) -> Option<Vec<UdpWire>> {
+    count: u8,
+) -> Option<Vec<BufferWire<HostWire<'a, R>>>> {
     let mut wires = Vec::new(rt.alloc());
-    for _ in 0..count {
-        wires.push(UdpWire::connect(rt, server).ok()?).ok()?;
+    for number in 0..count {
+        wires.push(wire_to(rt, server, [number; 32]).ok()?).ok()?;
     }
     Some(wires)
 }
 
 /// Whether the requests end as they should, by so many workers that ask a server.
-fn run_is_right<R: Net + Threads + Wait + Clock + AllocGlobal + Sync>(
+fn run_is_right<R: Net<Stream: Send, Listener: Send> + Threads + Wait + Clock + AllocGlobal + Sync>(
     rt: &R,
     server: SocketAddr,
-    workers: usize,
+    workers: u8,
 ) -> Option<bool> {
     let alloc = rt.alloc();
     let wires = wires_to(rt, server, workers)?;
     let jobs = jobs_to(alloc, &REQUESTS)?;
-    let Ok((cache, seats)) = SharedCache::new(alloc, workers) else {
+    let Ok((cache, seats)) = SharedCache::new(alloc, usize::from(workers)) else {
         return None;
     };
     let clock = SystemClock::new(rt);
