@@ -6,6 +6,8 @@
 size_t bench_read_message(const uint8_t *octets, size_t length);
 size_t bench_read_uri(const uint8_t *octets, size_t length);
 size_t bench_read_via(const uint8_t *octets, size_t length);
+size_t bench_view_uri(const uint8_t *octets, size_t length);
+size_t bench_view_via(const uint8_t *octets, size_t length);
 size_t bench_answer_of(const uint8_t *octets, size_t length, size_t rounds);
 size_t bench_order(const uint8_t *octets, size_t length, const uint64_t *random, size_t count, size_t *places,
                    size_t room, size_t rounds);
@@ -41,6 +43,7 @@ const struct candidate reply_candidates[] = {
 
 const struct candidate uri_candidates[] = {
     { "wokhleas", bench_read_uri, "" },
+    { "wokhleas, a view", bench_view_uri, "a hostname stays octets, not seen to be UTF-8" },
     { "minimal C", minimal_uri, "" },
 #ifdef WITH_SOFIA
     { "sofia-sip", sofia_uri, "splits a copy of the text; host, parameters and headers stay texts" },
@@ -56,6 +59,7 @@ const struct candidate uri_candidates[] = {
 
 const struct candidate via_candidates[] = {
     { "wokhleas", bench_read_via, "" },
+    { "wokhleas, a view", bench_view_via, "a hostname stays octets, not seen to be UTF-8" },
     { "minimal C", minimal_via, "" },
 #ifdef WITH_SOFIA
     { "sofia-sip", sofia_via, "host, port and parameters are kept, as texts" },

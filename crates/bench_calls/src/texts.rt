@@ -1,11 +1,12 @@
-//! The readers of URIs and Vias. Their texts come as octets, which are seen to be UTF-8 first.
+//! The readers of URIs and Vias. Texts come as octets: what reads a text sees that they are UTF-8
+//! first, and what makes a view does not.
 ghost use Rattle.std.specs.Prelude.{◌≡◌, ◌<◌, IfSome, MatchOption};
 ghost use Rattle.sip_uri.specs.Uris.{UriText};
 ghost use Rattle.sip_uri.specs.Vias.{ViaText};
 ghost use Rattle.sip_uri.specs.declared.uri.SipUri as uri;
 ghost use Rattle.sip_uri.specs.declared.via.Via as via;
 
-use sip_uri::{SipUri, Via, read_uri, read_via};
+use sip_uri::{SipUri, Via, read_uri, read_via, view_uri, view_via};
 use std::alloc::Global;
 
 /// The port where none is written (RFC 3261 18.1.1 and Table 1).
@@ -48,5 +49,29 @@ pub extern "C" fn bench_read_via(alloc: Global, octets: &[u8]) -> usize
     match via_of(alloc, octets) {
         Some(via) => usize::from(via.port.unwrap_or(DEFAULT_PORT)),
         None => 0,
+    }
+}
+
+/// The port of the URI that these octets spell, by a view of it.
+#[unsafe(no_mangle)]
+pub extern "C" fn bench_view_uri(octets: &[u8]) -> usize
+    ensures { 0 < result → (uri : uri.SipUri) × UriText octets.now uri
+        × MatchOption uri.port (result ≡ DEFAULT_PORT) (λ port. result ≡ port) }
+{
+    match view_uri(octets) {
+        Ok(parts) => usize::from(parts.port.unwrap_or(DEFAULT_PORT)),
+        Err(_) => 0,
+    }
+}
+
+/// The port of the Via that these octets spell, by a view of it.
+#[unsafe(no_mangle)]
+pub extern "C" fn bench_view_via(octets: &[u8]) -> usize
+    ensures { 0 < result → (via : via.Via) × ViaText octets.now via
+        × MatchOption via.port (result ≡ DEFAULT_PORT) (λ port. result ≡ port) }
+{
+    match view_via(octets) {
+        Ok(parts) => usize::from(parts.port.unwrap_or(DEFAULT_PORT)),
+        Err(_) => 0,
     }
 }

@@ -11,6 +11,8 @@
 //! request and a number: locates that one so many times, from its text, over a shared cache.
 //! `misses`, the path of a reply and a number: stores its answer a thousand times in so many shared
 //! caches. `hold`, a word, a book and a number: holds so many of what the word says.
+ghost use Rattle.sip_selection.specs.Requests.{IsRequestView};
+
 mod books;
 mod held;
 mod known;
@@ -23,7 +25,7 @@ use crate::requests::rows::{Row, large_row, small_rows};
 use answer_cache::{AnswerBook, ListCache};
 use dns_answers::Moment;
 use sip_locator::{Located, locate};
-use sip_selection::{Caps, Request};
+use sip_selection::{Caps, Request, RequestView};
 use sip_uri::Transport::{Sctp, Tcp, Tls, Udp};
 use srv_choice::{WORD_COUNT, Words};
 use std::alloc::Global;
@@ -67,11 +69,12 @@ struct Load<'a> {
 fn targets_of<B: AnswerBook>(
     alloc: Global,
     load: &Load<'_>,
-    request: &Request,
+    request: &RequestView<'_>,
     book: &B,
     seat: &mut B::Seat,
 ) -> usize
-    requires { B.belongs book.now seat.old }
+    requires made_here { B.belongs book.now seat.old }
+    requires view { IsRequestView request.now }
     ensures { B.belongs book.now seat.new }
 {
     let (caps, words, now) = (load.caps, load.words, load.now);
@@ -92,9 +95,10 @@ fn targets_of_load<B: AnswerBook>(
     ensures { B.belongs book.now seat.new }
 {
     if load.form == Form::Request {
-        return Some(targets_of(alloc, load, load.read, book, seat));
+        let request = RequestView::Read(load.read);
+        return Some(targets_of(alloc, load, &request, book, seat));
     }
-    match load.row.request(alloc) {
+    match load.row.view() {
         Some(request) => Some(targets_of(alloc, load, &request, book, seat)),
         None => None,
     }

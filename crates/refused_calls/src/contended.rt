@@ -6,8 +6,8 @@ ghost use Rattle.answer_cache.specs.Shared.{Belongs, CacheView, cache_view};
 
 use crate::allocations::asked::{REPLY, answer, now, question};
 use crate::allocations::locators::{goes, locator};
-use answer_cache::{AnswerBook, Found, Rival, Seat, SharedCache, StoreRefusal};
-use dns_answers::{Answer, Moment};
+use answer_cache::{AnswerBook, Rival, Seat, SharedCache, StoreRefusal};
+use dns_answers::{Answer, FoundAnswer, Moment};
 use dns_message::Question;
 use sip_locator::{Kept, Locator, LocatorRefusal};
 use std::alloc::{AllocError, Global};
@@ -87,7 +87,7 @@ impl<'a, R: Wait + 'a, J: Naming> AnswerBook for Contended<'a, R, J> {
         pair: &mut Pair<'a, R, J>,
         question: &Question,
         now: Moment,
-    ) -> Result<Option<Found<'b>>, AllocError> {
+    ) -> Result<Option<FoundAnswer<'b>>, AllocError> {
         self.cache.look(&mut pair.seat, question, now)
     }
 

@@ -7,8 +7,8 @@ ghost use Rattle.answer_cache.specs.Shared.{Belongs};
 
 use crate::fields::{moment, question_of};
 use crate::replies::{Reply, absent, push_answer, read_reply};
-use answer_cache::{AnswerBook, Found, Seat, SharedCache, StoreRefusal, group};
-use dns_answers::{Answer, Moment};
+use answer_cache::{AnswerBook, Seat, SharedCache, StoreRefusal, group};
+use dns_answers::{Answer, FoundAnswer, Moment};
 use dns_message::Question;
 use row_fields::{Fault, Output, number32, split_word};
 use std::alloc::{AllocError, Global};
@@ -67,7 +67,7 @@ fn looked<'a, B: AnswerBook>(
     seat: &mut B::Seat,
     question: &Question,
     now: Moment,
-) -> Result<Option<Found<'a>>, AllocError>
+) -> Result<Option<FoundAnswer<'a>>, AllocError>
     requires { B.belongs book.now seat.old }
     ensures { B.belongs book.now seat.new }
 {
@@ -85,7 +85,7 @@ pub(crate) fn push_found(output: &mut Output, found: Result<Option<Arc<Answer>>,
 }
 
 /// Writes an answer where it lies, or `nothing`.
-fn push_looked(output: &mut Output, found: Result<Option<Found<'_>>, AllocError>) {
+fn push_looked(output: &mut Output, found: Result<Option<FoundAnswer<'_>>, AllocError>) {
     match found {
         Ok(Some(found)) => push_answer(output, found.as_arc()),
         Ok(None) => output.push("nothing"),

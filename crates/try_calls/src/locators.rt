@@ -1,13 +1,15 @@
 //! Calls of `sip_locator`.
+ghost use Rattle.sip_selection.specs.Requests.{IsRequestView};
+
 use crate::books::{book_line, one_seat, push_both};
 use crate::fields::moment;
 use crate::replies::{Reply, read_reply};
-use crate::requests::{Sending, push_next, read_sending};
+use crate::requests::{Sending, push_next, read_sending, view};
 use answer_cache::{AnswerBook, ListCache};
 use dns_answers::Moment;
 use row_fields::{Fault, Output, count, octets, split_word};
 use sip_locator::{Kept, Located, Locator, LocatorRefusal, locate};
-use sip_selection::{GiveRefusal, Next};
+use sip_selection::{GiveRefusal, Next, RequestView};
 use std::alloc::{AllocError, Global};
 use std::sync::Wait;
 
@@ -227,15 +229,13 @@ fn located<B: AnswerBook>(
     book: &B,
     seat: &mut B::Seat,
     it: &Timed,
+    request: &RequestView<'_>,
 ) -> Result<Located<B>, AllocError>
-    requires { B.belongs book.now seat.old }
+    requires seat { B.belongs book.now seat.old }
+    requires view { IsRequestView request.now }
     ensures { B.belongs book.now seat.new }
 {
-    let Sending {
-        request,
-        caps,
-        words,
-    } = &it.sending;
+    let Sending { caps, words, .. } = &it.sending;
     locate(alloc, book, seat, request, caps, words, it.now)
 }
 
@@ -266,10 +266,32 @@ fn locate_at<B: AnswerBook>(
 {
     match timed_request(output.alloc(), line) {
         Ok(it) => {
-            let located = located(output.alloc(), book, seat, &it);
+            let request = RequestView::Read(&it.sending.request);
+            let located = located(output.alloc(), book, seat, &it, &request);
             push_located(output, locators, located);
         }
         Err(fault) => output.fail(fault),
+    }
+}
+
+/// The same of a request as it stands in its text.
+fn locate_view_at<B: AnswerBook>(
+    output: &mut Output,
+    locators: &mut Vec<Locator<B>>,
+    book: &B,
+    seat: &mut B::Seat,
+    line: &str,
+)
+    requires { B.belongs book.now seat.old }
+    ensures { B.belongs book.now seat.new }
+{
+    let (field, _) = split_word(split_word(line).1);
+    match (timed_request(output.alloc(), line), view(field.as_bytes())) {
+        (Ok(it), Ok(request)) => {
+            let located = located(output.alloc(), book, seat, &it, &request);
+            push_located(output, locators, located);
+        }
+        (Err(fault), _) | (_, Err(fault)) => output.fail(fault),
     }
 }
 
@@ -319,6 +341,7 @@ fn said<R: Wait, B: AnswerBook>(
     match word {
         "locate" => begin(output, locators, rest),
         "at" => locate_at(output, locators, book, seat, rest),
+        "view" => locate_view_at(output, locators, book, seat, rest),
         "book" => book_line(rt, output, book, seat, rest),
         _ => numbered_line(rt, output, locators, book, seat, word, rest),
     }

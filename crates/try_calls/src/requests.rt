@@ -2,12 +2,15 @@
 //!
 //! `sip:b.example udp,tcp v4 2 1` is a request, the caller's transports in order of preference, its
 //! families of addresses (`v4`, `v6`, `v4-v6` or `v6-v4`), and random words, which go on with 0.
+ghost use Rattle.std.specs.Prelude.{IfOk};
+ghost use Rattle.sip_selection.specs.Requests.{IsRequestView};
+
 use crate::replies::push_question;
 use crate::shown::push_address;
 use dns_message::Question;
 use row_fields::{Fault, Output, number64, split_word, text};
-use sip_selection::{Caps, Families, Next, Reason, Request, Target};
-use sip_uri::{Transport, read_uri, read_via};
+use sip_selection::{Caps, Families, Next, Reason, Request, RequestView, Target};
+use sip_uri::{Transport, read_uri, read_via, view_uri, view_via};
 use srv_choice::{WORD_COUNT, Words};
 use std::alloc::Global;
 
@@ -42,6 +45,23 @@ fn request(alloc: Global, field: &str) -> Result<Request, Fault> {
         via(alloc, &text)
     } else {
         uri(alloc, &text)
+    }
+}
+
+/// The view of a request of a text.
+pub(crate) fn view(text: &[u8]) -> Result<RequestView<'_>, Fault>
+    ensures { IfOk result IsRequestView }
+{
+    if text.starts_with(b"SIP/") {
+        match view_via(text) {
+            Ok(parts) => Ok(RequestView::Via(parts)),
+            Err(_) => Err(Fault::Form),
+        }
+    } else {
+        match view_uri(text) {
+            Ok(parts) => Ok(RequestView::Uri(parts)),
+            Err(_) => Err(Fault::Form),
+        }
     }
 }
 

@@ -1,7 +1,10 @@
 //! The requests that are located, and the domains that they go to.
+ghost use Rattle.std.specs.Prelude.{IfSome};
+ghost use Rattle.sip_selection.specs.Requests.{IsRequestView};
+
 use crate::requests::known::Domain;
-use sip_selection::{Families, Request};
-use sip_uri::{read_uri, read_via};
+use sip_selection::{Families, Request, RequestView};
+use sip_uri::{read_uri, read_via, view_uri, view_via};
 use std::alloc::Global;
 
 /// A request, and the answers that a book has for it.
@@ -118,6 +121,24 @@ pub fn large_row(servers: usize) -> Row {
 }
 
 impl Row {
+    /// The request, as it stands in its text.
+    pub fn view(&self) -> Option<RequestView<'static>>
+        ensures { IfSome result IsRequestView }
+    {
+        let text = self.text.as_bytes();
+        if text.starts_with(b"SIP/") {
+            match view_via(text) {
+                Ok(parts) => Some(RequestView::Via(parts)),
+                Err(_) => None,
+            }
+        } else {
+            match view_uri(text) {
+                Ok(parts) => Some(RequestView::Uri(parts)),
+                Err(_) => None,
+            }
+        }
+    }
+
     /// The request.
     pub fn request(&self, alloc: Global) -> Option<Request> {
         match read_uri(alloc, self.text) {

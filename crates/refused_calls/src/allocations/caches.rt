@@ -8,9 +8,9 @@ ghost use Rattle.answer_cache.specs.Shared.{Belongs};
 use super::are_right;
 use super::asked::{answer, life_of, now, question};
 use answer_cache::{
-    AnswerBook, CacheRefusal, Carried, Found, ListCache, Rival, Seat, SharedCache, StoreRefusal,
+    AnswerBook, CacheRefusal, Carried, ListCache, Rival, Seat, SharedCache, StoreRefusal,
 };
-use dns_answers::Answer;
+use dns_answers::{Answer, FoundAnswer};
 use dns_message::Question;
 use std::alloc::Global;
 use std::sync::{Arc, Wait};
@@ -47,7 +47,7 @@ fn found<B: AnswerBook>(book: &B, seat: &mut B::Seat, question: &Question) -> Op
 }
 
 /// The life of what a look found, once it is kept, or of nothing 0.
-fn kept_life(found: Option<Found<'_>>) -> Option<u32> {
+fn kept_life(found: Option<FoundAnswer<'_>>) -> Option<u32> {
     match found {
         None => Some(0),
         Some(found) => Some(found.into_arc().ok()?.life()),

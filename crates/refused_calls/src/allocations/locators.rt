@@ -11,7 +11,7 @@ use dns_answers::Answer;
 use dns_asker::{AskRefusal, Asker, Ending, Incoming};
 use dns_message::Question;
 use sip_locator::{Kept, Located, Locator, LocatorRefusal, locate};
-use sip_selection::{Caps, GiveRefusal, Next, Request};
+use sip_selection::{Caps, GiveRefusal, Next, Request, RequestView};
 use std::alloc::{AllocError, Global};
 use std::sync::{Arc, Wait};
 
@@ -146,7 +146,8 @@ fn located<B: AnswerBook>(
     requires { B.belongs book.now seat.old }
     ensures { B.belongs book.now seat.new }
 {
-    locate(alloc, book, seat, &sent.request, &sent.caps, &WORDS, now())
+    let request = RequestView::Read(&sent.request);
+    locate(alloc, book, seat, &request, &sent.caps, &WORDS, now())
 }
 
 /// Whether that is its target, or its question where the book has no answer.
