@@ -9,5 +9,6 @@ mod Leads
 mod Offsets
 mod TextLabels
 pub mod ClosingDots
+mod LabelsFromTheEnd
 mod TextNames
 mod OctetTable

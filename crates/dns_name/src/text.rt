@@ -8,7 +8,6 @@ ghost use Rattle.dns_name.specs.Octets.{IsPadded};
 ghost use Rattle.dns_name.specs.Texts as spec;
 
 use crate::builder::{NAME_LIMIT, NameBuilder};
-use crate::message::write_small;
 use crate::name::{Name, first_label};
 use crate::octets::{INLINE_LIMIT, Octets};
 use crate::refusal::NameRefusal;
@@ -97,32 +96,29 @@ fn builder_of(text: &[u8]) -> NameBuilder
     builder
 }
 
-/// Writes a label behind so many octets: its length, and its octets with capitals as small letters.
-fn put_label(octets: &mut [u8; INLINE_LIMIT], used: usize, label: &[u8])
-    requires short { length label.now ≤ 63 }
-    requires room { used + 1 + length label.now ≤ 31 }
-    ensures { octets.new ≡ take used octets.old ++ (length label.now ∷ small_letters label.now)
-        ++ drop (used + 1 + length label.now) octets.old }
-{
-    octets[used] = label.len() as u8;
-    write_small(&mut octets[used + 1..used + 1 + label.len()], label);
-}
-
-/// Writes the labels with dots between them over zeros, and gives how many octets they have, with
-/// the closing 0.
-fn put_labels(octets: &mut [u8; INLINE_LIMIT], text: &[u8]) -> usize
-    requires labels { spec.dotted_fault (spec.parted text.now) ≡ None }
+/// Writes the labels with dots between them over zeros, from the last octet on, each behind its
+/// length: that stands where the dot in front of the label was.
+fn put_labels(octets: &mut [u8; INLINE_LIMIT], text: &[u8])
     requires short { length text.now + 2 ≤ 31 }
     requires zeros { IsPadded octets.old 0 }
-    ensures padded { IsPadded octets.new result }
-    ensures spelled { take result octets.new ≡ wire_of (map small_letters (spec.parted text.now)) }
+    ensures padded { IsPadded octets.new (length text.now + 2) }
+    ensures spelled { take (length text.now + 2) octets.new
+        ≡ wire_of (map small_letters (spec.parted text.now)) }
 {
-    let mut used = 0;
-    for label in text.split(|octet| *octet == b'.') {
-        put_label(octets, used, label);
-        used += 1 + label.len();
+    let mut length = 0;
+    let mut at = text.len();
+    while at > 0 {
+        let octet = text[at - 1];
+        if octet == b'.' {
+            octets[at] = length;
+            length = 0;
+        } else {
+            octets[at] = octet.to_ascii_lowercase();
+            length += 1;
+        }
+        at -= 1;
     }
-    used + 1
+    octets[0] = length;
 }
 
 /// The name of so many labels that it takes memory. By itself, since room for the longest name is
@@ -146,8 +142,8 @@ fn name_of(alloc: Global, text: &[u8]) -> Result<Name, AllocError>
         return long_name_of(alloc, text);
     }
     let mut octets = [0; INLINE_LIMIT];
-    let used = put_labels(&mut octets, text);
-    Ok(Name::from_wire(Octets::inline(alloc, octets, used)))
+    put_labels(&mut octets, text);
+    Ok(Name::from_wire(Octets::inline(alloc, octets, text.len() + 2)))
 }
 
 /// A text without its closing dot, if it has one.

@@ -1,19 +1,14 @@
-use Rattle.std.proofs.Common.{◌≡◌, length, map, take, drop}
-use Rattle.dns_name.specs.Labels.{small_letters}
+use Rattle.std.proofs.Common.{◌+◌, length}
 use Rattle.dns_name.specs.Octets.{IsPadded}
-use Rattle.dns_name.specs.Texts.{labels_fault, parted}
-use Rattle.dns_name.proofs.TextLabels.{spelled}
+use Rattle.dns_name.proofs.LabelsFromTheEnd.{IsWritten}
 use Rattle.dns_name.proofs.text.put_labels.Given as goal
 
--- the labels so far stand in the octets, each behind its length
-abbrev pub invariant-loop-label : goal.invariant-loop-label
-invariant-loop-label l =
-    let labels = parted l.text in
-    let count = length l.yielded in
-    record {
-      can_next : (goal.iterator-loop-label).can_next l.label-iterator;
-      is_finite : (goal.iterator-loop-label).is_finite l.label-iterator;
-      faultless : labels_fault (drop count labels) ≡ labels_fault labels;
-      padded : IsPadded l.octets l.used;
-      octets : take l.used l.octets ≡ spelled (map small_letters (take count labels));
-    }
+-- behind the place the octets are those of the name of the text from there on
+abbrev pub invariant-loop-at : goal.invariant-loop-at
+invariant-loop-at l = record {
+  padded : IsPadded l.octets (length l.text + 2);
+  written : IsWritten l.text l.octets l.at l.length;
+}
+
+abbrev pub decreases-loop-at : goal.decreases-loop-at
+decreases-loop-at l = l.at
