@@ -1,5 +1,5 @@
 //! IPv6 addresses as texts (RFC 3261 25.1, RFC 4291 2.2).
-ghost use Rattle.std.specs.Prelude.{◌≡◌, ◌<◌, ◌+◌, ◌++◌, ℕ, List, [], length, true, Some, MatchOption};
+ghost use Rattle.std.specs.Prelude.{◌≡◌, ◌<◌, ◌+◌, ◌++◌, ◌∷◌, ◌/◌, ◌%◌, ℕ, List, [], length, true, Some, MatchOption};
 ghost use Rattle.std.specs.Option.{option_map};
 ghost use Rattle.ip_text.specs.Readers as spec;
 
@@ -22,6 +22,20 @@ fn push_octets(octets: &mut ArrayVec<u8, 16>, more: &[u8]) -> Option<()>
         (λ _. octets.new.items ≡ octets.old.items ++ more.now) }
 {
     octets.try_extend_from_slice(more).ok()
+}
+
+/// Adds the two octets of a group, where there is room for them.
+#[inline(always)]
+fn push_group(octets: &mut ArrayVec<u8, 16>, group: u16) -> Option<()>
+    ensures { MatchOption result (16 < length octets.old.items + 2)
+        (λ _. octets.new.items ≡ octets.old.items ++ group / 256 ∷ group % 256 ∷ []) }
+{
+    if octets.len() > 14 {
+        return None;
+    }
+    octets.push((group / 256) as u8);
+    octets.push((group % 256) as u8);
+    Some(())
 }
 
 /// The number of the hexadecimal digits in front, one to four, and what follows them.
@@ -69,7 +83,7 @@ fn groups_in_front<'a>(octets: &mut ArrayVec<u8, 16>, text: &'a [u8]) -> Option<
             push_octets(octets, &ipv4(rest)?)?;
             return Some(None);
         }
-        push_octets(octets, &[(number / 256) as u8, (number % 256) as u8])?;
+        push_group(octets, number)?;
         if behind.is_empty() {
             return Some(None);
         }

@@ -26,22 +26,22 @@ returns-in-Some c =
     (closes_with_ipv4 c.args.text.now c.loop-number.octets.items c.loop-number.rest.now c.loop-number.invariant
     c.in_ok-ipv4.field-0 (sym c.in_ok-ipv4.ensures))
 
-pub returns-in_err-push_octets-2 : goal.returns-in_err-push_octets-2
-returns-in_err-push_octets-2 c =
-    rw c.from_residual-in_err-push_octets-2.ensures
+pub returns-in_err-push_group : goal.returns-in_err-push_group
+returns-in_err-push_group c =
+    rw c.from_residual-in_err-push_group.ensures
     (no_room c.args.text.now c.loop-number.octets.items c.loop-number.rest.now c.loop-number.invariant
-    c.in_err-push_octets-2.ensures)
+    c.in_err-push_group.ensures)
 
 pub returns-then-is_empty : goal.returns-then-is_empty
 returns-then-is_empty c =
     let none : length c.in_ok-number.behind.now ≡ 0 = grind (arith, nat_tests, c.if-is_empty.ensures) in
-    rw c.in_ok-push_octets-2.ensures
+    rw c.in_ok-push_group.ensures
     (closes_here c.args.text.now c.loop-number.octets.items c.loop-number.rest.now c.loop-number.invariant
     c.in_ok-number.number c.in_ok-number.behind.now c.in_ok-number.ensures none)
 
 pub returns-in-Some-behind_colons : goal.returns-in-Some-behind_colons
 returns-in-Some-behind_colons c =
-    rw c.in_ok-push_octets-2.ensures
+    rw c.in_ok-push_group.ensures
     (colons_here c.args.text.now c.loop-number.octets.items c.loop-number.rest.now c.loop-number.invariant
     c.in_ok-number.number c.in_ok-number.behind.now c.in_ok-number.ensures c.in-Some-behind_colons.right.now
     c.in-Some-behind_colons.ensures)
@@ -60,7 +60,7 @@ loop-number-smaller c =
 
 pub loop-number-preserved : goal.loop-number-preserved
 loop-number-preserved c =
-    rw c.in_ok-push_octets-2.ensures
+    rw c.in_ok-push_group.ensures
     (goes_on_here c.args.text.now c.loop-number.octets.items c.loop-number.rest.now c.loop-number.invariant
     c.in_ok-number.number c.in_ok-number.behind.now c.in_ok-number.ensures c.in_ok-rest.rest.now c.in_ok-rest.ensures
     c.in_default-behind_colons.ensures)
