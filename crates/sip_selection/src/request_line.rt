@@ -1,5 +1,5 @@
 //! Requests in lines of text.
-ghost use Rattle.std.specs.Prelude.{◌≡◌, ◌<◌, ◌==◌, List, ℕ, length, Some, IfSome, IfOk, MatchOption, MatchResult};
+ghost use Rattle.std.specs.Prelude.{◌≡◌, ◌<◌, ◌==◌, List, ℕ, length, Some, IfSome, IfOk, MatchOption, MatchResult, Err};
 ghost use Rattle.std.specs.List.{position_or_len, before_first, after_first};
 ghost use Rattle.std.specs.Option.{option_map};
 ghost use Rattle.sip_selection.specs.RequestLines.{BeginsVia, RequestText};
@@ -38,6 +38,9 @@ pub fn read_request(alloc: Global, line: &str) -> Result<Request, UriRefusal>
     ensures found { IfOk result (λ request. RequestText line.now request) }
     ensures read { (request : request.Request) → RequestText line.now request
         → MatchResult result (λ found. found ≡ request) (λ refusal. refusal ≡ UriRefusal.Memory) }
+    // Memory is wanted for a request alone.
+    ensures memory { result ≡ Err UriRefusal.Memory
+        → (request : request.Request) × RequestText line.now request }
 {
     match behind_via(line) {
         Some(rest) => Ok(Request::Via(read_via(alloc, rest)?)),

@@ -39,3 +39,15 @@ returns-in_ok-read_uri-in-None-clause-read c (Uri uri) text = ap (λ (u : SipUri
 returns-in_ok-read_uri-in-None-clause-read c (Via via) text =
     let no = c.in-None.ensures.all text.0 text.1 in
     absurd cc
+
+pub returns-in_err-read_via-in-Some-clause-memory : goal.returns-in_err-read_via-in-Some-clause-memory
+returns-in_err-read_via-in-Some-clause-memory c = λ refused.
+    let r = err_from_is_err_and c.from_residual.result c.from_residual.ensures.1 in
+    let spelled = c.in_err-read_via-in-Some.ensures.memory (cc) in
+    (Via spelled.0, (c.in-Some.rest.now, c.in-Some.ensures.begins, spelled.1))
+
+pub returns-in_err-read_uri-in-None-clause-memory : goal.returns-in_err-read_uri-in-None-clause-memory
+returns-in_err-read_uri-in-None-clause-memory c = λ refused.
+    let r = err_from_is_err_and c.from_residual-in_err-read_uri-in-None.result c.from_residual-in_err-read_uri-in-None.ensures.1 in
+    let spelled = c.in_err-read_uri-in-None.ensures.memory (cc) in
+    (Uri spelled.0, spelled.1)
