@@ -1,3 +1,4 @@
 mod Floats
 mod Later
 mod Meant
+mod Shown

@@ -20,7 +20,6 @@ use Rattle.sipwhere.specs.OpenLines.{AreMeant, IsLineOutcomeOf, IsMeant, IsOwn}
 use Rattle.sipwhere.specs.declared.line_outcome.LineOutcome.{LineOutcome}
 use Rattle.sipwhere.specs.declared.line_outcome.LineOutcome.TheVariants.{Became, TimeOver, Bad, Memory}
 use Rattle.sipwhere.specs.declared.line.Line.{Line}
-use Rattle.sipwhere.specs.declared.report.Style.{Style}
 use Rattle.sipwhere.specs.declared.sender.Sender.{Sender}
 
 -- ---- numbers that are 0
@@ -157,7 +156,8 @@ module _ (gives : List ℕ → Type 0) (shows : ℕ → Type 0) (seat : SeatView
   }
   line_outcome-ended lines line ended outcome TimeOver at meant ends is = absurd ends
   line_outcome-ended lines line ended outcome (Bad refusal) at meant ends is = ends
-  line_outcome-ended lines line ended outcome Memory at meant ends is = absurd ends
+  line_outcome-ended lines line ended outcome Memory at meant ends is =
+      record { request = ends.request; is = ends.is; place = 0; became = tt }
 
   -- what became of the line at a place is kept
   pub line_outcomes-set : (lines : List Line) (line_outcomes : List (Option LineOutcome)) (place : ℕ) (line : Line)

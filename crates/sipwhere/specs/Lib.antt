@@ -1,4 +1,5 @@
 pub mod Servers
+pub mod Escapes
 pub mod Addresses
 pub mod Lines
 pub mod OpenLines

@@ -1,5 +1,5 @@
 -- What becomes of a text.
-use Rattle.std.specs.Prelude.{◌≡◌, ℕ, List}
+use Rattle.std.specs.Prelude.{◌≡◌, ◌≢◌, ℕ, List}
 use Rattle.answer_cache.specs.Seats.{SeatView}
 use Rattle.sip_resolver.specs.Draws.{drawn}
 use Rattle.sip_resolver.specs.Outcomes.{IsOutcome, Sought}
@@ -28,10 +28,10 @@ MayBecome gives shows seat asked TimeOver = Unit {0}
 MayBecome gives shows seat asked (Bad refusal) = ⊥
 MayBecome gives shows seat asked Memory = Unit {0}
 
--- a text is no request, unless memory was refused, where it may be one
-abbrev pub IsNoRequest : List ℕ → UriRefusal → Type 0
-IsNoRequest text refusal =
-    (request : Request) → RequestText text request → refusal ≡ uri.Memory
+-- a text is no request: it spells none, so it was not for want of memory that it was refused
+pub record IsNoRequest (text : List ℕ) (refusal : UriRefusal) : Type 0 where
+  pub none : (request : Request) → RequestText text request → ⊥
+  pub why : refusal ≢ uri.Memory
 
 -- A text is a request, of which this may become, under whatever number a resolver had it. Its words
 -- are those of its own number.
@@ -63,6 +63,13 @@ pub record IsRequest (text : List ℕ) : Type 0 where
   pub request : Request
   pub is : RequestText text request
 
+-- what became of a text of which no request was made: it is none, or memory was refused for it
+abbrev pub IsUnread : List ℕ → LineOutcome → Type 0
+IsUnread text (Became outcome) = ⊥
+IsUnread text TimeOver = ⊥
+IsUnread text (Bad refusal) = IsNoRequest text refusal
+IsUnread text Memory = IsRequest text
+
 -- what became of a text without a reply: it is no request, its time was over, or memory was refused
 abbrev pub NeedsNoReply : List ℕ → LineOutcome → Type 0
 NeedsNoReply text (Became outcome) = ⊥
@@ -75,9 +82,9 @@ pub record IsOnly (text : List ℕ) (request : Request) : Type 0 where
   pub is : RequestText text request
   pub only : (other : Request) → RequestText text other → request ≡ other
 
--- the request of a text ended so, or the text is no request
+-- the request of a text ended so; or the text is no request, or memory was refused for it
 abbrev pub EndsAs : List ℕ → Outcome → LineOutcome → Type 0
 EndsAs text outcome (Became it) = (it ≡ outcome) × (request : Request) × IsOnly text request
 EndsAs text outcome TimeOver = ⊥
 EndsAs text outcome (Bad refusal) = IsNoRequest text refusal
-EndsAs text outcome Memory = ⊥
+EndsAs text outcome Memory = IsRequest text

@@ -1,5 +1,5 @@
 -- The lines that the program prints.
-use Rattle.std.specs.Prelude.{ℕ, List, [], ◌∷◌, ◌++◌, codes}
+use Rattle.std.specs.Prelude.{ℕ, ◌==◌, nat_lt, List, [], ◌∷◌, ◌++◌, codes, if◌then◌else◌}
 use Rattle.std.specs.List.{flat_map}
 use Rattle.std.specs.Fmt.{decimal}
 use Rattle.dns_name.specs.Texts.{text_of}
@@ -107,6 +107,15 @@ lines_of form front (line_outcome.Bad refusal) = words_line front (codes "bad ")
 lines_of form front line_outcome.Memory = words_line front (codes "fault ") (codes "memory")
 
 -- ---- the status
+
+-- how grave a status is: that a question has no answer is graver than that a request goes nowhere
+abbrev pub gravity : ℕ → ℕ
+gravity status = if status == 1 then 2 else (if status == 2 then 1 else status)
+
+-- the graver one of two statuses: a fault, wrong usage, no request, a question without an answer, a
+-- request that goes nowhere, targets
+abbrev pub graver_of : ℕ → ℕ → ℕ
+graver_of status other = if nat_lt (gravity status) (gravity other) then other else status
 
 -- the exit status of a text: 0 with targets, 1 without an answer, 2 where the request goes nowhere,
 -- 3 where it is no request, 5 where memory was refused

@@ -2,6 +2,7 @@
 use Rattle.std.specs.Prelude.{ℕ, Bool, true, false, List, [], ◌∷◌, ◌++◌}
 use Rattle.std.specs.List.{flat_map}
 use Rattle.dns_transport.specs.declared.wire_try.WireTry.{WireTry}
+use Rattle.sipwhere.specs.Escapes.{shown}
 use Rattle.sipwhere.specs.Checks.{check_line, check_status}
 use Rattle.sipwhere.specs.Jsons.{json_line}
 use Rattle.sipwhere.specs.Lines.{lines_of, status_of}
@@ -13,9 +14,10 @@ use Rattle.sipwhere.specs.declared.report.Report.{Report}
 use Rattle.sipwhere.specs.declared.report.Report.TheVariants.{Lines, Json, Check}
 use Rattle.sipwhere.specs.declared.report.Style.{Style}
 
--- what is in front of the lines of a text: the text and a space, where there are several texts
+-- what is in front of the lines of a text: the text as it is shown and a space, where there are
+-- several texts
 abbrev pub front_of : Bool → List ℕ → List ℕ
-front_of true text = text ++ 32 ∷ []
+front_of true text = shown text ++ 32 ∷ []
 front_of false text = []
 
 -- what is printed of a text, in a form of report

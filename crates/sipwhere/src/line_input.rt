@@ -2,10 +2,14 @@
 ghost use Rattle.std.specs.Prelude.{◌≤◌, IfSome, length};
 
 use std::alloc::{AllocError, Global};
-use std::io::{self, ErrorKind, Read};
+use std::io::{self, Read};
 
 /// How many octets are read at once at most.
 const READ_LIMIT: usize = 1_048_576;
+
+/// How many octets are kept of a line of which the end is still to come: more than a request has.
+/// So an input without line ends takes no more memory than one with them.
+const KEPT_LIMIT: usize = 4_096;
 
 /// Where the last whole line of a text ends, if there is one.
 fn last_end(octets: &[u8]) -> Option<usize>
@@ -15,13 +19,29 @@ fn last_end(octets: &[u8]) -> Option<usize>
     Some(last + 1)
 }
 
-/// Lines of an input. What is whole is given, before more is waited for.
+/// Keeps octets behind those that are kept, as far as there is room for them.
+fn keep(kept: &mut Vec<u8>, octets: &[u8]) -> Result<(), AllocError> {
+    let room = KEPT_LIMIT - kept.len().min(KEPT_LIMIT);
+    kept.extend_from_slice(&octets[..octets.len().min(room)])?;
+    Ok(())
+}
+
+/// The text of octets, which are taken away.
+fn take_text(alloc: Global, kept: &mut Vec<u8>) -> Result<String, AllocError> {
+    let text = String::from_utf8_lossy(alloc, kept)?;
+    kept.clear();
+    Ok(text)
+}
+
+/// Lines of an input. What is whole is given, before more is waited for. An octet that is no UTF-8
+/// comes as U+FFFD, which no URI has: so it spoils its own line alone.
 #[derive(Drop)]
 pub struct LineInput<R> {
     alloc: Global,
     input: R,
     part: Vec<u8>,
-    octets: Vec<u8>,
+    /// The octets of the line of which the end is still to come.
+    begun: Vec<u8>,
 }
 
 impl<R: Read + Drop> LineInput<R> {
@@ -31,37 +51,34 @@ impl<R: Read + Drop> LineInput<R> {
             alloc,
             input,
             part: vec![in alloc; 0; READ_LIMIT]?,
-            octets: Vec::new(alloc),
+            begun: Vec::new(alloc),
         })
     }
 
-    /// Reads once, and tells whether something came.
-    fn read_once(&mut self) -> io::Result<bool> {
-        let count = self.input.read(&mut self.part)?;
-        self.octets.extend_from_slice(&self.part[..count])?;
-        Ok(count > 0)
-    }
-
-    /// Takes what was read out, up to this place.
-    fn take_until(&mut self, end: usize) -> io::Result<String>
-        requires { end ≤ length self.old.octets.items }
+    /// The text of the lines that have ended, of which the last one ends at this place of the part
+    /// that was read. Behind it a line begins.
+    fn take_lines(&mut self, end: usize, count: usize) -> Result<String, AllocError>
+        requires ends { end ≤ count }
+        requires within { count ≤ length self.old.part.items }
     {
-        let text = Vec::from_slice(self.alloc, &self.octets[..end])?;
-        self.octets.drain(..end);
-        String::from_utf8(text).map_err(|_| io::Error::from(ErrorKind::InvalidData))
+        self.begun.extend_from_slice(&self.part[..end])?;
+        let text = take_text(self.alloc, &mut self.begun)?;
+        keep(&mut self.begun, &self.part[end..count])?;
+        Ok(text)
     }
 
     /// The next lines: as many as came at once, and one at least. An empty text is the end.
     pub fn next_lines(&mut self) -> io::Result<String> {
         for _ in 0..u64::MAX {
-            if let Some(end) = last_end(&self.octets) {
-                return self.take_until(end);
-            }
-            if !self.read_once()? {
+            let count = self.input.read(&mut self.part)?;
+            if count == 0 {
                 break;
             }
+            if let Some(end) = last_end(&self.part[..count]) {
+                return Ok(self.take_lines(end, count)?);
+            }
+            keep(&mut self.begun, &self.part[..count])?;
         }
-        let end = self.octets.len();
-        self.take_until(end)
+        Ok(take_text(self.alloc, &mut self.begun)?)
     }
 }

@@ -18,6 +18,30 @@ pub enum LineOutcome {
     Memory,
 }
 
+/// How grave a status is. That a question has no answer is graver than that a request goes nowhere.
+fn gravity(status: u8) -> u8
+    ensures { result ≡ spec.gravity status }
+{
+    match status {
+        1 => 2,
+        2 => 1,
+        _ => status,
+    }
+}
+
+/// The graver one of two statuses: 5 (a fault), 4, 3 (no request), 1 (a question without an
+/// answer), 2 (a request that goes nowhere) and 0, in this order.
+pub fn graver_of(status: u8, other: u8) -> u8
+    ensures graver { result ≡ spec.graver_of status other }
+    ensures range { status ≤ 5 → other ≤ 5 → result ≤ 5 }
+{
+    if gravity(status) < gravity(other) {
+        other
+    } else {
+        status
+    }
+}
+
 /// The exit status of a text, by what became of it.
 pub fn status_of(line_outcome: &LineOutcome) -> u8
     ensures status { result ≡ spec.status_of line_outcome.now }

@@ -24,6 +24,7 @@ mod run_fault;
 mod seed;
 mod sender;
 mod server_text;
+mod shown_text;
 mod stats;
 mod submitted_lines;
 mod tell;

@@ -9,7 +9,7 @@ use crate::line_outcome::LineOutcome;
 use crate::report::Style;
 use crate::sender::Sender;
 use crate::submitted_lines::{line_outcome_in_vain, line_outcome_of, submit};
-use crate::tell::tell;
+use crate::tell::{NOTHING_TOLD, Told, tell};
 use answer_cache::AnswerBook;
 use dns_asker::{Clock, MessageWire};
 use dns_transport::Tracer;
@@ -243,23 +243,22 @@ impl<'a, B: AnswerBook + Drop, W: MessageWire, C: Clock> OpenLines<'a, B, W, C> 
 }
 
 impl<'a, B: AnswerBook + Drop, W: MessageWire + Tracer, C: Clock> OpenLines<'a, B, W, C> {
-    /// Prints what became of the first line that was not reported, if it is known, and gives the
-    /// status.
-    fn tell_first<O: Write>(&mut self, style: Style, wire: &mut W, output: &mut O) -> Option<u8>
+    /// Prints what became of the first line that was not reported, if it is known.
+    fn tell_first<O: Write>(&mut self, style: Style, wire: &mut W, output: &mut O) -> Option<Told>
         ensures stands { (seat : SeatView) → Stands W.gives C.shows seat self.old
             → Stands W.gives C.shows seat self.new }
         ensures tells { (seat : SeatView) → Stands W.gives C.shows seat self.old
-            → IfSome result (TellsFirst W.gives C.shows seat style self.old
-            (O.contents output.old) (O.contents output.new)) }
-        ensures next { IfSome result (λ status. self.new.told ≡ self.old.told + 1) }
+            → IfSome result (λ told. TellsFirst W.gives C.shows seat style self.old
+            (O.contents output.old) (O.contents output.new) told.status) }
+        ensures next { IfSome result (λ told. self.new.told ≡ self.old.told + 1) }
         ensures none { result ≡ None → O.contents output.new ≡ O.contents output.old }
-        ensures range { IfSome result (λ status. status ≤ 5) }
+        ensures range { IfSome result (λ told. told.status ≤ 5) }
     {
         let place = self.told;
         let line = self.lines.get(place)?;
         let line_outcome = self.line_outcomes[place].as_ref()?;
         let tries = wire.take_tries();
-        let status = tell(
+        let told = tell(
             self.alloc,
             output,
             style,
@@ -268,23 +267,25 @@ impl<'a, B: AnswerBook + Drop, W: MessageWire + Tracer, C: Clock> OpenLines<'a, 
             line_outcome,
         );
         self.told = place + 1;
-        Some(status)
+        Some(told)
     }
 
-    /// Reports what became of lines in their order, as far as it is known, and gives the greatest
-    /// exit status.
-    pub fn tell_all<O: Write>(&mut self, style: Style, wire: &mut W, output: &mut O) -> u8
+    /// Reports what became of lines in their order, as far as it is known and the output takes it.
+    pub fn tell_all<O: Write>(&mut self, style: Style, wire: &mut W, output: &mut O) -> Told
         ensures stands { (seat : SeatView) → Stands W.gives C.shows seat self.old
             → Stands W.gives C.shows seat self.new }
-        ensures range { result ≤ 5 }
+        ensures range { result.status ≤ 5 }
     {
-        let mut status = 0;
+        let mut told = NOTHING_TOLD;
         'lines: for _line in 0..self.lines.len() {
             match self.tell_first(style, wire, output) {
-                Some(told) => status = status.max(told),
+                Some(first) => told = told.and(first),
                 None => break,
             }
+            if told.is_closed {
+                break;
+            }
         }
-        status
+        told
     }
 }

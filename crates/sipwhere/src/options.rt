@@ -19,8 +19,8 @@ use thiserror::Error;
 pub struct Options<'a> {
     /// The name servers, where they are named.
     pub servers: Vec<SocketAddr>,
-    /// The resolver file that is read where no servers are named.
-    pub resolver_file: &'a str,
+    /// The resolver file that is to be read where no servers are named, if one is named.
+    pub resolver_file: Option<&'a str>,
     /// Whether servers are asked over TCP alone.
     pub over_tcp: bool,
     /// The local address to ask from, where it is named.
@@ -132,9 +132,8 @@ fn with_servers<'a>(alloc: Global, command: Command<'a>) -> Result<Command<'a>, 
             alloc,
             "resolver-file",
             "FILE",
-            "The file that names servers where none is named",
-        )
-        .default_value("/etc/resolv.conf"))?
+            "The file that names servers where none is named, /etc/resolv.conf if not given",
+        ))?
         .arg(flag(alloc, "tcp", "Ask over TCP alone"))
 }
 
@@ -234,7 +233,7 @@ pub fn command<'a>(alloc: Global) -> Result<Command<'a>, AllocError> {
         .about("Where SIP requests are sent (RFC 3263), asked of DNS servers")
         .after_help(
             "Exit status: 0 targets for all; 1 no server answered for one; 2 a refusal;\n\
-             3 a bad URI; 4 usage; 5 a fault; the greatest of many",
+             3 a bad URI; 4 usage; 5 a fault; the gravest of many",
         );
     let command = with_servers(alloc, command)?;
     let command = with_asking(alloc, command)?;
@@ -358,7 +357,7 @@ pub fn read_options<'a>(
     }
     Ok(Options {
         servers: servers_of(alloc, matches.get_strs("server").unwrap_or(&[]))?,
-        resolver_file: matches.get_str("resolver-file").unwrap_or(""),
+        resolver_file: matches.get_str("resolver-file"),
         over_tcp: matches.get_flag("tcp"),
         local: local_of(matches.get_str("bind"))?,
         query_form: query_form_of(matches),

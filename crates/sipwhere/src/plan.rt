@@ -30,12 +30,27 @@ fn server_at(address: Address) -> SocketAddr {
     SocketAddr::new(address, SERVER_PORT)
 }
 
-/// The octets of a file; none where it is not there.
-fn octets_of<R: Files + AllocGlobal>(rt: &R, alloc: Global, path: &str) -> io::Result<Vec<u8>> {
-    match fs::read(rt, path) {
+/// The system's resolver file (resolv.conf(5)).
+const SYSTEM_FILE: &str = "/etc/resolv.conf";
+
+/// The octets of the system's resolver file; none where it is not there.
+fn octets_of_system<R: Files + AllocGlobal>(rt: &R, alloc: Global) -> io::Result<Vec<u8>> {
+    match fs::read(rt, SYSTEM_FILE) {
         Ok(octets) => Ok(octets),
         Err(error) if error.kind() == ErrorKind::NotFound => Ok(Vec::new(alloc)),
         Err(error) => Err(error),
+    }
+}
+
+/// The octets of the resolver file that is named, or else of the system's.
+fn octets_of<R: Files + AllocGlobal>(
+    rt: &R,
+    alloc: Global,
+    named: Option<&str>,
+) -> io::Result<Vec<u8>> {
+    match named {
+        Some(path) => fs::read(rt, path),
+        None => octets_of_system(rt, alloc),
     }
 }
 
@@ -101,7 +116,7 @@ fn warn<R: Eprint>(rt: &R, path: &str, file: &ResolverFile) {
 fn read_servers<R: Files + Eprint + AllocGlobal>(
     rt: &R,
     options: &Options<'_>,
-) -> io::Result<Plan> {
+) -> Result<Plan, RunFault> {
     let alloc = rt.alloc();
     if !options.servers.is_empty() {
         return Ok(Plan {
@@ -109,9 +124,12 @@ fn read_servers<R: Files + Eprint + AllocGlobal>(
             over_tcp: options.over_tcp,
         });
     }
-    let octets = octets_of(rt, alloc, options.resolver_file)?;
+    let octets = match octets_of(rt, alloc, options.resolver_file) {
+        Ok(octets) => octets,
+        Err(error) => return Err(RunFault::ResolverFile(error)),
+    };
     let file = ResolverFile::read(alloc, octets.as_slice())?;
-    warn(rt, options.resolver_file, &file);
+    warn(rt, options.resolver_file.unwrap_or(SYSTEM_FILE), &file);
     Ok(plan_of(alloc, &file, options.over_tcp)?)
 }
 

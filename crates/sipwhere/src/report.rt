@@ -9,6 +9,7 @@ use crate::json::json_line;
 use crate::line_outcome::{LineOutcome, status_of};
 use crate::output::lines_of;
 use crate::rule::is_via;
+use crate::shown_text::shown_text;
 use crate::trace::trace_lines;
 use dns_transport::WireTry;
 use std::alloc::{AllocError, Global};
@@ -37,13 +38,13 @@ pub struct Style {
     pub traced: bool,
 }
 
-/// What stands in front of the lines of a text.
+/// What stands in front of the lines of a text: the text as it is shown, where there are several.
 fn front_of(alloc: Global, several: bool, text: &str) -> Result<String, AllocError>
     ensures { IfOk result (λ front. string_bytes front ≡ spec.front_of several text.now) }
 {
     let mut front = String::new(alloc);
     if several {
-        front.push_str(text)?;
+        front.push_str(&shown_text(alloc, text)?)?;
         front.push_str(" ")?;
     }
     Ok(front)

@@ -12,7 +12,7 @@ use crate::report::Style;
 use crate::run_fault::RunFault;
 use crate::sender::Sender;
 use crate::stats::tell_stats;
-use crate::tell::FAULT_STATUS;
+use crate::tell::{FAULT_TOLD, NOTHING_TOLD, Told};
 use answer_cache::{AnswerBook, ListCache};
 use dns_asker::{Clock, MessageWire};
 use dns_transport::{RunClock, Timer, Tracer, WireOptions, open_wire};
@@ -25,15 +25,8 @@ use std::rt::Files;
 use std::sync::Wait;
 use std::time::{self, Duration};
 
-/// The greater of two statuses.
-fn greater_of(status: u8, other: u8) -> u8
-    ensures { status ≤ 5 → other ≤ 5 → result ≤ 5 }
-{
-    status.max(other)
-}
-
-/// Locates lines side by side, prints what became of each, in their order, and gives the greatest
-/// status.
+/// Locates lines side by side, and prints what became of each, in their order, until the output
+/// takes no more.
 fn locate_side_by_side<
     R: Wait + Eprint,
     B: AnswerBook + Drop,
@@ -52,26 +45,26 @@ fn locate_side_by_side<
     clock: &C,
     progress: &mut Progress,
     output: &mut O,
-) -> u8
+) -> Told
     requires made_here { B.belongs book.now seat.old }
     ensures stays { B.belongs book.now seat.new }
-    ensures range { result ≤ 5 }
+    ensures range { result.status ≤ 5 }
 {
     progress.begin(lines.len());
     let Ok(mut open) = OpenLines::<B, W, C>::new(alloc, *sender, lines) else {
-        return FAULT_STATUS;
+        return FAULT_TOLD;
     };
-    let mut status = 0;
+    let mut told = NOTHING_TOLD;
     'rounds: for _ in rt.forever() {
         let now = clock.elapsed();
         open.give_late_up(wire, now);
         if open.begin_all(now.saturating_add(sender.total)).is_err() {
-            return FAULT_STATUS;
+            return FAULT_TOLD;
         }
-        status = greater_of(status, open.tell_all(style, wire, output));
+        told = told.and(open.tell_all(style, wire, output));
         progress.tell(rt, now, open.told());
-        if open.is_done() {
-            return status;
+        if told.is_closed || open.is_done() {
+            return told;
         }
         open.advance(rt, book, seat, wire, clock);
     }
@@ -86,7 +79,7 @@ fn width_of(style: Style) -> usize
     if style.traced { 1 } else { usize::MAX }
 }
 
-/// Locates lines, prints what became of each, and gives the greatest status.
+/// Locates lines, and prints what became of each, until the output takes no more.
 pub fn locate_lines<
     R: Wait + Eprint,
     B: AnswerBook + Drop,
@@ -105,22 +98,24 @@ pub fn locate_lines<
     clock: &C,
     progress: &mut Progress,
     output: &mut O,
-) -> u8
+) -> Told
     requires made_here { B.belongs book.now seat.old }
     ensures stays { B.belongs book.now seat.new }
-    ensures range { result ≤ 5 }
+    ensures range { result.status ≤ 5 }
 {
-    let mut status = 0;
+    let mut told = NOTHING_TOLD;
     'parts: for part in lines.chunks(width_of(style)) {
-        let told = locate_side_by_side(
+        told = told.and(locate_side_by_side(
             rt, alloc, sender, style, part, book, seat, wire, clock, progress, output,
-        );
-        status = status.max(told);
+        ));
+        if told.is_closed {
+            break;
+        }
     }
-    status
+    told
 }
 
-/// Locates the lines of the input as they come, and gives the greatest status.
+/// Locates the lines of the input as they come, until the output takes no more.
 fn locate_input<
     R: Wait + Input + Eprint,
     B: AnswerBook + Drop,
@@ -138,33 +133,35 @@ fn locate_input<
     clock: &C,
     progress: &mut Progress,
     output: &mut O,
-) -> u8
+) -> Told
     requires made_here { B.belongs book.now seat.old }
-    ensures range { result ≤ 5 }
+    ensures range { result.status ≤ 5 }
 {
     let Ok(mut input) = LineInput::new(alloc, rt.reader()) else {
-        return FAULT_STATUS;
+        return FAULT_TOLD;
     };
     let mut first = 1;
-    let mut status = 0;
+    let mut told = NOTHING_TOLD;
     'parts: for _ in 0..u64::MAX {
         let Ok(text) = input.next_lines() else {
-            return FAULT_STATUS;
+            return FAULT_TOLD;
         };
         if text.is_empty() {
             break;
         }
         let Ok(lines) = lines_in(alloc, first, &text) else {
-            return FAULT_STATUS;
+            return FAULT_TOLD;
         };
         let lines = lines.as_slice();
         first = first.saturating_add(lines.len() as u64);
-        let told = locate_lines(
+        told = told.and(locate_lines(
             rt, alloc, sender, style, lines, book, seat, wire, clock, progress, output,
-        );
-        status = status.max(told);
+        ));
+        if told.is_closed {
+            break;
+        }
     }
-    status
+    told
 }
 
 /// How long one text may take.
@@ -182,7 +179,7 @@ fn wire_options(options: &Options<'_>, plan: &Plan) -> WireOptions {
     }
 }
 
-/// Locates the texts of the options, or the lines of the input, and gives the greatest status.
+/// Locates the texts of the options, or the lines of the input.
 fn locate_all<
     R: Wait + Input + Print + Eprint,
     B: AnswerBook + Drop,
@@ -198,9 +195,9 @@ fn locate_all<
     wire: &mut W,
     clock: &C,
     progress: &mut Progress,
-) -> u8
+) -> Told
     requires made_here { B.belongs book.now seat.old }
-    ensures range { result ≤ 5 }
+    ensures range { result.status ≤ 5 }
 {
     let mut output = io::writer(rt);
     let output = &mut output;
@@ -213,7 +210,7 @@ fn locate_all<
     }
     let style = options.style(texts.len() > 1);
     let Ok(lines) = numbered(alloc, 1, texts) else {
-        return FAULT_STATUS;
+        return FAULT_TOLD;
     };
     locate_lines(
         rt,
@@ -252,7 +249,7 @@ fn run_over<R: Wait + Input + Print + Eprint + Net + time::Clock>(
     let (book, seat) = ListCache::new(alloc);
     let (book, mut seat) = CountingBook::new(book, seat);
     let mut progress = Progress::new(options.shows_progress);
-    let status = locate_all(
+    let told = locate_all(
         rt,
         alloc,
         options,
@@ -267,7 +264,7 @@ fn run_over<R: Wait + Input + Print + Eprint + Net + time::Clock>(
     if options.stats {
         tell_stats(rt, wire.counts(), seat.found(), clock.elapsed());
     }
-    Ok(status)
+    Ok(told.status)
 }
 
 /// Does what the options ask for, and gives the status.

@@ -11,6 +11,9 @@ pub enum RunFault {
     /// The system has a fault: its files, its clock, its entropy, its sockets or its memory.
     #[error("{0}")]
     System(io::Error),
+    /// The resolver file can't be read, or the one that was named is not there.
+    #[error("the resolver file can't be read: {0}")]
+    ResolverFile(io::Error),
     /// No server is of the family of the local address.
     #[error("no server has the family of the local address")]
     Family,

@@ -1,8 +1,9 @@
 //! What becomes of a text, from what becomes of its request.
-ghost use Rattle.std.specs.Prelude.{◌≡◌, ℕ, IfSome};
+ghost use Rattle.std.specs.Prelude.{◌≡◌, ℕ, IfErr, IfOk, IfSome};
 ghost use Rattle.answer_cache.specs.Seats.{SeatView};
 ghost use Rattle.sip_resolver.specs.Outcomes.{Sought};
 ghost use Rattle.sip_resolver.specs.Requests.{Stand, weight};
+ghost use Rattle.sipwhere.specs.LineOutcomes as spec;
 ghost use Rattle.sipwhere.specs.LineOutcomes.{EndsAs, IsOfLine, NeedsNoReply};
 
 use crate::line::Line;
@@ -10,8 +11,23 @@ use crate::line_outcome::LineOutcome;
 use crate::sender::Sender;
 use answer_cache::AnswerBook;
 use sip_resolver::{Ids, Origin, Outcome, Resolver, draw_words};
-use sip_selection::read_request;
+use sip_selection::{Request, read_request};
+use sip_uri::UriRefusal;
 use std::alloc::Global;
+
+/// The request of a text, or what became of the text: it is none, or memory was refused for it.
+fn request_of(alloc: Global, text: &str) -> Result<Request, LineOutcome>
+    ensures found { IfOk result (spec.IsOnly text.now) }
+    ensures unread { IfErr result (spec.IsUnread text.now) }
+{
+    match read_request(alloc, text) {
+        Ok(request) => Ok(request),
+        Err(refusal) => match refusal {
+            UriRefusal::Memory => Err(LineOutcome::Memory),
+            _ => Err(LineOutcome::Bad(refusal)),
+        },
+    }
+}
 
 /// Hands the request of a text to a resolver, under this number, or gives what became of the text
 /// already: it is no request, or memory was refused.
@@ -31,9 +47,9 @@ pub fn submit<B: AnswerBook, F: Origin, I: Ids + Drop>(
         → weight h resolver.new.requests ≡ weight h resolver.old.requests }
     ensures line_outcome { IfSome result (NeedsNoReply line.now.text.now) }
 {
-    let request = match read_request(alloc, line.text) {
+    let request = match request_of(alloc, line.text) {
         Ok(request) => request,
-        Err(refusal) => return Some(LineOutcome::Bad(refusal)),
+        Err(line_outcome) => return Some(line_outcome),
     };
     let words = draw_words(sender.key, line.number);
     match resolver.submit(number, request, sender.caps, words) {
@@ -47,9 +63,9 @@ pub fn submit<B: AnswerBook, F: Origin, I: Ids + Drop>(
 pub fn line_outcome_of(alloc: Global, text: &str, outcome: Outcome) -> LineOutcome
     ensures { EndsAs text.now outcome result }
 {
-    match read_request(alloc, text) {
+    match request_of(alloc, text) {
         Ok(_) => LineOutcome::Became(outcome),
-        Err(refusal) => LineOutcome::Bad(refusal),
+        Err(line_outcome) => line_outcome,
     }
 }
 
@@ -57,8 +73,8 @@ pub fn line_outcome_of(alloc: Global, text: &str, outcome: Outcome) -> LineOutco
 pub fn line_outcome_in_vain(alloc: Global, text: &str) -> LineOutcome
     ensures { NeedsNoReply text.now result }
 {
-    match read_request(alloc, text) {
+    match request_of(alloc, text) {
         Ok(_) => LineOutcome::TimeOver,
-        Err(refusal) => LineOutcome::Bad(refusal),
+        Err(line_outcome) => line_outcome,
     }
 }

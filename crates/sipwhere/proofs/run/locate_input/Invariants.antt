@@ -4,5 +4,5 @@ use Rattle.sipwhere.proofs.run.locate_input.Given as goal
 abbrev pub invariant-parts : goal.invariant-parts
 invariant-parts g l = record {
   stays : g.B.AnswerBook.belongs l.book l.seat;
-  range : l.status ≤ 5;
+  range : l.told.status ≤ 5;
 }

@@ -8,9 +8,6 @@ rounds-init g c = record {
   range = lit≤ tt;
 }
 
-pub returns-then-is_done-clause-range : goal.returns-then-is_done-clause-range
-returns-then-is_done-clause-range g c = c.greater_of-status.ensures c.rounds.invariant.range c.tell_all.ensures.range
-
 pub advance-requires-clause-stands : goal.advance-requires-clause-stands
 advance-requires-clause-stands g c =
     let seat = g.B.AnswerBook.shown c.rounds.seat in
@@ -20,5 +17,5 @@ pub rounds-preserved : goal.rounds-preserved
 rounds-preserved g c = record {
   stays = c.advance.ensures.stays;
   stands = c.advance.ensures.stands;
-  range = c.greater_of-status.ensures c.rounds.invariant.range c.tell_all.ensures.range;
+  range = c.and-told.ensures.range c.rounds.invariant.range c.tell_all.ensures.range;
 }

@@ -6,5 +6,5 @@ abbrev pub invariant-rounds : goal.invariant-rounds
 invariant-rounds g l = record {
   stays : g.B.AnswerBook.belongs l.book l.seat;
   stands : Stands g.W.MessageWire.gives g.C.Clock.shows (g.B.AnswerBook.shown l.seat) l.open;
-  range : l.status ≤ 5;
+  range : l.told.status ≤ 5;
 }

@@ -24,6 +24,6 @@ returns-clause-tells g c = λ seat was.
         became = zip-at (IsLineOutcomeOf g.W.MessageWire.gives g.C.Clock.shows seat c.self.inside.sender) lines line_outcomes told d
             (Some line_outcome) inside
             before.line_outcomes (subst (λ it. it ≡ get_or line_outcomes told it) found c.index.ensures);
-        told = rw (line-is d) c.tell-status.ensures.told;
+        told = rw (line-is d) c.tell-told.ensures.told;
       };
     })
