@@ -1,5 +1,5 @@
 //! Lines of an input, as they come.
-ghost use Rattle.std.specs.Prelude.{◌≤◌, IfSome, length};
+ghost use Rattle.std.specs.Prelude.{◌≡◌, ◌≤◌, ◌+◌, ◌++◌, IfSome, OnOk, length};
 
 use std::alloc::{AllocError, Global};
 use std::io::{self, Read};
@@ -19,10 +19,28 @@ fn last_end(octets: &[u8]) -> Option<usize>
     Some(last + 1)
 }
 
-/// Keeps octets behind those that are kept, as far as there is room for them.
-fn keep(kept: &mut Vec<u8>, octets: &[u8]) -> Result<(), AllocError> {
-    let room = KEPT_LIMIT - kept.len().min(KEPT_LIMIT);
-    kept.extend_from_slice(&octets[..octets.len().min(room)])?;
+/// What stands for the octets of a line that are not kept. No request has it anywhere, and it is no
+/// blank at an end: so a line that was cut is none, whatever was dropped.
+const CUT_MARK: [u8; 2] = [0, 0];
+
+/// Keeps octets behind those that are kept, as far as there is room for them, and the mark once
+/// where there is not.
+fn keep(kept: &mut Vec<u8>, octets: &[u8]) -> Result<(), AllocError>
+    ensures whole { OnOk result (length kept.old.items + length octets.now ≤ 4096
+        → kept.new.items ≡ kept.old.items ++ octets.now) }
+    ensures bounded { OnOk result (length kept.old.items ≤ 4098
+        → length kept.new.items ≤ 4098) }
+{
+    if kept.len() > KEPT_LIMIT {
+        return Ok(());
+    }
+    let room = KEPT_LIMIT - kept.len();
+    if octets.len() <= room {
+        kept.extend_from_slice(octets)?;
+        return Ok(());
+    }
+    kept.extend_from_slice(&octets[..room])?;
+    kept.extend_from_slice(&CUT_MARK)?;
     Ok(())
 }
 
