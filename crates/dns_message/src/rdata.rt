@@ -2,13 +2,15 @@
 ghost use Rattle.std.specs.Prelude.{◌≡◌, ◌≢◌, ◌+◌, ◌<◌, ◌≤◌, List, ℕ, length, IfOk, MatchResult, ◌++◌, OnOk, OnErr};
 ghost use Rattle.dns_name.specs.Landings.{AreLandings};
 ghost use Rattle.dns_name.specs.Offsets.{NameAt};
-ghost use Rattle.dns_message.specs.Layouts.{SrvAt, NaptrAt, RdataAt};
+ghost use Rattle.dns_message.specs.Layouts.{SrvAt, NaptrAt, SoaAt, RdataAt};
 ghost use Rattle.dns_message.specs.Written.{type_of_rdata, rdata_class, rdata_octets};
 ghost use Rattle.dns_message.specs.Fits.{RdataFits};
+ghost use Rattle.dns_message.specs.Data.{CanBeOther};
 ghost use Rattle.dns_message.specs.Data as spec;
 ghost use Rattle.dns_message.specs.declared.rdata.Rdata as declared;
 ghost use Rattle.dns_message.specs.declared.rdata.Rdata.TheVariants as variant;
 ghost use Rattle.dns_message.specs.declared.naptr.NaptrRecord as naptr;
+ghost use Rattle.dns_message.specs.declared.soa.SoaRecord as soa;
 ghost use Rattle.dns_message.specs.declared.srv.SrvRecord as srv;
 
 use crate::codes::{CLASS_IN, TYPE_A, TYPE_AAAA, TYPE_CNAME, TYPE_NAPTR, TYPE_SOA, TYPE_SRV};
@@ -19,9 +21,7 @@ use crate::other_data::OtherData;
 use crate::refusal::EntryRefusal;
 use crate::soa::{SoaRecord, push_soa, soa_at};
 use crate::srv::{SrvRecord, push_srv, read_srv};
-use dns_name::{
-    Landings, Name, law_name_rests_before_its_end, law_one_name_at_an_offset, read_name_into_by,
-};
+use dns_name::{Landings, Name, law_name_rests_before_its_end, read_name_into_by};
 use std::alloc::{AllocError, Global};
 
 /// The data of a record.
@@ -158,6 +158,13 @@ fn check_end(found: usize, end: usize) -> Result<(), EntryRefusal>
     }
 }
 
+/// Puts data in the place of other data.
+fn replace_data(rdata: &mut Rdata, newer: Rdata)
+    ensures { rdata.new ≡ newer }
+{
+    *rdata = newer;
+}
+
 /// Reads the data of a server between two offsets over other data.
 fn read_server(
     alloc: Global,
@@ -175,7 +182,7 @@ fn read_server(
         → MatchResult result (λ _. rdata.new ≡ variant.Srv server)
         (λ refusal. refusal ≡ EntryRefusal.Memory) }
 {
-    *rdata = Rdata::Srv(SrvRecord::unread(alloc));
+    replace_data(rdata, Rdata::Srv(SrvRecord::unread(alloc)));
     let Rdata::Srv(server) = rdata else {
         return Err(EntryRefusal::Malformed);
     };
@@ -200,7 +207,7 @@ fn read_rule(
         → MatchResult result (λ _. rdata.new ≡ variant.Naptr rule)
         (λ refusal. refusal ≡ EntryRefusal.Memory) }
 {
-    *rdata = Rdata::Naptr(NaptrRecord::unread(alloc));
+    replace_data(rdata, Rdata::Naptr(NaptrRecord::unread(alloc)));
     let Rdata::Naptr(rule) = rdata else {
         return Err(EntryRefusal::Malformed);
     };
@@ -224,12 +231,80 @@ fn read_alias(
         → MatchResult result (λ _. rdata.new ≡ variant.Cname name)
         (λ refusal. refusal ≡ EntryRefusal.Memory) }
 {
-    *rdata = Rdata::Cname(Name::root(alloc));
+    replace_data(rdata, Rdata::Cname(Name::root(alloc)));
     let Rdata::Cname(name) = rdata else {
         return Err(EntryRefusal::Malformed);
     };
     let found = read_name_into_by(alloc, bytes, landings, offset, name)?;
     check_end(found, end)
+}
+
+/// Reads an address of IPv4, which has these octets, over other data.
+fn read_addr4(octets: &[u8], rdata: &mut Rdata) -> Result<(), EntryRefusal>
+    ensures { MatchResult result
+        (λ _. (rdata.new ≡ variant.Addr4 octets.now) × (length octets.now ≡ 4))
+        (λ _. length octets.now ≢ 4) }
+{
+    replace_data(rdata, Rdata::Addr4(address_of(octets)?));
+    Ok(())
+}
+
+/// Reads an address of IPv6, which has these octets, over other data.
+fn read_addr6(octets: &[u8], rdata: &mut Rdata) -> Result<(), EntryRefusal>
+    ensures { MatchResult result
+        (λ _. (rdata.new ≡ variant.Addr6 octets.now) × (length octets.now ≡ 16))
+        (λ _. length octets.now ≢ 16) }
+{
+    replace_data(rdata, Rdata::Addr6(address_of(octets)?));
+    Ok(())
+}
+
+/// Reads the start of a zone of authority between two offsets over other data.
+fn read_authority(
+    alloc: Global,
+    bytes: &[u8],
+    landings: &Landings,
+    offset: usize,
+    end: usize,
+    rdata: &mut Rdata,
+) -> Result<(), EntryRefusal>
+    requires { AreLandings bytes.now landings.now }
+    ensures found { OnOk result ((authority : soa.SoaRecord)
+        × (rdata.new ≡ variant.Soa authority) × SoaAt bytes.now offset authority end) }
+    ensures read { (authority : soa.SoaRecord) → SoaAt bytes.now offset authority end
+        → MatchResult result (λ _. rdata.new ≡ variant.Soa authority)
+        (λ refusal. refusal ≡ EntryRefusal.Memory) }
+{
+    let authority = ending_at(soa_at(alloc, bytes, landings, offset)?, end)?;
+    replace_data(rdata, Rdata::Soa(authority));
+    Ok(())
+}
+
+/// Reads data of a type and class that has no layout of its own, which are these octets, over
+/// other data.
+fn read_other(
+    alloc: Global,
+    octets: &[u8],
+    type_number: u16,
+    class_number: u16,
+    rdata: &mut Rdata,
+) -> Result<(), EntryRefusal>
+    ensures { MatchResult result
+        (λ _. (rdata.new ≡ variant.Other (record {
+          type_number = type_number;
+          class_number = class_number;
+          octets =
+              octets.now;
+        })) × (length octets.now ≤ 65535))
+        (λ refusal. CanBeOther type_number class_number octets.now
+        → refusal ≡ EntryRefusal.Memory) }
+{
+    let octets = Vec::from_slice(alloc, octets)?;
+    let Some(other) = OtherData::new(type_number, class_number, octets) else {
+        return Err(EntryRefusal::Malformed);
+    };
+    replace_data(rdata, Rdata::Other(other));
+    Ok(())
 }
 
 /// Reads the data of a type and class between two offsets over other data.
@@ -250,27 +325,17 @@ pub(crate) fn read_rdata(
         → MatchResult result (λ _. rdata.new ≡ data')
         (λ refusal. refusal ≡ EntryRefusal.Memory) }
 {
-    law_one_name_at_an_offset();
     law_name_rests_before_its_end();
     let octets = bytes.get(offset..end).ok_or(EntryRefusal::Malformed)?;
     match data_format(type_number, class_number) {
-        DataFormat::A => *rdata = Rdata::Addr4(address_of(octets)?),
-        DataFormat::Aaaa => *rdata = Rdata::Addr6(address_of(octets)?),
-        DataFormat::Srv => read_server(alloc, bytes, landings, offset, end, rdata)?,
-        DataFormat::Naptr => read_rule(alloc, bytes, landings, offset, end, rdata)?,
-        DataFormat::Cname => read_alias(alloc, bytes, landings, offset, end, rdata)?,
-        DataFormat::Soa => *rdata = Rdata::Soa(ending_at(
-            soa_at(alloc, bytes, landings, offset)?,
-            end,
-        )?),
-        DataFormat::Other => {
-            let octets = Vec::from_slice(alloc, octets)?;
-            *rdata = OtherData::new(type_number, class_number, octets)
-                .map(Rdata::Other)
-                .ok_or(EntryRefusal::Malformed)?;
-        }
+        DataFormat::A => read_addr4(octets, rdata),
+        DataFormat::Aaaa => read_addr6(octets, rdata),
+        DataFormat::Srv => read_server(alloc, bytes, landings, offset, end, rdata),
+        DataFormat::Naptr => read_rule(alloc, bytes, landings, offset, end, rdata),
+        DataFormat::Cname => read_alias(alloc, bytes, landings, offset, end, rdata),
+        DataFormat::Soa => read_authority(alloc, bytes, landings, offset, end, rdata),
+        DataFormat::Other => read_other(alloc, octets, type_number, class_number, rdata),
     }
-    Ok(())
 }
 
 /// Appends data.

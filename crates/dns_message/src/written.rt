@@ -40,7 +40,6 @@ fn counts_of(message: &Message) -> Result<Counts, TooLong>
 }
 
 /// Appends a message.
-#[tactic(auto, using(crate::proofs::WrittenOctets::room), unfolding(crate::specs::Written::plain))]
 fn push_message(message: &Message, out: &mut Datagram) -> Result<(), TooLong>
     requires opcode { message.now.header.opcode < 16 }
     requires rcode { message.now.header.rcode < 16 }
