@@ -1,5 +1,6 @@
 -- Texts by their places.
-use Rattle.std.proofs.Common.{◌≡◌, ℕ, zero, suc, List, [], ◌∷◌, length, get_or, refl, sym, ap, subst, ◌∙◌, arith}
+use Rattle.std.proofs.Common.{◌≡◌, ℕ, zero, suc, ◌-◌, ◌≤◌, List, [], ◌∷◌, length, take, drop, get_or, refl, sym, ap, subst, ◌∙◌, arith}
+use Rattle.std.proofs.lemmas.List.{take_all}
 use Rattle.std.specs.Borrow.{Bor}
 use Rattle.dns_zone.specs.Lines.{OneField}
 use Rattle.dns_zone.specs.Views.{texts}
@@ -23,6 +24,30 @@ one_text (field ∷ other ∷ others) one = absurd (omega arith)
 -- what is so of the one text is so of the first
 pub one_is : (Is : List ℕ → Type 0) (fields : List (Bor (List ℕ))) → OneField Is (texts fields) → Is (get_or fields 0 nothing).now
 one_is Is fields is = subst Is (sym (text_at fields 0 ∙ ap (λ (l : List (List ℕ)). get_or l 0 []) is.1)) is.2
+
+-- of three and others
+pub three_texts : (fields : List (Bor (List ℕ))) → 3 ≤ length fields
+    → texts fields
+    ≡ (get_or fields 0 nothing).now ∷ (get_or fields 1 nothing).now ∷ (get_or fields 2 nothing).now ∷
+    texts (take (length fields - 3) (drop 3 fields))
+three_texts [] three = absurd (omega arith)
+three_texts (a ∷ []) three = absurd (omega arith)
+three_texts (a ∷ b ∷ []) three = absurd (omega arith)
+three_texts (a ∷ b ∷ c ∷ others) three =
+    let count : ℕ = length (a ∷ b ∷ c ∷ others) - 3 in
+    let whole : take count others ≡ others = take_all count others (omega arith) in
+    ap (λ (l : List (Bor (List ℕ))). a.now ∷ b.now ∷ c.now ∷ texts l) (sym whole)
+
+-- of four
+pub four_texts : (fields : List (Bor (List ℕ))) → length fields ≡ 4
+    → texts fields
+    ≡ (get_or fields 0 nothing).now ∷ (get_or fields 1 nothing).now ∷ (get_or fields 2 nothing).now ∷ (get_or fields 3 nothing).now ∷ []
+four_texts [] four = absurd (omega arith)
+four_texts (a ∷ []) four = absurd (omega arith)
+four_texts (a ∷ b ∷ []) four = absurd (omega arith)
+four_texts (a ∷ b ∷ c ∷ []) four = absurd (omega arith)
+four_texts (a ∷ b ∷ c ∷ d ∷ []) four = refl
+four_texts (a ∷ b ∷ c ∷ d ∷ e ∷ others) four = absurd (omega arith)
 
 -- of six
 pub six_texts : (fields : List (Bor (List ℕ))) → length fields ≡ 6
