@@ -5,6 +5,7 @@ ghost use Rattle.std.specs.Option.{option_map};
 ghost use Rattle.dns_zone.specs.Authorities.{nearest_start};
 ghost use Rattle.dns_zone.specs.Replies as spec;
 ghost use Rattle.dns_zone.specs.Views.{entry_value, says};
+ghost use Rattle.dns_zone.specs.Zones as zones;
 
 use crate::zone::{Zone, ZoneEntry};
 use dns_message::Record;
@@ -26,6 +27,17 @@ fn first_of(entries: &[ZoneEntry], type_number: u16) -> Option<&ZoneEntry>
     None
 }
 
+/// What an owner has, as a record.
+fn record_of(owner: Name, entry: &ZoneEntry) -> Result<Record, AllocError>
+    ensures { IfOk result (λ record'. record' ≡ zones.record_of owner entry.now) }
+{
+    Ok(Record {
+        ttl: entry.ttl,
+        rdata: entry.rdata.try_clone()?,
+        owner,
+    })
+}
+
 /// The first SOA record of a name, or else of the nearest name above it that has one.
 fn nearest_start(zone: &Zone, name: &Name) -> Result<Option<Record>, AllocError>
     ensures { IfOk result (λ start. MatchOption start (nearest_start zone.now name.now ≡ [])
@@ -34,11 +46,7 @@ fn nearest_start(zone: &Zone, name: &Name) -> Result<Option<Record>, AllocError>
     let mut owner = name.try_clone()?;
     loop {
         if let Some(entry) = first_of(zone.entries_at(&owner), TYPE_SOA) {
-            return Ok(Some(Record {
-                ttl: entry.ttl,
-                rdata: entry.rdata.try_clone()?,
-                owner,
-            }));
+            return Ok(Some(record_of(owner, entry)?));
         }
         let Some(parent) = owner.parent()? else {
             return Ok(None);

@@ -157,12 +157,17 @@ fn refusal(alloc: Global, query: Header, questions: Section<Asked>) -> Message
     reply_of(alloc, query, questions, body)
 }
 
-/// The reply to a query, with at most 46 records that answer.
-pub(crate) fn reply_to(zone: &Zone, alloc: Global, query: Message) -> Result<Message, AllocError>
-    ensures { IfOk result (λ reply. reply ≡ bounded (spec.reply_to zone.now query)) }
+/// The reply to a query of this header and with these questions, with at most 46 records that
+/// answer.
+fn reply_about(
+    zone: &Zone,
+    alloc: Global,
+    header: Header,
+    questions: Section<Asked>,
+) -> Result<Message, AllocError>
+    ensures { IfOk result (λ reply. reply
+        ≡ bounded (spec.reply_about zone.now header questions)) }
 {
-    let header = query.header;
-    let questions = query.questions;
     let [asked] = questions.as_slice() else {
         let none = Section::from_vec(Vec::new(alloc));
         return Ok(refusal(alloc, header, none));
@@ -172,4 +177,11 @@ pub(crate) fn reply_to(zone: &Zone, alloc: Global, query: Message) -> Result<Mes
     }
     let body = found(zone, alloc, asked)?;
     Ok(reply_of(alloc, header, questions, body))
+}
+
+/// The reply to a query, with at most 46 records that answer.
+pub(crate) fn reply_to(zone: &Zone, alloc: Global, query: Message) -> Result<Message, AllocError>
+    ensures { IfOk result (λ reply. reply ≡ bounded (spec.reply_to zone.now query)) }
+{
+    reply_about(zone, alloc, query.header, query.questions)
 }

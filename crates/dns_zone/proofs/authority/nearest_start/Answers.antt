@@ -8,7 +8,7 @@ pub returns-in-Some : goal.returns-in-Some
 returns-in-Some c =
     let some = c.in-Some.ensures ∙ ap (find (says 6)) c.entries_at.ensures in
     let here = starts_here c.args.zone.now c.loop-entry.owner c.in-Some.entry.now some in
-    rw c.in_ok-try_clone.ensures (sym c.loop-entry.invariant ∙ here)
+    rw c.in_ok-record_of.ensures (sym c.loop-entry.invariant ∙ here)
 
 pub returns-in_default-2 : goal.returns-in_default-2
 returns-in_default-2 c =

@@ -1,4 +1,4 @@
-use Rattle.std.proofs.Common.{◌≡◌, ℕ, List, [], get_or, Some, refl, sym, ap, ◌∙◌, arith}
+use Rattle.std.proofs.Common.{◌≡◌, ℕ, List, [], get_or, Option, Some, None, refl, sym, ap, ◌∙◌, arith}
 use Rattle.std.proofs.lemmas.Result.{err_from_is_err_and}
 use Rattle.dns_message.specs.declared.naptr.NaptrRecord.{NaptrRecord}
 use Rattle.dns_zone.specs.Lines.{number_of, string_of}
@@ -20,6 +20,33 @@ same_rule rule other order preference flags services regexp replacement =
 
 same_some : {X : Type 0} {x y : X} → Some x ≡ Some y → x ≡ y
 same_some e = cc
+
+no_number : (number : ℕ) → ◌≡◌ {A = Option ℕ} None (Some number) → ⊥
+no_number number e = absurd cc
+
+pub returns-in_err-number_of_16_bits-clause-read : goal.returns-in_err-number_of_16_bits-clause-read
+returns-in_err-number_of_16_bits-clause-read c = λ rule is.
+    let text = text_at c.args.fields.now 0 ∙ ap (λ (l : List (List ℕ)). get_or l 0 []) is.are in
+    absurd (no_number rule.order (sym c.in_err-number_of_16_bits.ensures.1 ∙ ap (number_of 65535) text ∙ is.order_is))
+
+pub returns-in_err-number_of_16_bits-2-clause-read : goal.returns-in_err-number_of_16_bits-2-clause-read
+returns-in_err-number_of_16_bits-2-clause-read c = λ rule is.
+    let text = text_at c.args.fields.now 1 ∙ ap (λ (l : List (List ℕ)). get_or l 1 []) is.are in
+    absurd (no_number rule.preference (sym c.in_err-number_of_16_bits-2.ensures.1 ∙ ap (number_of 65535) text ∙ is.preference_is))
+
+pub returns-in_err-char_string-clause-read : goal.returns-in_err-char_string-clause-read
+returns-in_err-char_string-clause-read c = λ rule is.
+    let text = text_at c.args.fields.now 2 ∙ ap (λ (l : List (List ℕ)). get_or l 2 []) is.are in
+    let memory = c.in_err-char_string.ensures.read rule.flags (rw text is.flags_are) in
+    let r = err_from_is_err_and c.from_residual-in_err-char_string.result c.from_residual-in_err-char_string.ensures.1 in
+    rw (r.1, r.2) memory
+
+pub returns-in_err-char_string-2-clause-read : goal.returns-in_err-char_string-2-clause-read
+returns-in_err-char_string-2-clause-read c = λ rule is.
+    let text = text_at c.args.fields.now 3 ∙ ap (λ (l : List (List ℕ)). get_or l 3 []) is.are in
+    let memory = c.in_err-char_string-2.ensures.read rule.services (rw text is.services_are) in
+    let r = err_from_is_err_and c.from_residual-in_err-char_string-2.result c.from_residual-in_err-char_string-2.ensures.1 in
+    rw (r.1, r.2) memory
 
 pub returns-in_err-char_string-3-clause-read : goal.returns-in_err-char_string-3-clause-read
 returns-in_err-char_string-3-clause-read c = λ rule is.

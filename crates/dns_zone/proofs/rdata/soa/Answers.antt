@@ -25,6 +25,11 @@ same_some e = cc
 no_number : (number : ℕ) → ◌≡◌ {A = Option ℕ} None (Some number) → ⊥
 no_number number e = absurd cc
 
+pub returns-in_err-number_of_32_bits-clause-read : goal.returns-in_err-number_of_32_bits-clause-read
+returns-in_err-number_of_32_bits-clause-read c = λ authority is.
+    let text = text_at c.args.fields.now 2 ∙ ap (λ (l : List (List ℕ)). get_or l 2 []) is.are in
+    absurd (no_number authority.serial (sym c.in_err-number_of_32_bits.ensures.1 ∙ ap (number_of 4294967295) text ∙ is.serial_is))
+
 pub returns-in_err-number_of_32_bits-2-clause-read : goal.returns-in_err-number_of_32_bits-2-clause-read
 returns-in_err-number_of_32_bits-2-clause-read c = λ authority is.
     let text = text_at c.args.fields.now 3 ∙ ap (λ (l : List (List ℕ)). get_or l 3 []) is.are in
