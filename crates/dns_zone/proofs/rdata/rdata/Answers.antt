@@ -40,7 +40,7 @@ returns-in_err-name-in-CNAME-clause-read c = λ found is.
 pub returns-in_ok-name-in-CNAME-clause-read : goal.returns-in_ok-name-in-CNAME-clause-read
 returns-in_ok-name-in-CNAME-clause-read c = λ found is.
     let k = cname_data (texts c.args.fields.now) found (rw c.in-CNAME.is at is) in
-    rw k.1 (ap Cname (c.in_ok-name-in-CNAME.ensures.read k.0 k.2))
+    rw k.1 (ap Cname {y = k.0} (c.in_ok-name-in-CNAME.ensures.read k.0 k.2))
 
 pub returns-in_err-srv-in-SRV-clause-read : goal.returns-in_err-srv-in-SRV-clause-read
 returns-in_err-srv-in-SRV-clause-read c = λ found is.
@@ -51,7 +51,7 @@ returns-in_err-srv-in-SRV-clause-read c = λ found is.
 pub returns-in_ok-srv-in-SRV-clause-read : goal.returns-in_ok-srv-in-SRV-clause-read
 returns-in_ok-srv-in-SRV-clause-read c = λ found is.
     let k = srv_data (texts c.args.fields.now) found (rw c.in-SRV.is at is) in
-    rw k.1 (ap Srv (c.in_ok-srv-in-SRV.ensures.read k.0 k.2))
+    rw k.1 (ap Srv {y = k.0} (c.in_ok-srv-in-SRV.ensures.read k.0 k.2))
 
 pub returns-in_err-naptr-in-NAPTR-clause-read : goal.returns-in_err-naptr-in-NAPTR-clause-read
 returns-in_err-naptr-in-NAPTR-clause-read c = λ found is.
@@ -62,7 +62,7 @@ returns-in_err-naptr-in-NAPTR-clause-read c = λ found is.
 pub returns-in_ok-naptr-in-NAPTR-clause-read : goal.returns-in_ok-naptr-in-NAPTR-clause-read
 returns-in_ok-naptr-in-NAPTR-clause-read c = λ found is.
     let k = naptr_data (texts c.args.fields.now) found (rw c.in-NAPTR.is at is) in
-    rw k.1 (ap Naptr (c.in_ok-naptr-in-NAPTR.ensures.read k.0 k.2))
+    rw k.1 (ap Naptr {y = k.0} (c.in_ok-naptr-in-NAPTR.ensures.read k.0 k.2))
 
 pub returns-in_err-soa-in-SOA-clause-read : goal.returns-in_err-soa-in-SOA-clause-read
 returns-in_err-soa-in-SOA-clause-read c = λ found is.
@@ -73,4 +73,4 @@ returns-in_err-soa-in-SOA-clause-read c = λ found is.
 pub returns-in_ok-soa-in-SOA-clause-read : goal.returns-in_ok-soa-in-SOA-clause-read
 returns-in_ok-soa-in-SOA-clause-read c = λ found is.
     let k = soa_data (texts c.args.fields.now) found (rw c.in-SOA.is at is) in
-    rw k.1 (ap Soa (c.in_ok-soa-in-SOA.ensures.read k.0 k.2))
+    rw k.1 (ap Soa {y = k.0} (c.in_ok-soa-in-SOA.ensures.read k.0 k.2))

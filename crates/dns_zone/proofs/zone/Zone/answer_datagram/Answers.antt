@@ -1,4 +1,5 @@
-use Rattle.std.proofs.Common.{ap, ◌∙◌}
+use Rattle.std.proofs.Common.{inl, inr, ap, ◌∙◌}
+use Rattle.std.proofs.lemmas.Result.{err_from_is_err_and}
 use Rattle.dns_message.specs.declared.header.Header.{Header}
 use Rattle.dns_zone.specs.Replies.{IsQuery, Replies, reply_to}
 use Rattle.dns_zone.proofs.Headers.{reply_headed, reply_is, fitted-keeps}
@@ -13,6 +14,42 @@ replies c =
     let wrote = c.in_ok-write_reply.ensures in
     reply_is c.args.self.now c.in-Some.query c.in_ok-reply.reply c.in_ok-write_reply.field-0.items c.in_ok-reply.ensures wrote.written
     wrote.spells wrote.short
+
+pub returns-in_err-query : goal.returns-in_err-query
+returns-in_err-query c =
+    let r = err_from_is_err_and c.from_residual.result c.from_residual.ensures.1 in
+    rw r.1 (record {
+      silent = λ none. absurd cc;
+      quiet = λ _. tt;
+      replied = λ _ _. tt;
+      found = tt;
+      reply = tt;
+      memory = inl c.in_err-query.ensures.memory;
+    })
+
+pub returns-in_err-reply : goal.returns-in_err-reply
+returns-in_err-reply c =
+    let r = err_from_is_err_and c.from_residual-in_err-reply.result c.from_residual-in_err-reply.ensures.1 in
+    rw r.1 (record {
+      silent = λ none. absurd cc;
+      quiet = λ _. tt;
+      replied = λ _ _. tt;
+      found = tt;
+      reply = tt;
+      memory = inr (c.in-Some.query, is_query (goal.at.returns-in_err-reply c).In-Some);
+    })
+
+pub returns-in_err-write_reply : goal.returns-in_err-write_reply
+returns-in_err-write_reply c =
+    let r = err_from_is_err_and c.from_residual-in_err-write_reply.result c.from_residual-in_err-write_reply.ensures.1 in
+    rw r.1 (record {
+      silent = λ none. absurd cc;
+      quiet = λ _. tt;
+      replied = λ _ _. tt;
+      found = tt;
+      reply = tt;
+      memory = inr (c.in-Some.query, is_query (goal.at.returns-in_err-write_reply c).In-Some);
+    })
 
 pub returns-in_default-clause-replied : goal.returns-in_default-clause-replied
 returns-in_default-clause-replied c = rw c.in_default.is at c.in_ok-query.ensures.found

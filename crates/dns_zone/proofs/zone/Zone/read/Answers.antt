@@ -1,4 +1,4 @@
-use Rattle.std.proofs.Common.{◌≡◌, ◌<◌, ◌+◌, ℕ, length, get_or, Option, inl, ap, ◌∙◌, arith, rules}
+use Rattle.std.proofs.Common.{◌≡◌, ◌<◌, ◌+◌, ℕ, length, get_or, Option, inl, inr, refl, ap, ◌∙◌, arith, length-append, rules}
 use Rattle.std.specs.Str.Lines.{lines}
 use Rattle.std.proofs.lemmas.Iterator.Splits.{YieldsList-from_lines}
 use Rattle.std.proofs.lemmas.Iterator.Consumers.{YieldsList-from_enumerate, YieldsList-turn, YieldsList-end}
@@ -166,3 +166,29 @@ returns-in_err-add-in-Ok-Some-clause-refused c =
     rw (r.1, r.2)
     (among (lines c.args.text.now) (length l.yielded) c.in-Some.line.now this.1 this.2
     (says_entry c.in-Some.line.now c.in-Ok-Some.entry said))
+
+pub returns-then-builder-gt-RECORD_LIMIT-clause-read : goal.returns-then-builder-gt-RECORD_LIMIT-clause-read
+returns-then-builder-gt-RECORD_LIMIT-clause-read c = λ records says few.
+    let drafting = c.loop-at.invariant.drafting in
+    let k = drafting.back records says in
+    absurd (omega (arith, drafting.counted, few, ap length k.1, length-append drafting.records k.0))
+
+pub returns-in_err-add-in-Ok-Some-clause-found : goal.returns-in_err-add-in-Ok-Some-clause-found
+returns-in_err-add-in-Ok-Some-clause-found c =
+    let r = err_from_is_err_and c.from_residual.result c.from_residual.ensures.1 in
+    rw r.1 tt
+
+pub returns-in_err-add-in-Ok-Some-clause-read : goal.returns-in_err-add-in-Ok-Some-clause-read
+returns-in_err-add-in-Ok-Some-clause-read c = λ records says few.
+    let r = err_from_is_err_and c.from_residual.result c.from_residual.ensures.1 in
+    rw (r.1, r.2) refl
+
+pub returns-in_err-add-in-Ok-Some-clause-too_many : goal.returns-in_err-add-in-Ok-Some-clause-too_many
+returns-in_err-add-in-Ok-Some-clause-too_many c = λ records says many.
+    let r = err_from_is_err_and c.from_residual.result c.from_residual.ensures.1 in
+    rw (r.1, r.2) (inr refl)
+
+pub returns-in_err-add-in-Ok-Some-clause-bad : goal.returns-in_err-add-in-Ok-Some-clause-bad
+returns-in_err-add-in-Ok-Some-clause-bad c = λ number is.
+    let r = err_from_is_err_and c.from_residual.result c.from_residual.ensures.1 in
+    rw (r.1, r.2) (inr refl)
