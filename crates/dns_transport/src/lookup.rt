@@ -77,9 +77,16 @@ impl Lookup {
         self.asked_at.is_some_and(|asked_at| asked_at > time)
     }
 
+    /// Lets it go, and gives its number.
+    pub(crate) fn let_go(self) -> u64 {
+        let number = self.number;
+        drop(self);
+        number
+    }
+
     /// Begins with what asks a chain on, which goes to this server first.
     pub(crate) fn go_on(&mut self, chain: OpenChain, first: usize) {
-        self.chain = Some(chain);
+        drop(self.chain.replace(chain));
         self.first = first;
         self.sends = 0;
         self.kept = None;

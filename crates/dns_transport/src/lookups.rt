@@ -1,5 +1,5 @@
 //! The queries of the caller that are open.
-ghost use Rattle.std.specs.Prelude.{◌≤◌, length};
+ghost use Rattle.std.specs.Prelude.{◌<◌, ◌≤◌, length};
 
 use crate::lookup::Lookup;
 use std::alloc::Global;
@@ -31,9 +31,15 @@ impl Lookups {
     }
 
     /// Takes the one of an id out, if there is one.
-    pub(crate) fn take_id(&mut self, id: u16) -> Option<Lookup> {
+    fn take_id(&mut self, id: u16) -> Option<Lookup> {
         let at = self.items.iter().position(|it| it.id() == id)?;
         Some(self.items.remove(at))
+    }
+
+    /// Lets the one of an id go, if there is one, and gives its number.
+    pub(crate) fn leave_id(&mut self, id: u16) -> Option<u64> {
+        let lookup = self.take_id(id)?;
+        Some(lookup.let_go())
     }
 
     /// Takes the one of a number out, if there is one.
@@ -42,22 +48,25 @@ impl Lookups {
         Some(self.items.remove(at))
     }
 
+    /// Lets the first one go where as many are open as can be, and gives its number.
+    fn make_room(&mut self) -> Option<u64>
+        ensures room { length self.old.items.items ≤ 512 → length self.new.items.items < 512 }
+    {
+        if self.items.len() >= LOOKUP_LIMIT {
+            return Some(self.items.remove(0).let_go());
+        }
+        None
+    }
+
     /// Puts one behind the others. Where as many are open as can be, the first one leaves, and its
     /// number is given; so does this one where memory is refused.
     pub(crate) fn put(&mut self, lookup: Lookup) -> Option<u64>
         ensures bound { length self.old.items.items ≤ 512 → length self.new.items.items ≤ 512 }
     {
-        let number = lookup.number;
-        if self.items.len() >= LOOKUP_LIMIT {
-            let left = self.items.remove(0);
-            return match self.items.push(lookup) {
-                Ok(_) => Some(left.number),
-                Err(_) => Some(number),
-            };
-        }
+        let left = self.make_room();
         match self.items.push(lookup) {
-            Ok(_) => None,
-            Err(_) => Some(number),
+            Ok(()) => left,
+            Err(refused) => Some(refused.value.let_go()),
         }
     }
 }

@@ -6,7 +6,7 @@ ghost use Rattle.dns_message.specs.declared.kind.Kind as kinds;
 ghost use Rattle.dns_message.specs.declared.question.Question as questions;
 ghost use Rattle.dns_transport.specs.CnameChains.{Asks};
 
-use dns_answers::{follow_up, is_reply_to, join_replies};
+use dns_answers::{FollowUp, follow_up, is_reply_to, join_replies};
 use dns_message::{
     Asked, CLASS_IN, Kind, Message, Question, WriteRefusal, law_one_message_in_front, message_in,
     write_message, write_query,
@@ -21,14 +21,20 @@ struct Query {
     question: Question,
 }
 
-/// A question on its way: the octets of the query that began it, its id and question, the replies
-/// so far put together, how many links these have, and what is asked on.
+/// What came of a question on its way: the octets of the query that began it, its id and question,
+/// the replies so far put together, and how many links these have.
 #[derive(Drop)]
-pub(crate) struct OpenChain {
+struct SoFar {
     octets: Vec<u8>,
     query: Query,
-    so_far: Message,
+    reply: Message,
     links: usize,
+}
+
+/// A question on its way: what came of it, and what is asked on.
+#[derive(Drop)]
+pub(crate) struct OpenChain {
+    so_far: SoFar,
     further: Question,
     further_octets: Vec<u8>,
 }
@@ -40,16 +46,16 @@ impl Model for OpenChain {
     ghost Value = { OpenValue };
 
     ghost view = { λ it. record {
-      query = it.octets.items;
-      id = it.query.id;
-      question = it.query.question;
-      so_far = it.so_far;
-      links = it.links;
+      query = it.so_far.octets.items;
+      id = it.so_far.query.id;
+      question = it.so_far.query.question;
+      so_far = it.so_far.reply;
+      links = it.so_far.links;
       further = it.further;
       further_query = it.further_octets.items;
     } };
 
-    ghost invariant = { λ it. it.so_far.header.opcode < 16 };
+    ghost invariant = { λ it. it.so_far.reply.header.opcode < 16 };
 }
 
 /// What a message means to a question on its way.
@@ -123,11 +129,136 @@ fn query_in(alloc: Global, octets: &[u8]) -> Result<Option<Query>, AllocError>
     Ok(Some(Query { id, question }))
 }
 
+impl SoFar {
+    ghost use Rattle.std.specs.Prelude.{◌≡◌, ◌<◌, IfOk};
+    ghost use Rattle.dns_answers.specs.CutChains.{AsksOn, IsWhole, joined};
+    ghost use Rattle.dns_message.specs.Written.{plain, query_of};
+    ghost use Rattle.dns_transport.specs.Steps.{ComesTo};
+
+    /// The same with a reply put behind the others.
+    fn join(self, alloc: Global, reply: Message) -> Result<SoFar, AllocError>
+        ensures began { IfOk result (λ it. it.octets ≡ self.octets) }
+        ensures query { IfOk result (λ it. it.query ≡ self.query) }
+        ensures replies { IfOk result (λ it. it.reply ≡ joined self.reply reply) }
+        ensures links { IfOk result (λ it. it.links ≡ self.links) }
+    {
+        let SoFar {
+            octets,
+            query,
+            reply: first,
+            links,
+        } = self;
+        let reply = join_replies(alloc, first, reply)?;
+        Ok(SoFar {
+            octets,
+            query,
+            reply,
+            links,
+        })
+    }
+
+    /// What is on its way where this question is asked on.
+    fn ask_on(self, alloc: Global, further: FollowUp) -> Result<OpenChain, AllocError>
+        requires opcode { self.reply.header.opcode < 16 }
+        ensures began { IfOk result (λ it. it.query ≡ self.octets.items) }
+        ensures id { IfOk result (λ it. it.id ≡ self.query.id) }
+        ensures question { IfOk result (λ it. it.question ≡ self.query.question) }
+        ensures replies { IfOk result (λ it. it.so_far ≡ self.reply) }
+        ensures links { IfOk result (λ it. it.links ≡ further.links) }
+        ensures further { IfOk result (λ it. it.further ≡ further.question) }
+        ensures asks { IfOk result
+            (λ it. it.further_query ≡ plain (query_of self.query.id further.question)) }
+    {
+        let further_octets = write_query(alloc, self.query.id, &further.question)?;
+        Ok(OpenChain {
+            so_far: SoFar {
+                links: further.links,
+                ..self
+            },
+            further: further.question,
+            further_octets,
+        })
+    }
+
+    /// What came is asked on by this question.
+    fn step_further(self, alloc: Global, further: FollowUp) -> Result<Step, WriteRefusal>
+        requires opcode { self.reply.header.opcode < 16 }
+        requires further { AsksOn self.query.question self.reply self.links further.question
+            further.links }
+        ensures { IfOk result (ComesTo self) }
+    {
+        Ok(Step::Further(self.ask_on(alloc, further)?))
+    }
+
+    /// What came is the whole reply.
+    fn end(&self, alloc: Global) -> Result<Step, WriteRefusal>
+        requires opcode { self.now.reply.header.opcode < 16 }
+        requires rcode { self.now.reply.header.rcode < 16 }
+        requires whole { IsWhole self.now.query.question self.now.reply self.now.links }
+        ensures { IfOk result (ComesTo self.now) }
+    {
+        Ok(Step::Ended(write_message(alloc, &self.reply)?))
+    }
+
+    /// What came is asked on, or it is the whole reply.
+    fn go_on(self, alloc: Global) -> Result<Step, WriteRefusal>
+        requires opcode { self.reply.header.opcode < 16 }
+        requires rcode { self.reply.header.rcode < 16 }
+        ensures { IfOk result (ComesTo self) }
+    {
+        match follow_up(alloc, &self.query.question, &self.reply, self.links)? {
+            Some(further) => self.step_further(alloc, further),
+            None => self.end(alloc),
+        }
+    }
+}
+
 impl OpenChain {
-    ghost use Rattle.std.specs.Prelude.{◌≡◌, IfOk, MatchOption};
+    ghost use Rattle.std.specs.Prelude.{◌≡◌, ◌<◌, ℕ, List, IfOk, MatchOption};
     ghost use Rattle.std.specs.Str.{bytes_eq};
-    ghost use Rattle.dns_transport.specs.CnameChains.{Begun, IsNotCut};
-    ghost use Rattle.dns_transport.specs.Steps.{Steps};
+    ghost use Rattle.dns_answers.specs.CutChains.{AsksOn, IsWhole};
+    ghost use Rattle.dns_transport.specs.CnameChains.{Begun, IsNext, IsNotCut, IsStray};
+    ghost use Rattle.dns_transport.specs.Steps.{GoesOn, Steps};
+
+    /// What a query and this reply to it begin, where this question is asked on.
+    fn begin_with(
+        alloc: Global,
+        octets: &[u8],
+        query: Query,
+        so_far: Message,
+        further: FollowUp,
+    ) -> Result<Option<OpenChain>, AllocError>
+        requires opcode { so_far.header.opcode < 16 }
+        requires further { AsksOn query.question so_far 0 further.question further.links }
+        ensures { IfOk result (λ it. MatchOption it ⊥
+            (GoesOn octets.now query.id query.question so_far 0)) }
+    {
+        let octets = Vec::from_slice(alloc, octets)?;
+        let so_far = SoFar {
+            octets,
+            query,
+            reply: so_far,
+            links: 0,
+        };
+        Ok(Some(so_far.ask_on(alloc, further)?))
+    }
+
+    /// What a query and this reply to it begin, if that is cut short.
+    fn begin_by(
+        alloc: Global,
+        octets: &[u8],
+        query: Query,
+        so_far: Message,
+    ) -> Result<Option<OpenChain>, AllocError>
+        requires opcode { so_far.header.opcode < 16 }
+        ensures { IfOk result (λ it. MatchOption it (IsWhole query.question so_far 0)
+            (GoesOn octets.now query.id query.question so_far 0)) }
+    {
+        match follow_up(alloc, &query.question, &so_far, 0)? {
+            Some(further) => OpenChain::begin_with(alloc, octets, query, so_far, further),
+            None => Ok(None),
+        }
+    }
 
     /// What a query and the reply to it begin, if that is cut short.
     pub(crate) fn begin(
@@ -142,27 +273,17 @@ impl OpenChain {
         let Some(query) = query_in(alloc, octets)? else {
             return Ok(None);
         };
-        let Some(so_far) = message_in(alloc, reply)? else {
-            return Ok(None);
-        };
-        let Some(further) = follow_up(alloc, &query.question, &so_far, 0)? else {
-            return Ok(None);
-        };
-        Ok(Some(OpenChain {
-            octets: Vec::from_slice(alloc, octets)?,
-            further_octets: write_query(alloc, query.id, &further.question)?,
-            query,
-            so_far,
-            links: further.links,
-            further: further.question,
-        }))
+        match message_in(alloc, reply)? {
+            Some(so_far) => OpenChain::begin_by(alloc, octets, query, so_far),
+            None => Ok(None),
+        }
     }
 
     /// Whether this query began it.
     pub(crate) fn is_of(&self, query: &[u8]) -> bool
         ensures { result ≡ bytes_eq self.now.query query.now }
     {
-        self.octets.as_slice() == query
+        self.so_far.octets.as_slice() == query
     }
 
     /// Whether this query is what is asked on.
@@ -179,35 +300,37 @@ impl OpenChain {
         self.further_octets.as_slice()
     }
 
+    /// The message in front of these octets, if it is a reply to what is asked on.
+    fn next_in(&self, alloc: Global, octets: &[u8]) -> Result<Option<Message>, AllocError>
+        ensures { IfOk result (λ it. MatchOption it (IsStray self.now octets.now)
+            (IsNext self.now octets.now)) }
+    {
+        law_one_message_in_front();
+        let Some(reply) = message_in(alloc, octets)? else {
+            return Ok(None);
+        };
+        if is_reply_to(&self.further, &reply) {
+            Ok(Some(reply))
+        } else {
+            Ok(None)
+        }
+    }
+
+    /// What a reply to what is asked on means to it.
+    fn take(self, alloc: Global, reply: Message) -> Result<Step, WriteRefusal>
+        requires rcode { reply.header.rcode < 16 }
+        ensures { (octets : List ℕ) → IsNext self octets reply → IfOk result (Steps self octets) }
+    {
+        self.so_far.join(alloc, reply)?.go_on(alloc)
+    }
+
     /// What a message means to it.
     pub(crate) fn step(self, alloc: Global, octets: &[u8]) -> Result<Step, WriteRefusal>
         ensures { IfOk result (Steps self octets.now) }
     {
-        law_one_message_in_front();
-        let Some(reply) = message_in(alloc, octets)? else {
-            return Ok(Step::Stray(self));
-        };
-        if !is_reply_to(&self.further, &reply) {
-            return Ok(Step::Stray(self));
-        }
-        let OpenChain {
-            octets,
-            query,
-            so_far,
-            links,
-            ..
-        } = self;
-        let so_far = join_replies(alloc, so_far, reply)?;
-        match follow_up(alloc, &query.question, &so_far, links)? {
-            Some(further) => Ok(Step::Further(OpenChain {
-                octets,
-                further_octets: write_query(alloc, query.id, &further.question)?,
-                query,
-                so_far,
-                links: further.links,
-                further: further.question,
-            })),
-            None => Ok(Step::Ended(write_message(alloc, &so_far)?)),
+        match self.next_in(alloc, octets)? {
+            Some(reply) => self.take(alloc, reply),
+            None => Ok(Step::Stray(self)),
         }
     }
 }

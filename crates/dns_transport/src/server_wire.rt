@@ -1,13 +1,13 @@
 //! A wire to DNS servers over sockets.
-ghost use Rattle.std.specs.Prelude.{◌≡◌, false, IfOk, IfSome, IsFalse, IsTrue, length, slice_get};
+ghost use Rattle.std.specs.Prelude.{◌≡◌, ℕ, List, false, IfOk, IfSome, IsFalse, IsTrue, length, slice_get};
 ghost use Rattle.std.specs.List.{All};
 ghost use Rattle.dns_asker.specs.MessageWires.{IfMessage};
-ghost use Rattle.dns_transport.specs.CnameChains.{IsHandedOn};
+ghost use Rattle.dns_transport.specs.CnameChains.{EndsWith, IsHandedOn, OpenValue};
 ghost use Rattle.dns_transport.specs.Ends.{HasIdOver};
 ghost use Rattle.dns_transport.specs.Letters.{IsRespelled};
 ghost use Rattle.dns_transport.specs.QueryForms.{form_for};
 ghost use Rattle.dns_transport.specs.ServerOrders as orders;
-ghost use Rattle.dns_transport.specs.Steps.{IfReplied};
+ghost use Rattle.dns_transport.specs.Steps.{IfReplied, Steps};
 ghost use Rattle.dns_transport.specs.Sends.{HasAsked, asked_by, sent_octets, with_id};
 ghost use Rattle.dns_transport.specs.Wires.{HandsOn};
 
@@ -159,9 +159,27 @@ fn is_refusal(kind: ErrorKind) -> bool {
     )
 }
 
+/// Lets a query of the caller go that no server takes, and tells of it.
+fn tell_closed(lookup: Lookup) -> Option<Received>
+    ensures no_message { IfSome result (λ it. IfMessage it (λ _. ⊥)) }
+{
+    let id = lookup.id();
+    lookup.let_go();
+    Some(Received::Closed(id))
+}
+
 /// Whether a query has an additional record: its OPT record.
 fn has_opt(query: &[u8]) -> bool {
     query.len() > 11 && query[11] != 0
+}
+
+/// The servers of these addresses.
+fn servers_at(alloc: Global, addresses: &[SocketAddr]) -> Result<Vec<Server>, AllocError> {
+    let mut servers = Vec::with_capacity(alloc, addresses.len())?;
+    'addresses: for address in addresses {
+        servers.push(Server::new(*address))?;
+    }
+    Ok(servers)
 }
 
 impl<S: System + Drop, G: Rng + Drop> ServerWire<S, G> {
@@ -173,10 +191,7 @@ impl<S: System + Drop, G: Rng + Drop> ServerWire<S, G> {
         addresses: &[SocketAddr],
         options: WireOptions,
     ) -> Result<ServerWire<S, G>, AllocError> {
-        let mut servers = Vec::with_capacity(alloc, addresses.len())?;
-        'addresses: for address in addresses {
-            servers.push(Server::new(*address))?;
-        }
+        let servers = servers_at(alloc, addresses)?;
         let transport = Transport::new(alloc, system);
         let until = transport.now().saturating_add(milliseconds(options.total));
         Ok(ServerWire {
@@ -482,28 +497,58 @@ impl<S: System + Drop, G: Rng + Drop> ServerWire<S, G> {
         self.wait_on(lookup)
     }
 
+    /// What becomes of a query without a chain to which this is the reply: nothing is handed on yet
+    /// where a chain begins by it.
+    fn begin_chain(&mut self, lookup: &mut Lookup, reply: Vec<u8>) -> Course
+        ensures { IfReplied result (λ octets. octets ≡ reply.items) }
+    {
+        if reply.len() > CHAIN_REPLY_LIMIT {
+            return Course::Replied(reply);
+        }
+        match OpenChain::begin(self.alloc, lookup.query.as_slice(), reply.as_slice()) {
+            Ok(Some(chain)) => self.ask_on(lookup, chain),
+            Ok(None) | Err(_) => Course::Replied(reply),
+        }
+    }
+
+    /// What becomes of a query by what a message means to its chain.
+    fn follow_step(&mut self, lookup: &mut Lookup, step: Step) -> Course
+        ensures { (old : OpenValue) (reply : List ℕ) → Steps old reply step
+            → IfReplied result (EndsWith old reply) }
+    {
+        match step {
+            Step::Ended(octets) => Course::Replied(octets),
+            Step::Further(chain) => self.ask_on(lookup, chain),
+            Step::Stray(chain) => {
+                drop(chain);
+                Course::Over
+            }
+        }
+    }
+
+    /// What becomes of a query along whose chain this is the reply: nothing is handed on yet where
+    /// the chain goes further.
+    fn step_chain(&mut self, lookup: &mut Lookup, chain: OpenChain, reply: &[u8]) -> Course
+        ensures { IfReplied result (EndsWith chain reply.now) }
+    {
+        if reply.len() > CHAIN_REPLY_LIMIT {
+            drop(chain);
+            return Course::Over;
+        }
+        match chain.step(self.alloc, reply) {
+            Ok(step) => self.follow_step(lookup, step),
+            Err(_) => Course::Over,
+        }
+    }
+
     /// What becomes of a query to which this is the reply: nothing is handed on yet where a chain
     /// is asked on.
     fn hand_on(&mut self, lookup: &mut Lookup, reply: Vec<u8>) -> Course
         ensures { IfReplied result (IsHandedOn lookup.old.chain reply.items) }
     {
-        if reply.len() > CHAIN_REPLY_LIMIT {
-            return match lookup.chain.take() {
-                Some(_) => Course::Over,
-                None => Course::Replied(reply),
-            };
-        }
-        let Some(chain) = lookup.chain.take() else {
-            let begun = OpenChain::begin(self.alloc, lookup.query.as_slice(), reply.as_slice());
-            return match begun {
-                Ok(Some(chain)) => self.ask_on(lookup, chain),
-                Ok(None) | Err(_) => Course::Replied(reply),
-            };
-        };
-        match chain.step(self.alloc, reply.as_slice()) {
-            Ok(Step::Ended(octets)) => Course::Replied(octets),
-            Ok(Step::Further(chain)) => self.ask_on(lookup, chain),
-            Ok(Step::Stray(_)) | Err(_) => Course::Over,
+        match lookup.chain.take() {
+            Some(chain) => self.step_chain(lookup, chain, reply.as_slice()),
+            None => self.begin_chain(lookup, reply),
         }
     }
 
@@ -569,31 +614,43 @@ impl<S: System + Drop, G: Rng + Drop> ServerWire<S, G> {
         }
     }
 
+    /// Lets a query of the caller go that is over.
+    fn end(&mut self, lookup: Lookup) {
+        self.transport.leave(lookup.let_go());
+    }
+
+    /// Lets a query of the caller go to which this is the reply, and gives that, unless it refuses
+    /// EDNS.
+    fn give(&mut self, lookup: Lookup, reply: Vec<u8>) -> Option<Received>
+        ensures { IfSome result (λ it. IfMessage it (HandsOn self.new.options.form)) }
+    {
+        self.end(lookup);
+        if !self.refuses(reply.as_slice()) {
+            return Some(Received::Message(reply));
+        }
+        None
+    }
+
+    /// Does what becomes of a query of the caller, and gives what is to be handed on.
+    fn follow(&mut self, lookup: Lookup, course: Course) -> Option<Received>
+        ensures { IfSome result (λ it. IfMessage it (HandsOn self.new.options.form)) }
+    {
+        match course {
+            Course::Open => self.put(lookup),
+            Course::Replied(reply) => return self.give(lookup, reply),
+            Course::Over => self.end(lookup),
+            Course::Closed => return tell_closed(lookup),
+        }
+        None
+    }
+
     /// Takes the end of a query, and gives what is to be handed on.
     fn take(&mut self, end: End) -> Option<Received>
         ensures { IfSome result (λ it. IfMessage it (HandsOn self.new.options.form)) }
     {
-        let Some(mut lookup) = self.lookups.take_number(end.query.number) else {
-            return None;
-        };
-        match self.settle(&mut lookup, end) {
-            Course::Open => {
-                self.put(lookup);
-                None
-            }
-            Course::Replied(reply) => {
-                self.transport.leave(lookup.number);
-                if self.refuses(reply.as_slice()) {
-                    return None;
-                }
-                Some(Received::Message(reply))
-            }
-            Course::Over => {
-                self.transport.leave(lookup.number);
-                None
-            }
-            Course::Closed => Some(Received::Closed(lookup.id())),
-        }
+        let mut lookup = self.lookups.take_number(end.query.number)?;
+        let course = self.settle(&mut lookup, end);
+        self.follow(lookup, course)
     }
 
     /// Tells of a query that no server takes, or takes the ends that are known, until one gives
@@ -684,8 +741,8 @@ impl<S: System + Drop, G: Rng + Drop> MessageWire for ServerWire<S, G> {
 
     fn leave(&mut self, id: u16) {
         self.closed.retain(|it| *it != id);
-        if let Some(lookup) = self.lookups.take_id(id) {
-            self.transport.leave(lookup.number);
+        if let Some(number) = self.lookups.leave_id(id) {
+            self.transport.leave(number);
         }
     }
 

@@ -284,7 +284,7 @@ impl<S: System + Drop> Transport<S> {
         self.links.leave_idle(now);
         let most = self.wait_at(now).min(most);
         self.ready.clear();
-        let _waited = self.system.wait(most, &mut self.ready);
+        drop(self.system.wait(most, &mut self.ready));
         for key in self.ready.iter() {
             self.links.mark_ready(*key);
         }

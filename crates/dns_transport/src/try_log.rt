@@ -36,6 +36,20 @@ fn asked_in(alloc: Global, query: &[u8]) -> Result<Option<Asked>, AllocError>
     }
 }
 
+/// What is kept of a message that came.
+fn reply_of(alloc: Global, came_at: Duration, message: &[u8]) -> Result<WireReply, AllocError>
+    ensures { IfOk result (spec.IsReplyTo (spec.id_of message.now)) }
+{
+    let rcode = rcode_of(alloc, message)?;
+    let found = message_in(alloc, message)?;
+    Ok(WireReply {
+        rcode,
+        octets: message.len(),
+        message: found,
+        came_at,
+    })
+}
+
 /// How much went over a wire, and each try where tries are kept.
 #[derive(Drop)]
 pub(crate) struct TryLog {
@@ -117,14 +131,7 @@ impl TryLog {
         requires of_id { HoldsAt (λ one. one.id ≡ spec.id_of message.now) self.old.tries at }
         ensures { self.new.counts ≡ self.old.counts }
     {
-        let found = message_in(self.alloc, message)?;
-        let rcode = rcode_of(self.alloc, message)?;
-        let reply = WireReply {
-            rcode,
-            octets: message.len(),
-            message: found,
-            came_at,
-        };
+        let reply = reply_of(self.alloc, came_at, message)?;
         self.tries[at].reply = Some(reply);
         Ok(())
     }
