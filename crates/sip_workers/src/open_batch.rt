@@ -112,11 +112,13 @@ impl<'a, W: Wire, C: Clock> OpenBatch<'a, W, C> {
         ensures stands { IfOk result
             (λ it. (seat : SeatView) → Stands W.gives C.shows seat it) }
     {
+        let outcomes = unknown(alloc, jobs.len())?;
+        let resolver = Resolver::new(alloc, limits_for(jobs.len()), ids)?;
         Ok(OpenBatch {
             jobs,
             begun: 0,
-            resolver: Resolver::new(alloc, limits_for(jobs.len()), ids)?,
-            outcomes: unknown(alloc, jobs.len())?,
+            resolver,
+            outcomes,
         })
     }
 
