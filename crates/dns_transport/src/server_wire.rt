@@ -696,8 +696,9 @@ impl<S: System + Drop, G: Rng + Drop> ServerWire<S, G> {
     /// Keeps that no server takes a query. Where memory is refused for that, the query is open,
     /// until its caller waits for it no more.
     fn put_closed(&mut self, lookup: Lookup) {
-        if self.closed.push(lookup.id()).is_err() {
-            self.put(lookup);
+        match self.closed.push(lookup.id()) {
+            Ok(()) => drop(lookup),
+            Err(_) => self.put(lookup),
         }
     }
 
