@@ -1,6 +1,7 @@
 //! Where a request goes, as far as its questions are answered (RFC 3263 4.1, 4.2, 5).
-ghost use Rattle.std.specs.Prelude.{◌≡◌, ◌*◌, ◌≤◌, ◌∷◌, ◌++◌, [], List, IfOk, OnErr, OnOk, length, Ok};
+ghost use Rattle.std.specs.Prelude.{◌≡◌, ◌*◌, ◌≤◌, ◌∷◌, ◌++◌, [], ℕ, Bool, List, IfOk, OnErr, OnOk, length, Ok};
 ghost use Rattle.std.specs.Arc.{arc_value};
+ghost use Rattle.sip_selection.specs.Callers.{CapsValue};
 ghost use Rattle.sip_selection.specs.Choice as spec;
 ghost use Rattle.sip_selection.specs.Consulting as consult;
 ghost use Rattle.sip_selection.specs.Known as known_as;
@@ -11,6 +12,7 @@ ghost use Rattle.sip_uri.specs.declared.host.Host.TheVariants as host;
 ghost use Rattle.sip_selection.specs.Requests.{IsRequestView, is_secure, request_of, target_of};
 ghost use Rattle.sip_selection.specs.Rules as rules;
 ghost use Rattle.sip_selection.specs.Stages as left_of;
+ghost use Rattle.sip_selection.specs.declared.target.Target as target;
 
 use crate::boxed::Boxed;
 use crate::caps::Caps;
@@ -108,6 +110,26 @@ fn ended<'s, S: AnswerSource>(
     }
 }
 
+/// The stage of services at which a question comes up, once more.
+fn stage_along(
+    alloc: Global,
+    candidates: &Arc<Candidates>,
+    service_stage: Boxed<ServiceStage>,
+) -> Result<Boxed<Stage>, AllocError>
+    requires few { left_of.CandidatesFits (arc_value candidates.now) }
+    requires words { (left_of.position_of service_stage).word ≤ 32 *
+        (left_of.position_of service_stage).service }
+    ensures fits { IfOk result left_of.StageFits }
+    ensures left { IfOk result (λ stage. (secure : Bool) (caps : CapsValue) (words : List ℕ)
+        (name : List (List ℕ)) (found : List target.Target) (all : List known_as.Given)
+        → left_of.stage_left secure caps words name stage found all
+        ≡ left_of.service_stage_left caps words name all (arc_value candidates.now).services.items
+        (arc_value candidates.now).fallback service_stage found) }
+{
+    let candidates = Arc::try_clone(candidates)?;
+    Boxed::new(alloc, Stage::Along(candidates, service_stage))
+}
+
 /// The services that are looked for, from a stage on.
 fn along<'s, S: AnswerSource>(
     walk: &mut Walk<'s>,
@@ -145,10 +167,30 @@ fn along<'s, S: AnswerSource>(
             ended(walk, seat, context, candidates.fallback, position)
         }
         ServiceStep::Stop(service_stage, question) => {
-            let stage = Stage::Along(Arc::try_clone(candidates)?, service_stage);
-            Ok(Step::Ask(question, Boxed::new(context.alloc, stage)?))
+            let stage = stage_along(context.alloc, candidates, service_stage)?;
+            Ok(Step::Ask(question, stage))
         }
     }
+}
+
+/// The stage of services at which a question comes up first.
+fn first_stage_along(
+    alloc: Global,
+    candidates: Candidates,
+    service_stage: Boxed<ServiceStage>,
+) -> Result<Boxed<Stage>, AllocError>
+    requires few { left_of.CandidatesFits candidates }
+    requires words { (left_of.position_of service_stage).word ≤ 32 *
+        (left_of.position_of service_stage).service }
+    ensures fits { IfOk result left_of.StageFits }
+    ensures left { IfOk result (λ stage. (secure : Bool) (caps : CapsValue) (words : List ℕ)
+        (name : List (List ℕ)) (found : List target.Target) (all : List known_as.Given)
+        → left_of.stage_left secure caps words name stage found all
+        ≡ left_of.service_stage_left caps words name all candidates.services.items
+        candidates.fallback service_stage found) }
+{
+    let candidates = Arc::new(alloc, candidates)?;
+    Boxed::new(alloc, Stage::Along(candidates, service_stage))
 }
 
 /// The services that are looked for, from the first on.
@@ -183,9 +225,8 @@ fn along_all<'s, S: AnswerSource>(
             ended(walk, seat, context, candidates.fallback, position)
         }
         ServiceStep::Stop(service_stage, question) => {
-            let candidates = Arc::new(context.alloc, candidates)?;
-            let stage = Stage::Along(candidates, service_stage);
-            Ok(Step::Ask(question, Boxed::new(context.alloc, stage)?))
+            let stage = first_stage_along(context.alloc, candidates, service_stage)?;
+            Ok(Step::Ask(question, stage))
         }
     }
 }

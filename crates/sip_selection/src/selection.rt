@@ -236,6 +236,27 @@ pub enum Choice {
     Asks(Selection),
 }
 
+/// A step, and the targets and the answers that were found before it. The answers are kept only
+/// where a question is asked.
+fn found_with(
+    alloc: Global,
+    walk: Walk<'_>,
+    step: Step,
+) -> Result<(Step, Vec<Target>, Known), AllocError>
+    ensures step { IfOk result (λ found. found.0 ≡ step) }
+    ensures targets { IfOk result (λ found. found.1 ≡ walk.entry.targets) }
+    ensures known { IfOk result (λ found. IsAsking step → found.2 ≡ walk.entry.known) }
+    ensures memory { OnErr result (IsAsking step) }
+{
+    match &step {
+        Step::Found | Step::Refused(_) => Ok((step, walk.targets, Known::new(alloc))),
+        Step::Ask(_, _) => {
+            let (targets, known) = walk.behind(0)?;
+            Ok((step, targets, known))
+        }
+    }
+}
+
 /// What a choice over a source begins with, and the targets and the answers that are found.
 fn begun_over<'s, S: AnswerSource>(
     known: &'s Known,
@@ -261,13 +282,7 @@ fn begun_over<'s, S: AnswerSource>(
 {
     let mut walk = Walk::after(alloc, known);
     let step = begin(&mut walk, seat, source, alloc, request, caps, words)?;
-    match &step {
-        Step::Found | Step::Refused(_) => Ok((step, walk.targets, Known::new(alloc))),
-        Step::Ask(_, _) => {
-            let (targets, known) = walk.behind(0)?;
-            Ok((step, targets, known))
-        }
-    }
+    found_with(alloc, walk, step)
 }
 
 /// The choice where these targets are all that were found.

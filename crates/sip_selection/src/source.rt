@@ -1,12 +1,13 @@
 //! Where answers come from that a choice was not given.
-ghost use Rattle.std.specs.Prelude.{◌≡◌, ⊤, IfOk, MatchResult, Ok, Option, Some, None};
+ghost use Rattle.std.specs.Prelude.{◌≡◌, ◌≤◌, ◌∷◌, ◌++◌, [], ⊤, IfOk, OnErr, OnOk, MatchResult, Ok, Err, Option, Some, None};
 ghost use Rattle.std.specs.Option.{option_map};
 ghost use Rattle.dns_answers.specs.Found.{answer_in};
+ghost use Rattle.dns_answers.specs.Records.{count_of};
 ghost use Rattle.dns_answers.specs.Values.{AnswerValue};
 ghost use Rattle.sip_selection.specs.Consulting as spec;
 ghost use Rattle.sip_selection.specs.Known.{answer_to};
 ghost use Rattle.sip_selection.specs.Stages.{Extends};
-ghost use Rattle.sip_selection.specs.Views.{LacksAt, StopsAt};
+ghost use Rattle.sip_selection.specs.Views.{LacksAt, StopsAt, hash_of_name};
 ghost use Rattle.sip_selection.specs.declared.source.Stop.TheVariants as stop;
 ghost use Rattle.dns_message.specs.declared.question.Question as question;
 
@@ -94,6 +95,61 @@ impl<T: Drop> From<AllocFailed<T>> for Stop {
     }
 }
 
+/// Adds an answer of the source, which is given from then on.
+fn add<'s>(
+    walk: &mut Walk<'s>,
+    name_hash: u64,
+    question: Question,
+    answer: FoundAnswer<'s>,
+) -> Result<FoundAnswer<'s>, AllocError>
+    requires { name_hash ≡ hash_of_name question.name }
+    ensures answer { IfOk result (λ found. answer_in found ≡ answer_in answer.entry) }
+    ensures added { OnOk result (walk.new.known ≡ walk.old.known
+        ++ record { question = question; answer = answer_in answer.entry } ∷ []) }
+    ensures unchanged { OnErr result (walk.new.known ≡ walk.old.known) }
+    ensures targets { walk.new.targets ≡ walk.old.targets }
+    ensures few { count_of (answer_in answer.entry).records ≤ 32 }
+{
+    // an answer has few records
+    let _records = answer.as_arc().records();
+    let found = answer.try_clone()?;
+    walk.known.push(name_hash, question, answer)?;
+    Ok(found)
+}
+
+/// The answer of the source to a question without one, which is given from then on; or that
+/// question.
+fn drawn<'s, S: AnswerSource>(
+    walk: &mut Walk<'s>,
+    seat: &mut S::Seat,
+    context: &Context<'_, 's, S>,
+    name_hash: u64,
+    question: Question,
+) -> Result<FoundAnswer<'s>, Stop>
+    requires hash { name_hash ≡ hash_of_name question.name }
+    requires unknown { answer_to walk.old.known question ≡ Err question }
+    requires needs { spec.Needs (spec.inquiry context.now) walk.old.known
+        (λ all. answer_to all question) }
+    requires consulted { spec.Consulted (S.ready context.now.source.now) S.goes
+        (S.says context.now.source.now) (spec.inquiry context.now) context.now.start.value
+        seat.old walk.old.known }
+    ensures consulted { spec.Consulted (S.ready context.now.source.now) S.goes
+        (S.says context.now.source.now) (spec.inquiry context.now) context.now.start.value
+        seat.new walk.new.known }
+    ensures extends { Extends walk.old.known walk.new.known }
+    ensures targets { walk.new.targets ≡ walk.old.targets }
+    ensures answer { MatchResult result
+        (λ answer. answer_to walk.new.known question ≡ Ok (answer_in answer))
+        (λ it. StopsAt it (answer_to walk.new.known question)) }
+    ensures lacks { MatchResult result (λ _. ⊤)
+        (LacksAt (S.says context.now.source.now seat.new)) }
+{
+    match context.source.answer(seat, &question)? {
+        Some(answer) => Ok(add(walk, name_hash, question, answer)?),
+        None => Err(Stop::Need(Boxed::new(context.alloc, question)?)),
+    }
+}
+
 /// The answer to the question for this kind of records of a name: the one that was given, or else
 /// the one of the source, which is given from then on; or that question.
 pub(crate) fn answer_from<'s, S: AnswerSource>(
@@ -121,17 +177,12 @@ pub(crate) fn answer_from<'s, S: AnswerSource>(
         (LacksAt (S.says context.now.source.now seat.new)) }
 {
     let name_hash = hash_of_name(name);
-    if let Some(answer) = walk.known.answer_to(name_hash, name, kind)? {
-        return Ok(answer);
+    match walk.known.answer_to(name_hash, name, kind)? {
+        Some(answer) => Ok(answer),
+        None => {
+            let name = name.try_clone()?;
+            let question = Question { name, kind };
+            drawn(walk, seat, context, name_hash, question)
+        }
     }
-    let name = name.try_clone()?;
-    let question = Question { name, kind };
-    let Some(answer) = context.source.answer(seat, &question)? else {
-        return Err(Stop::Need(Boxed::new(context.alloc, question)?));
-    };
-    // an answer has few records
-    let _records = answer.as_arc().records();
-    let found = answer.try_clone()?;
-    walk.known.push(name_hash, question, answer)?;
-    Ok(found)
 }

@@ -1,4 +1,4 @@
-use Rattle.std.proofs.Common.{[], ◌∙◌}
+use Rattle.std.proofs.Common.{[], ◌++◌, ◌∙◌, sym}
 use Rattle.std.specs.Arc.{arc_value}
 use Rattle.sip_selection.specs.Stages.{ended, service_stage_left}
 use Rattle.sip_selection.proofs.Choosing.{goes-then, position-ended}
@@ -49,12 +49,13 @@ returns-in-Position-clause-extends g c =
     ok-each _ _ (λ _ on. extends-on c.args.walk.now.known c.push_from.new.walk.known c.ended.new.walk.known
     c.in_ok-position.ensures.extends on) c.ended.result c.ended.ensures.extends
 
-pub returns-in_ok-new-in-Stop-clause-goes : goal.returns-in_ok-new-in-Stop-clause-goes
-returns-in_ok-new-in-Stop-clause-goes g c = λ front.
+pub returns-in_ok-stage-in-Stop-clause-goes : goal.returns-in_ok-stage-in-Stop-clause-goes
+returns-in_ok-stage-in-Stop-clause-goes g c = λ front.
+    let b = c.args.context.now in
     let candidates = arc_value c.args.candidates.now in
     let walks = rw (c.deref-2.ensures.value, c.deref.ensures, c.in-Stop.is) at c.in_ok-position.ensures.left in
-    let fits = rw c.in-Stop.is at c.in_ok-position.ensures.fits in
-    rw (c.question.view_is, c.in_ok-new-in-Stop.ensures, c.in_ok-try_clone-in-Stop.ensures) (
-      (walks candidates.fallback front).0,
-      ((walks candidates.fallback front).1, (c.requires.few, fits)),
+    let found = front ++ c.push_from.new.walk.targets.items in
+    let left = c.in_ok-stage-in-Stop.ensures.left b.secure b.caps.now b.words.now.0 b.name.now found in (
+      λ all extends. (walks candidates.fallback front).0 all extends ∙ sym (left all),
+      (left c.push_from.new.walk.known ∙ (walks candidates.fallback front).1, c.in_ok-stage-in-Stop.ensures.fits),
     )

@@ -1,4 +1,4 @@
-use Rattle.std.proofs.Common.{[], ◌++◌, ◌∙◌}
+use Rattle.std.proofs.Common.{[], ◌++◌, ◌∙◌, sym}
 use Rattle.sip_selection.specs.Choice.{along}
 use Rattle.sip_selection.specs.Known.{made}
 use Rattle.sip_selection.specs.Stages.{ended, in_front}
@@ -62,15 +62,15 @@ returns-in-Position-clause-extends g c =
     ok-each _ _ (λ _ on. extends-on c.args.walk.now.known c.push_services.new.walk.known c.ended.new.walk.known
     c.in_ok-position.ensures.extends on) c.ended.result c.ended.ensures.extends
 
-pub returns-in_ok-new-in-Stop-clause-goes : goal.returns-in_ok-new-in-Stop-clause-goes
-returns-in_ok-new-in-Stop-clause-goes g c = λ front.
+pub returns-in_ok-stage-in-Stop-clause-goes : goal.returns-in_ok-stage-in-Stop-clause-goes
+returns-in_ok-stage-in-Stop-clause-goes g c = λ front.
     let a = c.args in
     let b = a.context.now in
     let candidates = a.candidates in
     let walks = rw (c.deref.ensures.value, c.start.ensures, c.in-Stop.is) at c.in_ok-position.ensures.left in
-    let fits = rw c.in-Stop.is at c.in_ok-position.ensures.fits in
-    rw (c.question.view_is, c.in_ok-new-in-Stop.ensures, c.in_ok-candidates-in-Stop.ensures.ok) (
+    let left = c.in_ok-stage-in-Stop.ensures.left b.secure b.caps.now b.words.now.0 b.name.now
+    (front ++ c.push_services.new.walk.targets.items) in (
       λ all extends. along-left b.caps.now b.words.now.0 b.name.now all candidates.fallback (front ++ a.walk.now.targets.items)
-          candidates.services.items ∙ (walks candidates.fallback front).0 all extends,
-      ((walks candidates.fallback front).1, (c.requires.few, fits)),
+          candidates.services.items ∙ (walks candidates.fallback front).0 all extends ∙ sym (left all),
+      (left c.push_services.new.walk.known ∙ (walks candidates.fallback front).1, c.in_ok-stage-in-Stop.ensures.fits),
     )
