@@ -1,5 +1,5 @@
 -- What an index tells, as its log grows and nodes are added.
-use Rattle.std.proofs.Common.{◌≡◌, ◌↔◌, ℕ, ◌+◌, ◌≤◌, ◌⊎◌, inl, inr, Bool, true, false, IsTrue, List, [], ◌∷◌, ◌++◌, length, Option, Some, None}
+use Rattle.std.proofs.Common.{◌≡◌, ◌↔◌, ℕ, ◌+◌, ◌≤◌, inl, inr, Bool, true, false, IsTrue, List, [], ◌∷◌, ◌++◌, length, Option, Some, None}
 use Rattle.std.proofs.Common.{IfOk, Result, Ok, Err, if◌then◌else◌, ◌-◌, ◌<◌, get_or, refl, sym, ap, ◌∙◌, subst, append_assoc, arith, take}
 use Rattle.std.proofs.lemmas.List.{length-append, length-take-le, take_more}
 use Rattle.std.proofs.Math.Seq.{take-length}
@@ -10,7 +10,7 @@ use Rattle.dns_message.specs.declared.question.Question.{Question}
 use Rattle.answer_log.specs.Groups.{hash_of, hashed_of}
 use Rattle.answer_log.specs.Handles.{IsLog, IsPlaced}
 use Rattle.answer_log.specs.Histories.{in_group, stores_of}
-use Rattle.answer_log.specs.Logs.{In, history, top}
+use Rattle.answer_log.specs.Logs.{In, history}
 use Rattle.answer_log.specs.Cursors.{Ahead}
 use Rattle.answer_log.specs.declared.event.Event.{Event}
 use Rattle.answer_log.specs.declared.event.Event.TheVariants.{Placed}

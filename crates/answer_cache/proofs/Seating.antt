@@ -1,6 +1,6 @@
 -- New seats, and what a seat has after a store.
 use Rattle.std.proofs.Common.{◌≡◌, ◌+◌, ◌<◌, ◌==◌, ℕ, zero, suc, List, [], ◌∷◌, ◌++◌, length, map, MatchResult, OnOk, Ok, Err, refl, ap}
-use Rattle.std.proofs.Common.{subst, ◌∙◌, arith, rules}
+use Rattle.std.proofs.Common.{subst, sym, ◌∙◌, arith, rules}
 use Rattle.std.proofs.lemmas.Bool.{eq-eqb}
 use Rattle.std.proofs.lemmas.List.{length-append, map-append}
 use Rattle.std.proofs.lemmas.List.Elements.{All-cons, All-map, All-nil, filter-append}
@@ -10,15 +10,16 @@ use Rattle.logbook.specs.Pages.{Book}
 use Rattle.dns_answers.specs.Values.{AnswerValue}
 use Rattle.dns_message.specs.declared.question.Question.{Question}
 use Rattle.answer_log.specs.Groups.{group_of}
-use Rattle.answer_log.specs.Handles.{EndsWith, IsNew, SeesMore}
+use Rattle.answer_log.specs.Handles.{EndsWith, IsNew, SeesMore, spent_of}
 use Rattle.answer_log.specs.Histories.{IsFull, IsHistory, IsSound, in_group, mine}
 use Rattle.answer_log.specs.Logs.{history}
 use Rattle.answer_log.specs.Steps.{store_by}
 use Rattle.answer_log.specs.declared.event.Event.{Event}
 use Rattle.answer_log.specs.declared.handle.Handle.{Handle}
 use Rattle.answer_log.specs.declared.store.Store.{Store}
-use Rattle.answer_cache.specs.Seats.{IsStored, Offer, offer_of}
-use Rattle.answer_cache.specs.Shared.{Belongs, CacheView, SharedView, cache_view, new_seat, view_of}
+use Rattle.answer_cache.specs.Nodes.{Costs, Holds}
+use Rattle.answer_cache.specs.Seats.{GoesOn, IsStored, Offer, StoresNothing, offer_of}
+use Rattle.answer_cache.specs.Shared.{Belongs, CacheView, SharedView, Takes, cache_view, new_seat, view_of}
 
 range-more : (from size : ℕ) → range_with_len from (suc size) ≡ range_with_len from size ++ (from + size) ∷ []
 range-more from zero = let same : from ≡ from + 0 = omega arith in ap (λ n. n ∷ []) same
@@ -107,3 +108,28 @@ stored (Ok a) handle noted view new number offered question answer moment is sam
       own = ap (λ n. mine (history new) n) same ∙ (own-one-more end.front (history new) store end.last ∙ ap (λ l. l ++ store ∷ []) end.own);
     })
 stored (Err e) handle noted view new number offered question answer moment is same lives it end = tt
+
+-- what a seat has after a call that stores nothing
+module _ (h k : Handle) (noted : List Offer) (cache : CacheView) (view : SharedView) (is : view_of h noted ≡ view) where
+  pub stays : Belongs cache view → Holds cache.book h k → IsHistory (history k.book.log) → Belongs cache (view_of k noted)
+  stays it holds history =
+      let made : cache_view h.book.book h.seats ≡ cache = ap (λ v. v.cache) is ∙ it.made in
+      let book : k.book.book ≡ h.book.book = holds.same ∙ sym (ap (λ v. v.book) made) in record {
+        made = (λ i. cache_view (book i) (holds.seats i)) ∙ made;
+        is = record { own = refl; history = history };
+      }
+
+  pub goes-on : Holds cache.book h k → SeesMore h.number h.book.log k.book.log → GoesOn view.seat (view_of k noted).seat
+  goes-on holds sees =
+      let V : SharedView → Type 0 = λ v. GoesOn v.seat (view_of k noted).seat in
+      subst V is (record { number = holds.number; seen = sees.stores })
+
+  pub stores-nothing : Holds cache.book h k → SeesMore h.number h.book.log k.book.log → StoresNothing view.seat (view_of k noted).seat
+  stores-nothing holds sees =
+      let V : SharedView → Type 0 = λ v. StoresNothing v.seat (view_of k noted).seat in
+      subst V is (record { own = ap (λ n. mine (history k.book.log) n) holds.number ∙ sees.own; offered = refl })
+
+  pub takes : (links tries : ℕ) → Costs (spent_of h) (spent_of k) links tries → Takes view (view_of k noted) links tries
+  takes links tries costs =
+      let V : SharedView → Type 0 = λ v. Takes v (view_of k noted) links tries in
+      subst V is (record { along = costs.along; tried = costs.tried })

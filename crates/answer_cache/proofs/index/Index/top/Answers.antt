@@ -1,4 +1,4 @@
-use Rattle.std.proofs.Common.{◌≡◌, ◌-◌, ◌∷◌, ◌++◌, [], List, ap, get_or, length, sym, take, ◌∙◌}
+use Rattle.std.proofs.Common.{◌-◌, ap, get_or, length, sym, take, ◌∙◌}
 use Rattle.answer_cache.specs.Indexes.{top_of}
 use Rattle.answer_cache.specs.declared.index.IndexEntry.{IndexEntry}
 use Rattle.answer_cache.proofs.Indexing.{last-entry, top-last}

@@ -1,14 +1,16 @@
-use Rattle.std.proofs.Common.{◌≡◌, ◌∷◌, [], List, None, Some, ap, arith, is_ok, refl, subst, sym, ◌∙◌}
+use Rattle.std.proofs.Common.{[], List, None, ap, arith, is_ok, refl, subst, sym, ◌∙◌}
+use Rattle.std.proofs.lemmas.List.{append-nil, nil_from_length}
 use Rattle.std.specs.List.{last_or}
+use Rattle.answer_log.specs.Handles.{spent_of}
 use Rattle.answer_log.specs.Histories.{stores_of}
-use Rattle.answer_log.specs.declared.store.Store.{Store}
 use mathlib.Core.List.{IsPrefix}
 use Rattle.answer_log.specs.declared.event.Event.{Event}
 use Rattle.answer_cache.specs.Indexes.{IsIndex, Tells, TellsAll}
-use Rattle.answer_cache.specs.Nodes.{IsLastOf, store_in}
+use Rattle.answer_cache.specs.Nodes.{store_in}
 use Rattle.answer_cache.specs.declared.index.Index.{Index}
 use Rattle.answer_cache.specs.declared.index.IndexEntry.{IndexEntry}
-use Rattle.answer_cache.proofs.Indexing.{ahead-told, front_trans, index-pushed, last-on, shorter, tells-later}
+use Rattle.answer_cache.proofs.Costing as costs
+use Rattle.answer_cache.proofs.Indexing.{ahead-one, ahead-told, front_trans, index-pushed, last-on, ok-found, shorter, tells-later}
 use Rattle.answer_cache.proofs.Lookups.{last-before, last-here}
 use Rattle.answer_cache.proofs.shared_cache.SharedCache.+last_ahead.Goals.{else-is_of, else-top-before, then-is_of, then-top-before}
 use Rattle.answer_cache.proofs.shared_cache.SharedCache.+last_ahead.Goals as goal
@@ -95,4 +97,106 @@ returns-clause-last t c left ahead =
           rw w.last-is (last-on q left met.0 _
           (ap (λ stores. last_or None (stores_of q stores)) met.2 ∙ last-before q met.0 store (sym c.is_of.ensures ∙ w.if-is_of.false))
           (c.in_ok-older.ensures.last met.0 met.3))
+    ]
+
+-- ---- where the index tells what is ahead
+
+pub returns-then-cursor-top-clause-same : goal.returns-then-cursor-top-clause-same
+returns-then-cursor-top-clause-same t c = c.last_in.ensures.same
+
+pub returns-then-cursor-top-clause-last : goal.returns-then-cursor-top-clause-last
+returns-then-cursor-top-clause-last t c =
+    let a = c.args in
+    let log = a.cursor.now.seen.log in
+    ok-found c.last_in.result (λ found it left ahead. it left
+    (ahead-told a.self.now.book a.cursor.now a.index.now log left c.law_log_keeps_its_rule.ensures ([], append-nil log) c.requires.behind
+    c.requires.index ahead (c.if-cursor-top.true ∙ c.top.ensures))) c.last_in.ensures.last
+
+pub returns-then-cursor-top-clause-costs : goal.returns-then-cursor-top-clause-costs
+returns-then-cursor-top-clause-costs t c =
+    costs.with_links (spent_of c.args.handle.now) (spent_of c.last_in.new.handle) c.args.links c.last_in.ensures.costs
+
+-- ---- where nothing is ahead
+
+pub returns-in_default-clause-same : goal.returns-in_default-clause-same
+returns-in_default-clause-same t c = costs.same-itself c.args.handle.now c.requires.handle
+
+pub returns-in_default-clause-last : goal.returns-in_default-clause-last
+returns-in_default-clause-last t c left ahead =
+    let here = c.requires.ahead in
+    let less = c.in_default.ensures in
+    let few = here.2 in
+    let one = ahead-one c.args.cursor.now left here.0 c.law_log_keeps_its_rule.ensures ahead here.1 in
+    rw (one ∙ nil_from_length here.0 (omega arith)) refl
+
+pub returns-in_default-clause-costs : goal.returns-in_default-clause-costs
+returns-in_default-clause-costs t c = costs.free-of (spent_of c.args.handle.now) c.args.links
+
+-- ---- where a step is refused, or there is none
+
+pub returns-in_err-node-clause-same : goal.returns-in_err-node-clause-same
+returns-in_err-node-clause-same t c = c.step.ensures.same
+
+pub returns-in_err-node-clause-behind : goal.returns-in_err-node-clause-behind
+returns-in_err-node-clause-behind t c =
+    front_trans c.args.index.now.seen.log c.args.cursor.now.seen.log c.step.new.cursor.seen.log c.requires.behind c.step.ensures.later
+
+pub returns-in_err-node-clause-costs : goal.returns-in_err-node-clause-costs
+returns-in_err-node-clause-costs t c =
+    let less = c.in-Some.ensures in
+    costs.first (spent_of c.args.handle.now) (spent_of c.step.new.handle) c.in-Some.links c.args.links (omega arith) c.step.ensures.costs
+
+pub returns-in_default-2-clause-same : goal.returns-in_default-2-clause-same
+returns-in_default-2-clause-same t c = c.step.ensures.same
+
+pub returns-in_default-2-clause-behind : goal.returns-in_default-2-clause-behind
+returns-in_default-2-clause-behind t c =
+    front_trans c.args.index.now.seen.log c.args.cursor.now.seen.log c.step.new.cursor.seen.log c.requires.behind c.step.ensures.later
+
+pub returns-in_default-2-clause-costs : goal.returns-in_default-2-clause-costs
+returns-in_default-2-clause-costs t c =
+    let less = c.in-Some.ensures in
+    costs.first (spent_of c.args.handle.now) (spent_of c.step.new.handle) c.in-Some.links c.args.links (omega arith) c.step.ensures.costs
+
+-- ---- after the steps that follow
+
+pub returns-in_err-older-clause-same : goal.returns-in_err-older-clause-same
+returns-in_err-older-clause-same t c =
+    costs.same-handle c.args.handle.now c.step.new.handle c.last_ahead.new.handle c.step.ensures.same c.last_ahead.ensures.same
+
+pub returns-in_err-older-clause-later : goal.returns-in_err-older-clause-later
+returns-in_err-older-clause-later t c =
+    front_trans c.args.cursor.now.seen.log c.step.new.cursor.seen.log c.last_ahead.new.cursor.seen.log c.step.ensures.later
+    c.last_ahead.ensures.later
+
+pub returns-in_err-older-clause-costs : goal.returns-in_err-older-clause-costs
+returns-in_err-older-clause-costs t c =
+    let less = c.in-Some.ensures in
+    costs.first_and (spent_of c.args.handle.now) (spent_of c.step.new.handle) (spent_of c.last_ahead.new.handle) c.in-Some.links
+    c.args.links
+    (omega arith) c.step.ensures.costs c.last_ahead.ensures.costs
+
+pub returns-clause-same : goal.returns-clause-same
+returns-clause-same t c =
+    costs.same-handle c.args.handle.now c.step.new.handle c.last_ahead.new.handle c.step.ensures.same c.last_ahead.ensures.same
+
+pub returns-clause-later : goal.returns-clause-later
+returns-clause-later t c =
+    front_trans c.args.cursor.now.seen.log c.step.new.cursor.seen.log c.last_ahead.new.cursor.seen.log c.step.ensures.later
+    c.last_ahead.ensures.later
+
+pub returns-clause-costs : goal.returns-clause-costs
+returns-clause-costs t c =
+    let less = c.in-Some.ensures in
+    costs.first_and (spent_of c.args.handle.now) (spent_of c.step.new.handle) (spent_of c.last_ahead.new.handle) c.in-Some.links
+    c.args.links
+    (omega arith) c.step.ensures.costs c.last_ahead.ensures.costs
+
+pub returns-clause-behind : goal.returns-clause-behind
+returns-clause-behind t c =
+    let K : Index → Type 0 = λ it. IsPrefix it.seen.log c.last_ahead.new.cursor.seen.log in
+    elim c.if-top-before.branch [
+      | then-top-before w ↦
+          subst K (sym w.index-is) ([], append-nil w.again.result.log ∙ ap (λ b. b.log) w.again.ensures)
+      | else-top-before w ↦ subst K (sym w.index-is) c.last_ahead.ensures.behind
     ]

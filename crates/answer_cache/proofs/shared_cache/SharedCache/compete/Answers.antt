@@ -2,11 +2,12 @@ use Rattle.std.proofs.Common.{◌+◌, ◌-◌, ◌*◌, ℕ, arith, sym, ◌∙
 use Rattle.std.proofs.lemmas.List.{append-nil}
 use Rattle.std.proofs.lemmas.Result.{err_from_is_err_and}
 use Rattle.answer_log.specs.Groups.{group_limit}
-use Rattle.answer_log.specs.Handles.{SeesMore, spent_of}
+use Rattle.answer_log.specs.Handles.{EndsWith, SeesMore, spent_of}
 use Rattle.answer_log.specs.Logs.{history}
-use Rattle.answer_cache.specs.Nodes.{IsReady}
+use Rattle.answer_cache.specs.Nodes.{IsReady, store_in}
 use Rattle.answer_cache.proofs.Costing as costs
-use Rattle.answer_cache.proofs.Placing.{longer, ready-on, sees-trans}
+use Rattle.answer_cache.proofs.Gathering.{holds-on}
+use Rattle.answer_cache.proofs.Placing.{ends-on, longer, ready-on, sees-trans}
 use Rattle.answer_cache.proofs.shared_cache.SharedCache.compete.Goals as goal
 
 pub tries-init : goal.tries-init
@@ -91,3 +92,52 @@ tries-preserved g c =
           (costs.tried _ _ it.spent));
       tried = let a = i.tried in let b = c.in_ok-old.ensures.costs.before in let m = costs.more _ _ it.spent in omega arith;
     }
+
+pub returns-then-attempt-clause-costs : goal.returns-then-attempt-clause-costs
+returns-then-attempt-clause-costs g c = costs.first-try (spent_of c.args.handle.now) (spent_of c.attempt.new.handle) c.attempt.ensures.spent
+
+pub returns-in_err-old-clause-holds : goal.returns-in_err-old-clause-holds
+returns-in_err-old-clause-holds g c =
+    let i = c.tries.invariant in
+    holds-on c.args.self.now.book c.args.handle.now c.tries.handle c.room.new.handle
+    (record { handle = i.handle; number = i.number.0; seats = i.number.1; same = i.book.0; names = i.names }) c.room.ensures.holds
+
+pub returns-in_err-old-clause-costs : goal.returns-in_err-old-clause-costs
+returns-in_err-old-clause-costs g c =
+    let i = c.tries.invariant in
+    costs.some-tries (spent_of c.args.handle.now) (spent_of c.tries.handle) c.tries.number i.least (omega arith) i.costs
+    (spent_of c.room.new.handle) (omega arith) c.room.ensures.costs
+
+pub returns-then-attempt-2-clause-holds : goal.returns-then-attempt-2-clause-holds
+returns-then-attempt-2-clause-holds g c =
+    let i = c.tries.invariant in
+    let book = c.args.self.now.book in
+    let h = c.args.handle.now in
+    holds-on book h c.room.new.handle c.attempt-in-tries.new.handle
+    (holds-on book h c.tries.handle c.room.new.handle
+    (record { handle = i.handle; number = i.number.0; seats = i.number.1; same = i.book.0; names = i.names }) c.room.ensures.holds)
+    c.attempt-in-tries.ensures.holds
+
+pub returns-then-attempt-2-clause-costs : goal.returns-then-attempt-2-clause-costs
+returns-then-attempt-2-clause-costs g c =
+    let i = c.tries.invariant in
+    costs.last-try (spent_of c.args.handle.now) (spent_of c.tries.handle) c.tries.number i.least (omega arith) i.costs
+    (spent_of c.room.new.handle) (spent_of c.attempt-in-tries.new.handle) (omega arith) c.room.ensures.costs
+    c.attempt-in-tries.ensures.spent
+
+pub returns-then-attempt-2-clause-competed : goal.returns-then-attempt-2-clause-competed
+returns-then-attempt-2-clause-competed g c =
+    let h = c.args.handle.now in
+    let i = c.tries.invariant in
+    let k = c.room.new.handle in
+    let t = c.attempt-in-tries.new.handle in
+    let S : ℕ → Type 0 = λ n. SeesMore n c.tries.handle.book.log k.book.log in
+    let E : ℕ → Type 0 = λ n. EndsWith (store_in n c.args.node.now) (history k.book.log) (history t.book.log) in
+    ends-on (store_in h.number c.args.node.now) h.book.log k.book.log t.book.log
+    (sees-trans h.number h.book.log c.tries.handle.book.log k.book.log i.seen (subst S i.number.0 c.room.ensures.seen))
+    (subst E (c.room.ensures.holds.number ∙ i.number.0) c.if-attempt-2.ensures.placed)
+
+pub returns-clause-holds : goal.returns-clause-holds
+returns-clause-holds g c =
+    let i = c.tries.invariant in
+    record { handle = i.handle; number = i.number.0; seats = i.number.1; same = i.book.0; names = i.names }

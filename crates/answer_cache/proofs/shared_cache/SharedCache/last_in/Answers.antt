@@ -1,4 +1,4 @@
-use Rattle.std.proofs.Common.{◌≡◌, ◌-◌, ℕ, List, ap, length, refl, subst, sym, take, get_or, arith, ◌∙◌}
+use Rattle.std.proofs.Common.{◌-◌, ℕ, List, ap, length, refl, subst, sym, take, get_or, arith, ◌∙◌}
 use Rattle.logbook.specs.Pages.{Book}
 use Rattle.dns_message.specs.Questions.{same_question}
 use Rattle.answer_log.specs.Handles.{IsNamed}

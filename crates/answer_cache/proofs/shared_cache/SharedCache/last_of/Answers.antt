@@ -1,9 +1,13 @@
-use Rattle.std.proofs.Common.{ℕ, ◌%◌, None, ap, subst, sym, ◌∙◌}
+use Rattle.std.proofs.Common.{ℕ, ◌%◌, List, None, ap, subst, sym, ◌∙◌}
 use Rattle.std.specs.List.{last_or}
-use Rattle.answer_log.specs.Groups.{group_of}
+use Rattle.answer_log.specs.Groups.{group_limit, group_of}
+use Rattle.answer_log.specs.Handles.{SeesMore, spent_of}
 use Rattle.answer_log.specs.Histories.{in_group, stores_of}
 use Rattle.answer_log.specs.Logs.{history}
 use Rattle.answer_log.specs.Cursors.{Ahead}
+use Rattle.answer_log.specs.Spending.{Spending}
+use Rattle.answer_log.specs.declared.event.Event.{Event}
+use Rattle.answer_cache.specs.Nodes.{Costs}
 use Rattle.answer_cache.proofs.Indexing.{last-on, ok-found}
 use Rattle.answer_cache.proofs.Lookups.{grouped}
 use Rattle.answer_cache.proofs.shared_cache.SharedCache.last_of.Goals as goal
@@ -20,3 +24,26 @@ returns-clause-last c =
     ok-found c.last_ahead.result (λ found it. last-on q (history c.last_ahead.new.handle.book.log) (in_group (group_of q) stores) _
     (ap (λ w. last_or None (stores_of q w)) same ∙ ap (last_or None) (sym (grouped c.law_same_questions_are_equal.ensures q stores)))
     (it (in_group (group_of q) stores) ahead)) c.last_ahead.ensures.last
+
+pub returns-clause-holds : goal.returns-clause-holds
+returns-clause-holds c =
+    let cursor = c.cursor_after-cursor.ensures in
+    let it = c.last_ahead.ensures.same in
+    record {
+      handle = it.handle;
+      number = it.number ∙ cursor.number.0;
+      seats = it.seats ∙ cursor.number.1;
+      same = ap (λ b. b.book) it.book ∙ (cursor.book.0 ∙ ap (λ v. v.book) c.self.view_is);
+      names = ap (λ b. b.names) it.book ∙ cursor.book.1;
+    }
+
+pub returns-clause-seen : goal.returns-clause-seen
+returns-clause-seen c =
+    let h = c.args.handle.now in
+    let S : List Event → Type 0 = λ log. SeesMore h.number h.book.log log in
+    subst S (sym (ap (λ b. b.log) c.last_ahead.ensures.same.book)) c.cursor_after-cursor.ensures.seen
+
+pub returns-clause-costs : goal.returns-clause-costs
+returns-clause-costs c =
+    let C : Spending → Type 0 = λ spent. Costs spent (spent_of c.last_ahead.new.handle) group_limit 0 in
+    subst C c.cursor_after-cursor.ensures.spent c.last_ahead.ensures.costs

@@ -1,9 +1,12 @@
 use Rattle.std.proofs.Common.{ℕ, ap, arith, subst, refl, ◌∙◌}
 use Rattle.std.proofs.lemmas.Result.{err_from_is_err_and}
 use Rattle.std.specs.Arc.{arc_value}
+use Rattle.answer_log.specs.Groups.{group_limit}
 use Rattle.answer_log.specs.Handles.{SeesMore, spent_of}
 use Rattle.answer_log.specs.Steps.{store_by}
 use Rattle.answer_cache.specs.Nodes.{store_in}
+use Rattle.answer_cache.proofs.Costing as costing
+use Rattle.answer_cache.proofs.Gathering.{holds-on}
 use Rattle.answer_cache.proofs.Placing.{leaves-on, lost-on, put-on, sees-trans, store-is}
 use Rattle.answer_cache.proofs.shared_cache.SharedCache.put.Goals as goal
 
@@ -55,3 +58,31 @@ returns-clause-leaves g c =
     (let a = ap (λ s. s.tries) spent in omega (arith, costs.before)) (let a = ap (λ s. s.missed) spent in omega (arith, costs.missed))
     c.compete.ensures.tried c.in_ok-pushed.ensures.made.0
     c.make_ready.ensures.seen.later c.in_ok-old.ensures.room.0 its
+
+pub returns-in_err-old-clause-costs : goal.returns-in_err-old-clause-costs
+returns-in_err-old-clause-costs g c =
+    costing.look-alone (spent_of c.args.handle.now) (spent_of c.room.new.handle) c.room.ensures.costs
+
+pub returns-in_err-pushed-clause-holds : goal.returns-in_err-pushed-clause-holds
+returns-in_err-pushed-clause-holds g c =
+    holds-on c.args.self.now.book c.args.handle.now c.room.new.handle c.make_ready.new.handle c.room.ensures.holds
+    c.make_ready.ensures.holds
+
+pub returns-in_err-pushed-clause-costs : goal.returns-in_err-pushed-clause-costs
+returns-in_err-pushed-clause-costs g c =
+    let old = spent_of c.args.handle.now in
+    let new = spent_of c.make_ready.new.handle in
+    costing.look-alone old new
+    (costing.same old (spent_of c.room.new.handle) new group_limit 0 c.make_ready.ensures.spent c.room.ensures.costs)
+
+pub returns-clause-holds : goal.returns-clause-holds
+returns-clause-holds g c =
+    let book = c.args.self.now.book in
+    let h = c.args.handle.now in
+    holds-on book h c.make_ready.new.handle c.compete.new.handle
+    (holds-on book h c.room.new.handle c.make_ready.new.handle c.room.ensures.holds c.make_ready.ensures.holds) c.compete.ensures.holds
+
+pub returns-clause-costs : goal.returns-clause-costs
+returns-clause-costs g c =
+    costing.look-and_more (spent_of c.args.handle.now) (spent_of c.room.new.handle) (spent_of c.make_ready.new.handle)
+    (spent_of c.compete.new.handle) c.make_ready.ensures.spent c.room.ensures.costs c.compete.ensures.costs
