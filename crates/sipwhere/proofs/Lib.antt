@@ -2,3 +2,4 @@ mod Floats
 mod Later
 mod Meant
 mod Shown
+mod Words

@@ -12,3 +12,5 @@ pub mod Jsons
 pub mod Reports
 pub mod Runs
 pub mod Terminals
+pub mod CommandLine
+pub mod Plans

@@ -10,14 +10,26 @@ use Rattle.sipwhere.specs.declared.line.Line.{Line}
 use Rattle.sipwhere.specs.declared.report.Style.{Style}
 use Rattle.sipwhere.specs.declared.sender.Sender.{Sender}
 
--- the report of a text was printed, and the status is that of what became of it; or the status is 5
+-- the report of a text was printed, and the status is that of what became of it
+abbrev pub IsPrinted : Option (List ℕ) → Option (List ℕ) → Style → List WireTry → List ℕ
+    → LineOutcome → ℕ → Type 0
+IsPrinted old new style tries text line_outcome status =
+    Appends old new (traced_report style tries text line_outcome)
+    × (status ≡ status_in style.report line_outcome)
+
+-- the same, or the status is 5
 abbrev pub IsTold : Option (List ℕ) → Option (List ℕ) → Style → List WireTry → List ℕ → LineOutcome
     → ℕ
     → Type 0
 IsTold old new style tries text line_outcome status =
-    (Appends old new (traced_report style tries text line_outcome)
-    × (status ≡ status_in style.report line_outcome))
-    ⊎ (status ≡ 5)
+    IsPrinted old new style tries text line_outcome status ⊎ (status ≡ 5)
+
+-- The same of an output that takes more: where the report was not printed, for want of memory,
+-- nothing was.
+abbrev pub IsToldWhole : Option (List ℕ) → Option (List ℕ) → Style → List WireTry → List ℕ
+    → LineOutcome → ℕ → Type 0
+IsToldWhole old new style tries text line_outcome status =
+    IsPrinted old new style tries text line_outcome status ⊎ ((new ≡ old) × (status ≡ 5))
 
 -- what became of a line is printed, after what went over the wire for it
 pub record Tells (gives : List ℕ → Type 0) (shows : ℕ → Type 0) (seat : SeatView) (sender : Sender)

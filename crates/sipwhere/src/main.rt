@@ -5,6 +5,7 @@ ghost use Rattle.std.specs.Prelude.{◌≡◌, ◌≤◌, IfOk};
 
 mod address;
 mod check_line;
+mod command_line;
 mod counting_book;
 mod json;
 mod line;
@@ -34,9 +35,12 @@ mod trace;
 use check_line::UNKNOWN_STATUS;
 use clap::Error;
 use clap::error::ErrorKind;
-use options::{OptionFault, Options, command, read_options};
+use command_line::command;
+use options::{OptionFault, Options, read_options};
+use plan::resolver_path;
 use report::Report;
 use run::run;
+use run_fault::RunFault;
 use std::env;
 use std::io::{self, IsTerminal};
 use std::net::Net;
@@ -82,6 +86,14 @@ fn fault_status(report: Report) -> u8
     }
 }
 
+/// Tells on standard error why nothing is asked, and of which resolver file where it is one.
+fn tell_fault<R: Eprint>(rt: &R, options: &Options<'_>, fault: &RunFault) {
+    let _ = match fault {
+        RunFault::ResolverFile(_) => eprintln!(rt; "sipwhere: {}: {fault}", resolver_path(options)),
+        _ => eprintln!(rt; "sipwhere: {fault}"),
+    };
+}
+
 /// Does what the options ask for, and gives the status. A fault is reported on standard error.
 fn run_as<R: Wait + Input + Print + Eprint + Files + Net + RandomSource + Clock + AllocGlobal>(
     rt: &R,
@@ -92,8 +104,8 @@ fn run_as<R: Wait + Input + Print + Eprint + Files + Net + RandomSource + Clock 
     match run(rt, options) {
         Ok(FAULT_STATUS) => fault_status(options.report),
         Ok(status) => status,
-        Err(error) => {
-            let _ = eprintln!(rt; "sipwhere: {error}");
+        Err(fault) => {
+            tell_fault(rt, options, &fault);
             fault_status(options.report)
         }
     }

@@ -1,12 +1,20 @@
 //! The words after the program's name.
-ghost use Rattle.std.specs.Prelude.{◌≡◌, ◌≤◌, IfOk};
+ghost use Rattle.std.specs.Prelude.{◌≡◌, ◌⊎◌, ◌↔◌, List, Some, map, codes, not, option_map};
+ghost use Rattle.std.specs.Prelude.{IfErr, IfOk, IsTrue, OnOk};
+ghost use Rattle.std.specs.List.{AllZip, Any};
+ghost use Rattle.std.specs.Net.Grammar.{IsIpText};
+ghost use Rattle.clap.specs.Matches.{found_of, one_text};
+ghost use Rattle.sip_selection.specs.Callers.{AreOffered};
+ghost use Rattle.sipwhere.specs.CommandLine as spec;
+ghost use Rattle.sipwhere.specs.Servers.{ServerText};
+ghost use Rattle.sipwhere.specs.declared.options.OptionFault.TheVariants as fault;
 
 use crate::address::AddressForm;
 use crate::report::{Report, Style};
 use crate::seed::key_from_text;
 use crate::server_text::{local_from_text, server_from_text};
 use crate::terminals::{Terminals, form_for, shows_progress};
-use clap::{Arg, ArgAction, ArgMatches, Command, value_parser};
+use clap::ArgMatches;
 use dns_transport::QueryForm;
 use sip_selection::{Caps, Families};
 use sip_uri::Transport;
@@ -46,6 +54,9 @@ pub struct Options<'a> {
     /// The texts, or `-` for the lines of the standard input.
     pub texts: Vec<&'a str>,
 }
+
+/// How long one text may take where the words don't say, in milliseconds.
+const TOTAL: u32 = 10_000;
 
 /// What is wrong with the options.
 #[derive(Clone, Copy, Debug, PartialEq, Eq, Error)]
@@ -102,154 +113,20 @@ impl<'a> Options<'a> {
     }
 }
 
-/// An option with one value.
-fn value<'a>(alloc: Global, name: &'a str, word: &'a str, help: &'a str) -> Arg<'a> {
-    Arg::new(alloc, name).long(name).value_name(word).help(help)
+/// Whether an option without a word of its own is given.
+fn is_set(matches: &ArgMatches<'_>, name: &str) -> bool
+    ensures { spec.IsFlag matches.now name.now result }
+{
+    matches.get_flag(name)
 }
 
-/// An option without a value.
-fn flag<'a>(alloc: Global, name: &'a str, help: &'a str) -> Arg<'a> {
-    Arg::new(alloc, name)
-        .long(name)
-        .action(ArgAction::SetTrue)
-        .help(help)
-}
-
-/// With the options of whom to ask.
-fn with_servers<'a>(alloc: Global, command: Command<'a>) -> Result<Command<'a>, AllocError> {
-    command
-        .arg(
-            value(
-                alloc,
-                "server",
-                "ADDRESS[:PORT]",
-                "A name server; may be repeated",
-            )
-            .short('s')
-            .action(ArgAction::Append),
-        )?
-        .arg(value(
-            alloc,
-            "resolver-file",
-            "FILE",
-            "The file that names servers where none is named, /etc/resolv.conf if not given",
-        ))?
-        .arg(flag(alloc, "tcp", "Ask over TCP alone"))
-}
-
-/// With the options of how to ask.
-fn with_asking<'a>(alloc: Global, command: Command<'a>) -> Result<Command<'a>, AllocError> {
-    command
-        .arg(
-            value(alloc, "bind", "ADDRESS", "The local address to ask from")
-                .short('b')
-                .conflicts_with("tcp")?,
-        )?
-        .arg(flag(alloc, "norecurse", "Queries without RD"))?
-        .arg(
-            value(
-                alloc,
-                "edns",
-                "SIZE",
-                "Queries with EDNS (RFC 6891) for datagrams of up to SIZE octets",
-            )
-            .num_args(0..=1)
-            .require_equals(true)
-            .default_missing_value("1232")
-            .value_parser(value_parser!(u16).range(512..=4_096)),
-        )
-}
-
-/// With the options of what can be sent.
-fn with_sender<'a>(alloc: Global, command: Command<'a>) -> Result<Command<'a>, AllocError> {
-    command
-        .arg(
-            value(
-                alloc,
-                "families",
-                "FAMILIES",
-                "The families of addresses, in their order",
-            )
-            .value_parser(["4", "6", "46", "64"].as_slice())
-            .default_value("46"),
-        )?
-        .arg(
-            value(
-                alloc,
-                "transports",
-                "LIST",
-                "What can be sent, the preferred one first",
-            )
-            .short('t')
-            .value_delimiter(',')
-            .value_parser(["udp", "tcp", "tls", "sctp"].as_slice())
-            .default_value("udp,tcp,tls,sctp"),
-        )
-}
-
-/// With the options of how long, and of the random words.
-fn with_limits<'a>(alloc: Global, command: Command<'a>) -> Result<Command<'a>, AllocError> {
-    command
-        .arg(
-            value(
-                alloc,
-                "total",
-                "MS",
-                "How long one URI may take, in milliseconds",
-            )
-            .value_parser(value_parser!(u32).range(1..=600_000))
-            .default_value("10000"),
-        )?
-        .arg(value(alloc, "seed", "HEX", "The key of the random words and ids"))
-}
-
-/// With the options of what is printed.
-fn with_output<'a>(alloc: Global, command: Command<'a>) -> Result<Command<'a>, AllocError> {
-    command
-        .arg(flag(
-            alloc,
-            "short",
-            "IPv6 addresses in their short form (RFC 5952), as on a terminal",
-        ))?
-        .arg(flag(alloc, "json", "An object of JSON for each URI"))?
-        .arg(flag(alloc, "check", "One line for a monitoring system").conflicts_with("json")?)?
-        .arg(
-            flag(
-                alloc,
-                "trace",
-                "A line for each query in front of what it led to",
-            )
-            .conflicts_with("json")?
-            .conflicts_with("check")?,
-        )?
-        .arg(flag(alloc, "stats", "How much was asked, on standard error"))
-}
-
-/// The command line that the program takes.
-pub fn command<'a>(alloc: Global) -> Result<Command<'a>, AllocError> {
-    let command = Command::new(alloc, "sipwhere")
-        .bin_name("sipwhere")?
-        .version("0.1.0")
-        .about("Where SIP requests are sent (RFC 3263), asked of DNS servers")
-        .after_help(
-            "Exit status: 0 targets for all; 1 no server answered for one; 2 a refusal;\n\
-             3 a bad URI; 4 usage; 5 a fault; the gravest of many",
-        );
-    let command = with_servers(alloc, command)?;
-    let command = with_asking(alloc, command)?;
-    let command = with_sender(alloc, command)?;
-    let command = with_limits(alloc, command)?;
-    with_output(alloc, command)?.arg(
-        Arg::new(alloc, "uri")
-            .value_name("URI")
-            .required(true)
-            .num_args(1..)
-            .help("SIP or SIPS URIs, or `Via: ..`; `-` for one on each line of standard input"),
-    )
-}
-
-/// The servers that are named.
-fn servers_of(alloc: Global, words: &[&str]) -> Result<Vec<SocketAddr>, OptionFault> {
+/// The servers of words.
+fn servers_of(alloc: Global, words: &[&str]) -> Result<Vec<SocketAddr>, OptionFault>
+    ensures read { IfOk result (λ servers.
+        AllZip (λ word server. ServerText word.now server) words.now servers.items) }
+    ensures refused { IfErr result (λ it. (it ≡ fault.Memory) ⊎ ((it ≡ fault.Server)
+        × Any (λ word. spec.SpellsNothing ServerText word.now) words.now)) }
+{
     let mut servers = Vec::new(alloc);
     'words: for word in words {
         match server_from_text(word) {
@@ -260,8 +137,21 @@ fn servers_of(alloc: Global, words: &[&str]) -> Result<Vec<SocketAddr>, OptionFa
     Ok(servers)
 }
 
+/// The servers that are named.
+fn servers_in(alloc: Global, matches: &ArgMatches<'_>) -> Result<Vec<SocketAddr>, OptionFault>
+    ensures read { IfOk result (λ servers.
+        AllZip ServerText (spec.words_of matches.now (codes "server")) servers.items) }
+    ensures refused { IfErr result (spec.IsFault matches.now) }
+{
+    servers_of(alloc, matches.get_strs("server").unwrap_or(&[]))
+}
+
 /// The local address of a word, where there is one.
-fn local_of(word: Option<&str>) -> Result<Option<IpAddr>, OptionFault> {
+fn local_of(word: Option<&str>) -> Result<Option<IpAddr>, OptionFault>
+    ensures read { IfOk result (spec.Says IsIpText (option_map (λ word. word.now) word.entry)) }
+    ensures refused { IfErr result (λ it. (it ≡ fault.Local)
+        × spec.SaysNothing IsIpText (option_map (λ word. word.now) word.entry)) }
+{
     match word {
         None => Ok(None),
         Some(word) => match local_from_text(word) {
@@ -272,15 +162,21 @@ fn local_of(word: Option<&str>) -> Result<Option<IpAddr>, OptionFault> {
 }
 
 /// The form in which queries go out.
-fn query_form_of(matches: &ArgMatches<'_>) -> QueryForm {
+fn query_form_of(matches: &ArgMatches<'_>) -> QueryForm
+    ensures recursion { spec.IsFlag matches.now (codes "norecurse") (not result.recursion) }
+    ensures edns { spec.MaySay (spec.NumberText 16)
+        (one_text (found_of matches.now) (codes "edns")) result.edns }
+{
     QueryForm {
-        recursion: !matches.get_flag("norecurse"),
+        recursion: !is_set(matches, "norecurse"),
         edns: matches.get_one::<u16>("edns"),
     }
 }
 
 /// The families of a word.
-fn families_of(word: &str) -> Families {
+fn families_of(word: &str) -> Families
+    ensures { result ≡ spec.families_of word.now }
+{
     match word {
         "4" => Families::V4,
         "6" => Families::V6,
@@ -289,8 +185,20 @@ fn families_of(word: &str) -> Families {
     }
 }
 
+/// The families of a word, where there is one, and else those of both kinds.
+fn families_or_both(word: Option<&str>) -> Families
+    ensures { result ≡ spec.families_or_both (option_map (λ word. word.now) word.entry) }
+{
+    match word {
+        Some(word) => families_of(word),
+        None => Families::V4ThenV6,
+    }
+}
+
 /// The transport of a word.
-fn transport_of(word: &str) -> Option<Transport> {
+fn transport_of(word: &str) -> Option<Transport>
+    ensures { result ≡ spec.transport_of word.now }
+{
     match word {
         "udp" => Some(Transport::Udp),
         "tcp" => Some(Transport::Tcp),
@@ -300,8 +208,14 @@ fn transport_of(word: &str) -> Option<Transport> {
     }
 }
 
-/// What can be sent.
-fn caps_of(alloc: Global, words: &[&str], families: Families) -> Result<Caps, OptionFault> {
+/// The transports of words.
+fn transports_of(alloc: Global, words: &[&str]) -> Result<Vec<Transport>, OptionFault>
+    ensures read { IfOk result (λ transports.
+        AllZip (λ word transport. spec.IsTransport word.now transport) words.now
+        transports.items) }
+    ensures refused { IfErr result (λ it. (it ≡ fault.Memory) ⊎ ((it ≡ fault.Transports)
+        × Any (λ word. spec.IsNoTransport word.now) words.now)) }
+{
     let mut transports = Vec::new(alloc);
     'words: for word in words {
         match transport_of(word) {
@@ -309,11 +223,62 @@ fn caps_of(alloc: Global, words: &[&str], families: Families) -> Result<Caps, Op
             None => return Err(OptionFault::Transports),
         }
     }
-    Caps::new(transports.as_slice(), families).ok_or(OptionFault::Transports)
+    Ok(transports)
+}
+
+/// The transports that are named.
+fn transports_in(alloc: Global, matches: &ArgMatches<'_>) -> Result<Vec<Transport>, OptionFault>
+    ensures read { IfOk result (λ transports. AllZip spec.IsTransport
+        (spec.words_of matches.now (codes "transports")) transports.items) }
+    ensures refused { IfErr result (spec.IsFault matches.now) }
+{
+    transports_of(alloc, matches.get_strs("transports").unwrap_or(&[]))
+}
+
+/// What can be sent over these transports, to addresses of these families.
+fn caps_of(transports: &[Transport], families: Families) -> Result<Caps, OptionFault>
+    ensures made { IfOk result
+        (λ caps. caps ≡ record { transports = transports.now; families = families }) }
+    ensures offered { OnOk result (AreOffered transports.now) }
+    ensures refused { IfErr result
+        (λ it. (it ≡ fault.Transports) × (AreOffered transports.now → ⊥)) }
+{
+    match Caps::new(transports, families) {
+        Some(caps) => Ok(caps),
+        None => Err(OptionFault::Transports),
+    }
+}
+
+/// What can be sent.
+fn caps_in(alloc: Global, matches: &ArgMatches<'_>) -> Result<Caps, OptionFault>
+    ensures read { IfOk result (λ caps.
+        spec.AreTransports (spec.words_of matches.now (codes "transports")) caps.transports) }
+    ensures families { IfOk result (λ caps. caps.families
+        ≡ spec.families_or_both (spec.word_of matches.now (codes "families"))) }
+    ensures refused { IfErr result (spec.IsFault matches.now) }
+{
+    let transports = transports_in(alloc, matches)?;
+    let families = families_or_both(matches.get_str("families"));
+    caps_of(transports.as_slice(), families)
+}
+
+/// The milliseconds that one text may take.
+fn total_of(matches: &ArgMatches<'_>) -> u32
+    ensures { spec.IsTotal (one_text (found_of matches.now) (codes "total")) result }
+{
+    match matches.get_one::<u32>("total") {
+        Some(total) => total,
+        None => TOTAL,
+    }
 }
 
 /// The key of a word, where there is one.
-fn seed_of(word: Option<&str>) -> Result<Option<[u8; 32]>, OptionFault> {
+fn seed_of(word: Option<&str>) -> Result<Option<[u8; 32]>, OptionFault>
+    ensures read { IfOk result
+        (spec.Says spec.SeedText (option_map (λ word. word.now) word.entry)) }
+    ensures refused { IfErr result (λ it. (it ≡ fault.Seed)
+        × spec.SaysNothing spec.SeedText (option_map (λ word. word.now) word.entry)) }
+{
     match word {
         None => Ok(None),
         Some(word) => match key_from_text(word) {
@@ -324,22 +289,60 @@ fn seed_of(word: Option<&str>) -> Result<Option<[u8; 32]>, OptionFault> {
 }
 
 /// What is printed of a text.
-fn report_of(matches: &ArgMatches<'_>) -> Report {
-    if matches.get_flag("check") {
+fn report_of(matches: &ArgMatches<'_>) -> Report
+    ensures { spec.IsReport matches.now result }
+{
+    if is_set(matches, "check") {
         return Report::Check;
     }
-    if matches.get_flag("json") {
+    if is_set(matches, "json") {
         return Report::Json;
     }
     Report::Lines
 }
 
+/// Whether there is one text, and it stands for itself.
+fn is_one_text(texts: &[&str]) -> bool
+    ensures { IsTrue result ↔ spec.IsOneText (map (λ text. text.now) texts.now) }
+{
+    match texts {
+        ["-"] => false,
+        [_] => true,
+        _ => false,
+    }
+}
+
 /// Whether texts can be reported so: a check is of one text.
-fn can_report(report: Report, texts: &[&str]) -> bool {
+fn can_report(report: Report, texts: &[&str]) -> bool
+    ensures { IsTrue result ↔ spec.CanReport report (map (λ text. text.now) texts.now) }
+{
     match report {
         Report::Lines | Report::Json => true,
-        Report::Check => texts.len() == 1 && texts[0] != "-",
+        Report::Check => is_one_text(texts),
     }
+}
+
+/// What is printed of the texts that are given.
+fn report_in(matches: &ArgMatches<'_>) -> Result<Report, OptionFault>
+    ensures read { IfOk result (spec.IsReport matches.now) }
+    ensures can { IfOk result
+        (λ report. spec.CanReport report (spec.words_of matches.now (codes "uri"))) }
+    ensures refused { IfErr result (spec.IsFault matches.now) }
+{
+    let report = report_of(matches);
+    if can_report(report, matches.get_strs("uri").unwrap_or(&[])) {
+        Ok(report)
+    } else {
+        Err(OptionFault::Check)
+    }
+}
+
+/// The texts that are given.
+fn texts_in<'a>(alloc: Global, matches: &ArgMatches<'a>) -> Result<Vec<&'a str>, AllocError>
+    ensures { IfOk result (λ texts.
+        map (λ text. text.now) texts.items ≡ spec.words_of matches.now (codes "uri")) }
+{
+    Vec::from_slice(alloc, matches.get_strs("uri").unwrap_or(&[]))
 }
 
 /// The options that the words of the command line give.
@@ -347,28 +350,25 @@ pub fn read_options<'a>(
     alloc: Global,
     matches: &ArgMatches<'a>,
     terminals: Terminals,
-) -> Result<Options<'a>, OptionFault> {
-    let families = families_of(matches.get_str("families").unwrap_or("46"));
-    let transports = matches.get_strs("transports").unwrap_or(&[]);
-    let texts = matches.get_strs("uri").unwrap_or(&[]);
-    let report = report_of(matches);
-    if !can_report(report, texts) {
-        return Err(OptionFault::Check);
-    }
+) -> Result<Options<'a>, OptionFault>
+    ensures read { IfOk result (spec.AreOptions matches.now terminals) }
+    ensures refused { IfErr result (spec.IsFault matches.now) }
+{
+    let report = report_in(matches)?;
     Ok(Options {
-        servers: servers_of(alloc, matches.get_strs("server").unwrap_or(&[]))?,
+        servers: servers_in(alloc, matches)?,
         resolver_file: matches.get_str("resolver-file"),
-        over_tcp: matches.get_flag("tcp"),
+        over_tcp: is_set(matches, "tcp"),
         local: local_of(matches.get_str("bind"))?,
         query_form: query_form_of(matches),
-        caps: caps_of(alloc, transports, families)?,
-        total: matches.get_one::<u32>("total").unwrap_or(10_000),
+        caps: caps_in(alloc, matches)?,
+        total: total_of(matches),
         seed: seed_of(matches.get_str("seed"))?,
         report,
-        form: form_for(matches.get_flag("short"), report, terminals),
-        traced: matches.get_flag("trace"),
-        stats: matches.get_flag("stats"),
+        form: form_for(is_set(matches, "short"), report, terminals),
+        traced: is_set(matches, "trace"),
+        stats: is_set(matches, "stats"),
         shows_progress: shows_progress(terminals),
-        texts: Vec::from_slice(alloc, texts)?,
+        texts: texts_in(alloc, matches)?,
     })
 }

@@ -1,5 +1,6 @@
 //! Whom to ask.
-ghost use Rattle.std.specs.Prelude.{◌≡◌, IfOk};
+ghost use Rattle.std.specs.Prelude.{◌≡◌, IfErr, IfOk};
+ghost use Rattle.sipwhere.specs.Plans as plans;
 ghost use Rattle.sipwhere.specs.Servers as spec;
 
 use crate::options::Options;
@@ -22,7 +23,9 @@ pub struct Plan {
 }
 
 /// The server of an address in a resolver file.
-fn server_at(address: Address) -> SocketAddr {
+fn server_at(address: Address) -> SocketAddr
+    ensures { plans.IsServerAt address result }
+{
     let address = match address {
         Address::V4(octets) => IpAddr::from(octets),
         Address::V6(octets) => IpAddr::from(octets),
@@ -32,6 +35,11 @@ fn server_at(address: Address) -> SocketAddr {
 
 /// The system's resolver file (resolv.conf(5)).
 const SYSTEM_FILE: &str = "/etc/resolv.conf";
+
+/// The resolver file that is read where no servers are named.
+pub fn resolver_path<'a>(options: &Options<'a>) -> &'a str {
+    options.resolver_file.unwrap_or(SYSTEM_FILE)
+}
 
 /// The octets of the system's resolver file; none where it is not there.
 fn octets_of_system<R: Files + AllocGlobal>(rt: &R, alloc: Global) -> io::Result<Vec<u8>> {
@@ -55,7 +63,9 @@ fn octets_of<R: Files + AllocGlobal>(
 }
 
 /// The plan of a resolver file.
-fn plan_of(alloc: Global, file: &ResolverFile, over_tcp: bool) -> Result<Plan, AllocError> {
+fn plan_of(alloc: Global, file: &ResolverFile, over_tcp: bool) -> Result<Plan, AllocError>
+    ensures { IfOk result (plans.IsOfFile file.now over_tcp) }
+{
     let mut servers = Vec::new(alloc);
     'addresses: for address in file.servers() {
         servers.push(server_at(*address))?;
@@ -91,7 +101,10 @@ fn servers_from(
 }
 
 /// The same plan from a local address: datagrams to servers of its family.
-fn plan_from(alloc: Global, local: IpAddr, plan: Plan) -> Result<Plan, RunFault> {
+fn plan_from(alloc: Global, local: IpAddr, plan: Plan) -> Result<Plan, RunFault>
+    ensures kept { IfOk result (plans.IsFrom local plan) }
+    ensures refused { IfErr result (plans.IsNotFrom local plan) }
+{
     if plan.over_tcp {
         return Err(RunFault::LocalOverTcp);
     }
@@ -116,7 +129,9 @@ fn warn<R: Eprint>(rt: &R, path: &str, file: &ResolverFile) {
 fn read_servers<R: Files + Eprint + AllocGlobal>(
     rt: &R,
     options: &Options<'_>,
-) -> Result<Plan, RunFault> {
+) -> Result<Plan, RunFault>
+    ensures { IfOk result (plans.IsWhole options.now) }
+{
     let alloc = rt.alloc();
     if !options.servers.is_empty() {
         return Ok(Plan {
@@ -129,7 +144,7 @@ fn read_servers<R: Files + Eprint + AllocGlobal>(
         Err(error) => return Err(RunFault::ResolverFile(error)),
     };
     let file = ResolverFile::read(alloc, octets.as_slice())?;
-    warn(rt, options.resolver_file.unwrap_or(SYSTEM_FILE), &file);
+    warn(rt, resolver_path(options), &file);
     Ok(plan_of(alloc, &file, options.over_tcp)?)
 }
 
@@ -138,7 +153,9 @@ fn read_servers<R: Files + Eprint + AllocGlobal>(
 pub fn read_plan<R: Files + Eprint + AllocGlobal>(
     rt: &R,
     options: &Options<'_>,
-) -> Result<Plan, RunFault> {
+) -> Result<Plan, RunFault>
+    ensures { IfOk result (plans.IsPlan options.now) }
+{
     let plan = read_servers(rt, options)?;
     match options.local {
         Some(local) => plan_from(rt.alloc(), local, plan),

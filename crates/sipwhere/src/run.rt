@@ -1,5 +1,6 @@
 //! Texts, from their words to what is printed.
-ghost use Rattle.std.specs.Prelude.{◌<◌, ◌≤◌, IfOk};
+ghost use Rattle.std.specs.Prelude.{◌≡◌, ◌*◌, ◌<◌, ◌≤◌, IfOk};
+ghost use Rattle.std.specs.Duration.{as_nanos};
 
 use crate::counting_book::CountingBook;
 use crate::line::{Line, lines_in, numbered};
@@ -165,12 +166,19 @@ fn locate_input<
 }
 
 /// How long one text may take.
-fn total_of(options: &Options<'_>) -> Duration {
+fn total_of(options: &Options<'_>) -> Duration
+    ensures { as_nanos result ≡ options.now.total * 1000000 }
+{
     Duration::from_millis(u64::from(options.total))
 }
 
 /// How the wire asks.
-fn wire_options(options: &Options<'_>, plan: &Plan) -> WireOptions {
+fn wire_options(options: &Options<'_>, plan: &Plan) -> WireOptions
+    ensures tcp { result.over_tcp ≡ plan.now.over_tcp }
+    ensures form { result.form ≡ options.now.query_form }
+    ensures tries { result.keeps_tries ≡ options.now.traced }
+    ensures total { as_nanos result.total ≡ options.now.total * 1000000 }
+{
     WireOptions {
         over_tcp: plan.over_tcp,
         form: options.query_form,

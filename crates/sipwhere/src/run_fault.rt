@@ -33,12 +33,20 @@ impl From<io::Error> for RunFault {
 }
 
 impl From<AllocError> for RunFault {
+    ghost use Rattle.sipwhere.specs.Plans.{IsOfSystem};
+
+    ghost from_gives = { λ _ fault. IsOfSystem fault };
+
     fn from(error: AllocError) -> RunFault {
         RunFault::System(io::Error::from(error))
     }
 }
 
 impl<T: Drop> From<AllocFailed<T>> for RunFault {
+    ghost use Rattle.sipwhere.specs.Plans.{IsOfSystem};
+
+    ghost from_gives = { λ _ fault. IsOfSystem fault };
+
     fn from(error: AllocFailed<T>) -> RunFault {
         RunFault::System(io::Error::from(error))
     }

@@ -1,6 +1,7 @@
 //! Name servers and local addresses in words.
-ghost use Rattle.std.specs.Prelude.{IfSome};
+ghost use Rattle.std.specs.Prelude.{IfNone, IfSome};
 ghost use Rattle.std.specs.Net.Grammar.{IsIpText};
+ghost use Rattle.sipwhere.specs.CommandLine.{SpellsNothing};
 ghost use Rattle.sipwhere.specs.Servers.{ServerText};
 
 use std::net::{IpAddr, SocketAddr};
@@ -12,6 +13,7 @@ pub const SERVER_PORT: u16 = 53;
 /// IPv6 is in brackets.
 pub fn server_from_text(text: &str) -> Option<SocketAddr>
     ensures found { IfSome result (ServerText text.now) }
+    ensures none { IfNone result (SpellsNothing ServerText text.now) }
 {
     match text.parse::<IpAddr>() {
         Ok(address) => Some(SocketAddr::new(address, SERVER_PORT)),
@@ -22,6 +24,7 @@ pub fn server_from_text(text: &str) -> Option<SocketAddr>
 /// The local address of a word: an address without a port.
 pub fn local_from_text(text: &str) -> Option<IpAddr>
     ensures found { IfSome result (IsIpText text.now) }
+    ensures none { IfNone result (SpellsNothing IsIpText text.now) }
 {
     text.parse::<IpAddr>().ok()
 }

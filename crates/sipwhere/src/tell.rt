@@ -1,8 +1,8 @@
 //! What is printed of a text, and its status.
-ghost use Rattle.std.specs.Prelude.{◌≡◌, ◌≤◌, ◌||◌, IsTrue, OnOk};
+ghost use Rattle.std.specs.Prelude.{◌≡◌, ◌≤◌, ◌||◌, IsFalse, IsTrue, OnOk};
 ghost use Rattle.std.specs.Io.KnownBytes.{Appends};
 ghost use Rattle.sipwhere.specs.Lines.{graver_of};
-ghost use Rattle.sipwhere.specs.Runs.{IsTold};
+ghost use Rattle.sipwhere.specs.Runs.{IsTold, IsToldWhole};
 
 use crate::line_outcome::{LineOutcome, graver_of};
 use crate::report::{Style, status_in, traced_report};
@@ -69,6 +69,8 @@ pub fn tell<O: Write>(
         line_outcome.now result.status }
     ensures range { result.status ≤ 5 }
     ensures closed { IsTrue result.is_closed → result.status ≡ 5 }
+    ensures open { IsFalse result.is_closed → IsToldWhole (O.contents output.old)
+        (O.contents output.new) style tries.now text.now line_outcome.now result.status }
 {
     let Ok(report) = traced_report(alloc, style, tries, text, line_outcome) else {
         return FAULT_TOLD;

@@ -1,0 +1,149 @@
+//! The command line that the program takes.
+use clap::{Arg, ArgAction, Command, value_parser};
+use std::alloc::{AllocError, Global};
+
+/// An option with one value.
+fn value<'a>(alloc: Global, name: &'a str, word: &'a str, help: &'a str) -> Arg<'a> {
+    Arg::new(alloc, name).long(name).value_name(word).help(help)
+}
+
+/// An option without a value.
+fn flag<'a>(alloc: Global, name: &'a str, help: &'a str) -> Arg<'a> {
+    Arg::new(alloc, name)
+        .long(name)
+        .action(ArgAction::SetTrue)
+        .help(help)
+}
+
+/// With the options of whom to ask.
+fn with_servers<'a>(alloc: Global, command: Command<'a>) -> Result<Command<'a>, AllocError> {
+    command
+        .arg(
+            value(
+                alloc,
+                "server",
+                "ADDRESS[:PORT]",
+                "A name server; may be repeated",
+            )
+            .short('s')
+            .action(ArgAction::Append),
+        )?
+        .arg(value(
+            alloc,
+            "resolver-file",
+            "FILE",
+            "The file that names servers where none is named, /etc/resolv.conf if not given",
+        ))?
+        .arg(flag(alloc, "tcp", "Ask over TCP alone"))
+}
+
+/// With the options of how to ask.
+fn with_asking<'a>(alloc: Global, command: Command<'a>) -> Result<Command<'a>, AllocError> {
+    command
+        .arg(
+            value(alloc, "bind", "ADDRESS", "The local address to ask from")
+                .short('b')
+                .conflicts_with("tcp")?,
+        )?
+        .arg(flag(alloc, "norecurse", "Queries without RD"))?
+        .arg(
+            value(
+                alloc,
+                "edns",
+                "SIZE",
+                "Queries with EDNS (RFC 6891) for datagrams of up to SIZE octets",
+            )
+            .num_args(0..=1)
+            .require_equals(true)
+            .default_missing_value("1232")
+            .value_parser(value_parser!(u16).range(512..=4_096)),
+        )
+}
+
+/// With the options of what can be sent.
+fn with_sender<'a>(alloc: Global, command: Command<'a>) -> Result<Command<'a>, AllocError> {
+    command
+        .arg(
+            value(
+                alloc,
+                "families",
+                "FAMILIES",
+                "The families of addresses, in their order",
+            )
+            .value_parser(["4", "6", "46", "64"].as_slice())
+            .default_value("46"),
+        )?
+        .arg(
+            value(
+                alloc,
+                "transports",
+                "LIST",
+                "What can be sent, the preferred one first",
+            )
+            .short('t')
+            .value_delimiter(',')
+            .value_parser(["udp", "tcp", "tls", "sctp"].as_slice())
+            .default_value("udp,tcp,tls,sctp"),
+        )
+}
+
+/// With the options of how long, and of the random words.
+fn with_limits<'a>(alloc: Global, command: Command<'a>) -> Result<Command<'a>, AllocError> {
+    command
+        .arg(
+            value(
+                alloc,
+                "total",
+                "MS",
+                "How long one URI may take, in milliseconds",
+            )
+            .value_parser(value_parser!(u32).range(1..=600_000))
+            .default_value("10000"),
+        )?
+        .arg(value(alloc, "seed", "HEX", "The key of the random words and ids"))
+}
+
+/// With the options of what is printed.
+fn with_output<'a>(alloc: Global, command: Command<'a>) -> Result<Command<'a>, AllocError> {
+    command
+        .arg(flag(
+            alloc,
+            "short",
+            "IPv6 addresses in their short form (RFC 5952), as on a terminal",
+        ))?
+        .arg(flag(alloc, "json", "An object of JSON for each URI"))?
+        .arg(flag(alloc, "check", "One line for a monitoring system").conflicts_with("json")?)?
+        .arg(
+            flag(
+                alloc,
+                "trace",
+                "A line for each query in front of what it led to",
+            )
+            .conflicts_with("json")?
+            .conflicts_with("check")?,
+        )?
+        .arg(flag(alloc, "stats", "How much was asked, on standard error"))
+}
+
+/// The command line that the program takes.
+pub fn command<'a>(alloc: Global) -> Result<Command<'a>, AllocError> {
+    let command = Command::new(alloc, "sipwhere")
+        .bin_name("sipwhere")?
+        .version("0.1.0")
+        .about("Where SIP requests are sent (RFC 3263), asked of DNS servers")
+        .after_help(
+            "Exit status: 0 targets for all; 1 no server answered for one; 2 a refusal;\n\
+             3 a bad URI; 4 usage; 5 a fault; the gravest of many",
+        );
+    let command = with_servers(alloc, command)?;
+    let command = with_asking(alloc, command)?;
+    let command = with_sender(alloc, command)?;
+    let command = with_limits(alloc, command)?;
+    with_output(alloc, command)?.arg(
+        Arg::new(alloc, "uri")
+            .value_name("URI")
+            .required(true)
+            .num_args(1..)
+            .help("SIP or SIPS URIs, or `Via: ..`; `-` for one on each line of standard input"),
+    )
+}
