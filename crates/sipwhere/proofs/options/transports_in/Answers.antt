@@ -19,7 +19,8 @@ refused matches words it are (inr (is, some)) =
 pub returns-clause-read : goal.returns-clause-read
 returns-clause-read c =
     let words = c.unwrap_or.result.now in
-    let are = rw c.unwrap_or.ensures (words_are c.get_strs.result _ _ refl c.get_strs.ensures) in
+    let are : map (λ word. word.now) words ≡ words_of c.args.matches.now (codes "transports") =
+    rw c.unwrap_or.ensures (words_are c.get_strs.result _ _ refl c.get_strs.ensures) in
     if_ok _ _ c.transports_of.result
     (λ them h. subst (λ texts. AllZip IsTransport texts them.items) are (of_texts IsTransport words them.items h))
     c.transports_of.ensures.read
@@ -27,5 +28,6 @@ returns-clause-read c =
 pub returns-clause-refused : goal.returns-clause-refused
 returns-clause-refused c =
     let words = c.unwrap_or.result.now in
-    let are = rw c.unwrap_or.ensures (words_are c.get_strs.result _ _ refl c.get_strs.ensures) in
+    let are : map (λ word. word.now) words ≡ words_of c.args.matches.now (codes "transports") =
+    rw c.unwrap_or.ensures (words_are c.get_strs.result _ _ refl c.get_strs.ensures) in
     if_err _ _ c.transports_of.result (λ it h. refused c.args.matches.now words it are h) c.transports_of.ensures.refused
