@@ -1,14 +1,14 @@
 -- The seats' own stores together are the history, where each seat has seen what the others have stored.
-use Rattle.std.proofs.Common.{◌≡◌, ℕ, zero, suc, ◌+◌, ◌<◌, ◌≤◌, ◌==◌, Bool, true, false, List, [], ◌∷◌, ◌++◌, cond, length}
-use Rattle.std.proofs.Common.{refl, ap, sym, subst, ◌∙◌, arith, rules}
+use Rattle.std.proofs.Common.{◌≡◌, ℕ, zero, suc, ◌+◌, ◌<◌, ◌≤◌, ◌==◌, Bool, true, false, List, [], ◌∷◌, cond, length}
+use Rattle.std.proofs.Common.{refl, ap, sym, ◌∙◌, arith}
 use Rattle.std.proofs.lemmas.List.{length-append}
-use Rattle.std.proofs.lemmas.List.Elements.{All-head, All-nil, All-tail, filter-append}
+use Rattle.std.proofs.lemmas.List.Elements.{All-head, All-tail, filter-append}
 use Rattle.std.specs.List.{All}
 use mathlib.Core.List.{IsPrefix}
-use Rattle.answer_log.specs.Histories.{IsHistory, IsSound, mine}
+use Rattle.answer_log.specs.Histories.{mine}
 use Rattle.answer_log.specs.declared.store.Store.{Store}
 use Rattle.answer_cache.specs.Seats.{GoesOn, IsSeat, StoresNothing}
-use Rattle.answer_cache.specs.Shared.{CacheView, HasStored, SharedView, new_seat}
+use Rattle.answer_cache.specs.Shared.{CacheView, HasStored, SharedView}
 
 pub mine-short : (seat : ℕ) (xs ys : List Store) → IsPrefix xs ys → length (mine xs seat) ≤ length (mine ys seat)
 mine-short seat xs ys p =
@@ -60,34 +60,3 @@ module _ (cache : CacheView) (number count : ℕ) (old new : SharedView) (all : 
       let same = goes.number ∙ stored.numbered in
       let last = ap (λ n. mine new.seat.seen n) (sym same) ∙ (it.own ∙ none.own) in
       mine-between number old.seat.seen all new.seat.seen old.seat.own before after first last ∙ stored.stores
-
--- the last element and those before it
-pub popped : {X : Type 0} (xs ys : List X) (x y : X) → xs ++ x ∷ [] ≡ ys ++ y ∷ [] → (xs ≡ ys) × (x ≡ y)
-popped [] [] x y same = (refl, cc (same))
-popped [] (b ∷ []) x y same = absurd (cc (same))
-popped [] (b ∷ c ∷ ys) x y same = absurd (cc (same))
-popped (a ∷ []) [] x y same = absurd (cc (same))
-popped (a ∷ b ∷ xs) [] x y same = absurd (cc (same))
-popped (a ∷ xs) (b ∷ ys) x y same = let rest = popped xs ys x y (cc (same)) in ((cc (rest.0, same)), rest.1)
-
--- the elements of a list of four, taken from its end
-pub four-popped : {X : Type 0} (whole three two one none : List X) (a b c d w x y z : X) → whole ≡ a ∷ b ∷ c ∷ d ∷ []
-    → whole ≡ three ++ z ∷ [] → three ≡ two ++ y ∷ [] → two ≡ one ++ x ∷ [] → one ≡ none ++ w ∷ []
-    → (w ≡ a) × (x ≡ b) × (y ≡ c) × (z ≡ d)
-four-popped whole three two one none a b c d w x y z all last third second first =
-    let fourth = popped three (a ∷ b ∷ c ∷ []) z d (sym last ∙ all) in
-    let third' = popped two (a ∷ b ∷ []) y c (sym third ∙ fourth.0) in
-    let second' = popped one (a ∷ []) x b (sym second ∙ third'.0) in
-    let first' = popped none [] w a (sym first ∙ second'.0) in
-    (first'.1, second'.1, third'.1, fourth.1)
-
--- a new seat has no store
-pub new-stored : (cache : CacheView) (number : ℕ) (seat : SharedView) → seat ≡ new_seat cache number → HasStored cache number 0 seat
-new-stored cache number seat is =
-    let S : SharedView → Type 0 = λ it. HasStored cache number 0 it in
-    let history : IsHistory [] = record { sound = All-nil IsSound; few = λ group. search rules } in
-    subst S (sym is) (record {
-      here = record { made = refl; is = record { own = refl; history = history } };
-      numbered = refl;
-      stores = refl;
-    })
