@@ -1,5 +1,5 @@
 -- Texts by their places.
-use Rattle.std.proofs.Common.{◌≡◌, ℕ, zero, suc, ◌-◌, ◌≤◌, List, [], ◌∷◌, length, take, drop, get_or, refl, sym, ap, subst, ◌∙◌, arith}
+use Rattle.std.proofs.Common.{◌≡◌, ℕ, zero, suc, ◌-◌, ◌≤◌, List, [], ◌∷◌, length, take, drop, get_or, Option, Some, None, refl, sym, ap, subst, ◌∙◌, arith}
 use Rattle.std.proofs.lemmas.List.{take_all}
 use Rattle.std.specs.Borrow.{Bor}
 use Rattle.dns_zone.specs.Lines.{OneField}
@@ -77,3 +77,11 @@ seven_texts (a ∷ b ∷ c ∷ d ∷ e ∷ []) seven = absurd (omega arith)
 seven_texts (a ∷ b ∷ c ∷ d ∷ e ∷ f ∷ []) seven = absurd (omega arith)
 seven_texts (a ∷ b ∷ c ∷ d ∷ e ∷ f ∷ g ∷ []) seven = refl
 seven_texts (a ∷ b ∷ c ∷ d ∷ e ∷ f ∷ g ∷ h ∷ others) seven = absurd (omega arith)
+
+-- what is read of one text is one value
+pub same_some : {X : Type 0} {x y : X} → Some x ≡ Some y → x ≡ y
+same_some e = cc
+
+-- a text of which no number is read is none
+pub no_number : (number : ℕ) → ◌≡◌ {A = Option ℕ} None (Some number) → ⊥
+no_number number e = absurd cc

@@ -1,18 +1,12 @@
-use Rattle.std.proofs.Common.{◌≡◌, ℕ, List, [], drop, get_or, Option, Some, None, refl, sym, ap, ◌∙◌}
+use Rattle.std.proofs.Common.{◌≡◌, ℕ, List, [], drop, get_or, refl, sym, ap, ◌∙◌}
 use Rattle.std.proofs.lemmas.Result.{err_from_is_err_and}
 use Rattle.dns_message.specs.declared.resource.Record.{Record}
 use Rattle.dns_zone.specs.Lines.{number_of}
-use Rattle.dns_zone.proofs.Texts.{text_at, three_texts}
+use Rattle.dns_zone.proofs.Texts.{text_at, three_texts, same_some, no_number}
 use Rattle.dns_zone.proofs.line.record_of.Goals as goal
 
 same_record : (entry other : Record) → entry.owner ≡ other.owner → entry.ttl ≡ other.ttl → entry.rdata ≡ other.rdata → entry ≡ other
 same_record entry other owner ttl rdata = λ j. record { owner = owner j; ttl = ttl j; rdata = rdata j }
-
-same_some : {X : Type 0} {x y : X} → Some x ≡ Some y → x ≡ y
-same_some e = cc
-
-no_number : (number : ℕ) → ◌≡◌ {A = Option ℕ} None (Some number) → ⊥
-no_number number e = absurd cc
 
 pub returns-in_err-from_text-clause-read : goal.returns-in_err-from_text-clause-read
 returns-in_err-from_text-clause-read c = λ entry is.

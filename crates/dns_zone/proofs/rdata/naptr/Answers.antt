@@ -1,8 +1,8 @@
-use Rattle.std.proofs.Common.{◌≡◌, ℕ, List, [], get_or, Option, Some, None, refl, sym, ap, ◌∙◌, arith}
+use Rattle.std.proofs.Common.{◌≡◌, ℕ, List, [], get_or, refl, sym, ap, ◌∙◌, arith}
 use Rattle.std.proofs.lemmas.Result.{err_from_is_err_and}
 use Rattle.dns_message.specs.declared.naptr.NaptrRecord.{NaptrRecord}
 use Rattle.dns_zone.specs.Lines.{number_of, string_of}
-use Rattle.dns_zone.proofs.Texts.{text_at, six_texts}
+use Rattle.dns_zone.proofs.Texts.{text_at, six_texts, same_some, no_number}
 use Rattle.dns_zone.proofs.rdata.naptr.Goals as goal
 
 same_rule : (rule other : NaptrRecord) → rule.order ≡ other.order → rule.preference ≡ other.preference → rule.flags ≡ other.flags
@@ -17,12 +17,6 @@ same_rule rule other order preference flags services regexp replacement =
       replacement =
           replacement j;
     }
-
-same_some : {X : Type 0} {x y : X} → Some x ≡ Some y → x ≡ y
-same_some e = cc
-
-no_number : (number : ℕ) → ◌≡◌ {A = Option ℕ} None (Some number) → ⊥
-no_number number e = absurd cc
 
 pub returns-in_err-number_of_16_bits-clause-read : goal.returns-in_err-number_of_16_bits-clause-read
 returns-in_err-number_of_16_bits-clause-read c = λ rule is.

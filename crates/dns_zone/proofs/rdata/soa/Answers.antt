@@ -1,8 +1,8 @@
-use Rattle.std.proofs.Common.{◌≡◌, ℕ, List, [], get_or, Option, Some, None, refl, sym, ap, ◌∙◌, arith}
+use Rattle.std.proofs.Common.{◌≡◌, ℕ, List, [], get_or, refl, sym, ap, ◌∙◌, arith}
 use Rattle.std.proofs.lemmas.Result.{err_from_is_err_and}
 use Rattle.dns_message.specs.declared.soa.SoaRecord.{SoaRecord}
 use Rattle.dns_zone.specs.Lines.{number_of}
-use Rattle.dns_zone.proofs.Texts.{text_at, seven_texts}
+use Rattle.dns_zone.proofs.Texts.{text_at, seven_texts, same_some, no_number}
 use Rattle.dns_zone.proofs.rdata.soa.Goals as goal
 
 same_authority : (authority other : SoaRecord) → authority.mname ≡ other.mname → authority.rname ≡ other.rname
@@ -18,12 +18,6 @@ same_authority authority other mname rname serial refresh retry expire minimum =
       expire = expire j;
       minimum = minimum j;
     }
-
-same_some : {X : Type 0} {x y : X} → Some x ≡ Some y → x ≡ y
-same_some e = cc
-
-no_number : (number : ℕ) → ◌≡◌ {A = Option ℕ} None (Some number) → ⊥
-no_number number e = absurd cc
 
 pub returns-in_err-number_of_32_bits-clause-read : goal.returns-in_err-number_of_32_bits-clause-read
 returns-in_err-number_of_32_bits-clause-read c = λ authority is.

@@ -1,20 +1,14 @@
-use Rattle.std.proofs.Common.{◌≡◌, ℕ, List, [], get_or, Option, Some, None, refl, sym, ap, ◌∙◌, arith}
+use Rattle.std.proofs.Common.{◌≡◌, ℕ, List, [], get_or, refl, sym, ap, ◌∙◌, arith}
 use Rattle.std.proofs.lemmas.Result.{err_from_is_err_and}
 use Rattle.dns_message.specs.declared.srv.SrvRecord.{SrvRecord}
 use Rattle.dns_zone.specs.Lines.{number_of}
-use Rattle.dns_zone.proofs.Texts.{text_at, four_texts}
+use Rattle.dns_zone.proofs.Texts.{text_at, four_texts, same_some, no_number}
 use Rattle.dns_zone.proofs.rdata.srv.Goals as goal
 
 same_server : (server other : SrvRecord) → server.priority ≡ other.priority → server.weight ≡ other.weight → server.port ≡ other.port
     → server.target ≡ other.target → server ≡ other
 same_server server other priority weight port target =
     λ j. record { priority = priority j; weight = weight j; port = port j; target = target j }
-
-same_some : {X : Type 0} {x y : X} → Some x ≡ Some y → x ≡ y
-same_some e = cc
-
-no_number : (number : ℕ) → ◌≡◌ {A = Option ℕ} None (Some number) → ⊥
-no_number number e = absurd cc
 
 pub returns-in_err-number_of_16_bits-clause-read : goal.returns-in_err-number_of_16_bits-clause-read
 returns-in_err-number_of_16_bits-clause-read c = λ server is.
