@@ -109,6 +109,25 @@ struct Measured {
     microseconds: u128,
 }
 
+/// The last of the seats of a cache.
+fn last_of(cache: &SharedCache, seats: &mut Vec<Seat>) -> Option<Seat>
+    requires { All (Belongs cache.now) seats.old.items }
+    ensures left { All (Belongs cache.now) seats.new.items }
+    ensures last { IfSome result (Belongs cache.now) }
+{
+    seats.pop()
+}
+
+/// Stores all answers by the last of these seats, and takes that away.
+fn fill_by_last<R: Wait>(rt: &R, cache: &SharedCache, seats: &mut Vec<Seat>, load: &Load<'_>)
+    requires { All (Belongs cache.now) seats.old.items }
+    ensures { All (Belongs cache.now) seats.new.items }
+{
+    if let Some(mut last) = last_of(cache, seats) {
+        fill(rt, cache, &mut last, load);
+    }
+}
+
 /// A cache with so many seats, which one more has filled.
 fn filled<R: Wait + AllocGlobal>(
     rt: &R,
@@ -117,13 +136,60 @@ fn filled<R: Wait + AllocGlobal>(
 ) -> Option<(SharedCache, Vec<Seat>)>
     ensures { IfSome result (λ made. All (Belongs made.0) made.1.items) }
 {
-    let Ok((cache, mut seats)) = SharedCache::new(rt.alloc(), threads.saturating_add(1)) else {
-        return None;
-    };
-    if let Some(mut first) = seats.pop() {
-        fill(rt, &cache, &mut first, load);
+    match SharedCache::new(rt.alloc(), threads.saturating_add(1)) {
+        Ok((cache, mut seats)) => {
+            fill_by_last(rt, &cache, &mut seats, load);
+            Some((cache, seats))
+        }
+        Err(_) => None,
     }
-    Some((cache, seats))
+}
+
+/// How many look-ups of threads, each with one of these seats, found an answer.
+fn found_by<R: Threads + Wait + Sync>(
+    rt: &R,
+    cache: &SharedCache,
+    seats: Vec<Seat>,
+    load: &Load<'_>,
+) -> Option<u64>
+    requires { All (Belongs cache.now) seats.items }
+{
+    let job = |seat: Seat| -> u64
+        requires { Belongs cache.now seat }
+    {
+        let mut seat = seat;
+        work(rt, cache, &mut seat, load)
+    };
+    match map_vec(rt, seats, &job) {
+        Ok(found) => Some(
+            found
+                .iter()
+                .fold(0_u64, |sum: u64, it| sum.wrapping_add(*it)),
+        ),
+        Err(_) => None,
+    }
+}
+
+/// Measures the look-ups of these threads.
+fn measure_by<R: Threads + Wait + Clock + Sync>(
+    rt: &R,
+    cache: &SharedCache,
+    seats: Vec<Seat>,
+    load: &Load<'_>,
+) -> Option<Measured>
+    requires { All (Belongs cache.now) seats.items }
+{
+    match Instant::now(rt) {
+        Ok(start) => {
+            let found = found_by(rt, cache, seats, load)?;
+            let time = start.elapsed(rt).ok()?;
+            Some(Measured {
+                found,
+                microseconds: time.as_micros(),
+            })
+        }
+        Err(_) => None,
+    }
 }
 
 /// Measures a run of so many threads.
@@ -132,24 +198,10 @@ fn measure<R: Threads + Wait + Clock + AllocGlobal + Sync>(
     load: &Load<'_>,
     threads: usize,
 ) -> Option<Measured> {
-    let Some((cache, seats)) = filled(rt, load, threads) else {
-        return None;
-    };
-    let job = |seat: Seat| -> u64
-        requires { Belongs cache seat }
-    {
-        let mut seat = seat;
-        work(rt, &cache, &mut seat, load)
-    };
-    let start = Instant::now(rt).ok()?;
-    let found = map_vec(rt, seats, &job).ok()?;
-    let time = start.elapsed(rt).ok()?;
-    Some(Measured {
-        found: found
-            .iter()
-            .fold(0_u64, |sum: u64, it| sum.wrapping_add(*it)),
-        microseconds: time.as_micros(),
-    })
+    match filled(rt, load, threads) {
+        Some((cache, seats)) => measure_by(rt, &cache, seats, load),
+        None => None,
+    }
 }
 
 /// Measures a run, and prints it.

@@ -299,8 +299,10 @@ fn print_books<R: Clock + Print + Wait + AllocGlobal>(
 /// The same of a row.
 fn print_row<R: Clock + Print + Wait + AllocGlobal>(rt: &R, row: &Row) -> Option<()> {
     let read = row.request(rt.alloc())?;
-    let known = row.domain.known(rt.alloc())?;
-    print_books(rt, row, &read, known.as_slice())
+    match row.domain.known(rt.alloc()) {
+        Some(known) => print_books(rt, row, &read, known.as_slice()),
+        None => None,
+    }
 }
 
 /// Measures all requests, and prints them.
@@ -330,20 +332,32 @@ fn locate_shared<R: Wait + AllocGlobal>(
     }
 }
 
-/// Locates the request of a row so many times.
-fn locate_row<R: Wait + AllocGlobal>(rt: &R, row: &Row, rounds: u64) -> Option<usize> {
-    let now = Moment::new(100)?;
-    let read = row.request(rt.alloc())?;
-    let known = row.domain.known(rt.alloc())?;
+/// Locates the request of a row so many times, by these answers.
+fn locate_known<R: Wait + AllocGlobal>(
+    rt: &R,
+    row: &Row,
+    read: &Request,
+    known: &[Known],
+    rounds: u64,
+) -> Option<usize> {
     let load = Load {
         row,
         form: Form::Text,
-        read: &read,
+        read,
         caps: &caps_of(row)?,
         words: &WORDS,
-        now,
+        now: Moment::new(100)?,
     };
-    locate_shared(rt, &load, known.as_slice(), rounds)
+    locate_shared(rt, &load, known, rounds)
+}
+
+/// Locates the request of a row so many times.
+fn locate_row<R: Wait + AllocGlobal>(rt: &R, row: &Row, rounds: u64) -> Option<usize> {
+    let read = row.request(rt.alloc())?;
+    match row.domain.known(rt.alloc()) {
+        Some(known) => locate_known(rt, row, &read, known.as_slice(), rounds),
+        None => None,
+    }
 }
 
 /// Locates the request of a name so many times.
@@ -356,29 +370,37 @@ fn locate_named<R: Wait + AllocGlobal>(rt: &R, name: &str, rounds: u64) -> Optio
     None
 }
 
+/// Does what a task asks for that has a number.
+fn run_counted<R: Files + Clock + Print + Wait + AllocGlobal>(
+    rt: &R,
+    task: &str,
+    first: &str,
+    words: &[String],
+    number: u64,
+) -> Option<()> {
+    match task {
+        "misses" => misses::run(rt, "", first, Some(number)),
+        "hold" => held::run(rt, first, words.get(1)?.as_str(), number),
+        "locate" => {
+            locate_named(rt, first, number)?;
+            Some(())
+        }
+        _ => None,
+    }
+}
+
 /// Does what four words ask for, or three.
 fn run_task<R: Files + Clock + Print + Wait + AllocGlobal>(
     rt: &R,
     task: &str,
     words: &[String],
 ) -> Option<()> {
-    let number = words.last()?.as_str();
+    let last = words.last()?.as_str();
     let first = words.first()?.as_str();
-    match task {
-        "miss" => misses::run(rt, first, number, None),
-        "misses" => misses::run(rt, "", first, Some(number.parse::<u64>().ok()?)),
-        "hold" => held::run(
-            rt,
-            first,
-            words.get(1)?.as_str(),
-            number.parse::<u64>().ok()?,
-        ),
-        "locate" => {
-            locate_named(rt, first, number.parse::<u64>().ok()?)?;
-            Some(())
-        }
-        _ => None,
+    if task == "miss" {
+        return misses::run(rt, first, last, None);
     }
+    run_counted(rt, task, first, words, last.parse::<u64>().ok()?)
 }
 
 /// Does what the words ask for.

@@ -8,6 +8,9 @@
 //! The word `one` runs 10,000 requests by one worker alone, and `ready` makes all that such a run
 //! takes and ends in front of it: what the two differ by is what the run itself costs
 //! (`bench/compare_workers`).
+ghost use Rattle.std.specs.List.{All};
+ghost use Rattle.answer_cache.specs.Shared.{Belongs};
+
 mod jobs;
 mod rolling;
 mod zone_text;
@@ -15,7 +18,7 @@ mod zone_text;
 use crate::workers::jobs::jobs_of;
 use crate::workers::rolling::resolve_by;
 use crate::workers::zone_text::zone_text;
-use answer_cache::{Notice, SharedCache};
+use answer_cache::{Notice, Seat, SharedCache};
 use dns_answers::Moment;
 use dns_asker::{StandingClock, Zone, ZoneWire};
 use sip_workers::{Job, OpenGate, Outcome, run_workers};
@@ -83,27 +86,68 @@ fn load_of<'a>(
     })
 }
 
+/// What a run of these jobs gives with these seats of a cache, if it is not refused.
+fn made_with<R: Threads + Wait + AllocGlobal + Sync>(
+    rt: &R,
+    cache: &SharedCache,
+    seats: Vec<Seat>,
+    load: Load<'_>,
+) -> Option<Vec<(Outcome, Notice)>>
+    requires { All (Belongs cache.now) seats.items }
+{
+    let Load { wires, jobs } = load;
+    let clock = StandingClock {
+        moment: Moment::new(100).unwrap(),
+    };
+    match run_workers(
+        rt,
+        rt.alloc(),
+        cache,
+        seats,
+        wires,
+        jobs,
+        BATCH,
+        &clock,
+        &OpenGate,
+    ) {
+        Ok(made) => Some(made),
+        Err(_) => None,
+    }
+}
+
+/// Runs these jobs with these seats of a cache, and gives how many milliseconds have gone by from
+/// the start, and how many of them have targets.
+fn run_from<R: Threads + Wait + Clock + AllocGlobal + Sync>(
+    rt: &R,
+    start: Instant,
+    cache: &SharedCache,
+    seats: Vec<Seat>,
+    load: Load<'_>,
+) -> Option<(u128, usize)>
+    requires { All (Belongs cache.now) seats.items }
+{
+    match made_with(rt, cache, seats, load) {
+        Some(made) => match start.elapsed(rt) {
+            Ok(time) => Some((time.as_millis(), with_targets(made.as_slice()))),
+            Err(_) => None,
+        },
+        None => None,
+    }
+}
+
 /// Runs these jobs over a new cache, and gives how many milliseconds that takes, and how many of
 /// them have targets.
 fn run<R: Threads + Wait + Clock + AllocGlobal + Sync>(
     rt: &R,
     load: Load<'_>,
 ) -> Option<(u128, usize)> {
-    let alloc = rt.alloc();
-    let Load { wires, jobs } = load;
-    let clock = StandingClock {
-        moment: Moment::new(100).unwrap(),
-    };
-    let Ok((cache, seats)) = SharedCache::new(alloc, wires.len()) else {
-        return None;
-    };
-    let start = Instant::now(rt).ok()?;
-    let made = run_workers(
-        rt, alloc, &cache, seats, wires, jobs, BATCH, &clock, &OpenGate,
-    )
-    .ok()?;
-    let time = start.elapsed(rt).ok()?;
-    Some((time.as_millis(), with_targets(made.as_slice())))
+    match SharedCache::new(rt.alloc(), load.wires.len()) {
+        Ok((cache, seats)) => match Instant::now(rt) {
+            Ok(start) => run_from(rt, start, &cache, seats, load),
+            Err(_) => None,
+        },
+        Err(_) => None,
+    }
 }
 
 /// Measures a run over new wires.

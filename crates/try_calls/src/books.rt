@@ -7,6 +7,7 @@ ghost use Rattle.answer_cache.specs.Shared.{Belongs};
 
 use crate::fields::{moment, question_of};
 use crate::replies::{Reply, absent, push_answer, read_reply};
+use crate::shown::push_debug_line;
 use answer_cache::{AnswerBook, Seat, SharedCache, StoreRefusal, group};
 use dns_answers::{Answer, FoundAnswer, Moment};
 use dns_message::Question;
@@ -87,7 +88,10 @@ pub(crate) fn push_found(output: &mut Output, found: Result<Option<Arc<Answer>>,
 /// Writes an answer where it lies, or `nothing`.
 fn push_looked(output: &mut Output, found: Result<Option<FoundAnswer<'_>>, AllocError>) {
     match found {
-        Ok(Some(found)) => push_answer(output, found.as_arc()),
+        Ok(Some(found)) => {
+            push_answer(output, found.as_arc());
+            drop(found);
+        }
         Ok(None) => output.push("nothing"),
         Err(_) => output.fail(Fault::Memory),
     }
@@ -96,10 +100,9 @@ fn push_looked(output: &mut Output, found: Result<Option<FoundAnswer<'_>>, Alloc
 
 /// Writes what became of a store.
 fn push_stored(output: &mut Output, stored: Option<Result<(), StoreRefusal>>) {
-    let alloc = output.alloc();
     match stored {
         Some(Ok(())) => output.push_line("stored"),
-        Some(Err(refusal)) => output.push_made(format!(in alloc; "{refusal:?}\n")),
+        Some(Err(refusal)) => push_debug_line(output, &refusal),
         None => output.fail(Fault::Form),
     }
 }
@@ -133,10 +136,11 @@ fn store<R: Wait, B: AnswerBook>(
     ensures { B.belongs book.now seat.new }
 {
     match store_of(output.alloc(), line) {
-        Ok(store) => push_stored(
-            output,
-            reply_stored(rt, book, seat, &store.reply, store.now),
-        ),
+        Ok(store) => {
+            let stored = reply_stored(rt, book, seat, &store.reply, store.now);
+            drop(store);
+            push_stored(output, stored);
+        }
         Err(fault) => output.fail(fault),
     }
 }
@@ -194,7 +198,10 @@ fn store_absence<R: Wait, B: AnswerBook>(
     ensures { B.belongs book.now seat.new }
 {
     match absence(output.alloc(), &dated.question, life) {
-        Ok(reply) => count_reply(rt, book, seat, &reply, dated.now, count),
+        Ok(reply) => {
+            count_reply(rt, book, seat, &reply, dated.now, count);
+            drop(reply);
+        }
         Err(fault) => output.fail(fault),
     }
 }
@@ -235,7 +242,10 @@ fn stores<R: Wait, B: AnswerBook>(
     let (kind, rest) = split_word(rest);
     let (name, lives) = split_word(rest);
     match dated(output.alloc(), now, kind, name) {
-        Ok(dated) => store_absences(rt, output, book, seat, &dated, lives),
+        Ok(dated) => {
+            store_absences(rt, output, book, seat, &dated, lives);
+            drop(dated);
+        }
         Err(fault) => output.fail(fault),
     }
 }
@@ -253,7 +263,10 @@ fn lookup<B: AnswerBook>(output: &mut Output, book: &B, seat: &mut B::Seat, line
     ensures { B.belongs book.now seat.new }
 {
     match lookup_of(output.alloc(), line) {
-        Ok(lookup) => push_found(output, found(book, seat, &lookup.question, lookup.now)),
+        Ok(lookup) => {
+            push_found(output, found(book, seat, &lookup.question, lookup.now));
+            drop(lookup);
+        }
         Err(fault) => output.fail(fault),
     }
 }
@@ -264,23 +277,28 @@ fn look<B: AnswerBook>(output: &mut Output, book: &B, seat: &mut B::Seat, line: 
     ensures { B.belongs book.now seat.new }
 {
     match lookup_of(output.alloc(), line) {
-        Ok(lookup) => push_looked(output, looked(book, seat, &lookup.question, lookup.now)),
+        Ok(lookup) => {
+            push_looked(output, looked(book, seat, &lookup.question, lookup.now));
+            drop(lookup);
+        }
         Err(fault) => output.fail(fault),
     }
 }
 
 /// Writes the group of a question.
 fn push_group(output: &mut Output, question: &Question) {
-    let alloc = output.alloc();
-    let group = group(question);
-    output.push_made(format!(in alloc; "{group}\n"));
+    output.push_number(u64::from(group(question)));
+    output.push("\n");
 }
 
 /// The group of a kind and a name.
 fn group_line(output: &mut Output, line: &str) {
     let (kind, name) = split_word(line);
     match question_of(output.alloc(), name, kind) {
-        Ok(question) => push_group(output, &question),
+        Ok(question) => {
+            push_group(output, &question);
+            drop(question);
+        }
         Err(fault) => output.fail(fault),
     }
 }
@@ -321,9 +339,14 @@ fn only_seat(cache: SharedCache, mut seats: Vec<Seat>) -> Option<(SharedCache, S
     requires { All (Belongs cache) seats.items }
     ensures { IfSome result (λ made. Belongs made.0 made.1) }
 {
-    match last_of(&cache, &mut seats) {
+    let seat = last_of(&cache, &mut seats);
+    drop(seats);
+    match seat {
         Some(seat) => Some((cache, seat)),
-        None => None,
+        None => {
+            drop(cache);
+            None
+        }
     }
 }
 
@@ -335,6 +358,12 @@ pub(crate) fn one_seat(alloc: Global) -> Option<(SharedCache, Seat)>
         Ok((cache, seats)) => only_seat(cache, seats),
         Err(_) => None,
     }
+}
+
+/// Writes how many seats there are.
+pub(crate) fn push_seats(output: &mut Output, count: usize) {
+    output.push_length(count);
+    output.push_line(" seats");
 }
 
 /// Writes what both books give, once where it is the same.

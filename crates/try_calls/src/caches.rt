@@ -3,9 +3,10 @@ ghost use Rattle.std.specs.Prelude.{◌≡◌, IfSome};
 ghost use Rattle.std.specs.List.{All};
 ghost use Rattle.answer_cache.specs.Shared.{Belongs};
 
-use crate::books::{book_line, last_of, one_seat, push_both};
+use crate::books::{book_line, last_of, one_seat, push_both, push_seats};
 use crate::fields::moment;
 use crate::replies::{push_answer, push_question};
+use crate::shown::push_debug_line;
 use answer_cache::{AnswerBook, CacheRefusal, Carried, ListCache, Notice, Seat, SharedCache};
 use dns_answers::{Answer, Moment};
 use dns_message::Question;
@@ -55,7 +56,11 @@ fn over_list<R: Wait>(rt: &R, alloc: Global, input: &str) -> Result<String, Faul
 fn over_shared<R: Wait>(rt: &R, alloc: Global, input: &str) -> Result<String, Fault> {
     let mut output = Output::new(alloc);
     match one_seat(alloc) {
-        Some((book, mut seat)) => talk(rt, &mut output, &book, &mut seat, input),
+        Some((book, mut seat)) => {
+            talk(rt, &mut output, &book, &mut seat, input);
+            drop(seat);
+            drop(book);
+        }
         None => output.fail(Fault::Memory),
     }
     output.finish()
@@ -63,10 +68,13 @@ fn over_shared<R: Wait>(rt: &R, alloc: Global, input: &str) -> Result<String, Fa
 
 /// Writes how many seats there are, or why there is no cache.
 fn push_count(output: &mut Output, made: Result<(SharedCache, Vec<Seat>), CacheRefusal>) {
-    let alloc = output.alloc();
     match made {
-        Ok((_, seats)) => output.push_made(format!(in alloc; "{} seats\n", seats.len())),
-        Err(refusal) => output.push_made(format!(in alloc; "{refusal:?}\n")),
+        Ok((cache, seats)) => {
+            push_seats(output, seats.len());
+            drop(seats);
+            drop(cache);
+        }
+        Err(refusal) => push_debug_line(output, &refusal),
     }
 }
 
@@ -74,7 +82,12 @@ fn push_count(output: &mut Output, made: Result<(SharedCache, Vec<Seat>), CacheR
 fn nothing_carried(alloc: Global) -> Option<Carried> {
     let now = Moment::new(0)?;
     match one_seat(alloc) {
-        Some((cache, mut seat)) => carry(alloc, &cache, &mut seat, now),
+        Some((cache, mut seat)) => {
+            let carried = carry(alloc, &cache, &mut seat, now);
+            drop(seat);
+            drop(cache);
+            carried
+        }
         None => None,
     }
 }
@@ -83,7 +96,10 @@ fn nothing_carried(alloc: Global) -> Option<Carried> {
 fn push_successor<R: Wait>(rt: &R, output: &mut Output, count: usize) {
     let alloc = output.alloc();
     match nothing_carried(alloc) {
-        Some(carried) => push_count(output, SharedCache::successor(rt, alloc, &carried, count)),
+        Some(carried) => {
+            push_count(output, SharedCache::successor(rt, alloc, &carried, count));
+            drop(carried);
+        }
         None => output.fail(Fault::Memory),
     }
 }
@@ -112,9 +128,15 @@ fn two_of(cache: SharedCache, mut seats: Vec<Seat>) -> Option<(SharedCache, Seat
 {
     let second = last_of(&cache, &mut seats);
     let first = last_of(&cache, &mut seats);
+    drop(seats);
     match (first, second) {
         (Some(first), Some(second)) => Some((cache, first, second)),
-        _ => None,
+        (first, second) => {
+            drop(first);
+            drop(second);
+            drop(cache);
+            None
+        }
     }
 }
 
@@ -198,7 +220,7 @@ fn keep(output: &mut Output, carried: &mut Option<Carried>, found: Option<Carrie
     match found {
         Some(found) => {
             push_size(output, &found);
-            *carried = Some(found);
+            drop(carried.replace(found));
         }
         None => output.fail(Fault::Memory),
     }
@@ -279,40 +301,50 @@ fn two_talk<R: Wait>(
     rt: &R,
     output: &mut Output,
     cache: &SharedCache,
-    first: &mut Seat,
-    second: &mut Seat,
+    mut first: Seat,
+    mut second: Seat,
     input: &str,
-    carried: &mut Option<Carried>,
-)
-    requires first { Belongs cache.now first.old }
-    requires second { Belongs cache.now second.old }
+) -> Option<Carried>
+    requires first { Belongs cache.now first }
+    requires second { Belongs cache.now second }
 {
+    let mut carried = None;
     'lines: for line in input.lines() {
-        two_seat_line(rt, output, cache, first, second, line, carried);
+        two_seat_line(
+            rt,
+            output,
+            cache,
+            &mut first,
+            &mut second,
+            line,
+            &mut carried,
+        );
     }
+    drop(first);
+    drop(second);
+    carried
 }
 
 /// The same of a new cache, or of the successor by what is carried.
 fn generation<R: Wait>(
     rt: &R,
     output: &mut Output,
-    carried: Option<&Carried>,
+    carried: Option<Carried>,
     input: &str,
 ) -> Option<Carried> {
-    let mut next = None;
-    match two_seats(rt, output.alloc(), carried) {
-        Some((cache, mut first, mut second)) => two_talk(
-            rt,
-            output,
-            &cache,
-            &mut first,
-            &mut second,
-            input,
-            &mut next,
-        ),
-        None => output.fail(Fault::Memory),
+    let seats = two_seats(rt, output.alloc(), carried.as_ref());
+    drop(carried);
+    match seats {
+        Some((cache, first, second)) => {
+            let carried = two_talk(rt, output, &cache, first, second, input);
+            drop(cache);
+            carried
+        }
+        None => {
+            output.fail(Fault::Memory);
+            None
+        }
     }
-    next
 }
 
 /// Lines of two seats, 0 and 1, of a cache, and after each line `successor` of the cache that
@@ -320,6 +352,7 @@ fn generation<R: Wait>(
 fn generations<R: Wait>(rt: &R, output: &mut Output, input: &str) {
     let mut carried = None;
     for lines in input.split("successor\n") {
-        carried = generation(rt, output, carried.as_ref(), lines);
+        carried = generation(rt, output, carried, lines);
     }
+    drop(carried);
 }

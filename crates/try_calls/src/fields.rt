@@ -50,6 +50,38 @@ pub(crate) fn joined(alloc: Global, lines: &str) -> Result<Vec<u8>, Fault> {
     Ok(all)
 }
 
+/// What stands between two separators of a text.
+pub(crate) trait Part: Sized {
+    /// The value of a part.
+    fn read(alloc: Global, part: &str) -> Result<Self, Fault>;
+}
+
+/// Adds a value.
+pub(crate) fn keep<T: Drop>(all: &mut Vec<T>, value: T) -> Result<(), Fault> {
+    match all.push(value) {
+        Ok(()) => Ok(()),
+        Err(_) => Err(Fault::Memory),
+    }
+}
+
+/// Adds the value of a part.
+fn push_part<T: Part + Drop>(alloc: Global, all: &mut Vec<T>, part: &str) -> Result<(), Fault> {
+    keep(all, T::read(alloc, part)?)
+}
+
+/// The values of the parts of a text.
+pub(crate) fn parts<T: Part + Drop>(
+    alloc: Global,
+    text: &str,
+    separator: &str,
+) -> Result<Vec<T>, Fault> {
+    let mut all = Vec::new(alloc);
+    for part in text.split(separator) {
+        push_part(alloc, &mut all, part)?;
+    }
+    Ok(all)
+}
+
 /// The name of a text.
 fn name_of(alloc: Global, text: &str) -> Result<Name, Fault> {
     match Name::from_text(alloc, text) {

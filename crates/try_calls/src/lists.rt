@@ -1,4 +1,6 @@
 //! Calls of `pending_list`, of characters.
+use crate::fields::keep;
+use crate::shown::push_debug;
 use pending_list::{PendingId, PendingList};
 use row_fields::{Fault, Output, count, first_line, number64, split_word};
 use std::alloc::Global;
@@ -46,9 +48,7 @@ fn push_item(output: &mut Output, item: Option<char>) {
 
 /// Keeps an id, and writes that its item is taken.
 fn push_taken(output: &mut Output, ids: &mut Vec<PendingId>, id: PendingId) {
-    if ids.push(id).is_err() {
-        output.fail(Fault::Memory);
-    }
+    output.end(keep(ids, id));
     output.push("taken");
 }
 
@@ -60,13 +60,16 @@ fn insert(
     ids: &mut Vec<PendingId>,
     line: &str,
 ) -> Result<(), Fault> {
-    let alloc = output.alloc();
     let (one, deadline) = split_word(line);
     let deadline = number64(deadline)?;
     let item = item(one)?;
     match list.insert(deadline, item) {
         Ok(id) => push_taken(output, ids, id),
-        Err((item, refusal)) => output.push_made(format!(in alloc; "{refusal:?} {item}")),
+        Err((item, refusal)) => {
+            push_debug(output, &refusal);
+            output.push(" ");
+            output.push_char(item);
+        }
     }
     Ok(())
 }
@@ -112,12 +115,6 @@ fn pop_due(output: &mut Output, list: &mut PendingList<char>, now: u64) {
     }
 }
 
-/// Writes whether a list takes another entry.
-fn push_can(output: &mut Output, list: &PendingList<char>) {
-    let alloc = output.alloc();
-    output.push_made(format!(in alloc; "{:?}", list.can_insert()));
-}
-
 /// Does the step of a line, and writes what it gives.
 fn step(
     output: &mut Output,
@@ -127,13 +124,13 @@ fn step(
 ) -> Result<(), Fault> {
     let (word, rest) = split_word(line);
     match word {
-        "insert" => insert(output, list, ids, rest)?,
+        "insert" => return insert(output, list, ids, rest),
         "remove" => push_item(output, list.remove(id_at(ids, rest)?)),
-        "move" => move_to(output, list, ids, rest)?,
+        "move" => return move_to(output, list, ids, rest),
         "due" => pop_due(output, list, number64(rest)?),
         "get" => push_item(output, list.get(id_at(ids, rest)?).copied()),
-        "set" => set(output, list, ids, rest)?,
-        "can" => push_can(output, list),
+        "set" => return set(output, list, ids, rest),
+        "can" => push_debug(output, &list.can_insert()),
         _ => return Err(Fault::Form),
     }
     Ok(())

@@ -2,9 +2,10 @@
 ghost use Rattle.sip_selection.specs.Requests.{IsRequestView};
 
 use crate::books::{book_line, one_seat, push_both};
-use crate::fields::moment;
+use crate::fields::{keep, moment};
 use crate::replies::{Reply, read_reply};
 use crate::requests::{Sending, push_next, read_sending, view};
+use crate::shown::push_debug_line;
 use answer_cache::{AnswerBook, ListCache};
 use dns_answers::Moment;
 use row_fields::{Fault, Output, count, octets, split_word};
@@ -98,20 +99,21 @@ fn replied<R: Wait, B: AnswerBook>(
 
 /// Writes whether the answer of a reply is kept, or why the reply is not taken.
 fn push_taken(output: &mut Output, taken: Result<Kept, LocatorRefusal>) {
-    let alloc = output.alloc();
     match taken {
         Ok(Kept::Yes) => output.push_line("kept"),
-        Ok(Kept::No(refusal)) => output.push_made(format!(in alloc; "not kept: {refusal:?}\n")),
-        Err(refusal) => output.push_made(format!(in alloc; "{refusal:?}\n")),
+        Ok(Kept::No(refusal)) => {
+            output.push("not kept: ");
+            push_debug_line(output, &refusal);
+        }
+        Err(refusal) => push_debug_line(output, &refusal),
     }
 }
 
 /// Writes why an answer is not taken.
 fn push_given(output: &mut Output, given: Result<(), GiveRefusal>) {
-    let alloc = output.alloc();
     match given {
         Ok(()) => output.push_line("taken"),
-        Err(refusal) => output.push_made(format!(in alloc; "{refusal:?}\n")),
+        Err(refusal) => push_debug_line(output, &refusal),
     }
 }
 
@@ -191,9 +193,7 @@ fn locator_line<R: Wait, B: AnswerBook>(
 /// Adds a locator, and writes what is next for it.
 fn add<B: AnswerBook>(output: &mut Output, locators: &mut Vec<Locator<B>>, locator: Locator<B>) {
     push_next(output, locator.next());
-    if locators.push(locator).is_err() {
-        output.fail(Fault::Memory);
-    }
+    output.end(keep(locators, locator));
 }
 
 /// Adds the locator of the request of a line, and writes what is next for it.
@@ -253,7 +253,24 @@ fn push_located<B: AnswerBook>(
     }
 }
 
-/// Writes where the request of a line goes at its moment, by one call.
+/// Writes where a request goes at its moment, by one call.
+fn locate_timed<B: AnswerBook>(
+    output: &mut Output,
+    locators: &mut Vec<Locator<B>>,
+    book: &B,
+    seat: &mut B::Seat,
+    it: &Timed,
+    request: &RequestView<'_>,
+)
+    requires seat { B.belongs book.now seat.old }
+    requires view { IsRequestView request.now }
+    ensures { B.belongs book.now seat.new }
+{
+    let located = located(output.alloc(), book, seat, it, request);
+    push_located(output, locators, located);
+}
+
+/// The same of the request of a line.
 fn locate_at<B: AnswerBook>(
     output: &mut Output,
     locators: &mut Vec<Locator<B>>,
@@ -267,14 +284,32 @@ fn locate_at<B: AnswerBook>(
     match timed_request(output.alloc(), line) {
         Ok(it) => {
             let request = RequestView::Read(&it.sending.request);
-            let located = located(output.alloc(), book, seat, &it, &request);
-            push_located(output, locators, located);
+            locate_timed(output, locators, book, seat, &it, &request);
+            drop(it);
         }
         Err(fault) => output.fail(fault),
     }
 }
 
-/// The same of a request as it stands in its text.
+/// The same of a request as it stands in the text of a field.
+fn locate_timed_view<B: AnswerBook>(
+    output: &mut Output,
+    locators: &mut Vec<Locator<B>>,
+    book: &B,
+    seat: &mut B::Seat,
+    it: &Timed,
+    field: &str,
+)
+    requires { B.belongs book.now seat.old }
+    ensures { B.belongs book.now seat.new }
+{
+    match view(field.as_bytes()) {
+        Ok(request) => locate_timed(output, locators, book, seat, it, &request),
+        Err(fault) => output.fail(fault),
+    }
+}
+
+/// The same of the request of a line.
 fn locate_view_at<B: AnswerBook>(
     output: &mut Output,
     locators: &mut Vec<Locator<B>>,
@@ -286,12 +321,12 @@ fn locate_view_at<B: AnswerBook>(
     ensures { B.belongs book.now seat.new }
 {
     let (field, _) = split_word(split_word(line).1);
-    match (timed_request(output.alloc(), line), view(field.as_bytes())) {
-        (Ok(it), Ok(request)) => {
-            let located = located(output.alloc(), book, seat, &it, &request);
-            push_located(output, locators, located);
+    match timed_request(output.alloc(), line) {
+        Ok(it) => {
+            locate_timed_view(output, locators, book, seat, &it, field);
+            drop(it);
         }
-        (Err(fault), _) | (_, Err(fault)) => output.fail(fault),
+        Err(fault) => output.fail(fault),
     }
 }
 
@@ -375,7 +410,11 @@ fn over_list<R: Wait>(rt: &R, alloc: Global, input: &str) -> Result<String, Faul
 fn over_shared<R: Wait>(rt: &R, alloc: Global, input: &str) -> Result<String, Fault> {
     let mut output = Output::new(alloc);
     match one_seat(alloc) {
-        Some((book, mut seat)) => talk(rt, &mut output, &book, &mut seat, input),
+        Some((book, mut seat)) => {
+            talk(rt, &mut output, &book, &mut seat, input);
+            drop(seat);
+            drop(book);
+        }
         None => output.fail(Fault::Memory),
     }
     output.finish()

@@ -5,6 +5,9 @@
 //! standards, from servers, or was worked out by hand; `tools/run-rows` compares. A further row
 //! needs no proof. The comment at the head of a file of rows says how its lines are read and
 //! written.
+//!
+//! A value that owns much is dropped by name: a function that lets it go at its end does so field
+//! by field, which costs far more to prove.
 #![tactic(auto)]
 
 mod addresses;

@@ -1,6 +1,6 @@
 //! Calls of `dns_message`.
 use crate::fields::{joined, kind, question};
-use crate::shown::{push_asked, push_rdata, push_record};
+use crate::shown::{push_asked, push_counted, push_debug_line, push_rdata, push_record};
 use dns_message::{
     Asked, CharString, Header, Message, MessageRefusal, OtherData, Question, Record, message_in,
     read_message, write_message, write_query, write_reply,
@@ -11,25 +11,30 @@ use std::alloc::Global;
 /// What a call gives for a row's lines.
 pub(crate) fn told(output: &mut Output, call: &str, input: &str) -> Result<(), Fault> {
     match call {
-        "read_message" => read(output, input),
-        "count_answers" => count_answers(output, input),
-        "message_in" => read_in(output, input),
         "read_data" => data(output, input),
-        "cut_message" => cut(output, input),
         "write_query" => query(output, only_line(input)),
-        "write_reply" => reply(output, input),
-        "write_message" => whole(output, input),
         "type_number" => type_number(output, only_line(input)),
         "new_other_data" => other_data(output, only_line(input)),
         "new_char_string" => char_string(output, input),
-        _ => Err(Fault::Call),
+        _ => {
+            let octets = joined(output.alloc(), input)?;
+            told_of_octets(output, call, &octets)
+        }
     }
 }
 
-/// Writes a refusal as a line.
-fn push_refusal(output: &mut Output, refusal: MessageRefusal) {
-    let alloc = output.alloc();
-    output.push_made(format!(in alloc; "{refusal:?}\n"));
+/// What a call gives for the octets of a row's lines.
+fn told_of_octets(output: &mut Output, call: &str, octets: &[u8]) -> Result<(), Fault> {
+    match call {
+        "read_message" => read(output, octets),
+        "count_answers" => count_answers(output, octets),
+        "message_in" => read_in(output, octets),
+        "cut_message" => cut(output, octets),
+        "write_reply" => reply(output, octets),
+        "write_message" => whole(output, octets),
+        _ => return Err(Fault::Call),
+    }
+    Ok(())
 }
 
 /// Writes the word of a flag that is set.
@@ -39,22 +44,16 @@ fn push_flag(output: &mut Output, flag: bool, word: &str) {
     }
 }
 
-/// Writes a word and a number.
-fn push_word(output: &mut Output, word: &str, number: u16) {
-    output.push(word);
-    output.push_number(u64::from(number));
-}
-
 /// Writes a header: its number, the flags that are set, OPCODE and RCODE.
 fn push_header(output: &mut Output, header: &Header) {
-    push_word(output, "id ", header.id);
+    push_counted(output, "id ", header.id);
     push_flag(output, header.reply, " qr");
     push_flag(output, header.authoritative, " aa");
     push_flag(output, header.truncated, " tc");
     push_flag(output, header.recursion_desired, " rd");
     push_flag(output, header.recursion_available, " ra");
-    push_word(output, " opcode ", u16::from(header.opcode));
-    push_word(output, " rcode ", u16::from(header.rcode));
+    push_counted(output, " opcode ", u16::from(header.opcode));
+    push_counted(output, " rcode ", u16::from(header.rcode));
     output.push("\n");
 }
 
@@ -86,23 +85,25 @@ pub(crate) fn push_message(output: &mut Output, message: &Message) {
 }
 
 /// Octets give the message in front of them, or the refusal.
-fn read(output: &mut Output, input: &str) -> Result<(), Fault> {
-    let octets = joined(output.alloc(), input)?;
-    match read_message(output.alloc(), &octets) {
-        Ok(message) => push_message(output, &message),
-        Err(refusal) => push_refusal(output, refusal),
+fn read(output: &mut Output, octets: &[u8]) {
+    match read_message(output.alloc(), octets) {
+        Ok(message) => {
+            push_message(output, &message);
+            drop(message);
+        }
+        Err(refusal) => push_debug_line(output, &refusal),
     }
-    Ok(())
 }
 
 /// Octets give how many answers the message in front of them has, or the refusal.
-fn count_answers(output: &mut Output, input: &str) -> Result<(), Fault> {
-    let octets = joined(output.alloc(), input)?;
-    match read_message(output.alloc(), &octets) {
-        Ok(message) => push_count(output, message.answers.len()),
-        Err(refusal) => push_refusal(output, refusal),
+fn count_answers(output: &mut Output, octets: &[u8]) {
+    match read_message(output.alloc(), octets) {
+        Ok(message) => {
+            push_count(output, message.answers.len());
+            drop(message);
+        }
+        Err(refusal) => push_debug_line(output, &refusal),
     }
-    Ok(())
 }
 
 /// Writes a length as a line.
@@ -112,14 +113,15 @@ fn push_count(output: &mut Output, length: usize) {
 }
 
 /// Octets give the message in front of them, or `none`.
-fn read_in(output: &mut Output, input: &str) -> Result<(), Fault> {
-    let octets = joined(output.alloc(), input)?;
-    match message_in(output.alloc(), &octets) {
-        Ok(Some(message)) => push_message(output, &message),
+fn read_in(output: &mut Output, octets: &[u8]) {
+    match message_in(output.alloc(), octets) {
+        Ok(Some(message)) => {
+            push_message(output, &message);
+            drop(message);
+        }
         Ok(None) => output.push_line("none"),
         Err(_) => output.fail(Fault::Memory),
     }
-    Ok(())
 }
 
 /// The type, the class and the data of a record.
@@ -141,11 +143,6 @@ fn data_of(line: &str) -> Result<RecordData<'_>, Fault> {
     })
 }
 
-/// Adds a number of two octets.
-fn push_two(all: &mut Vec<u8>, number: u16) -> Result<(), Fault> {
-    Ok(all.extend_from_slice(&number.to_be_bytes())?)
-}
-
 /// Writes a reply whose one record is the root's, with this data.
 fn write_reply_with(
     all: &mut Vec<u8>,
@@ -153,13 +150,20 @@ fn write_reply_with(
     class_number: u16,
     data: &[u8],
 ) -> Result<(), Fault> {
-    let size = u16::try_from(data.len()).map_err(|_| Fault::Form)?;
-    all.extend_from_slice(b"\0\x01\x80\0\0\0\0\x01\0\0\0\0\0")?;
-    push_two(all, type_number)?;
-    push_two(all, class_number)?;
-    all.extend_from_slice(b"\0\0\0\x3c")?;
-    push_two(all, size)?;
-    Ok(all.extend_from_slice(data)?)
+    let Ok(size) = u16::try_from(data.len()) else {
+        return Err(Fault::Form);
+    };
+    for part in [
+        b"\0\x01\x80\0\0\0\0\x01\0\0\0\0\0".as_slice(),
+        type_number.to_be_bytes().as_slice(),
+        class_number.to_be_bytes().as_slice(),
+        b"\0\0\0\x3c".as_slice(),
+        size.to_be_bytes().as_slice(),
+        data,
+    ] {
+        all.extend_from_slice(part)?;
+    }
+    Ok(())
 }
 
 /// A reply whose one record is the root's, with the data of a line.
@@ -183,8 +187,11 @@ fn push_first(output: &mut Output, records: &[Record]) {
 /// Writes what the data of a reply's one record says, or the refusal.
 fn push_data(output: &mut Output, reply: &[u8]) {
     match read_message(output.alloc(), reply) {
-        Ok(message) => push_first(output, message.answers.as_slice()),
-        Err(refusal) => push_refusal(output, refusal),
+        Ok(message) => {
+            push_first(output, message.answers.as_slice());
+            drop(message);
+        }
+        Err(refusal) => push_debug_line(output, &refusal),
     }
 }
 
@@ -201,7 +208,10 @@ fn data(output: &mut Output, input: &str) -> Result<(), Fault> {
 /// What is said of octets that are cut there: `None` where they are read.
 fn beginning(alloc: Global, octets: &[u8], end: usize) -> Option<MessageRefusal> {
     match read_message(alloc, octets.get(..end)?) {
-        Ok(_) => None,
+        Ok(message) => {
+            drop(message);
+            None
+        }
         Err(refusal) => Some(refusal),
     }
 }
@@ -211,24 +221,22 @@ fn push_beginning(output: &mut Output, end: usize, found: Option<MessageRefusal>
     output.push_length(end);
     output.push(" ");
     match found {
-        Some(refusal) => push_refusal(output, refusal),
+        Some(refusal) => push_debug_line(output, &refusal),
         None => output.push_line("read"),
     }
 }
 
 /// Octets give what is said of each of their beginnings, in lines with the length from which it is
 /// said.
-fn cut(output: &mut Output, input: &str) -> Result<(), Fault> {
-    let octets = joined(output.alloc(), input)?;
+fn cut(output: &mut Output, octets: &[u8]) {
     let mut said = None;
     for end in 0..=octets.len() {
-        let found = beginning(output.alloc(), &octets, end);
+        let found = beginning(output.alloc(), octets, end);
         if end == 0 || found != said {
             push_beginning(output, end, found);
             said = found;
         }
     }
-    Ok(())
 }
 
 /// Writes the octets of a query.
@@ -245,6 +253,7 @@ fn query(output: &mut Output, line: &str) -> Result<(), Fault> {
     let id = number16(id)?;
     let question = question(output.alloc(), rest)?;
     push_query(output, id, &question);
+    drop(question);
     Ok(())
 }
 
@@ -267,42 +276,43 @@ fn push_reply(output: &mut Output, message: &Message) {
 }
 
 /// The octets of a message give those that are written of it.
-fn reply(output: &mut Output, input: &str) -> Result<(), Fault> {
-    let octets = joined(output.alloc(), input)?;
-    match read_message(output.alloc(), &octets) {
-        Ok(message) => push_reply(output, &message),
+fn reply(output: &mut Output, octets: &[u8]) {
+    match read_message(output.alloc(), octets) {
+        Ok(message) => {
+            push_reply(output, &message);
+            drop(message);
+        }
         Err(_) => output.fail(Fault::Form),
     }
-    Ok(())
 }
 
 /// Writes the octets of a message of any length, or why there are none.
 fn push_whole(output: &mut Output, message: &Message) {
-    let alloc = output.alloc();
     if message.header.opcode > 15 || message.header.rcode > 15 {
         output.fail(Fault::Form);
         return;
     }
-    match write_message(alloc, message) {
+    match write_message(output.alloc(), message) {
         Ok(octets) => output.push_octets_line(&octets),
-        Err(refusal) => output.push_made(format!(in alloc; "{refusal:?}\n")),
+        Err(refusal) => push_debug_line(output, &refusal),
     }
 }
 
 /// The octets of a message give those that are written of it, however many they are.
-fn whole(output: &mut Output, input: &str) -> Result<(), Fault> {
-    let octets = joined(output.alloc(), input)?;
-    match read_message(output.alloc(), &octets) {
-        Ok(message) => push_whole(output, &message),
+fn whole(output: &mut Output, octets: &[u8]) {
+    match read_message(output.alloc(), octets) {
+        Ok(message) => {
+            push_whole(output, &message);
+            drop(message);
+        }
         Err(_) => output.fail(Fault::Form),
     }
-    Ok(())
 }
 
 /// A field with a kind gives the number of its type.
 fn type_number(output: &mut Output, line: &str) -> Result<(), Fault> {
     let kind = kind(line)?;
-    push_word(output, "", kind.type_number());
+    push_counted(output, "", kind.type_number());
     output.push("\n");
     Ok(())
 }
@@ -311,8 +321,8 @@ fn type_number(output: &mut Output, line: &str) -> Result<(), Fault> {
 fn push_other(output: &mut Output, other: Option<OtherData>) {
     match other {
         Some(other) => {
-            push_word(output, "", other.type_number());
-            push_word(output, " ", other.class_number());
+            push_counted(output, "", other.type_number());
+            push_counted(output, " ", other.class_number());
             output.push(" ");
             push_count(output, other.octets().len());
         }

@@ -1,7 +1,7 @@
 //! Calls of `dns_name`.
 use crate::fields::{joined, name};
-use crate::shown::push_name;
-use dns_name::{Name, NameReadRefusal, NameRefusal, read_name, write_name};
+use crate::shown::{push_debug_line, push_name};
+use dns_name::{Name, NameRefusal, read_name, write_name};
 use row_fields::{Fault, Output, count, first_line, octets, only_line, split_word, text};
 use std::alloc::AllocError;
 
@@ -19,17 +19,14 @@ pub(crate) fn told(output: &mut Output, call: &str, input: &str) -> Result<(), F
     }
 }
 
-/// Writes a refusal as a line.
-fn push_refusal(output: &mut Output, refusal: NameRefusal) {
-    let alloc = output.alloc();
-    output.push_made(format!(in alloc; "{refusal:?}\n"));
-}
-
 /// Writes the octets of a name, or the refusal.
 fn push_read(output: &mut Output, read: Result<Name, NameRefusal>) {
     match read {
-        Ok(name) => output.push_octets_line(name.wire()),
-        Err(refusal) => push_refusal(output, refusal),
+        Ok(name) => {
+            output.push_octets_line(name.wire());
+            drop(name);
+        }
+        Err(refusal) => push_debug_line(output, &refusal),
     }
 }
 
@@ -50,8 +47,11 @@ fn push_name_line(output: &mut Output, name: &Name) {
 /// Writes the name with two labels in front, or the refusal.
 fn push_prefixed(output: &mut Output, prefixed: Result<Name, NameRefusal>) {
     match prefixed {
-        Ok(name) => push_name_line(output, &name),
-        Err(refusal) => push_refusal(output, refusal),
+        Ok(name) => {
+            push_name_line(output, &name);
+            drop(name);
+        }
+        Err(refusal) => push_debug_line(output, &refusal),
     }
 }
 
@@ -74,7 +74,9 @@ fn prefixed(output: &mut Output, line: &str) -> Result<(), Fault> {
     let (domain, rest) = split_word(line);
     let (service, proto) = split_word(rest);
     let domain = name(alloc, domain)?;
-    prefixed_by(output, &domain, service, proto)
+    let done = prefixed_by(output, &domain, service, proto);
+    drop(domain);
+    done
 }
 
 /// A line with an offset and lines with the octets of a message give the name there and the offset
@@ -95,15 +97,10 @@ fn push_name_at(output: &mut Output, message: &[u8], offset: usize) {
             output.push(" ");
             output.push_length(behind);
             output.push("\n");
+            drop(name);
         }
-        Err(refusal) => push_read_refusal(output, refusal),
+        Err(refusal) => push_debug_line(output, &refusal),
     }
-}
-
-/// Writes why there is no name, as a line.
-fn push_read_refusal(output: &mut Output, refusal: NameReadRefusal) {
-    let alloc = output.alloc();
-    output.push_made(format!(in alloc; "{refusal:?}\n"));
 }
 
 /// Writes a name behind octets.
@@ -114,7 +111,9 @@ fn write_behind(name: &Name, out: &mut Vec<u8>) -> Result<(), AllocError> {
 /// Writes a copy of a name behind octets.
 fn write_copy(name: &Name, out: &mut Vec<u8>) -> Result<(), Fault> {
     let copy = name.try_clone()?;
-    Ok(write_behind(&copy, out)?)
+    let written = write_behind(&copy, out);
+    drop(copy);
+    Ok(written?)
 }
 
 /// Fields with octets and a name give the octets with a copy of the name behind them.
@@ -125,25 +124,46 @@ fn written(output: &mut Output, line: &str) -> Result<(), Fault> {
     let mut out = octets(alloc, front)?;
     let written = write_copy(&name, &mut out);
     output.push_octets_line(&out);
+    drop(name);
     written
+}
+
+/// Writes a parent, or `none`.
+fn push_parent(output: &mut Output, parent: Result<Option<Name>, AllocError>) {
+    match parent {
+        Ok(Some(parent)) => {
+            push_name_line(output, &parent);
+            drop(parent);
+        }
+        Ok(None) => output.push_line("none"),
+        Err(_) => output.fail(Fault::Memory),
+    }
 }
 
 /// A field with a name gives its parent, or `none` for the root.
 fn parents(output: &mut Output, line: &str) -> Result<(), Fault> {
     let name = name(output.alloc(), line)?;
-    match name.parent()? {
-        Some(parent) => push_name_line(output, &parent),
-        None => output.push_line("none"),
-    }
+    push_parent(output, name.parent());
+    drop(name);
     Ok(())
+}
+
+/// Writes whether the name of a field is equal to another.
+fn push_equal(output: &mut Output, first: &Name, second: &str) {
+    match name(output.alloc(), second) {
+        Ok(second) => {
+            output.push_line(if *first == second { "true" } else { "false" });
+            drop(second);
+        }
+        Err(fault) => output.fail(fault),
+    }
 }
 
 /// Fields with two names give whether they are equal.
 fn equal(output: &mut Output, line: &str) -> Result<(), Fault> {
-    let alloc = output.alloc();
     let (first, second) = split_word(line);
-    let first = name(alloc, first)?;
-    let second = name(alloc, second)?;
-    output.push_line(if first == second { "true" } else { "false" });
+    let first = name(output.alloc(), first)?;
+    push_equal(output, &first, second);
+    drop(first);
     Ok(())
 }

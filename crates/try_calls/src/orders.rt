@@ -1,5 +1,5 @@
 //! Calls of `srv_choice`.
-use crate::fields::name;
+use crate::fields::{Part, name, parts};
 use crate::requests::words_from;
 use dns_message::SrvRecord;
 use row_fields::{Fault, Output, count, first_line, number16, only_line, split_word};
@@ -14,34 +14,27 @@ pub(crate) fn told(output: &mut Output, call: &str, input: &str) -> Result<(), F
     }
 }
 
-/// The record of a line: priority, weight, port and target.
-fn server_of(alloc: Global, line: &str) -> Result<SrvRecord, Fault> {
-    let (priority, rest) = split_word(line);
-    let (weight, rest) = split_word(rest);
-    let (port, target) = split_word(rest);
-    Ok(SrvRecord {
-        priority: number16(priority)?,
-        weight: number16(weight)?,
-        port: number16(port)?,
-        target: name(alloc, target)?,
-    })
+impl Part for SrvRecord {
+    /// A server: priority, weight, port and target.
+    fn read(alloc: Global, part: &str) -> Result<SrvRecord, Fault> {
+        let (priority, rest) = split_word(part);
+        let (weight, rest) = split_word(rest);
+        let (port, target) = split_word(rest);
+        Ok(SrvRecord {
+            priority: number16(priority)?,
+            weight: number16(weight)?,
+            port: number16(port)?,
+            target: name(alloc, target)?,
+        })
+    }
 }
 
-/// The records that a text has between separators.
-pub(crate) fn servers_of(
-    alloc: Global,
-    text: &str,
-    separator: &str,
-) -> Result<Vec<SrvRecord>, Fault> {
-    let mut records = Vec::new(alloc);
-    if text.is_empty() {
-        return Ok(records);
+/// The records of lines.
+fn servers_of(alloc: Global, lines: &str) -> Result<Vec<SrvRecord>, Fault> {
+    if lines.is_empty() {
+        return Ok(Vec::new(alloc));
     }
-    for record in text.split(separator) {
-        let server = server_of(alloc, record)?;
-        records.push(server).map_err(|_| Fault::Memory)?;
-    }
-    Ok(records)
+    parts(alloc, lines, "\n")
 }
 
 /// The outcome for records, by words from an index on.
@@ -80,7 +73,7 @@ fn ordered(output: &mut Output, input: &str) -> Result<(), Fault> {
     let (from, words) = split_word(line);
     let from = count(from)?;
     let words = words_from(from, words)?;
-    let records = servers_of(output.alloc(), only_line(lines), "\n")?;
+    let records = servers_of(output.alloc(), only_line(lines))?;
     let outcome = outcome(&records, &words, from)?;
     push_outcome(output, &outcome);
     Ok(())

@@ -4,12 +4,11 @@
 //! answer of two records, which lives for 60 seconds. The fields of a record are those of a line of
 //! a zone (RFC 2782, RFC 3403 4.1); `none` after the life says that there is no record, and `of
 //! SRV` that the records are of that kind.
-use crate::fields::{kind, name, question_of};
-use crate::orders::servers_of;
-use crate::shown::{push_address, push_name, push_number, push_srv, push_type};
+use crate::fields::{Part, kind, name, parts, question_of};
+use crate::shown::{push_name, push_number, push_servers, push_type, push_v4, push_v6};
 use dns_answers::{Answer, Records};
-use dns_message::{CharString, Kind, NaptrRecord, Question, Section, SrvRecord};
-use ip_text::{Address, ipv4_octets, ipv6_octets};
+use dns_message::{CharString, Kind, NaptrRecord, Question, Section};
+use ip_text::{ipv4_octets, ipv6_octets};
 use row_fields::{Fault, Output, number16, number32, octets, split_word};
 use std::alloc::Global;
 use std::sync::Arc;
@@ -21,24 +20,18 @@ pub(crate) struct Reply {
     pub(crate) answer: Arc<Answer>,
 }
 
-/// Addresses of IPv4, of which ` | ` parts two.
-fn addresses4(alloc: Global, records: &str) -> Result<Vec<[u8; 4]>, Fault> {
-    let mut all = Vec::new(alloc);
-    for record in records.split(" | ") {
-        let octets = ipv4_octets(record.as_bytes()).ok_or(Fault::Form)?;
-        all.push(octets).map_err(|_| Fault::Memory)?;
+impl Part for [u8; 4] {
+    /// The octets of an address of IPv4.
+    fn read(_alloc: Global, part: &str) -> Result<[u8; 4], Fault> {
+        ipv4_octets(part.as_bytes()).ok_or(Fault::Form)
     }
-    Ok(all)
 }
 
-/// Addresses of IPv6, of which ` | ` parts two.
-fn addresses6(alloc: Global, records: &str) -> Result<Vec<[u8; 16]>, Fault> {
-    let mut all = Vec::new(alloc);
-    for record in records.split(" | ") {
-        let octets = ipv6_octets(record.as_bytes()).ok_or(Fault::Form)?;
-        all.push(octets).map_err(|_| Fault::Memory)?;
+impl Part for [u8; 16] {
+    /// The octets of an address of IPv6.
+    fn read(_alloc: Global, part: &str) -> Result<[u8; 16], Fault> {
+        ipv6_octets(part.as_bytes()).ok_or(Fault::Form)
     }
-    Ok(all)
 }
 
 /// A character string.
@@ -87,21 +80,13 @@ fn rule_of(alloc: Global, order: u16, preference: u16, rest: &str) -> Result<Nap
     })
 }
 
-/// A rule: order, preference, flags, services, regular expression and replacement.
-fn rule(alloc: Global, record: &str) -> Result<NaptrRecord, Fault> {
-    let (order, rest) = split_word(record);
-    let (preference, rest) = split_word(rest);
-    rule_of(alloc, number16(order)?, number16(preference)?, rest)
-}
-
-/// Rules, of which ` | ` parts two.
-fn rules(alloc: Global, records: &str) -> Result<Vec<NaptrRecord>, Fault> {
-    let mut all = Vec::new(alloc);
-    for record in records.split(" | ") {
-        let rule = rule(alloc, record)?;
-        all.push(rule).map_err(|_| Fault::Memory)?;
+impl Part for NaptrRecord {
+    /// A rule: order, preference, flags, services, regular expression and replacement.
+    fn read(alloc: Global, part: &str) -> Result<NaptrRecord, Fault> {
+        let (order, rest) = split_word(part);
+        let (preference, rest) = split_word(rest);
+        rule_of(alloc, number16(order)?, number16(preference)?, rest)
     }
-    Ok(all)
 }
 
 /// No records of a kind.
@@ -119,20 +104,29 @@ fn records(alloc: Global, kind: Kind, records: &str) -> Result<Records, Fault> {
     if records.is_empty() {
         return Ok(no_records(alloc, kind));
     }
-    match kind {
-        Kind::A => addresses4(alloc, records).map(|all| Records::V4(Section::from_vec(all))),
-        Kind::Aaaa => addresses6(alloc, records).map(|all| Records::V6(Section::from_vec(all))),
-        Kind::Srv => servers_of(alloc, records, " | ").map(|all| Records::Srv(Section::from_vec(
-            all,
-        ))),
-        Kind::Naptr => rules(alloc, records).map(|all| Records::Naptr(Section::from_vec(all))),
+    Ok(match kind {
+        Kind::A => Records::V4(Section::from_vec(parts(alloc, records, " | ")?)),
+        Kind::Aaaa => Records::V6(Section::from_vec(parts(alloc, records, " | ")?)),
+        Kind::Srv => Records::Srv(Section::from_vec(parts(alloc, records, " | ")?)),
+        Kind::Naptr => Records::Naptr(Section::from_vec(parts(alloc, records, " | ")?)),
+    })
+}
+
+/// An answer that can be shared.
+fn shared(alloc: Global, answer: Answer) -> Result<Arc<Answer>, Fault> {
+    match Arc::new(alloc, answer) {
+        Ok(answer) => Ok(answer),
+        Err(refused) => {
+            drop(refused);
+            Err(Fault::Memory)
+        }
     }
 }
 
 /// An answer of records with a life.
 fn answer_of(alloc: Global, records: Records, life: u32) -> Result<Arc<Answer>, Fault> {
     match Answer::new(records, life) {
-        Some(answer) => Arc::new(alloc, answer).map_err(|_| Fault::Memory),
+        Some(answer) => shared(alloc, answer),
         None => Err(Fault::Form),
     }
 }
@@ -146,13 +140,21 @@ fn answer(alloc: Global, kind: Kind, lines: &str, life: u32) -> Result<Arc<Answe
 }
 
 /// The kind of an answer's records: that of its question, or the one that is written.
-fn answer_kind(question: Kind, written: &str) -> Result<Kind, Fault> {
+fn answer_kind(question: &str, written: &str) -> Result<Kind, Fault> {
     match written {
-        "" | "none" => Ok(question),
+        "" | "none" => kind(question),
         _ => match written.strip_prefix("of ") {
             Some(other) => kind(other),
             None => Err(Fault::Form),
         },
+    }
+}
+
+/// A question with its answer.
+fn answered(question: Question, answer: Result<Arc<Answer>, Fault>) -> Result<Reply, Fault> {
+    match answer {
+        Ok(answer) => Ok(Reply { question, answer }),
+        Err(fault) => Err(fault),
     }
 }
 
@@ -162,12 +164,9 @@ fn reply_of(alloc: Global, front: &str, lines: &str) -> Result<Reply, Fault> {
     let (name_field, rest) = split_word(rest);
     let (life, written) = split_word(rest);
     let life = number32(life)?;
-    let kind = answer_kind(kind(kind_field)?, written)?;
+    let kind = answer_kind(kind_field, written)?;
     let question = question_of(alloc, name_field, kind_field)?;
-    match answer(alloc, kind, lines, life) {
-        Ok(answer) => Ok(Reply { question, answer }),
-        Err(fault) => Err(fault),
-    }
+    answered(question, answer(alloc, kind, lines, life))
 }
 
 /// The question and the answer of a line.
@@ -175,30 +174,6 @@ pub(crate) fn read_reply(alloc: Global, line: &str) -> Result<Reply, Fault> {
     match line.split_once(" | ") {
         Some((front, lines)) => reply_of(alloc, front, lines),
         None => reply_of(alloc, line, ""),
-    }
-}
-
-/// Writes addresses of IPv4.
-fn push_addresses4(output: &mut Output, all: &[[u8; 4]]) {
-    for octets in all {
-        output.push(" | ");
-        push_address(output, Address::V4(*octets));
-    }
-}
-
-/// Writes addresses of IPv6.
-fn push_addresses6(output: &mut Output, all: &[[u8; 16]]) {
-    for octets in all {
-        output.push(" | ");
-        push_address(output, Address::V6(*octets));
-    }
-}
-
-/// Writes servers.
-fn push_servers(output: &mut Output, all: &[SrvRecord]) {
-    for server in all {
-        output.push(" | ");
-        push_srv(output, server);
     }
 }
 
@@ -233,9 +208,9 @@ pub(crate) fn push_answer(output: &mut Output, answer: &Answer) {
         output.push(" none");
     }
     match answer.records() {
-        Records::V4(all) => push_addresses4(output, all.as_slice()),
-        Records::V6(all) => push_addresses6(output, all.as_slice()),
-        Records::Srv(all) => push_servers(output, all.as_slice()),
+        Records::V4(all) => push_v4(output, " | ", all.as_slice(), ""),
+        Records::V6(all) => push_v6(output, " | ", all.as_slice(), ""),
+        Records::Srv(all) => push_servers(output, " | ", all.as_slice(), ""),
         Records::Naptr(all) => push_rules(output, all.as_slice()),
     }
 }

@@ -1,9 +1,10 @@
 //! Lines of requests, as `read_request` of `sip_selection` reads them.
 use crate::requests::transport_word;
+use crate::shown::push_debug_line;
 use crate::uris::push_host;
 use row_fields::{Fault, Output, text};
 use sip_selection::{Request, read_request};
-use sip_uri::{Spoken, UriRefusal};
+use sip_uri::Spoken;
 
 /// The word for the transport that a request names.
 fn spoken_word(spoken: Spoken) -> &'static str {
@@ -47,19 +48,16 @@ fn push_request(output: &mut Output, request: &Request) {
     output.push("\n");
 }
 
-/// Writes a refusal as a line.
-fn push_refusal(output: &mut Output, refusal: UriRefusal) {
-    let alloc = output.alloc();
-    output.push_made(format!(in alloc; "{refusal:?}\n"));
-}
-
 /// A line gives the kind of its request, the host whose addresses are needed, the port and the
 /// transport, or the refusal.
 pub(crate) fn request_line(output: &mut Output, line: &str) -> Result<(), Fault> {
     let text = text(output.alloc(), line)?;
     match read_request(output.alloc(), &text) {
-        Ok(request) => push_request(output, &request),
-        Err(refusal) => push_refusal(output, refusal),
+        Ok(request) => {
+            push_request(output, &request);
+            drop(request);
+        }
+        Err(refusal) => push_debug_line(output, &refusal),
     }
     Ok(())
 }

@@ -5,8 +5,9 @@
 ghost use Rattle.std.specs.Prelude.{IfOk};
 ghost use Rattle.sip_selection.specs.Requests.{IsRequestView};
 
+use crate::fields::{Part, parts};
 use crate::replies::push_question;
-use crate::shown::push_address;
+use crate::shown::{push_address, push_debug_line};
 use dns_message::Question;
 use row_fields::{Fault, Output, number64, split_word, text};
 use sip_selection::{Caps, Families, Next, Reason, Request, RequestView, Target};
@@ -65,6 +66,13 @@ pub(crate) fn view(text: &[u8]) -> Result<RequestView<'_>, Fault>
     }
 }
 
+impl Part for Transport {
+    /// The transport of a word.
+    fn read(_alloc: Global, part: &str) -> Result<Transport, Fault> {
+        transport(part)
+    }
+}
+
 /// A transport.
 pub(crate) fn transport(word: &str) -> Result<Transport, Fault> {
     match word {
@@ -88,15 +96,10 @@ pub(crate) fn transport_word(transport: Transport) -> &'static str {
 
 /// Transports, of which a comma parts two; `none` where there are none.
 fn transports(alloc: Global, field: &str) -> Result<Vec<Transport>, Fault> {
-    let mut all = Vec::new(alloc);
     if field == "none" {
-        return Ok(all);
+        return Ok(Vec::new(alloc));
     }
-    for word in field.split(',') {
-        let transport = transport(word)?;
-        all.push(transport).map_err(|_| Fault::Memory)?;
-    }
-    Ok(all)
+    parts(alloc, field, ",")
 }
 
 /// Families of addresses.
@@ -176,8 +179,8 @@ fn push_ask(output: &mut Output, question: &Question) {
 
 /// Writes `refused` with the reason.
 fn push_refused(output: &mut Output, reason: Reason) {
-    let alloc = output.alloc();
-    output.push_made(format!(in alloc; "refused {reason:?}\n"));
+    output.push("refused ");
+    push_debug_line(output, &reason);
 }
 
 /// Writes what is next: `ask` with a question, a line for each target, or `refused` with the

@@ -3,9 +3,12 @@ ghost use Rattle.std.specs.Prelude.{IfSome};
 ghost use Rattle.std.specs.List.{All};
 ghost use Rattle.rolling_cache.specs.Rolling.{IsAt, IsFirst, IsFresh};
 
-use crate::books::{DatedQuestion, book_line, found, lookup_of, push_found, reply_stored};
+use crate::books::{
+    DatedQuestion, book_line, found, lookup_of, push_found, push_seats, reply_stored,
+};
 use crate::fields::moment;
 use crate::replies::{Reply, read_reply};
+use crate::shown::push_debug_line;
 use answer_cache::AnswerBook;
 use dns_answers::Moment;
 use dns_message::Question;
@@ -31,10 +34,13 @@ fn start() -> Option<Moment> {
 
 /// Writes how many seats a new cache has, or why there is none.
 fn push_count(output: &mut Output, count: usize, now: Moment) {
-    let alloc = output.alloc();
-    match RollingCache::new(alloc, count, now) {
-        Ok((_, seats)) => output.push_made(format!(in alloc; "{} seats\n", seats.len())),
-        Err(refusal) => output.push_made(format!(in alloc; "{refusal:?}\n")),
+    match RollingCache::new(output.alloc(), count, now) {
+        Ok((cache, seats)) => {
+            push_seats(output, seats.len());
+            drop(seats);
+            drop(cache);
+        }
+        Err(refusal) => push_debug_line(output, &refusal),
     }
 }
 
@@ -66,9 +72,15 @@ fn two_of(
 {
     let second = last_of(&mut seats);
     let first = last_of(&mut seats);
+    drop(seats);
     match (first, second) {
         (Some(first), Some(second)) => Some((cache, first, second)),
-        _ => None,
+        (first, second) => {
+            drop(first);
+            drop(second);
+            drop(cache);
+            None
+        }
     }
 }
 
@@ -117,9 +129,8 @@ fn renew<R: Wait>(
 
 /// Writes what became of a seat.
 fn push_change(output: &mut Output, change: Option<Change>) {
-    let alloc = output.alloc();
     match change {
-        Some(change) => output.push_made(format!(in alloc; "{change:?}\n")),
+        Some(change) => push_debug_line(output, &change),
         None => output.fail(Fault::Memory),
     }
 }
@@ -149,13 +160,14 @@ fn push_apart(output: &mut Output, seat: RollingSeat, question: &Question, now: 
 {
     let (generation, mut seat) = seat.into_parts();
     push_found(output, found(generation.cache(), &mut seat, question, now));
+    drop(seat);
+    drop(generation);
 }
 
 /// Writes the number of a seat's generation, and whether that is to end.
 fn push_generation(output: &mut Output, seat: &RollingSeat) {
-    let alloc = output.alloc();
-    let number = seat.generation().number();
-    output.push_made(format!(in alloc; "generation {number}"));
+    output.push("generation ");
+    output.push_number(seat.generation().number());
     if seat.generation().is_ending() {
         output.push(", ending");
     }
@@ -182,7 +194,10 @@ fn push_after(
 /// The same for the moment, the kind and the name of a line.
 fn after(output: &mut Output, cache: &RollingCache, seat: &RollingSeat, line: &str) {
     match lookup_of(output.alloc(), line) {
-        Ok(lookup) => push_after(output, cache, seat, &lookup),
+        Ok(lookup) => {
+            push_after(output, cache, seat, &lookup);
+            drop(lookup);
+        }
         Err(fault) => output.fail(fault),
     }
 }
@@ -235,23 +250,26 @@ fn two_talk<R: Wait>(
     rt: &R,
     output: &mut Output,
     cache: &RollingCache,
-    first: &mut RollingSeat,
-    second: &mut RollingSeat,
+    mut first: RollingSeat,
+    mut second: RollingSeat,
     input: &str,
 )
-    requires first { IsAt first.old }
-    requires second { IsAt second.old }
+    requires first { IsAt first }
+    requires second { IsAt second }
 {
     'lines: for line in input.lines() {
-        two_seat_line(rt, output, cache, first, second, line);
+        two_seat_line(rt, output, cache, &mut first, &mut second, line);
     }
+    drop(first);
+    drop(second);
 }
 
 /// What the two seats of a cache that is made at a moment give for lines.
 fn talk<R: Wait>(rt: &R, output: &mut Output, now: Moment, lines: &str) {
     match two_seats(output.alloc(), now) {
-        Some((cache, mut first, mut second)) => {
-            two_talk(rt, output, &cache, &mut first, &mut second, lines);
+        Some((cache, first, second)) => {
+            two_talk(rt, output, &cache, first, second, lines);
+            drop(cache);
         }
         None => output.fail(Fault::Memory),
     }
@@ -410,25 +428,37 @@ fn asking_of(alloc: Global, line: &str) -> Result<Asking, Fault> {
     }
 }
 
-/// The counts of a new cache, of which one answer is asked so many times.
-fn tallied<R: Wait>(rt: &R, alloc: Global, asking: &Asking) -> Option<Tally> {
-    match two_seats(alloc, start()?) {
-        Some((cache, mut seat, _)) => Some(ask_all(
-            rt,
-            &cache,
-            &mut seat,
-            &asking.reply,
-            asking.times,
-            asking.a_second,
-        )),
-        None => None,
-    }
+/// The counts of a cache, of which one answer is asked so many times.
+fn tallied<R: Wait>(rt: &R, cache: &RollingCache, mut seat: RollingSeat, asking: &Asking) -> Tally
+    requires { IsAt seat }
+{
+    let counts = ask_all(
+        rt,
+        cache,
+        &mut seat,
+        &asking.reply,
+        asking.times,
+        asking.a_second,
+    );
+    drop(seat);
+    counts
+}
+
+/// A seat of a new cache, with that cache and its other seat.
+fn started(alloc: Global) -> Option<(RollingCache, RollingSeat, RollingSeat)>
+    ensures { IfSome result (λ made. IsAt made.1) }
+{
+    two_seats(alloc, start()?)
 }
 
 /// Writes the counts of a new cache, of which one answer is asked so many times.
 fn push_asked<R: Wait>(rt: &R, output: &mut Output, asking: &Asking) {
-    match tallied(rt, output.alloc(), asking) {
-        Some(counts) => push_tally(output, counts),
+    match started(output.alloc()) {
+        Some((cache, seat, other)) => {
+            drop(other);
+            push_tally(output, tallied(rt, &cache, seat, asking));
+            drop(cache);
+        }
         None => output.fail(Fault::Memory),
     }
 }
@@ -437,7 +467,10 @@ fn push_asked<R: Wait>(rt: &R, output: &mut Output, asking: &Asking) {
 /// stored where it is not found, give how often that is.
 fn asked<R: Wait>(rt: &R, output: &mut Output, line: &str) {
     match asking_of(output.alloc(), line) {
-        Ok(asking) => push_asked(rt, output, &asking),
+        Ok(asking) => {
+            push_asked(rt, output, &asking);
+            drop(asking);
+        }
         Err(fault) => output.fail(fault),
     }
 }

@@ -1,9 +1,11 @@
 //! Calls of `sip_selection`.
+use crate::fields::{Part, parts};
 use crate::replies::{Reply, read_reply};
 use crate::request_lines::request_line;
 use crate::requests::{
     Sending, caps, push_next, push_target, read_sending, transport, transport_word,
 };
+use crate::shown::{push_debug, push_debug_line};
 use ip_text::address_from_text;
 use row_fields::{Fault, Output, first_line, number16, only_line, split_word};
 use sip_selection::{Caps, Event, Failover, Failure, GiveRefusal, Selection, Target};
@@ -50,9 +52,8 @@ fn given(alloc: Global, selection: &mut Selection, reply: Reply) -> Result<(), G
 
 /// Writes why a reply is not taken.
 fn push_given(output: &mut Output, given: Result<(), GiveRefusal>) {
-    let alloc = output.alloc();
     if let Err(refusal) = given {
-        output.push_made(format!(in alloc; "{refusal:?}\n"));
+        push_debug_line(output, &refusal);
     }
 }
 
@@ -78,6 +79,7 @@ fn talk(output: &mut Output, selection: &mut Selection, answers: &str) {
 fn talk_once(output: &mut Output, selection: Selection, answers: &str) {
     let mut selection = selection;
     talk(output, &mut selection, answers);
+    drop(selection);
 }
 
 /// The same of the choice of a request.
@@ -97,7 +99,6 @@ fn conversation(output: &mut Output, input: &str) -> Result<(), Fault> {
 
 /// Writes which transports a caller has, and its families of addresses.
 fn push_caps(output: &mut Output, caps: &Caps) {
-    let alloc = output.alloc();
     for transport in [
         Transport::Udp,
         Transport::Tcp,
@@ -109,7 +110,7 @@ fn push_caps(output: &mut Output, caps: &Caps) {
             output.push(" ");
         }
     }
-    output.push_made(format!(in alloc; "{:?}\n", caps.families()));
+    push_debug_line(output, &caps.families());
 }
 
 /// Fields with transports and families give those of their caller, or `none` where there is none.
@@ -122,28 +123,25 @@ fn caps_line(output: &mut Output, line: &str) -> Result<(), Fault> {
     Ok(())
 }
 
-/// A target: its transport, its address and its port.
-fn target(line: &str) -> Result<Target, Fault> {
-    let (transport_field, rest) = split_word(line);
-    let (address, port) = split_word(rest);
-    Ok(Target {
-        transport: transport(transport_field)?,
-        address: address_from_text(address).ok_or(Fault::Form)?,
-        port: number16(port)?,
-    })
+impl Part for Target {
+    /// A target: its transport, its address and its port.
+    fn read(_alloc: Global, part: &str) -> Result<Target, Fault> {
+        let (transport_field, rest) = split_word(part);
+        let (address, port) = split_word(rest);
+        Ok(Target {
+            transport: transport(transport_field)?,
+            address: address_from_text(address).ok_or(Fault::Form)?,
+            port: number16(port)?,
+        })
+    }
 }
 
 /// Targets, of which ` | ` parts two; `none` where there are none.
 fn targets(alloc: Global, line: &str) -> Result<Vec<Target>, Fault> {
-    let mut all = Vec::new(alloc);
     if line == "none" {
-        return Ok(all);
+        return Ok(Vec::new(alloc));
     }
-    for part in line.split(" | ") {
-        let target = target(part)?;
-        all.push(target).map_err(|_| Fault::Memory)?;
-    }
-    Ok(all)
+    parts(alloc, line, " | ")
 }
 
 /// How the try of a target went.
@@ -175,8 +173,7 @@ fn push_current(output: &mut Output, target: Option<&Target>) {
 
 /// Writes how far the tries are, the current target, and those that were tried.
 fn push_tries(output: &mut Output, failover: &Failover) {
-    let alloc = output.alloc();
-    output.push_made(format!(in alloc; "{:?}", failover.progress()));
+    push_debug(output, &failover.progress());
     push_current(output, failover.current());
     push_tried(output, failover.tried());
     output.push("\n");
@@ -198,5 +195,6 @@ fn tries(output: &mut Output, input: &str) -> Result<(), Fault> {
     for line in events.lines() {
         tell(output, &mut failover, event(line)?);
     }
+    drop(failover);
     Ok(())
 }

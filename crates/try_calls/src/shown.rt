@@ -3,6 +3,19 @@ use dns_message::{Asked, CharString, NaptrRecord, OtherData, Rdata, Record, SoaR
 use dns_name::Name;
 use ip_text::{Address, address_text};
 use row_fields::Output;
+use std::fmt::Debug;
+
+/// Writes the name that a value has in the sources, as that of a refusal.
+pub(crate) fn push_debug<T: Debug>(output: &mut Output, value: &T) {
+    let alloc = output.alloc();
+    output.push_made(format!(in alloc; "{value:?}"));
+}
+
+/// The same as a line.
+pub(crate) fn push_debug_line<T: Debug>(output: &mut Output, value: &T) {
+    push_debug(output, value);
+    output.push("\n");
+}
 
 /// Writes a name as text.
 pub(crate) fn push_name(output: &mut Output, name: &Name) {
@@ -37,7 +50,7 @@ pub(crate) fn push_type(output: &mut Output, type_number: u16) {
 }
 
 /// Writes a word and a number.
-fn push_counted(output: &mut Output, word: &str, number: u16) {
+pub(crate) fn push_counted(output: &mut Output, word: &str, number: u16) {
     output.push(word);
     output.push_number(u64::from(number));
 }
@@ -91,6 +104,33 @@ pub(crate) fn push_srv(output: &mut Output, server: &SrvRecord) {
     push_number(output, u32::from(server.weight));
     push_number(output, u32::from(server.port));
     push_name(output, &server.target);
+}
+
+/// Writes addresses of IPv4, each between two texts.
+pub(crate) fn push_v4(output: &mut Output, before: &str, addresses: &[[u8; 4]], behind: &str) {
+    for octets in addresses {
+        output.push(before);
+        push_address(output, Address::V4(*octets));
+        output.push(behind);
+    }
+}
+
+/// Writes addresses of IPv6, each between two texts.
+pub(crate) fn push_v6(output: &mut Output, before: &str, addresses: &[[u8; 16]], behind: &str) {
+    for octets in addresses {
+        output.push(before);
+        push_address(output, Address::V6(*octets));
+        output.push(behind);
+    }
+}
+
+/// Writes servers, each between two texts.
+pub(crate) fn push_servers(output: &mut Output, before: &str, servers: &[SrvRecord], behind: &str) {
+    for server in servers {
+        output.push(before);
+        push_srv(output, server);
+        output.push(behind);
+    }
 }
 
 /// Writes what a rule says.

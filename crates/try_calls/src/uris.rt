@@ -1,27 +1,31 @@
 //! Calls of `sip_uri`.
-use crate::shown::{push_address, push_name};
+use crate::shown::{push_address, push_debug_line, push_name};
 use row_fields::{Fault, Output, only_line, split_word, text};
 use sip_uri::{
     Address, Host, SipUri, Spoken, Transport, UriRefusal, Via, read_uri, read_via, view_uri,
     view_via,
 };
-use std::alloc::Global;
+use std::alloc::{AllocError, Global};
 
 /// What a call gives for a row's lines.
 pub(crate) fn told(output: &mut Output, call: &str, input: &str) -> Result<(), Fault> {
     let line = only_line(input);
     match call {
-        "read_uri" => uri(output, line),
-        "read_via" => via(output, line),
         "same_uri" => same_uri(output, line),
-        _ => Err(Fault::Call),
+        _ => {
+            let text = text(output.alloc(), line)?;
+            told_of_text(output, call, &text)
+        }
     }
 }
 
-/// Writes a refusal as a line.
-fn push_refusal(output: &mut Output, refusal: UriRefusal) {
-    let alloc = output.alloc();
-    output.push_made(format!(in alloc; "{refusal:?}\n"));
+/// What a call gives for the text of a field.
+fn told_of_text(output: &mut Output, call: &str, text: &str) -> Result<(), Fault> {
+    match call {
+        "read_uri" => uri(output, text),
+        "read_via" => via(output, text),
+        _ => Err(Fault::Call),
+    }
 }
 
 /// Writes a host.
@@ -78,14 +82,49 @@ fn push_uri(output: &mut Output, uri: &SipUri) {
     output.push("\n");
 }
 
+/// Writes that a view does not say what was read, where it does not.
+fn push_seen(output: &mut Output, is_seen: Result<bool, Fault>) {
+    match is_seen {
+        Ok(true) => {}
+        Ok(false) => output.push("another view "),
+        Err(fault) => output.fail(fault),
+    }
+}
+
 /// Writes the copy of a URI, which has to be equal.
-fn push_uri_copy(output: &mut Output, uri: &SipUri) -> Result<(), Fault> {
-    let copy = uri.try_clone()?;
-    if copy != *uri {
+fn push_uri_copy(output: &mut Output, uri: &SipUri, copy: &SipUri) {
+    if copy != uri {
         output.push("another ");
     }
-    push_uri(output, &copy);
+    push_uri(output, copy);
+}
+
+/// Writes what was read of a text: the copy of a URI, or the refusal.
+fn push_uri_read(output: &mut Output, read: &Result<SipUri, UriRefusal>) -> Result<(), Fault> {
+    match read {
+        Ok(uri) => {
+            let copy = uri.try_clone()?;
+            push_uri_copy(output, uri, &copy);
+            drop(copy);
+        }
+        Err(refusal) => push_debug_line(output, refusal),
+    }
     Ok(())
+}
+
+/// Whether what a view means is what was read.
+fn is_read<T: PartialEq + Drop>(
+    meant: Result<T, AllocError>,
+    read: &Result<T, UriRefusal>,
+) -> Result<bool, Fault> {
+    match meant {
+        Ok(meant) => {
+            let is_read = matches!(read, Ok(read) if meant == *read);
+            drop(meant);
+            Ok(is_read)
+        }
+        Err(_) => Err(Fault::Memory),
+    }
 }
 
 /// Whether the view of a text means what was read, or has its refusal.
@@ -94,28 +133,19 @@ fn is_uri_seen(
     text: &str,
     read: &Result<SipUri, UriRefusal>,
 ) -> Result<bool, Fault> {
-    match (view_uri(text.as_bytes()), read) {
-        (Ok(parts), Ok(uri)) => Ok(parts.to_uri(alloc)? == *uri),
-        (Err(refusal), Err(other)) => Ok(refusal == *other),
-        _ => Ok(false),
+    match view_uri(text.as_bytes()) {
+        Ok(parts) => is_read(parts.to_uri(alloc), read),
+        Err(refusal) => Ok(matches!(read, Err(other) if *other == refusal)),
     }
 }
 
-/// A field with a text gives its URI, or the refusal, which its view has to have too.
-fn uri(output: &mut Output, line: &str) -> Result<(), Fault> {
-    let alloc = output.alloc();
-    let text = text(alloc, line)?;
-    let read = read_uri(alloc, &text);
-    if !is_uri_seen(alloc, &text, &read)? {
-        output.push("another view ");
-    }
-    match read {
-        Ok(uri) => push_uri_copy(output, &uri),
-        Err(refusal) => {
-            push_refusal(output, refusal);
-            Ok(())
-        }
-    }
+/// A text gives its URI, or the refusal, which its view has to have too.
+fn uri(output: &mut Output, text: &str) -> Result<(), Fault> {
+    let read = read_uri(output.alloc(), text);
+    push_seen(output, is_uri_seen(output.alloc(), text, &read));
+    let done = push_uri_read(output, &read);
+    drop(read);
+    done
 }
 
 /// Writes a Via: its transport and its host, and its port where one is written.
@@ -128,39 +158,41 @@ fn push_via(output: &mut Output, via: &Via) {
 }
 
 /// Writes the copy of a Via, which has to be equal.
-fn push_via_copy(output: &mut Output, via: &Via) -> Result<(), Fault> {
-    let copy = via.try_clone()?;
-    if copy != *via {
+fn push_via_copy(output: &mut Output, via: &Via, copy: &Via) {
+    if copy != via {
         output.push("another ");
     }
-    push_via(output, &copy);
+    push_via(output, copy);
+}
+
+/// Writes what was read of a text: the copy of a Via, or the refusal.
+fn push_via_read(output: &mut Output, read: &Result<Via, UriRefusal>) -> Result<(), Fault> {
+    match read {
+        Ok(via) => {
+            let copy = via.try_clone()?;
+            push_via_copy(output, via, &copy);
+            drop(copy);
+        }
+        Err(refusal) => push_debug_line(output, refusal),
+    }
     Ok(())
 }
 
 /// Whether the view of a text means what was read, or has its refusal.
 fn is_via_seen(alloc: Global, text: &str, read: &Result<Via, UriRefusal>) -> Result<bool, Fault> {
-    match (view_via(text.as_bytes()), read) {
-        (Ok(parts), Ok(via)) => Ok(parts.to_via(alloc)? == *via),
-        (Err(refusal), Err(other)) => Ok(refusal == *other),
-        _ => Ok(false),
+    match view_via(text.as_bytes()) {
+        Ok(parts) => is_read(parts.to_via(alloc), read),
+        Err(refusal) => Ok(matches!(read, Err(other) if *other == refusal)),
     }
 }
 
-/// A field with a text gives its Via, or the refusal, which its view has to have too.
-fn via(output: &mut Output, line: &str) -> Result<(), Fault> {
-    let alloc = output.alloc();
-    let text = text(alloc, line)?;
-    let read = read_via(alloc, &text);
-    if !is_via_seen(alloc, &text, &read)? {
-        output.push("another view ");
-    }
-    match read {
-        Ok(via) => push_via_copy(output, &via),
-        Err(refusal) => {
-            push_refusal(output, refusal);
-            Ok(())
-        }
-    }
+/// A text gives its Via, or the refusal, which its view has to have too.
+fn via(output: &mut Output, text: &str) -> Result<(), Fault> {
+    let read = read_via(output.alloc(), text);
+    push_seen(output, is_via_seen(output.alloc(), text, &read));
+    let done = push_via_read(output, &read);
+    drop(read);
+    done
 }
 
 /// The URI of a field.
@@ -172,12 +204,22 @@ fn uri_of(alloc: Global, field: &str) -> Result<SipUri, Fault> {
     }
 }
 
+/// Writes whether the URI of a field says the same as another of where a request goes.
+fn push_same(output: &mut Output, first: &SipUri, second: &str) {
+    match uri_of(output.alloc(), second) {
+        Ok(second) => {
+            output.push_line(if *first == second { "true" } else { "false" });
+            drop(second);
+        }
+        Err(fault) => output.fail(fault),
+    }
+}
+
 /// Fields with two URIs give whether they say the same of where a request goes.
 fn same_uri(output: &mut Output, line: &str) -> Result<(), Fault> {
-    let alloc = output.alloc();
     let (first, second) = split_word(line);
-    let first = uri_of(alloc, first)?;
-    let second = uri_of(alloc, second)?;
-    output.push_line(if first == second { "true" } else { "false" });
+    let first = uri_of(output.alloc(), first)?;
+    push_same(output, &first, second);
+    drop(first);
     Ok(())
 }

@@ -1,5 +1,6 @@
 //! Calls of `dns_zone`.
-use dns_zone::{Zone, ZoneRefusal};
+use crate::shown::push_debug_line;
+use dns_zone::Zone;
 use row_fields::{Fault, Output, count, octets, only_line, split_word, text};
 use std::alloc::Global;
 
@@ -15,18 +16,15 @@ pub(crate) fn told(output: &mut Output, call: &str, input: &str) -> Result<(), F
     }
 }
 
-/// Writes why a zone was not read.
-fn push_refusal(output: &mut Output, refusal: ZoneRefusal) {
-    let alloc = output.alloc();
-    output.push_made(format!(in alloc; "{refusal:?}\n"));
-}
-
 /// Lines of a zone give `read`, or why they are not.
 fn read(output: &mut Output, input: &str) -> Result<(), Fault> {
     let text = text(output.alloc(), input)?;
     match Zone::read(output.alloc(), &text) {
-        Ok(_) => output.push_line("read"),
-        Err(refusal) => push_refusal(output, refusal),
+        Ok(zone) => {
+            drop(zone);
+            output.push_line("read");
+        }
+        Err(refusal) => push_debug_line(output, &refusal),
     }
     Ok(())
 }
@@ -61,8 +59,11 @@ fn replies(output: &mut Output, input: &str) -> Result<(), Fault> {
     let (zone, queries) = input.split_once("\n? ").ok_or(Fault::Form)?;
     let text = text(output.alloc(), zone)?;
     match Zone::read(output.alloc(), &text) {
-        Ok(zone) => push_replies(output, &zone, queries),
-        Err(refusal) => push_refusal(output, refusal),
+        Ok(zone) => {
+            push_replies(output, &zone, queries);
+            drop(zone);
+        }
+        Err(refusal) => push_debug_line(output, &refusal),
     }
     Ok(())
 }
@@ -80,8 +81,11 @@ fn push_reply_length(output: &mut Output, zone: &Zone, query: &[u8]) {
 /// Writes the length of the reply to octets by the zone of a text, or why it is not read.
 fn push_length_by(output: &mut Output, text: &str, query: &[u8]) {
     match Zone::read(output.alloc(), text) {
-        Ok(zone) => push_reply_length(output, &zone, query),
-        Err(refusal) => push_refusal(output, refusal),
+        Ok(zone) => {
+            push_reply_length(output, &zone, query);
+            drop(zone);
+        }
+        Err(refusal) => push_debug_line(output, &refusal),
     }
 }
 

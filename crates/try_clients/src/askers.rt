@@ -1,10 +1,10 @@
 //! Calls of `dns_asker`: what happens to an asker, and what it gives.
 use crate::lookups::{
-    moment_of, push_answer, push_number_line, push_question, push_yes, question_of,
+    moment_of, push_answer, push_debug_line, push_number_line, push_question, push_yes, question_of,
 };
 use crate::servers;
 use dns_answers::{Answer, Moment, ReplyRefusal};
-use dns_asker::{AskRefusal, Asker, Due, Ending, Incoming, Why};
+use dns_asker::{Asker, Due, Ending, Incoming, Why};
 use dns_message::Question;
 use row_fields::{Fault, Output, first_line, number16, number64, octets, split_word};
 use std::alloc::{AllocError, Global};
@@ -39,7 +39,10 @@ fn play_new(output: &mut Output, limit: usize, serial: u64, lines: &str) -> Resu
         return Err(Fault::Form);
     }
     match Asker::new(output.alloc(), limit, serial) {
-        Ok(mut asker) => play(output, &mut asker, lines),
+        Ok(mut asker) => {
+            play(output, &mut asker, lines);
+            drop(asker);
+        }
         Err(_) => output.fail(Fault::Memory),
     }
     Ok(())
@@ -84,6 +87,7 @@ fn push_id(output: &mut Output, asker: &Asker, rest: &str) -> Result<(), Fault> 
     let (kind, name) = split_word(rest);
     let question = question_of(output.alloc(), kind, name)?;
     push_number_line(output, asker.id_of(&question).map(u64::from));
+    drop(question);
     Ok(())
 }
 
@@ -115,17 +119,11 @@ fn asking_of(alloc: Global, rest: &str) -> Result<Asking, Fault> {
     }
 }
 
-/// Writes why a question is not asked.
-fn push_ask_refusal(output: &mut Output, refusal: AskRefusal) {
-    let alloc = output.alloc();
-    output.push_made(format!(in alloc; "{refusal:?}\n"));
-}
-
 /// Asks a question, and writes the octets to send, or the refusal.
 fn push_asked(output: &mut Output, asker: &mut Asker, asking: Asking) {
     match asker.ask(asking.question, asking.id, asking.now) {
         Ok(octets) => output.push_octets_line(octets),
-        Err(refusal) => push_ask_refusal(output, refusal),
+        Err(refusal) => push_debug_line(output, &refusal),
     }
 }
 
@@ -166,6 +164,7 @@ fn ask_range(output: &mut Output, asker: &mut Asker, rest: &str) -> Result<(), F
     let last = number16(last)?;
     let asking = asking_of(output.alloc(), rest)?;
     let count = count_asked(asker, &asking, last);
+    drop(asking);
     push_number_line(output, Some(u64::from(count)));
     Ok(())
 }
@@ -180,7 +179,11 @@ fn hear(output: &mut Output, asker: &mut Asker, rest: &str) -> Result<(), Fault>
 /// Writes what octets mean.
 fn push_heard(output: &mut Output, heard: Result<Incoming, AllocError>) {
     match heard {
-        Ok(Incoming::Ended(id, question, ending)) => push_ended(output, id, &question, &ending),
+        Ok(Incoming::Ended(id, question, ending)) => {
+            push_ended(output, id, &question, &ending);
+            drop(question);
+            drop(ending);
+        }
         Ok(Incoming::Ignored(why)) => push_ignored(output, why),
         Err(_) => output.fail(Fault::Memory),
     }
@@ -188,8 +191,8 @@ fn push_heard(output: &mut Output, heard: Result<Incoming, AllocError>) {
 
 /// Writes why octets are ignored.
 fn push_ignored(output: &mut Output, why: Why) {
-    let alloc = output.alloc();
-    output.push_made(format!(in alloc; "ignored {why:?}\n"));
+    output.push("ignored ");
+    push_debug_line(output, &why);
 }
 
 /// Writes how the wait for a reply ended.
@@ -218,9 +221,9 @@ fn push_answered(output: &mut Output, id: u16, question: &Question, answer: &Ans
 
 /// Writes a question whose server failed.
 fn push_faulty(output: &mut Output, id: u16, question: &Question, fault: ReplyRefusal) {
-    let alloc = output.alloc();
     push_waiting(output, "faulty ", id, question);
-    output.push_made(format!(in alloc; ": {fault:?}\n"));
+    output.push(": ");
+    push_debug_line(output, &fault);
 }
 
 /// Cancels the question of an id, and writes it.
@@ -236,6 +239,7 @@ fn push_cancelled(output: &mut Output, cancelled: Option<Question>) {
         Some(question) => {
             output.push("cancelled ");
             push_question(output, &question);
+            drop(question);
         }
         None => output.push("none"),
     }

@@ -27,7 +27,10 @@ fn resolver_file(output: &mut Output, input: &str) -> Result<(), Fault> {
     let field = input.strip_suffix("\\c\n").unwrap_or(input);
     let octets = octets(output.alloc(), field)?;
     match ResolverFile::read(output.alloc(), &octets) {
-        Ok(file) => push_file(output, &file),
+        Ok(file) => {
+            push_file(output, &file);
+            drop(file);
+        }
         Err(_) => output.fail(Fault::Memory),
     }
     Ok(())
@@ -59,9 +62,10 @@ fn push_file(output: &mut Output, file: &ResolverFile) {
 
 /// Writes how long and how often servers are asked, and whether over TCP alone.
 fn push_times(output: &mut Output, file: &ResolverFile) {
-    let alloc = output.alloc();
-    let (timeout, attempts) = (file.timeout(), file.attempts());
-    output.push_made(format!(in alloc; "{timeout} s, {attempts} times"));
+    output.push_number(u64::from(file.timeout()));
+    output.push(" s, ");
+    output.push_number(u64::from(file.attempts()));
+    output.push(" times");
     if file.is_over_tcp() {
         output.push(", over TCP");
     }

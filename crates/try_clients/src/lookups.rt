@@ -6,6 +6,7 @@ use dns_name::Name;
 use row_fields::{Fault, Output, number64, octets};
 use sip_uri::{Address, address_text};
 use std::alloc::Global;
+use std::fmt::Debug;
 
 /// The key of 32 octets that a field spells.
 pub(crate) fn key_of(alloc: Global, field: &str) -> Result<[u8; 32], Fault> {
@@ -24,6 +25,46 @@ pub(crate) fn moment_of(field: &str) -> Result<Moment, Fault> {
         Some(moment) => Ok(moment),
         None => Err(Fault::Form),
     }
+}
+
+/// Adds a value.
+pub(crate) fn keep<T: Drop>(all: &mut Vec<T>, value: T) -> Result<(), Fault> {
+    match all.push(value) {
+        Ok(()) => Ok(()),
+        Err(_) => Err(Fault::Memory),
+    }
+}
+
+/// What stands between two commas of a field.
+pub(crate) trait Part: Sized {
+    /// The value of a part.
+    fn read(part: &str) -> Result<Self, Fault>;
+}
+
+/// Adds the value of a part.
+fn push_part<T: Part + Drop>(all: &mut Vec<T>, part: &str) -> Result<(), Fault> {
+    keep(all, T::read(part)?)
+}
+
+/// The values of the parts that a field has between commas.
+pub(crate) fn parts<T: Part + Drop>(alloc: Global, field: &str) -> Result<Vec<T>, Fault> {
+    let mut all = Vec::new(alloc);
+    for part in field.split(',') {
+        push_part(&mut all, part)?;
+    }
+    Ok(all)
+}
+
+/// Writes the name that a value has in the sources, as that of a refusal.
+pub(crate) fn push_debug<T: Debug>(output: &mut Output, value: &T) {
+    let alloc = output.alloc();
+    output.push_made(format!(in alloc; "{value:?}"));
+}
+
+/// The same as a line.
+pub(crate) fn push_debug_line<T: Debug>(output: &mut Output, value: &T) {
+    push_debug(output, value);
+    output.push("\n");
 }
 
 /// Writes a line with a number, or with `none`.

@@ -1,5 +1,8 @@
 //! Public calls of the libraries that ask servers, or are one, tried on rows of text: `try_clients
 //! CRATE CALL` reads lines as `try_calls` does.
+//!
+//! A value that owns much is dropped by name: a function that lets it go at its end does so field
+//! by field, which costs far more to prove.
 #![tactic(auto)]
 
 mod askers;

@@ -3,10 +3,8 @@ ghost use Rattle.std.specs.Prelude.{ℕ, List};
 ghost use Rattle.answer_cache.specs.Seats.{SeatView};
 ghost use Rattle.sip_resolver.specs.Requests.{Stand};
 
-use crate::lookups::{push_number_line, push_yes};
-use crate::resolver_lines::{
-    push_heard, push_outcome, push_sent, push_sent_octets, push_submit_refusal,
-};
+use crate::lookups::{keep, push_debug_line, push_number_line, push_yes};
+use crate::resolver_lines::{push_heard, push_outcome, push_sent, push_sent_octets};
 use crate::resolver_steps::{LineIds, Submitted};
 use answer_cache::AnswerBook;
 use dns_answers::Moment;
@@ -35,7 +33,7 @@ pub(crate) fn submit<B: AnswerBook, F: Origin>(
     } = submitted;
     match resolver.submit(number, request, caps, words) {
         Ok(()) => output.push_line("taken"),
-        Err(refusal) => push_submit_refusal(output, refusal),
+        Err(refusal) => push_debug_line(output, &refusal),
     }
 }
 
@@ -148,15 +146,11 @@ pub(crate) fn outcome<B: AnswerBook, F: Origin>(
         → Stand F.gives F.shows seat resolver.new.requests }
 {
     match resolver.poll_outcome() {
-        Some(ended) => push_outcome(output, ended.number(), ended.outcome()),
+        Some(ended) => {
+            push_outcome(output, ended.number(), ended.outcome());
+            drop(ended);
+        }
         None => output.push_line("none"),
-    }
-}
-
-/// Keeps a zone's reply.
-fn keep(output: &mut Output, replies: &mut Vec<(Over, Vec<u8>)>, over: Over, reply: Vec<u8>) {
-    if replies.push((over, reply)).is_err() {
-        output.fail(Fault::Memory);
     }
 }
 
@@ -170,7 +164,7 @@ fn take_sent(
 ) {
     push_sent(output, octets, over);
     match zone.answer_datagram(output.alloc(), octets) {
-        Ok(Some(reply)) => keep(output, replies, over, reply),
+        Ok(Some(reply)) => output.end(keep(replies, (over, reply))),
         Ok(None) => {}
         Err(_) => output.fail(Fault::Memory),
     }
@@ -243,7 +237,7 @@ pub(crate) fn serve<B: AnswerBook, F: Origin, R: Wait>(
     ensures stand { Stand F.gives F.shows (B.shown seat.new) resolver.new.requests }
 {
     let replies = send_all(output, resolver, book, seat, zone, now);
-    'replies: for (over, reply) in replies {
-        hear(rt, output, resolver, book, seat, now, over, &reply);
+    'replies: for (over, reply) in &replies {
+        hear(rt, output, resolver, book, seat, now, *over, reply);
     }
 }

@@ -1,26 +1,24 @@
 //! What a resolver gives, as lines.
-use crate::lookups::{kind_word, push_address, push_name, push_question};
+use crate::lookups::{
+    kind_word, push_address, push_debug, push_debug_line, push_name, push_question,
+};
 use dns_answers::ReplyRefusal;
 use dns_message::{Asked, Kind, Message, Question, read_message};
 use row_fields::{Fault, Output};
-use sip_resolver::{Heard, Outcome, Over, SubmitRefusal};
+use sip_resolver::{Heard, Outcome, Over};
 use sip_selection::{Reason, Target};
 use sip_uri::Transport;
 use std::alloc::AllocError;
 
-/// Writes why a request is not taken.
-pub(crate) fn push_submit_refusal(output: &mut Output, refusal: SubmitRefusal) {
-    let alloc = output.alloc();
-    output.push_made(format!(in alloc; "{refusal:?}\n"));
-}
-
 /// Writes what octets meant.
 pub(crate) fn push_heard(output: &mut Output, heard: Result<Heard, AllocError>) {
-    let alloc = output.alloc();
     match heard {
         Ok(Heard::Reply) => output.push_line("reply"),
         Ok(Heard::Cut) => output.push_line("cut"),
-        Ok(Heard::Ignored(why)) => output.push_made(format!(in alloc; "ignored {why:?}\n")),
+        Ok(Heard::Ignored(why)) => {
+            output.push("ignored ");
+            push_debug_line(output, &why);
+        }
         Err(_) => output.fail(Fault::Memory),
     }
 }
@@ -79,7 +77,10 @@ fn push_message(output: &mut Output, message: &Message, over: Over) {
 /// Writes the message that is sent in octets.
 pub(crate) fn push_sent(output: &mut Output, octets: &[u8], over: Over) {
     match read_message(output.alloc(), octets) {
-        Ok(message) => push_message(output, &message, over),
+        Ok(message) => {
+            push_message(output, &message, over);
+            drop(message);
+        }
         Err(_) => output.fail(Fault::Form),
     }
 }
@@ -114,8 +115,8 @@ fn push_targets(output: &mut Output, targets: &[Target]) {
 
 /// Writes why a request goes nowhere.
 fn push_reason(output: &mut Output, reason: Reason) {
-    let alloc = output.alloc();
-    output.push_made(format!(in alloc; " refused {reason:?}"));
+    output.push(" refused ");
+    push_debug(output, &reason);
 }
 
 /// Writes words, and the question to which there is no answer.
@@ -126,10 +127,10 @@ fn push_asked_in_vain(output: &mut Output, words: &str, question: &Question) {
 
 /// Writes the question to which there is a bad reply.
 fn push_bad_reply(output: &mut Output, question: &Question, refusal: ReplyRefusal) {
-    let alloc = output.alloc();
     output.push(" has a bad reply to ");
     push_question(output, question);
-    output.push_made(format!(in alloc; ": {refusal:?}"));
+    output.push(": ");
+    push_debug(output, &refusal);
 }
 
 /// Writes what became of the request of a number.

@@ -1,5 +1,5 @@
 //! Lines that tell what happens to a resolver.
-use crate::lookups::{key_of, moment_of, push_line};
+use crate::lookups::{Part, keep, key_of, moment_of, parts, push_line};
 use dns_answers::Moment;
 use rand_chacha::ChaCha20Rng;
 use rand_core::SeedableRng;
@@ -94,13 +94,11 @@ pub(crate) enum Step {
     Zone,
 }
 
-/// The ids that a field has between commas.
-fn listed_ids(alloc: Global, field: &str) -> Result<Vec<u16>, Fault> {
-    let mut ids = Vec::new(alloc);
-    for id in field.split(',') {
-        ids.push(number16(id)?).map_err(|_| Fault::Memory)?;
+impl Part for u16 {
+    /// An id.
+    fn read(part: &str) -> Result<u16, Fault> {
+        number16(part)
     }
-    Ok(ids)
 }
 
 /// Ids that count up from this one.
@@ -123,7 +121,7 @@ fn ids_of(alloc: Global, kind: &str, field: &str) -> Result<LineIds, Fault> {
     match kind {
         "counting" => Ok(LineIds::Counting(counting_from(number16(field)?))),
         "random" => random_of(alloc, field),
-        "listed" => Ok(LineIds::Listed(listed_ids(alloc, field)?, 0)),
+        "listed" => Ok(LineIds::Listed(parts(alloc, field)?, 0)),
         _ => Err(Fault::Form),
     }
 }
@@ -181,19 +179,16 @@ fn families_of(word: &str) -> Result<Families, Fault> {
     }
 }
 
-/// The transports that a field has between commas.
-fn transports_of(alloc: Global, field: &str) -> Result<Vec<Transport>, Fault> {
-    let mut transports = Vec::new(alloc);
-    for word in field.split(',') {
-        let transport = transport_of(word)?;
-        transports.push(transport).map_err(|_| Fault::Memory)?;
+impl Part for Transport {
+    /// The transport of a word.
+    fn read(part: &str) -> Result<Transport, Fault> {
+        transport_of(part)
     }
-    Ok(transports)
 }
 
 /// What a sender can do.
 fn caps_of(alloc: Global, transports: &str, families: &str) -> Result<Caps, Fault> {
-    let transports = transports_of(alloc, transports)?;
+    let transports = parts(alloc, transports)?;
     Caps::new(&transports, families_of(families)?).ok_or(Fault::Form)
 }
 
@@ -316,12 +311,16 @@ fn step_of(alloc: Global, line: &str) -> Result<Step, Fault> {
     }
 }
 
+/// Adds the step of a line.
+fn push_step(alloc: Global, steps: &mut Vec<Step>, line: &str) -> Result<(), Fault> {
+    keep(steps, step_of(alloc, line)?)
+}
+
 /// The steps of lines.
 pub(crate) fn steps_of(alloc: Global, lines: &str) -> Result<Vec<Step>, Fault> {
     let mut steps = Vec::new(alloc);
     for line in lines.lines() {
-        let step = step_of(alloc, line)?;
-        steps.push(step).map_err(|_| Fault::Memory)?;
+        push_step(alloc, &mut steps, line)?;
     }
     Ok(steps)
 }

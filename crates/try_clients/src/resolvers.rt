@@ -44,19 +44,32 @@ fn zone_in(alloc: Global, lines: &str) -> Result<Zone, Fault> {
     zone_of(alloc, &text)
 }
 
-/// What a resolver gives for what happens to it, line by line.
-fn script<R: Wait>(rt: &R, output: &mut Output, input: &str) -> Result<(), Fault> {
-    let (first, lines) = first_line(input)?;
-    let zone = zone_in(output.alloc(), lines)?;
+/// What a resolver gives for what happens to it, line by line, where a zone replies.
+fn script_with<R: Wait>(
+    rt: &R,
+    output: &mut Output,
+    first: &str,
+    lines: &str,
+    zone: &Zone,
+) -> Result<(), Fault> {
     let setting = setting_of(output.alloc(), first)?;
     if !are_limits(setting.limits) {
         return Err(Fault::Form);
     }
     match steps_of(output.alloc(), lines) {
-        Ok(steps) => play_new(rt, output, setting, &zone, steps),
+        Ok(steps) => play_new(rt, output, setting, zone, steps),
         Err(fault) => output.fail(fault),
     }
     Ok(())
+}
+
+/// What a resolver gives for what happens to it, line by line.
+fn script<R: Wait>(rt: &R, output: &mut Output, input: &str) -> Result<(), Fault> {
+    let (first, lines) = first_line(input)?;
+    let zone = zone_in(output.alloc(), lines)?;
+    let done = script_with(rt, output, first, lines, &zone);
+    drop(zone);
+    done
 }
 
 /// Whether a resolver can have these limits.
@@ -100,6 +113,9 @@ fn play_new<R: Wait>(rt: &R, output: &mut Output, setting: Setting, zone: &Zone,
     };
     let (book, mut seat) = ListCache::new(alloc);
     play(rt, output, &mut resolver, &book, &mut seat, zone, steps);
+    drop(resolver);
+    drop(seat);
+    drop(book);
 }
 
 /// Plays steps to a resolver.

@@ -1,7 +1,7 @@
 //! A server over a wire that gives what lines say.
 ghost use Rattle.std.specs.Prelude.{◌≡◌, ◌+◌, ◌-◌, ◌^◌, ◌<◌, ◌≤◌};
 
-use crate::lookups::{push_line, zone_of};
+use crate::lookups::{keep, push_line, zone_of};
 use dns_asker::{DATAGRAM_LIMIT, PeerWire, WireFault, Zone, serve};
 use row_fields::{Fault, Output, number64, octets, split_word};
 use std::alloc::Global;
@@ -148,19 +148,19 @@ impl Setting {
 
     /// Takes a receipt.
     fn receive(&mut self, receipt: Receipt) -> Result<(), Fault> {
-        self.receipts.push(receipt).map_err(|_| Fault::Memory)
+        keep(&mut self.receipts, receipt)
     }
 
     /// Takes what a line says.
     fn take(&mut self, alloc: Global, line: &str) -> Result<(), Fault> {
         let (word, rest) = split_word(line);
         match word {
-            "zone" => push_line(&mut self.zone, rest)?,
+            "zone" => return push_line(&mut self.zone, rest),
             "unreachable" => self.unreachable = peer_of(rest)?,
             "failures" => self.failures = number64(rest)?,
-            "from" => self.receive(datagram(alloc, rest)?)?,
-            "nothing" => self.receive(Receipt::Nothing)?,
-            "fault" => self.receive(Receipt::Fault)?,
+            "from" => return self.receive(datagram(alloc, rest)?),
+            "nothing" => return self.receive(Receipt::Nothing),
+            "fault" => return self.receive(Receipt::Fault),
             _ => return Err(Fault::Form),
         }
         Ok(())
@@ -192,6 +192,8 @@ pub(crate) fn served<R: Wait>(rt: &R, output: &mut Output, input: &str) -> Resul
     };
     let text = served_over(rt, alloc, wire, &zone, &stop);
     output.push_done(text);
+    drop(zone);
+    drop(setting);
     Ok(())
 }
 

@@ -5,7 +5,7 @@ ghost use Rattle.std.specs.List.{All};
 ghost use Rattle.dns_answers.specs.Records.{kind_of};
 ghost use Rattle.answer_cache.specs.Shared.{Belongs, CacheView, cache_view};
 
-use crate::seats::{Pair, last_of, learn, life, now, pair_of, store};
+use crate::seats::{Pair, both, last_of, learn, life, now, pair_of, store};
 use answer_cache::{AnswerBook, Rival, Seat, SharedCache, StoreRefusal};
 use dns_answers::{Answer, Moment};
 use dns_message::{Kind, Question};
@@ -181,9 +181,12 @@ fn said_by_two<R: Wait, J: Naming>(
         of: PhantomData,
     };
     let (question, answer) = (&own.question, &own.answer);
-    said_against(
+    let said = said_against(
         rt, alloc, cache, &mut seat, &mut rival, question, answer, row.before,
-    )
+    );
+    drop(rival);
+    drop(seat);
+    said
 }
 
 /// The same for two of the seats of a cache.
@@ -204,23 +207,42 @@ fn said_by_seats<R: Wait>(
     let mut seats = seats;
     let other = last_of(cache, &mut seats);
     let seat = last_of(cache, &mut seats);
-    match (seat, other) {
-        (Some(seat), Some(other)) => said_by_two::<R, Brand>(
+    drop(seats);
+    match both(seat, other) {
+        Some((seat, other)) => said_by_two::<R, Brand>(
             rt, alloc, cache, seat, other, own, others, now, row,
         ),
-        _ => None,
+        None => None,
     }
 }
 
-/// The same for a new cache: the seat stores the question A and an answer of life 20, and the other
-/// one a question of a kind and an answer of life 10.
+/// The same for a new cache.
+fn said_by_pairs<R: Wait>(
+    rt: &R,
+    alloc: Global,
+    own: &Pair,
+    others: Pair,
+    now: Moment,
+    row: Row,
+) -> Option<String>
+    requires own { kind_of (arc_value own.now.answer).records ≡ own.now.question.kind }
+    requires others { kind_of (arc_value others.answer).records ≡ others.question.kind }
+{
+    match SharedCache::new(alloc, 2) {
+        Ok((cache, seats)) => said_by_seats(rt, alloc, &cache, seats, own, others, now, row),
+        Err(_) => None,
+    }
+}
+
+/// The same where the seat stores the question A and an answer of life 20, and the other one a
+/// question of a kind and an answer of life 10.
 fn said<R: Wait>(rt: &R, alloc: Global, kind: Kind, row: Row) -> Option<String> {
     let now = now()?;
-    let own = pair_of(alloc, Kind::A, "a.example", 20)?;
-    let others = pair_of(alloc, kind, "a.example", 10)?;
-    match SharedCache::new(alloc, 2) {
-        Ok((cache, seats)) => said_by_seats(rt, alloc, &cache, seats, &own, others, now, row),
-        Err(_) => None,
+    let own = pair_of(alloc, Kind::A, "a.example", 20);
+    let others = pair_of(alloc, kind, "a.example", 10);
+    match both(own, others) {
+        Some((own, others)) => said_by_pairs(rt, alloc, &own, others, now, row),
+        None => None,
     }
 }
 

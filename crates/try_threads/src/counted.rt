@@ -1,15 +1,12 @@
 //! Four seats of one cache that store at once, each in a thread: as many stores are in the history
 //! that all have learned as were taken, which the contracts here say of every schedule.
-ghost use Rattle.std.specs.Prelude.{◌≡◌, ◌+◌, ◌<◌, IfSome, OnErr, OnOk, length, map};
-ghost use Rattle.std.specs.Arc.{arc_value};
+ghost use Rattle.std.specs.Prelude.{◌≡◌, ◌+◌, ◌<◌, IfSome, length, map};
 ghost use Rattle.std.specs.List.{range_with_len};
-ghost use Rattle.dns_answers.specs.Records.{kind_of};
 ghost use Rattle.answer_cache.specs.Shared.{Belongs, HasStored, new_seat};
 
-use crate::seats::{Pair, life, now, pair_of};
-use crate::shared::{NAMES, QUESTIONS, kind_at, question_at};
-use answer_cache::{AnswerBook, Seat, SharedCache, StoreRefusal, law_stores_are_of_the_seats};
-use dns_answers::Moment;
+use crate::seats::both;
+use crate::shared::{QUESTIONS, life_at, store_at};
+use answer_cache::{Seat, SharedCache, StoreRefusal, law_stores_are_of_the_seats};
 use std::alloc::Global;
 use std::sync::Wait;
 use std::thread::{Threads, join};
@@ -24,45 +21,6 @@ struct Work {
     seat: Seat,
     taken: usize,
     lasts: [u32; QUESTIONS],
-}
-
-/// Stores an answer: a store that is taken is one more of the seat's own.
-fn store<R: Wait>(
-    rt: &R,
-    cache: &SharedCache,
-    seat: &mut Seat,
-    pair: &Pair,
-    now: Moment,
-) -> Result<(), StoreRefusal>
-    requires made_here { Belongs cache.now seat.old }
-    requires kind { kind_of (arc_value pair.now.answer).records ≡ pair.now.question.kind }
-    ensures made_here { Belongs cache.now seat.new }
-    ensures number { seat.new.seat.number ≡ seat.old.seat.number }
-    ensures taken { OnOk result (length seat.new.seat.own ≡ length seat.old.seat.own + 1) }
-    ensures refused { OnErr result (seat.new.seat.own ≡ seat.old.seat.own) }
-{
-    cache.store(rt, seat, &pair.question, &pair.answer, now)
-}
-
-/// What a store of one of the questions says.
-fn store_at<R: Wait>(
-    rt: &R,
-    alloc: Global,
-    cache: &SharedCache,
-    seat: &mut Seat,
-    number: usize,
-    life: u32,
-) -> Option<Result<(), StoreRefusal>>
-    requires { Belongs cache.now seat.old }
-    ensures made_here { Belongs cache.now seat.new }
-    ensures number { seat.new.seat.number ≡ seat.old.seat.number }
-    ensures taken { IfSome result
-        (λ said. OnOk said (length seat.new.seat.own ≡ length seat.old.seat.own + 1)) }
-    ensures refused { IfSome result (λ said. OnErr said (seat.new.seat.own ≡ seat.old.seat.own)) }
-{
-    let now = now()?;
-    let pair = pair_of(alloc, kind_at(number), NAMES.get(number / 4)?, life)?;
-    Some(store(rt, cache, seat, &pair, now))
 }
 
 /// Stores the questions in turn, each answer with a life of its own. Each store is taken, or is
@@ -83,13 +41,16 @@ fn store_in_turn<R: Wait + AllocGlobal>(
     'rounds: for round in 0..ROUNDS {
         let question = round as usize % QUESTIONS;
         let life = number * 1000 + round + 1;
-        match store_at(rt, rt.alloc(), cache, &mut seat, question, life)? {
-            Ok(()) => {
+        match store_at(rt, rt.alloc(), cache, &mut seat, question, life) {
+            Some(Ok(())) => {
                 taken += 1;
                 lasts[question] = life;
             }
-            Err(StoreRefusal::GenerationFull | StoreRefusal::Contended) => {}
-            Err(StoreRefusal::Lifeless | StoreRefusal::Memory) => return None,
+            Some(Err(StoreRefusal::GenerationFull | StoreRefusal::Contended)) => {}
+            Some(Err(StoreRefusal::Lifeless | StoreRefusal::Memory)) | None => {
+                drop(seat);
+                return None;
+            }
         }
     }
     Some(Work { seat, taken, lasts })
@@ -103,11 +64,13 @@ fn four_of(cache: &SharedCache, mut seats: Vec<Seat>) -> Option<((Seat, Seat), (
     ensures right { IfSome result (λ four. HasStored cache.now 2 0 four.1.0
         × HasStored cache.now 3 0 four.1.1) }
 {
-    let fourth = seats.pop()?;
-    let third = seats.pop()?;
-    let second = seats.pop()?;
-    let first = seats.pop()?;
-    Some(((first, second), (third, fourth)))
+    let fourth = seats.pop();
+    let third = seats.pop();
+    let second = seats.pop();
+    let first = seats.pop();
+    let left = both(first, second);
+    let right = both(third, fourth);
+    both(left, right)
 }
 
 /// Two seats at once.
@@ -138,7 +101,7 @@ fn work_by_two<R: Threads + Wait + AllocGlobal + Sync>(
                 (λ done. HasStored cache.entry.now (number + 1) done.taken done.seat) }
         { store_in_turn(rt, cache, second, number + 1) },
     );
-    Some((first?, second?))
+    both(first, second)
 }
 
 /// Four seats at once, each in a thread of its own.
@@ -170,7 +133,7 @@ fn work_by_four<R: Threads + Wait + AllocGlobal + Sync>(
                 × HasStored cache.entry.now 3 done.1.taken done.1.seat) }
         { work_by_two(rt, cache, third, fourth, 2) },
     );
-    Some((left?, right?))
+    both(left, right)
 }
 
 /// A seat that has learned what all have seen, and the last stores of all.
@@ -208,6 +171,9 @@ fn join_all(cache: &SharedCache, left: (Work, Work), right: (Work, Work)) -> Joi
     cache.learn(&mut third, &notice);
     cache.learn(&mut fourth, &notice);
     law_stores_are_of_the_seats(&seat);
+    drop(second);
+    drop(third);
+    drop(fourth);
     Joined {
         seat,
         lasts: [firsts, seconds, thirds, fourths],
@@ -215,13 +181,16 @@ fn join_all(cache: &SharedCache, left: (Work, Work), right: (Work, Work)) -> Joi
 }
 
 /// Whether the seat finds the last store of some seat for each question.
-fn are_found(alloc: Global, cache: &SharedCache, joined: Joined) -> Option<bool>
-    requires { Belongs cache.now joined.seat }
+fn are_found(
+    alloc: Global,
+    cache: &SharedCache,
+    seat: &mut Seat,
+    lasts: &[[u32; QUESTIONS]; 4],
+) -> Option<bool>
+    requires { Belongs cache.now seat.old }
 {
-    let Joined { mut seat, lasts } = joined;
     'questions: for number in 0..QUESTIONS {
-        let question = question_at(alloc, number)?;
-        let life = life(cache, &mut seat, &question, now()?);
+        let life = life_at(alloc, cache, seat, number)?;
         if !lasts.iter().any(|lasts| lasts[number] == life) {
             return Some(false);
         }
@@ -240,7 +209,10 @@ fn four_work<R: Threads + Wait + AllocGlobal + Sync>(
 {
     match four_of(cache, seats) {
         Some((left, right)) => match work_by_four(rt, cache, left, right) {
-            Some((left, right)) => { are_found(rt.alloc(), cache, join_all(cache, left, right)) }
+            Some((left, right)) => {
+                let mut joined = join_all(cache, left, right);
+                are_found(rt.alloc(), cache, &mut joined.seat, &joined.lasts)
+            }
             None => None,
         },
         None => None,

@@ -119,3 +119,13 @@ pub(crate) fn keep(cache: &SharedCache, seats: &mut Vec<Seat>, seat: Seat)
 {
     let _ = seats.push(seat);
 }
+
+/// Both of two values, where there are both.
+pub(crate) fn both<A: Drop, B: Drop>(first: Option<A>, second: Option<B>) -> Option<(A, B)>
+    ensures { IfSome result (λ made. (first ≡ Some made.0) × (second ≡ Some made.1)) }
+{
+    match (first, second) {
+        (Some(first), Some(second)) => Some((first, second)),
+        _ => None,
+    }
+}

@@ -1,8 +1,10 @@
 //! A question over UDP, to a server on another thread.
-use dns_answers::{Records, answer_of};
+ghost use Rattle.std.specs.Prelude.{◌≤◌};
+
+use crate::seats::question;
+use dns_answers::{Answer, Records, answer_of};
 use dns_asker::{DATAGRAM_LIMIT, PeerWire, Wire, Zone, serve};
-use dns_message::{Kind, Question, read_message};
-use dns_name::Name;
+use dns_message::{Kind, Message, Question, read_message};
 use dns_transport::{BufferWire, HostWire, QueryForm, UdpServerWire, WireOptions, open_wire};
 use std::alloc::Global;
 use std::net::{Ipv4Addr, Ipv6Addr, Net, SocketAddr};
@@ -25,26 +27,34 @@ const REPLY: &[u8; 52] = b"\x12\x34\x85\x00\x00\x01\x00\x01\x00\x00\x00\x00\
 /// How often it is sent, at most, until a reply comes.
 const TRIES: u64 = 50;
 
+/// Whether an answer is the address 192.0.2.7, which lives for 300 seconds.
+fn is_answer_right(answer: &Answer) -> bool {
+    match answer.records() {
+        Records::V4(addresses) => {
+            addresses.as_slice() == [[192, 0, 2, 7]].as_slice() && answer.life() == 300
+        }
+        _ => false,
+    }
+}
+
+/// Whether a message is an authoritative reply to a question with that answer; none of a message
+/// without an answer.
+fn is_reply_right(alloc: Global, question: &Question, message: &Message) -> Option<bool> {
+    let header = message.header.id == 0x1234 && message.header.authoritative;
+    match answer_of(alloc, question, message) {
+        Ok(answer) => Some(header && is_answer_right(&answer)),
+        Err(_) => None,
+    }
+}
+
 /// Whether octets are an authoritative reply to the query with the address 192.0.2.7, which lives
 /// for 300 seconds; if there is memory.
 fn is_right(alloc: Global, octets: &[u8]) -> Option<bool> {
-    let name = Name::from_text(alloc, "a.example").ok()?;
-    let question = Question {
-        name,
-        kind: Kind::A,
-    };
-    let message = read_message(alloc, octets).ok()?;
-    let answer = answer_of(alloc, &question, &message).ok()?;
-    let addresses = match answer.records() {
-        Records::V4(addresses) => addresses.as_slice(),
-        _ => return None,
-    };
-    Some(
-        message.header.id == 0x1234
-            && message.header.authoritative
-            && addresses == [[192, 0, 2, 7]].as_slice()
-            && answer.life() == 300,
-    )
+    let question = question(alloc, Kind::A, "a.example")?;
+    match read_message(alloc, octets) {
+        Ok(message) => is_reply_right(alloc, &question, &message),
+        Err(_) => None,
+    }
 }
 
 /// A wire that asks in the form of a query as it is made.
@@ -66,20 +76,30 @@ pub(crate) fn wire_to<'a, R: Net + Clock + AllocGlobal>(
     Ok(BufferWire::new(wire))
 }
 
-/// Asks a server until a reply comes, and gives that; of no reply no octets.
-fn reply_of<R: Net + Clock + AllocGlobal>(rt: &R, server: SocketAddr) -> io::Result<Vec<u8>> {
-    let mut wire = wire_to(rt, server, [1; 32])?;
-    let mut buffer = [0; DATAGRAM_LIMIT];
+/// Sends the query until a reply comes, and puts that in front of the buffer. The result is the
+/// number of its octets, or 0 where none came.
+fn receive_reply<W: Wire>(wire: &mut W, buffer: &mut [u8; DATAGRAM_LIMIT]) -> usize
+    ensures { result ≤ 4096 }
+{
     for _ in 0..TRIES {
         if wire.failures() > TRIES {
             break;
         }
         let _ = wire.send(QUERY);
-        if let Ok(Some(count)) = wire.receive(&mut buffer) {
-            return Ok(Vec::from_slice(rt.alloc(), &buffer[..count])?);
+        if let Ok(Some(count)) = wire.receive(buffer) {
+            return count;
         }
     }
-    Ok(Vec::new(rt.alloc()))
+    0
+}
+
+/// Asks a server until a reply comes, and gives that; of no reply no octets.
+fn reply_of<R: Net + Clock + AllocGlobal>(rt: &R, server: SocketAddr) -> io::Result<Vec<u8>> {
+    let mut wire = wire_to(rt, server, [1; 32])?;
+    let mut buffer = [0; DATAGRAM_LIMIT];
+    let count = receive_reply(&mut wire, &mut buffer);
+    drop(wire);
+    Ok(Vec::from_slice(rt.alloc(), &buffer[..count])?)
 }
 
 #[test]

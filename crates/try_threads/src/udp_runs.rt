@@ -1,12 +1,12 @@
 //! Runs over UDP to the server that the environment names, and to one to which the first query is
 //! lost.
 use crate::udp::wire_to;
-use crate::worker_jobs::{ZONE, goes_to, jobs_to};
-use answer_cache::{Notice, SharedCache};
+use crate::worker_jobs::{ZONE, goes_to, jobs_to, made_by};
+use answer_cache::Notice;
 use dns_asker::{DATAGRAM_LIMIT, PeerWire, Zone, serve};
 use dns_transport::{BufferWire, HostWire, SystemClock, UdpServerWire};
 use sip_selection::Reason;
-use sip_workers::{OpenGate, Outcome, run_workers};
+use sip_workers::{OpenGate, Outcome};
 use std::alloc::Global;
 use std::env::{self, VarError};
 use std::net::{Ipv4Addr, Ipv6Addr, Net, SocketAddr};
@@ -14,7 +14,7 @@ use std::rt::Env;
 use std::sync::atomic::{AtomicBool, Ordering};
 use std::sync::{Arc, Wait};
 use std::test::Fail;
-use std::thread::{self, Threads};
+use std::thread::{self, JoinHandle, Threads};
 use std::time::Clock;
 
 /// Requests to the name in the zone, to an address, and to another name.
@@ -49,21 +49,29 @@ fn wires_to<'a, R: Net + Clock + AllocGlobal>(
     Some(wires)
 }
 
-/// Whether the requests end as they should, by so many workers that ask a server.
+/// Whether the requests end as they should, by a worker for each wire.
+fn run_over_is_right<
+    R: Net<Stream: Send, Listener: Send> + Threads + Wait + Clock + AllocGlobal + Sync,
+>(rt: &R, wires: Vec<BufferWire<HostWire<'_, R>>>) -> Option<bool> {
+    match jobs_to(rt.alloc(), &REQUESTS) {
+        Some(jobs) => match made_by(rt, wires, jobs, 8, &SystemClock::new(rt), &OpenGate) {
+            Some(made) => Some(are_right(made.as_slice())),
+            None => None,
+        },
+        None => None,
+    }
+}
+
+/// The same by so many workers that ask a server.
 fn run_is_right<R: Net<Stream: Send, Listener: Send> + Threads + Wait + Clock + AllocGlobal + Sync>(
     rt: &R,
     server: SocketAddr,
     workers: u8,
 ) -> Option<bool> {
-    let alloc = rt.alloc();
-    let wires = wires_to(rt, server, workers)?;
-    let jobs = jobs_to(alloc, &REQUESTS)?;
-    let Ok((cache, seats)) = SharedCache::new(alloc, usize::from(workers)) else {
-        return None;
-    };
-    let clock = SystemClock::new(rt);
-    let made = run_workers(rt, alloc, &cache, seats, wires, jobs, 8, &clock, &OpenGate).ok()?;
-    Some(are_right(made.as_slice()))
+    match wires_to(rt, server, workers) {
+        Some(wires) => run_over_is_right(rt, wires),
+        None => None,
+    }
 }
 
 /// Names a DNS server that answers from the same zone, by its address and port.
@@ -123,33 +131,59 @@ fn serve_from_the_second<R: Wait>(
     }
 }
 
+/// A server on another thread, which loses the first query, and answers the others from a zone
+/// until it is to stop.
+fn start_server<R: Threads + Wait + AllocGlobal + Copy + Send + Sync + 'static>(
+    rt: R,
+    mut wire: UdpServerWire,
+    stop: Arc<AtomicBool>,
+) -> Result<JoinHandle<Option<u64>>, Fail> {
+    let Ok(zone) = Zone::read(rt.alloc(), ZONE) else {
+        return Err(Fail::new(format_args!("the zone was not read")));
+    };
+    let server = thread::spawn(&rt, move || {
+        serve_from_the_second(&rt, rt.alloc(), &mut wire, &zone, &stop)
+    })?;
+    Ok(server)
+}
+
+/// How many queries such a server over this wire answers, and whether the requests to it end as
+/// they should.
+fn ended<
+    R: Net<Stream: Send, Listener: Send>
+        + Threads
+        + Wait
+        + Clock
+        + AllocGlobal
+        + Copy
+        + Send
+        + Sync
+        + 'static,
+>(rt: R, wire: UdpServerWire) -> Result<(Option<u64>, Option<bool>), Fail> {
+    let address = wire.address()?;
+    let stop = Arc::new(rt.alloc(), AtomicBool::new(false))?;
+    let server = start_server(rt, wire, Arc::try_clone(&stop)?)?;
+    let right = run_is_right(&rt, address, 1);
+    stop.store(true, Ordering::SeqCst);
+    Ok((server.join(&rt), right))
+}
+
 /// What is lost is sent again, and answered then, by a server over each family of addresses.
 #[test]
 fn first_query_lost(rt: HostRuntime) -> Result<(), Fail> {
-    // A host without IPv6 has no such address.
-    let sixth = UdpServerWire::bind(&rt, SocketAddr::from((Ipv6Addr::LOCALHOST, 0)));
-    let fourth = UdpServerWire::bind(&rt, SocketAddr::from((Ipv4Addr::LOCALHOST, 0)))?;
-    for wire in [Ok(fourth), sixth] {
-        let Ok(mut wire) = wire else {
-            continue;
+    let fourth = SocketAddr::from((Ipv4Addr::LOCALHOST, 0));
+    let sixth = SocketAddr::from((Ipv6Addr::LOCALHOST, 0));
+    for (local, may_lack) in [(fourth, false), (sixth, true)] {
+        let wire = match UdpServerWire::bind(&rt, local) {
+            Ok(wire) => wire,
+            // A host without IPv6 has no such address.
+            Err(_) if may_lack => continue,
+            Err(error) => return Err(error.into()),
         };
-        let Ok(zone) = Zone::read(rt.alloc(), ZONE) else {
-            return Err(Fail::new(format_args!("the zone was not read")));
-        };
-        let address = wire.address()?;
-        let stop = Arc::new(rt.alloc(), AtomicBool::new(false))?;
-        let seen = Arc::try_clone(&stop)?;
-        let server = thread::spawn(&rt, move || {
-            serve_from_the_second(&rt, rt.alloc(), &mut wire, &zone, &seen)
-        })?;
-        let right = run_is_right(&rt, address, 1);
-        stop.store(true, Ordering::SeqCst);
+        let (count, right) = ended(rt, wire)?;
         // two names are asked for, of which one was asked for twice
-        assert!(rt;
-            server.join(&rt).is_some_and(|count| count >= 2),
-            "{address}"
-        );
-        assert_eq!(rt; right, Some(true), "{address}");
+        assert!(rt; count.is_some_and(|count| count >= 2), "{local}");
+        assert_eq!(rt; right, Some(true), "{local}");
     }
     Ok(())
 }

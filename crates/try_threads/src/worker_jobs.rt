@@ -1,12 +1,18 @@
-//! Jobs of workers, and where they go.
+//! Jobs of workers, runs of these, and where they go.
+ghost use Rattle.std.specs.List.{All};
+ghost use Rattle.answer_cache.specs.Shared.{Belongs};
+
+use answer_cache::{Notice, Seat, SharedCache};
 use dns_answers::Moment;
-use dns_asker::StandingClock;
+use dns_asker::{Clock, StandingClock, Wire};
 use sip_selection::{Caps, Families, Request, Target};
 use sip_uri::Transport::Udp;
 use sip_uri::{Address, read_uri};
-use sip_workers::{Job, Outcome};
+use sip_workers::{Gate, Job, Outcome, run_workers};
 use srv_choice::{WORD_COUNT, Words};
 use std::alloc::Global;
+use std::sync::Wait;
+use std::thread::Threads;
 
 /// A zone with one address.
 pub(crate) const ZONE: &str = "a.example. 300 A 192.0.2.7";
@@ -33,6 +39,11 @@ pub(crate) fn goes_to(outcome: &Outcome, port: u16) -> bool {
     matches!(outcome, Outcome::Targets(list) if list.as_slice() == [target_at(port)].as_slice())
 }
 
+/// Whether all of these go to the one target, at this port.
+pub(crate) fn all_go_to(made: &[(Outcome, Notice)], port: u16) -> bool {
+    made.iter().all(|it| goes_to(&it.0, port))
+}
+
 /// A job over UDP and IPv4 alone, where there is memory for it.
 pub(crate) fn job_of(alloc: Global, number: u64, text: &str) -> Option<Job> {
     Some(Job {
@@ -57,5 +68,59 @@ pub(crate) fn jobs_to(alloc: Global, texts: &[&str]) -> Option<Vec<Job>> {
 pub(crate) fn clock_at_100() -> StandingClock {
     StandingClock {
         moment: Moment::new(100).unwrap(),
+    }
+}
+
+/// What a run with these seats of a cache gives, by a worker for each wire, if it is not refused.
+pub(crate) fn made_with<
+    R: Threads + Wait + AllocGlobal + Sync,
+    W: Wire + Drop + Send,
+    C: Clock + Sync,
+    G: Gate + Sync,
+>(
+    rt: &R,
+    cache: &SharedCache,
+    seats: Vec<Seat>,
+    wires: Vec<W>,
+    jobs: Vec<Job>,
+    batch: usize,
+    clock: &C,
+    gate: &G,
+) -> Option<Vec<(Outcome, Notice)>>
+    requires { All (Belongs cache.now) seats.items }
+{
+    match run_workers(
+        rt,
+        rt.alloc(),
+        cache,
+        seats,
+        wires,
+        jobs,
+        batch,
+        clock,
+        gate,
+    ) {
+        Ok(made) => Some(made),
+        Err(_) => None,
+    }
+}
+
+/// The same over a new cache.
+pub(crate) fn made_by<
+    R: Threads + Wait + AllocGlobal + Sync,
+    W: Wire + Drop + Send,
+    C: Clock + Sync,
+    G: Gate + Sync,
+>(
+    rt: &R,
+    wires: Vec<W>,
+    jobs: Vec<Job>,
+    batch: usize,
+    clock: &C,
+    gate: &G,
+) -> Option<Vec<(Outcome, Notice)>> {
+    match SharedCache::new(rt.alloc(), wires.len()) {
+        Ok((cache, seats)) => made_with(rt, &cache, seats, wires, jobs, batch, clock, gate),
+        Err(_) => None,
     }
 }

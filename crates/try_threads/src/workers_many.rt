@@ -1,8 +1,8 @@
 //! Many jobs in batches of one, by one worker and by more.
-use crate::worker_jobs::{ZONE, clock_at_100, goes_to, job_of};
-use answer_cache::{Notice, SharedCache};
+use crate::worker_jobs::{ZONE, clock_at_100, goes_to, job_of, made_by};
+use answer_cache::Notice;
 use dns_asker::{Wire, Zone, ZoneWire};
-use sip_workers::{Gate, Job, OpenGate, Outcome, RunRefusal, run_workers};
+use sip_workers::{Gate, Job, OpenGate, Outcome};
 use std::alloc::Global;
 use std::sync::Wait;
 use std::sync::atomic::{AtomicU64, Ordering};
@@ -69,32 +69,20 @@ fn each_goes(made: &[(Outcome, Notice)], count: usize) -> bool {
             .all(|(place, it)| goes_to(&it.0, port_at(place)))
 }
 
-/// What a run of so many requests, in batches of this size, gives by a worker for each wire; none
-/// without memory for it.
-fn run_over<R: Threads + Wait + AllocGlobal + Sync, W: Wire + Drop + Send, G: Gate + Sync>(
-    rt: &R,
-    wires: Vec<W>,
-    count: usize,
-    batch: usize,
-    gate: &G,
-) -> Option<Result<Vec<(Outcome, Notice)>, RunRefusal>> {
-    let alloc = rt.alloc();
-    let jobs = jobs_to_ports(alloc, count)?;
-    let Ok((cache, seats)) = SharedCache::new(alloc, wires.len()) else {
-        return None;
-    };
-    let clock = clock_at_100();
-    Some(run_workers(rt, alloc, &cache, seats, wires, jobs, batch, &clock, gate))
-}
-
-/// Whether so many requests each go to their own ports in such a run.
+/// Whether so many requests each go to their own ports in a run with batches of this size, by a
+/// worker for each wire.
 pub(crate) fn all_go_over<
     R: Threads + Wait + AllocGlobal + Sync,
     W: Wire + Drop + Send,
     G: Gate + Sync,
 >(rt: &R, wires: Vec<W>, count: usize, batch: usize, gate: &G) -> Option<bool> {
-    let made = run_over(rt, wires, count, batch, gate)?.ok()?;
-    Some(each_goes(made.as_slice(), count))
+    match jobs_to_ports(rt.alloc(), count) {
+        Some(jobs) => match made_by(rt, wires, jobs, batch, &clock_at_100(), gate) {
+            Some(made) => Some(each_goes(made.as_slice(), count)),
+            None => None,
+        },
+        None => None,
+    }
 }
 
 /// Whether so many requests each go to their own ports, in batches of one, by so many workers.

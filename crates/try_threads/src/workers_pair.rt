@@ -1,8 +1,7 @@
 //! Two jobs by one worker, and by two at once, over wires in memory to one zone.
-use crate::worker_jobs::{TO_ADDRESS, TO_NAME, ZONE, clock_at_100, goes_to, jobs_to};
-use answer_cache::SharedCache;
+use crate::worker_jobs::{TO_ADDRESS, TO_NAME, ZONE, all_go_to, clock_at_100, jobs_to, made_by};
 use dns_asker::{Zone, ZoneWire};
-use sip_workers::{Gate, Job, run_workers};
+use sip_workers::{Gate, Job};
 use std::sync::Wait;
 use std::sync::atomic::{AtomicU64, Ordering};
 use std::thread::Threads;
@@ -48,29 +47,47 @@ fn all_go<R: Threads + Wait + AllocGlobal + Sync>(
     jobs: Vec<Job>,
     gate: &Meeting,
 ) -> Option<bool> {
-    let alloc = rt.alloc();
-    let Ok((cache, seats)) = SharedCache::new(alloc, wires.len()) else {
-        return None;
-    };
-    let clock = clock_at_100();
-    let made = run_workers(rt, alloc, &cache, seats, wires, jobs, 1, &clock, gate).ok()?;
-    Some(made.iter().all(|it| goes_to(&it.0, 5070)))
+    match made_by(rt, wires, jobs, 1, &clock_at_100(), gate) {
+        Some(made) => Some(all_go_to(made.as_slice(), 5070)),
+        None => None,
+    }
 }
 
-/// Whether two jobs, in batches of one, go to the target, and how many datagrams were sent.
+/// Whether two jobs do so by so many workers over wires to a zone.
+fn both_go<R: Threads + Wait + AllocGlobal + Sync>(
+    rt: &R,
+    zone: &Zone,
+    sent: &AtomicU64,
+    workers: usize,
+    second: &str,
+    gate: &Meeting,
+) -> Option<bool> {
+    match jobs_to(rt.alloc(), &[TO_NAME, second]) {
+        Some(jobs) => match ZoneWire::several(rt.alloc(), zone, sent, workers) {
+            Ok(wires) => all_go(rt, wires, jobs, gate),
+            Err(_) => None,
+        },
+        None => None,
+    }
+}
+
+/// The same, and how many datagrams were sent.
 fn run_two<R: Threads + Wait + AllocGlobal + Sync>(
     rt: &R,
     workers: usize,
     second: &str,
     gate: &Meeting,
 ) -> Option<(bool, u64)> {
-    let alloc = rt.alloc();
-    let jobs = jobs_to(alloc, &[TO_NAME, second])?;
-    let zone = Zone::read(alloc, ZONE).ok()?;
-    let sent = AtomicU64::new(0);
-    let wires = ZoneWire::several(alloc, &zone, &sent, workers).ok()?;
-    let all = all_go(rt, wires, jobs, gate)?;
-    Some((all, sent.load(Ordering::SeqCst)))
+    match Zone::read(rt.alloc(), ZONE) {
+        Ok(zone) => {
+            let sent = AtomicU64::new(0);
+            match both_go(rt, &zone, &sent, workers, second, gate) {
+                Some(all) => Some((all, sent.load(Ordering::SeqCst))),
+                None => None,
+            }
+        }
+        Err(_) => None,
+    }
 }
 
 #[test]

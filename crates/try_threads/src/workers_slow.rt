@@ -104,13 +104,25 @@ fn four_wires<'a>(
     Ok(wires)
 }
 
-/// Whether all jobs go to their ports in such a run.
-fn all_go<R: Threads + Wait + AllocGlobal + Sync>(rt: &R, course: &Course) -> Option<bool> {
-    let alloc = rt.alloc();
-    let zone = Zone::read(alloc, ZONE).ok()?;
+/// Whether all jobs go to their ports in a run over such wires to a zone.
+fn all_go_to_zone<R: Threads + Wait + AllocGlobal + Sync>(
+    rt: &R,
+    zone: &Zone,
+    course: &Course,
+) -> Option<bool> {
     let sent = AtomicU64::new(0);
-    let wires = four_wires(alloc, &zone, &sent, course).ok()?;
-    all_go_over(rt, wires, JOBS as usize, BATCH as usize, course)
+    match four_wires(rt.alloc(), zone, &sent, course) {
+        Ok(wires) => all_go_over(rt, wires, JOBS as usize, BATCH as usize, course),
+        Err(_) => None,
+    }
+}
+
+/// The same over the zone of one name.
+fn all_go<R: Threads + Wait + AllocGlobal + Sync>(rt: &R, course: &Course) -> Option<bool> {
+    match Zone::read(rt.alloc(), ZONE) {
+        Ok(zone) => all_go_to_zone(rt, &zone, course),
+        Err(_) => None,
+    }
 }
 
 /// The slow worker does no more than the batch that it took first.

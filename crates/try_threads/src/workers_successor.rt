@@ -3,11 +3,11 @@ ghost use Rattle.std.specs.Prelude.{IfSome};
 ghost use Rattle.std.specs.List.{All};
 ghost use Rattle.answer_cache.specs.Shared.{Belongs};
 
-use crate::worker_jobs::{TO_NAME, ZONE, clock_at_100, goes_to, jobs_to};
+use crate::worker_jobs::{TO_NAME, ZONE, all_go_to, clock_at_100, jobs_to, made_with};
 use answer_cache::{Carried, Seat, SharedCache};
 use dns_answers::Moment;
 use dns_asker::{DATAGRAM_LIMIT, StandingClock, Wire, WireFault, Zone, ZoneWire};
-use sip_workers::{OpenGate, run_workers};
+use sip_workers::OpenGate;
 use std::alloc::Global;
 use std::sync::Wait;
 use std::sync::atomic::{AtomicU64, Ordering};
@@ -49,11 +49,12 @@ fn run_goes<R: Threads + Wait + AllocGlobal + Sync, W: Wire + Drop + Send>(
 ) -> Option<bool>
     requires { All (Belongs cache.now) seats.items }
 {
-    let alloc = rt.alloc();
-    let jobs = jobs_to(alloc, &[TO_NAME])?;
-    match run_workers(rt, alloc, cache, seats, wires, jobs, 1, clock, &OpenGate) {
-        Ok(made) => Some(made.iter().all(|it| goes_to(&it.0, 5070))),
-        Err(_) => None,
+    match jobs_to(rt.alloc(), &[TO_NAME]) {
+        Some(jobs) => match made_with(rt, cache, seats, wires, jobs, 1, clock, &OpenGate) {
+            Some(made) => Some(all_go_to(made.as_slice(), 5070)),
+            None => None,
+        },
+        None => None,
     }
 }
 

@@ -143,17 +143,29 @@ fn located_times(
     Some(held)
 }
 
+/// So many locators of a request, each with these answers out of a shared cache.
+fn hold_with<R: Wait + AllocGlobal>(
+    rt: &R,
+    row: &Row,
+    known: &[Known],
+    count: usize,
+) -> Option<Vec<Locator<SharedCache>>> {
+    let now = Moment::new(100)?;
+    match one_seat(rt.alloc()) {
+        Some((cache, mut seat)) => {
+            fill(rt, &cache, &mut seat, known, now);
+            located_times(rt.alloc(), row, &cache, &mut seat, count)
+        }
+        None => None,
+    }
+}
+
 /// So many locators of the request of ten answers, each with all of them, of which it made 21
 /// targets.
 fn hold_locators<R: Wait + AllocGlobal>(rt: &R, count: usize) -> Option<Vec<Locator<SharedCache>>> {
     let row = rows::ten_answers();
-    let known = row.domain.known(rt.alloc())?;
-    let now = Moment::new(100)?;
-    match one_seat(rt.alloc()) {
-        Some((cache, mut seat)) => {
-            fill(rt, &cache, &mut seat, known.as_slice(), now);
-            located_times(rt.alloc(), &row, &cache, &mut seat, count)
-        }
+    match row.domain.known(rt.alloc()) {
+        Some(known) => hold_with(rt, &row, known.as_slice(), count),
         None => None,
     }
 }

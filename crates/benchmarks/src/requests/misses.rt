@@ -206,11 +206,20 @@ fn question_in(alloc: Global, octets: &[u8]) -> Option<Question> {
     first_question(&message)
 }
 
+/// How many records answer a question in a message.
+fn count_answers(alloc: Global, question: &Question, message: &Message) -> Option<usize> {
+    match answer_of(alloc, question, message) {
+        Ok(answer) => Some(answer.records().len()),
+        Err(_) => None,
+    }
+}
+
 /// How many records the reply in octets has for a question.
 fn count_records(alloc: Global, question: &Question, octets: &[u8]) -> Option<usize> {
-    let message = read_message(alloc, octets).ok()?;
-    let answer = answer_of(alloc, question, &message).ok()?;
-    Some(answer.records().len())
+    match read_message(alloc, octets) {
+        Ok(message) => count_answers(alloc, question, &message),
+        Err(_) => None,
+    }
 }
 
 /// Stores the answer of a reply in so many shared caches.

@@ -134,25 +134,56 @@ fn empty(alloc: Global) -> Option<Core>
     Some(resolver)
 }
 
-/// A resolver with the requests of a batch inside, the first of which has this number.
-fn with_batch(alloc: Global, first: u64) -> Option<Core>
-    ensures { (seat : SeatView) → IfSome result
-        (λ made. Stand (λ _. ⊤) (λ _. ⊤) seat made.requests) }
+/// Submits the request of this number.
+fn submit(alloc: Global, resolver: &mut Core, number: u64) -> Option<()>
+    ensures { (seat : SeatView) → Stand (λ _. ⊤) (λ _. ⊤) seat resolver.old.requests
+        → Stand (λ _. ⊤) (λ _. ⊤) seat resolver.new.requests }
 {
-    let mut resolver = empty(alloc)?;
-    'numbers: for place in 0..BATCH {
-        let Job {
-            number,
-            request,
-            caps,
-            words,
-        } = job_of(alloc, first.wrapping_add(place))?;
-        resolver.submit(number, request, caps, words).ok()?;
-    }
-    Some(resolver)
+    let Job {
+        number,
+        request,
+        caps,
+        words,
+    } = job_of(alloc, number)?;
+    resolver.submit(number, request, caps, words).ok()
 }
 
-/// Resolves the requests of a batch, and counts.
+/// Submits the requests of a batch, the first of which has this number.
+fn submit_batch(alloc: Global, resolver: &mut Core, first: u64) -> Option<()>
+    ensures { (seat : SeatView) → Stand (λ _. ⊤) (λ _. ⊤) seat resolver.old.requests
+        → Stand (λ _. ⊤) (λ _. ⊤) seat resolver.new.requests }
+{
+    'numbers: for place in 0..BATCH {
+        submit(alloc, resolver, first.wrapping_add(place))?;
+    }
+    Some(())
+}
+
+/// Resolves the requests of a batch with a resolver, and counts.
+fn resolve_with<R: Wait + AllocGlobal>(
+    rt: &R,
+    zone: &Zone,
+    resolver: &mut Core,
+    cache: &RollingCache,
+    seat: &mut RollingSeat,
+    now: Moment,
+    first: u64,
+) -> Option<Counted>
+    requires at { IsAt seat.old }
+    requires stand { Stand (λ _. ⊤) (λ _. ⊤) seat.old.seat.seat resolver.old.requests }
+    ensures { IsAt seat.new }
+{
+    submit_batch(rt.alloc(), resolver, first)?;
+    let sent = drive(rt, zone, resolver, cache, seat, now)?;
+    let targets = with_targets(resolver);
+    Some(Counted {
+        sent,
+        most: sent,
+        targets,
+    })
+}
+
+/// The same with a new resolver.
 fn resolve_batch<R: Wait + AllocGlobal>(
     rt: &R,
     zone: &Zone,
@@ -165,14 +196,10 @@ fn resolve_batch<R: Wait + AllocGlobal>(
     ensures { IsAt seat.new }
 {
     cache.catch_up(rt, seat, now).ok()?;
-    let mut resolver = with_batch(rt.alloc(), first)?;
-    let sent = drive(rt, zone, &mut resolver, cache, seat, now)?;
-    let targets = with_targets(&mut resolver);
-    Some(Counted {
-        sent,
-        most: sent,
-        targets,
-    })
+    match empty(rt.alloc()) {
+        Some(mut resolver) => resolve_with(rt, zone, &mut resolver, cache, seat, now, first),
+        None => None,
+    }
 }
 
 /// Resolves a request to each domain at a moment, and counts.
