@@ -15,17 +15,18 @@ none_in_targets : (form : AddressForm) (targets : List Target)
 none_in_targets form [] = refl
 none_in_targets form (target ∷ targets) = none_in_targets form targets
 
-pub none : (form : AddressForm) (text : List ℕ) (it : LineOutcome) → has_float (line_outcome_data form text it) ≡ false
-none form text (line_outcome.Became (outcome.Targets list)) = rw (none_in_targets form list) refl
-none form text (line_outcome.Became (outcome.Refused reason)) = refl
-none form text (line_outcome.Became (outcome.NoAnswer question)) = refl
-none form text (line_outcome.Became (outcome.NoServer question)) = refl
-none form text (line_outcome.Became (outcome.BadReply question refusal.NotReply)) = refl
-none form text (line_outcome.Became (outcome.BadReply question refusal.OtherQuestion)) = refl
-none form text (line_outcome.Became (outcome.BadReply question refusal.Truncated)) = refl
-none form text (line_outcome.Became (outcome.BadReply question (refusal.ServerFault rcode))) = refl
-none form text (line_outcome.Became (outcome.BadReply question refusal.Memory)) = refl
-none form text (line_outcome.Became outcome.Memory) = refl
-none form text line_outcome.TimeOver = refl
-none form text (line_outcome.Bad why) = refl
-none form text line_outcome.Memory = refl
+pub none : (form : AddressForm) (text : List ℕ) (took : ℕ) (it : LineOutcome)
+    → has_float (line_outcome_data form text took it) ≡ false
+none form text took (line_outcome.Became (outcome.Targets list)) = rw (none_in_targets form list) refl
+none form text took (line_outcome.Became (outcome.Refused reason)) = refl
+none form text took (line_outcome.Became (outcome.NoAnswer question)) = refl
+none form text took (line_outcome.Became (outcome.NoServer question)) = refl
+none form text took (line_outcome.Became (outcome.BadReply question refusal.NotReply)) = refl
+none form text took (line_outcome.Became (outcome.BadReply question refusal.OtherQuestion)) = refl
+none form text took (line_outcome.Became (outcome.BadReply question refusal.Truncated)) = refl
+none form text took (line_outcome.Became (outcome.BadReply question (refusal.ServerFault rcode))) = refl
+none form text took (line_outcome.Became (outcome.BadReply question refusal.Memory)) = refl
+none form text took (line_outcome.Became outcome.Memory) = refl
+none form text took line_outcome.TimeOver = refl
+none form text took (line_outcome.Bad why) = refl
+none form text took line_outcome.Memory = refl

@@ -101,7 +101,7 @@ module _ (gives : List ℕ → Type 0) (shows : ℕ → Type 0) where
     outcome-later sought outcomes.Memory it = it
 
     module _ (sender : Sender) where
-      line_outcome-later : (line : Line) (line_outcome : LineOutcome) → IsLineOutcome gives shows old sender line line_outcome
+      pub line_outcome-later : (line : Line) (line_outcome : LineOutcome) → IsLineOutcome gives shows old sender line line_outcome
           → IsLineOutcome gives shows new sender line line_outcome
       line_outcome-later line (Became outcome) it = record {
         request = it.request;

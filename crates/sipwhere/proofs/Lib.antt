@@ -3,3 +3,5 @@ mod Later
 mod Meant
 mod Shown
 mod Words
+pub mod Inputs
+pub mod Told

@@ -19,9 +19,11 @@ use Rattle.sipwhere.specs.Servers.{ServerText}
 use Rattle.sipwhere.specs.Terminals.{form_for, shows_progress}
 use Rattle.sipwhere.specs.declared.options.OptionFault.{OptionFault}
 use Rattle.sipwhere.specs.declared.options.OptionFault.TheVariants as fault
+use Rattle.sipwhere.specs.declared.check_limits.CheckLimits.{CheckLimits}
 use Rattle.sipwhere.specs.declared.options.Options.{Options}
 use Rattle.sipwhere.specs.declared.report.Report.{Report}
 use Rattle.sipwhere.specs.declared.report.Report.TheVariants.{Lines, Json, Check}
+use Rattle.sipwhere.specs.declared.report.Style.{Style}
 use Rattle.sipwhere.specs.declared.terminals.Terminals.{Terminals}
 
 -- ---- the words of an option
@@ -50,16 +52,17 @@ transport_of word =
     (if bytes_eq word (codes "tls") then Some Tls else
     (if bytes_eq word (codes "sctp") then Some Sctp else None)))
 
--- the families of addresses of a word, in their order: `46`, or one of the three others
-abbrev pub families_of : List ℕ → Families
+-- the families of addresses of a word, in their order
+abbrev pub families_of : List ℕ → Option Families
 families_of word =
-    if bytes_eq word (codes "4") then V4 else
-    (if bytes_eq word (codes "6") then V6 else
-    (if bytes_eq word (codes "64") then V6ThenV4 else V4ThenV6))
+    if bytes_eq word (codes "4") then Some V4 else
+    (if bytes_eq word (codes "6") then Some V6 else
+    (if bytes_eq word (codes "46") then Some V4ThenV6 else
+    (if bytes_eq word (codes "64") then Some V6ThenV4 else None)))
 
--- the same of an option that may be absent
-abbrev pub families_or_both : Option (List ℕ) → Families
-families_or_both None = V4ThenV6
+-- the same of an option that may be absent: addresses of both families then
+abbrev pub families_or_both : Option (List ℕ) → Option Families
+families_or_both None = Some V4ThenV6
 families_or_both (Some word) = families_of word
 
 -- 64 digits of which these are the first ones, and the others are 0
@@ -133,6 +136,18 @@ IsReport matches Check = IsFlag matches (codes "check") true
 IsReport matches Json = IsFlag matches (codes "check") false × IsFlag matches (codes "json") true
 IsReport matches Lines = IsFlag matches (codes "check") false × IsFlag matches (codes "json") false
 
+-- what a check holds targets to: bounds as numbers of 32 bits, and a target that is expected
+pub record AreLimits (matches : ArgMatches) (limits : CheckLimits) : Type 0 where
+  pub warning_time : MaySay (NumberText 32) (one_text (found_of matches) (codes "warning"))
+      limits.warning.time
+  pub warning_targets : MaySay (NumberText 32)
+      (one_text (found_of matches) (codes "warning-targets")) limits.warning.targets
+  pub critical_time : MaySay (NumberText 32) (one_text (found_of matches) (codes "critical"))
+      limits.critical.time
+  pub critical_targets : MaySay (NumberText 32)
+      (one_text (found_of matches) (codes "critical-targets")) limits.critical.targets
+  pub expected : option_map (λ word. word.now) limits.expected ≡ word_of matches (codes "expect")
+
 -- one text, and not the lines of the input
 abbrev pub IsOneText : List (List ℕ) → Type 0
 IsOneText [] = ⊥
@@ -157,11 +172,13 @@ pub record AreOptions (matches : ArgMatches) (terminals : Terminals) (options : 
     pub edns : MaySay (NumberText 16) (one_text (found_of matches) (codes "edns"))
         options.query_form.edns
     pub transports : AreTransports (words_of matches (codes "transports")) options.caps.transports
-    pub families : options.caps.families ≡ families_or_both (word_of matches (codes "families"))
+    pub families : families_or_both (word_of matches (codes "families"))
+        ≡ Some options.caps.families
     pub total : IsTotal (one_text (found_of matches) (codes "total")) options.total
     pub seed : Says SeedText (word_of matches (codes "seed")) options.seed
     pub report : IsReport matches options.report
     pub can_report : CanReport options.report (words_of matches (codes "uri"))
+    pub limits : AreLimits matches options.limits
     pub short : Bool
     pub short_given : IsFlag matches (codes "short") short
     pub form : options.form ≡ form_for short options.report terminals
@@ -170,10 +187,19 @@ pub record AreOptions (matches : ArgMatches) (terminals : Terminals) (options : 
     pub progress : options.shows_progress ≡ shows_progress terminals
     pub texts : map (λ text. text.now) options.texts.items ≡ words_of matches (codes "uri")
 
+-- the style in which what became of texts is printed is that of the options
+pub record IsStyle (options : Options) (several : Bool) (style : Style) : Type 0 where
+  pub report : style.report ≡ options.report
+  pub limits : style.limits ≡ options.limits
+  pub form : style.form ≡ options.form
+  pub front : style.several ≡ several
+  pub traced : style.traced ≡ options.traced
+
 -- why the words say no options
 abbrev pub IsFault : ArgMatches → OptionFault → Type 0
 IsFault matches fault.Server = Any (SpellsNothing ServerText) (words_of matches (codes "server"))
 IsFault matches fault.Local = SaysNothing IsIpText (word_of matches (codes "bind"))
+IsFault matches fault.Families = families_or_both (word_of matches (codes "families")) ≡ None
 IsFault matches fault.Transports =
     Any IsNoTransport (words_of matches (codes "transports"))
     ⊎ AreNotOffered (words_of matches (codes "transports"))

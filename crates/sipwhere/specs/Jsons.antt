@@ -5,7 +5,7 @@ use Rattle.dns_name.specs.Texts.{text_of}
 use Rattle.dns_answers.specs.declared.refusal.ReplyRefusal.{ReplyRefusal}
 use Rattle.dns_answers.specs.declared.refusal.ReplyRefusal.TheVariants as refusal
 use Rattle.dns_message.specs.declared.question.Question.{Question}
-use Rattle.serde_json.specs.Data.{Data, array, member, no_members, number, object, string, unsigned}
+use Rattle.serde_json.specs.Data.{Data, Members, array, member, no_members, number, object, string, unsigned}
 use Rattle.serde_json.specs.View.{items_of}
 use Rattle.serde_json.specs.Written.{compact_text}
 use Rattle.sip_resolver.specs.declared.outcome.Outcome.{Outcome}
@@ -54,59 +54,71 @@ reply_data question refusal.Memory = why_data question (codes "Memory")
 
 -- ---- the object: what became of the text, and the text
 
+-- the members that stand last in each object: the text, the milliseconds that it took, and the
+-- number of this format
+abbrev pub last_members : List ℕ → ℕ → Members
+last_members text took =
+    member (codes "text") (string text)
+    (member (codes "time") (number (unsigned took))
+    (member (codes "v") (number (unsigned 1)) no_members))
+
 -- the object of a text with targets
-abbrev pub with_targets : List ℕ → Data → Data
-with_targets text targets =
-    object (member (codes "targets") targets (member (codes "text") (string text) no_members))
+abbrev pub with_targets : List ℕ → ℕ → Data → Data
+with_targets text took targets =
+    object (member (codes "status") (number (unsigned 0))
+    (member (codes "targets") targets (last_members text took)))
 
 -- the object of a text whose request gave up
-abbrev pub with_gaveup : List ℕ → Data → Data
-with_gaveup text gaveup =
-    object (member (codes "gaveup") gaveup (member (codes "text") (string text) no_members))
+abbrev pub with_gaveup : List ℕ → ℕ → Data → Data
+with_gaveup text took gaveup =
+    object (member (codes "gaveup") gaveup
+    (member (codes "status") (number (unsigned 1)) (last_members text took)))
 
--- the object of a text whose time was over
-abbrev pub time_over : List ℕ → Data
-time_over text =
-    with_gaveup text (object (member (codes "why") (string (codes "total")) no_members))
+-- why a question has no answer whose time was over
+abbrev pub total_data : Data
+total_data = object (member (codes "why") (string (codes "total")) no_members)
 
 -- the object of a text whose request goes nowhere, with the reason
-abbrev pub with_refused : List ℕ → List ℕ → Data
-with_refused text word =
+abbrev pub with_refused : List ℕ → ℕ → List ℕ → Data
+with_refused text took word =
     object (member (codes "refused") (string word)
-    (member (codes "text") (string text) no_members))
+    (member (codes "status") (number (unsigned 2)) (last_members text took)))
 
 -- the object of a text that is no request, with the word for why
-abbrev pub with_bad : List ℕ → List ℕ → Data
-with_bad text word =
+abbrev pub with_bad : List ℕ → ℕ → List ℕ → Data
+with_bad text took word =
     object (member (codes "bad") (string word)
-    (member (codes "text") (string text) no_members))
+    (member (codes "status") (number (unsigned 3)) (last_members text took)))
 
 -- the object of a text for which memory was refused
-abbrev pub with_fault : List ℕ → Data
-with_fault text =
+abbrev pub with_fault : List ℕ → ℕ → Data
+with_fault text took =
     object (member (codes "fault") (string (codes "memory"))
-    (member (codes "text") (string text) no_members))
+    (member (codes "status") (number (unsigned 5)) (last_members text took)))
 
 -- the object of a text, by the outcome of its request
-abbrev pub outcome_data : AddressForm → List ℕ → Outcome → Data
-outcome_data form text (outcome.Targets list) = with_targets text (targets_data form list)
-outcome_data form text (outcome.Refused reason) = with_refused text (reason_word reason)
-outcome_data form text (outcome.NoAnswer question) =
-    with_gaveup text (why_data question (codes "timeout"))
-outcome_data form text (outcome.NoServer question) =
-    with_gaveup text (why_data question (codes "closed"))
-outcome_data form text (outcome.BadReply question refusal) =
-    with_gaveup text (reply_data question refusal)
-outcome_data form text outcome.Memory = with_fault text
+abbrev pub outcome_data : AddressForm → List ℕ → ℕ → Outcome → Data
+outcome_data form text took (outcome.Targets list) =
+    with_targets text took (targets_data form list)
+outcome_data form text took (outcome.Refused reason) = with_refused text took (reason_word reason)
+outcome_data form text took (outcome.NoAnswer question) =
+    with_gaveup text took (why_data question (codes "timeout"))
+outcome_data form text took (outcome.NoServer question) =
+    with_gaveup text took (why_data question (codes "closed"))
+outcome_data form text took (outcome.BadReply question refusal) =
+    with_gaveup text took (reply_data question refusal)
+outcome_data form text took outcome.Memory = with_fault text took
 
--- the object of a text, by what became of it
-abbrev pub line_outcome_data : AddressForm → List ℕ → LineOutcome → Data
-line_outcome_data form text (line_outcome.Became outcome) = outcome_data form text outcome
-line_outcome_data form text line_outcome.TimeOver = time_over text
-line_outcome_data form text (line_outcome.Bad refusal) = with_bad text (request_word refusal)
-line_outcome_data form text line_outcome.Memory = with_fault text
+-- the object of a text, by what became of it after so many milliseconds
+abbrev pub line_outcome_data : AddressForm → List ℕ → ℕ → LineOutcome → Data
+line_outcome_data form text took (line_outcome.Became outcome) =
+    outcome_data form text took outcome
+line_outcome_data form text took line_outcome.TimeOver = with_gaveup text took total_data
+line_outcome_data form text took (line_outcome.Bad refusal) =
+    with_bad text took (request_word refusal)
+line_outcome_data form text took line_outcome.Memory = with_fault text took
 
 -- the line with the object of what became of a text (RFC 8259)
-abbrev pub json_line : AddressForm → List ℕ → LineOutcome → List ℕ
-json_line form text line_outcome = compact_text (line_outcome_data form text line_outcome) ++ 10 ∷
-    []
+abbrev pub json_line : AddressForm → List ℕ → ℕ → LineOutcome → List ℕ
+json_line form text took line_outcome =
+    compact_text (line_outcome_data form text took line_outcome) ++ 10 ∷ []

@@ -1,4 +1,5 @@
 pub mod Servers
+pub mod LineInputs
 pub mod Escapes
 pub mod Addresses
 pub mod Lines
@@ -7,6 +8,7 @@ pub mod RecordLines
 pub mod Rules
 pub mod Traces
 pub mod LineOutcomes
+pub mod Verdicts
 pub mod Checks
 pub mod Jsons
 pub mod Reports

@@ -68,11 +68,15 @@ why_word refusal.Memory = codes "Memory"
 
 -- ---- lines, each after the front
 
+-- a target in words: its transport, address and port
+abbrev pub target_words : AddressForm → Target → List ℕ
+target_words form target =
+    transport_word target.transport ++ (32 ∷ address_words form target.address)
+    ++ (32 ∷ decimal target.port)
+
 -- the line of a target
 abbrev pub target_line : AddressForm → List ℕ → Target → List ℕ
-target_line form front target =
-    front ++ transport_word target.transport ++ (32 ∷ address_words form target.address)
-    ++ (32 ∷ decimal target.port) ++ 10 ∷ []
+target_line form front target = front ++ target_words form target ++ 10 ∷ []
 
 -- the words of a question: its kind and its name
 abbrev pub question_words : Question → List ℕ

@@ -1,11 +1,11 @@
 -- Lines that are located side by side.
-use Rattle.std.specs.Prelude.{◌≡◌, ◌<◌, ◌≤◌, ℕ, List, Option, Some, None, length, slice_index_or}
+use Rattle.std.specs.Prelude.{◌≡◌, ◌<◌, ◌≤◌, ℕ, List, Option, Some, None, length, slice_index_or, take}
 use Rattle.std.specs.List.{AllZip}
 use Rattle.answer_cache.specs.Seats.{SeatView}
 use Rattle.sip_resolver.specs.Outcomes.{Sought}
 use Rattle.sip_resolver.specs.Requests.{RequestsView, Stand, weight}
 use Rattle.sipwhere.specs.LineOutcomes.{IsLineOutcome, IsOfLine}
-use Rattle.sipwhere.specs.Runs.{Tells}
+use Rattle.sipwhere.specs.Runs.{AreTold, Tells}
 use Rattle.sipwhere.specs.declared.line_outcome.LineOutcome.{LineOutcome}
 use Rattle.sipwhere.specs.declared.line.Line.{Line}
 use Rattle.sipwhere.specs.declared.report.Style.{Style}
@@ -71,3 +71,9 @@ pub record TellsFirst (gives : List ℕ → Type 0) (shows : ℕ → Type 0) (se
   pub inside : it.told < length it.lines
   pub tells : (line : Line) → Tells gives shows seat it.sender style
       (slice_index_or it.lines it.told line) old new status
+
+-- what became of each line that was reported is printed, with these statuses
+abbrev pub HasTold : (List ℕ → Type 0) → (ℕ → Type 0) → SeatView → Style → OpenView
+    → Option (List ℕ) → Option (List ℕ) → List ℕ → Type 0
+HasTold gives shows seat style it old new statuses =
+    AreTold gives shows seat it.sender style (take it.told it.lines) old new statuses

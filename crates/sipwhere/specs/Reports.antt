@@ -13,6 +13,7 @@ use Rattle.sipwhere.specs.declared.line_outcome.LineOutcome.{LineOutcome}
 use Rattle.sipwhere.specs.declared.report.Report.{Report}
 use Rattle.sipwhere.specs.declared.report.Report.TheVariants.{Lines, Json, Check}
 use Rattle.sipwhere.specs.declared.report.Style.{Style}
+use Rattle.sipwhere.specs.declared.verdict.Verdict.{Verdict}
 
 -- what is in front of the lines of a text: the text as it is shown and a space, where there are
 -- several texts
@@ -21,15 +22,18 @@ front_of true text = shown text ++ 32 ∷ []
 front_of false text = []
 
 -- what is printed of a text, in a form of report
-abbrev pub report_as : Report → AddressForm → Bool → List ℕ → LineOutcome → List ℕ
-report_as Lines form several text line_outcome = lines_of form (front_of several text) line_outcome
-report_as Json form several text line_outcome = json_line form text line_outcome
-report_as Check form several text line_outcome = check_line form line_outcome
+abbrev pub report_as : Report → Style → List ℕ → ℕ → Verdict → LineOutcome → List ℕ
+report_as Lines style text took verdict line_outcome =
+    lines_of style.form (front_of style.several text) line_outcome
+report_as Json style text took verdict line_outcome = json_line style.form text took line_outcome
+report_as Check style text took verdict line_outcome =
+    check_line style.form style.limits took verdict line_outcome
 
--- what is printed of a text, in the style that is asked for
-abbrev pub report_of : Style → List ℕ → LineOutcome → List ℕ
-report_of style text line_outcome = report_as style.report style.form style.several text
-    line_outcome
+-- what is printed of a text, in the style that is asked for, by what became of it after so many
+-- milliseconds, and the verdict of a check
+abbrev pub report_of : Style → List ℕ → ℕ → Verdict → LineOutcome → List ℕ
+report_of style text took verdict line_outcome =
+    report_as style.report style text took verdict line_outcome
 
 -- the lines of what went over the wire, where they are asked for
 abbrev pub trace_of : Bool → AddressForm → List ℕ → List WireTry → List ℕ
@@ -38,12 +42,12 @@ trace_of false form text tries = []
 
 -- the lines of what went over the wire, where they are asked for, and after them what is printed of
 -- a text
-abbrev pub traced_report : Style → List WireTry → List ℕ → LineOutcome → List ℕ
-traced_report style tries text line_outcome =
-    trace_of style.traced style.form text tries ++ report_of style text line_outcome
+abbrev pub traced_report : Style → List WireTry → List ℕ → ℕ → Verdict → LineOutcome → List ℕ
+traced_report style tries text took verdict line_outcome =
+    trace_of style.traced style.form text tries ++ report_of style text took verdict line_outcome
 
 -- the exit status of a text in a form of report: a check has one of its own
-abbrev pub status_in : Report → LineOutcome → ℕ
-status_in Lines line_outcome = status_of line_outcome
-status_in Json line_outcome = status_of line_outcome
-status_in Check line_outcome = check_status line_outcome
+abbrev pub status_in : Report → Verdict → LineOutcome → ℕ
+status_in Lines verdict line_outcome = status_of line_outcome
+status_in Json verdict line_outcome = status_of line_outcome
+status_in Check verdict line_outcome = check_status verdict line_outcome

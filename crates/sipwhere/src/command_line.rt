@@ -103,6 +103,61 @@ fn with_limits<'a>(alloc: Global, command: Command<'a>) -> Result<Command<'a>, A
         .arg(value(alloc, "seed", "HEX", "The key of the random words and ids"))
 }
 
+/// With the options of what a check holds targets to.
+fn with_check<'a>(alloc: Global, command: Command<'a>) -> Result<Command<'a>, AllocError> {
+    command
+        .arg(flag(alloc, "check", "One line for a monitoring system").conflicts_with("json")?)?
+        .arg(
+            value(
+                alloc,
+                "warning",
+                "MS",
+                "With --check: WARNING where it takes longer, in milliseconds",
+            )
+            .short('w')
+            .value_parser(value_parser!(u32))
+            .requires_arg("check")?,
+        )?
+        .arg(
+            value(
+                alloc,
+                "critical",
+                "MS",
+                "With --check: CRITICAL where it takes longer, in milliseconds",
+            )
+            .short('c')
+            .value_parser(value_parser!(u32))
+            .requires_arg("check")?,
+        )?
+        .arg(
+            value(
+                alloc,
+                "warning-targets",
+                "N",
+                "With --check: WARNING where there are fewer targets",
+            )
+            .value_parser(value_parser!(u32))
+            .requires_arg("check")?,
+        )?
+        .arg(
+            value(
+                alloc,
+                "critical-targets",
+                "N",
+                "With --check: CRITICAL where there are fewer targets",
+            )
+            .value_parser(value_parser!(u32))
+            .requires_arg("check")?,
+        )?
+        .arg(value(
+            alloc,
+            "expect",
+            "TARGET",
+            "With --check: CRITICAL where this target is missing, as `udp 192.0.2.1 5060`",
+        )
+        .requires_arg("check")?)
+}
+
 /// With the options of what is printed.
 fn with_output<'a>(alloc: Global, command: Command<'a>) -> Result<Command<'a>, AllocError> {
     command
@@ -112,7 +167,6 @@ fn with_output<'a>(alloc: Global, command: Command<'a>) -> Result<Command<'a>, A
             "IPv6 addresses in their short form (RFC 5952), as on a terminal",
         ))?
         .arg(flag(alloc, "json", "An object of JSON for each URI"))?
-        .arg(flag(alloc, "check", "One line for a monitoring system").conflicts_with("json")?)?
         .arg(
             flag(
                 alloc,
@@ -139,6 +193,7 @@ pub fn command<'a>(alloc: Global) -> Result<Command<'a>, AllocError> {
     let command = with_asking(alloc, command)?;
     let command = with_sender(alloc, command)?;
     let command = with_limits(alloc, command)?;
+    let command = with_check(alloc, command)?;
     with_output(alloc, command)?.arg(
         Arg::new(alloc, "uri")
             .value_name("URI")

@@ -6,7 +6,9 @@ ghost use Rattle.serde_json.specs.View.{view};
 ghost use Rattle.sipwhere.specs.Jsons as spec;
 
 use crate::address::{AddressForm, address_words};
-use crate::line_outcome::LineOutcome;
+use crate::line_outcome::{
+    BAD_STATUS, FAULT_STATUS, GAVEUP_STATUS, LineOutcome, REFUSED_STATUS, TARGETS_STATUS,
+};
 use crate::output::{kind_word, reason_word, request_word, transport_word};
 use dns_answers::ReplyRefusal;
 use dns_message::Question;
@@ -14,6 +16,10 @@ use serde_json::{Value, json};
 use sip_resolver::Outcome;
 use sip_selection::Target;
 use std::alloc::{AllocError, Global};
+
+/// The number of this format. It changes where a key goes, or means something else; a key that is
+/// added does not change it.
+const FORMAT: u8 = 1;
 
 /// A target.
 fn target_value(alloc: Global, form: AddressForm, target: &Target) -> Result<Value, AllocError>
@@ -71,45 +77,55 @@ fn reply_value(
 }
 
 /// An object of targets.
-fn with_targets(alloc: Global, text: &str, targets: Value) -> Result<Value, AllocError>
-    ensures { IfOk result (λ value. view value ≡ spec.with_targets text.now (view targets)) }
+fn with_targets(alloc: Global, text: &str, took: u64, targets: Value) -> Result<Value, AllocError>
+    ensures { IfOk result (λ value. view value ≡ spec.with_targets text.now took (view targets)) }
 {
-    json!(in alloc; {"targets": targets, "text": text})
+    json!(in alloc; {
+        "status": TARGETS_STATUS, "targets": targets, "text": text, "time": took, "v": FORMAT
+    })
 }
 
 /// An object of a question without an answer.
-fn with_gaveup(alloc: Global, text: &str, gaveup: Value) -> Result<Value, AllocError>
-    ensures { IfOk result (λ value. view value ≡ spec.with_gaveup text.now (view gaveup)) }
+fn with_gaveup(alloc: Global, text: &str, took: u64, gaveup: Value) -> Result<Value, AllocError>
+    ensures { IfOk result (λ value. view value ≡ spec.with_gaveup text.now took (view gaveup)) }
 {
-    json!(in alloc; {"gaveup": gaveup, "text": text})
+    json!(in alloc; {
+        "gaveup": gaveup, "status": GAVEUP_STATUS, "text": text, "time": took, "v": FORMAT
+    })
 }
 
-/// An object of a text whose time was over.
-fn time_over(alloc: Global, text: &str) -> Result<Value, AllocError>
-    ensures { IfOk result (λ value. view value ≡ spec.time_over text.now) }
+/// Why a question has no answer whose time was over.
+fn total_value(alloc: Global) -> Result<Value, AllocError>
+    ensures { IfOk result (λ value. view value ≡ spec.total_data) }
 {
-    json!(in alloc; {"gaveup": {"why": "total"}, "text": text})
+    json!(in alloc; {"why": "total"})
 }
 
 /// An object of a refusal.
-fn with_refused(alloc: Global, text: &str, word: &str) -> Result<Value, AllocError>
-    ensures { IfOk result (λ value. view value ≡ spec.with_refused text.now word.now) }
+fn with_refused(alloc: Global, text: &str, took: u64, word: &str) -> Result<Value, AllocError>
+    ensures { IfOk result (λ value. view value ≡ spec.with_refused text.now took word.now) }
 {
-    json!(in alloc; {"refused": word, "text": text})
+    json!(in alloc; {
+        "refused": word, "status": REFUSED_STATUS, "text": text, "time": took, "v": FORMAT
+    })
 }
 
 /// An object of a text that is no request.
-fn with_bad(alloc: Global, text: &str, word: &str) -> Result<Value, AllocError>
-    ensures { IfOk result (λ value. view value ≡ spec.with_bad text.now word.now) }
+fn with_bad(alloc: Global, text: &str, took: u64, word: &str) -> Result<Value, AllocError>
+    ensures { IfOk result (λ value. view value ≡ spec.with_bad text.now took word.now) }
 {
-    json!(in alloc; {"bad": word, "text": text})
+    json!(in alloc; {
+        "bad": word, "status": BAD_STATUS, "text": text, "time": took, "v": FORMAT
+    })
 }
 
 /// An object of a fault.
-fn with_fault(alloc: Global, text: &str) -> Result<Value, AllocError>
-    ensures { IfOk result (λ value. view value ≡ spec.with_fault text.now) }
+fn with_fault(alloc: Global, text: &str, took: u64) -> Result<Value, AllocError>
+    ensures { IfOk result (λ value. view value ≡ spec.with_fault text.now took) }
 {
-    json!(in alloc; {"fault": "memory", "text": text})
+    json!(in alloc; {
+        "fault": "memory", "status": FAULT_STATUS, "text": text, "time": took, "v": FORMAT
+    })
 }
 
 /// The object of what became of a request.
@@ -117,25 +133,32 @@ fn outcome_value(
     alloc: Global,
     form: AddressForm,
     text: &str,
+    took: u64,
     outcome: &Outcome,
 ) -> Result<Value, AllocError>
-    ensures { IfOk result (λ value. view value ≡ spec.outcome_data form text.now outcome.now) }
+    ensures { IfOk result (λ value.
+        view value ≡ spec.outcome_data form text.now took outcome.now) }
 {
     match outcome {
         Outcome::Targets(list) => {
-            with_targets(alloc, text, targets_value(alloc, form, list.as_slice())?)
+            with_targets(
+                alloc,
+                text,
+                took,
+                targets_value(alloc, form, list.as_slice())?,
+            )
         }
-        Outcome::Refused(reason) => with_refused(alloc, text, reason_word(*reason)),
+        Outcome::Refused(reason) => with_refused(alloc, text, took, reason_word(*reason)),
         Outcome::NoAnswer(question) => {
-            with_gaveup(alloc, text, why_value(alloc, question, "timeout")?)
+            with_gaveup(alloc, text, took, why_value(alloc, question, "timeout")?)
         }
         Outcome::NoServer(question) => {
-            with_gaveup(alloc, text, why_value(alloc, question, "closed")?)
+            with_gaveup(alloc, text, took, why_value(alloc, question, "closed")?)
         }
         Outcome::BadReply(question, refusal) => {
-            with_gaveup(alloc, text, reply_value(alloc, question, *refusal)?)
+            with_gaveup(alloc, text, took, reply_value(alloc, question, *refusal)?)
         }
-        Outcome::Memory => with_fault(alloc, text),
+        Outcome::Memory => with_fault(alloc, text, took),
     }
 }
 
@@ -144,30 +167,33 @@ fn line_outcome_value(
     alloc: Global,
     form: AddressForm,
     text: &str,
+    took: u64,
     line_outcome: &LineOutcome,
 ) -> Result<Value, AllocError>
     ensures { IfOk result (λ value. view value
-        ≡ spec.line_outcome_data form text.now line_outcome.now) }
+        ≡ spec.line_outcome_data form text.now took line_outcome.now) }
 {
     match line_outcome {
-        LineOutcome::Became(outcome) => outcome_value(alloc, form, text, outcome),
-        LineOutcome::TimeOver => time_over(alloc, text),
-        LineOutcome::Bad(refusal) => with_bad(alloc, text, request_word(*refusal)),
-        LineOutcome::Memory => with_fault(alloc, text),
+        LineOutcome::Became(outcome) => outcome_value(alloc, form, text, took, outcome),
+        LineOutcome::TimeOver => with_gaveup(alloc, text, took, total_value(alloc)?),
+        LineOutcome::Bad(refusal) => with_bad(alloc, text, took, request_word(*refusal)),
+        LineOutcome::Memory => with_fault(alloc, text, took),
     }
 }
 
-/// The line of what became of a text: its object, without a space between its parts.
+/// The line of what became of a text after so many milliseconds: its object, without a space
+/// between its parts.
 pub fn json_line(
     alloc: Global,
     form: AddressForm,
     text: &str,
+    took: u64,
     line_outcome: &LineOutcome,
 ) -> Result<String, AllocError>
     ensures { IfOk result (λ line. string_bytes line
-        ≡ spec.json_line form text.now line_outcome.now) }
+        ≡ spec.json_line form text.now took line_outcome.now) }
 {
-    let value = line_outcome_value(alloc, form, text, line_outcome)?;
+    let value = line_outcome_value(alloc, form, text, took, line_outcome)?;
     let mut line = value.to_string(alloc)?;
     line.push_str("\n")?;
     Ok(line)

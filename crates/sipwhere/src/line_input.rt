@@ -1,8 +1,12 @@
 //! Lines of an input, as they come.
-ghost use Rattle.std.specs.Prelude.{◌≡◌, ◌≤◌, ◌+◌, ◌++◌, IfSome, OnOk, length};
+ghost use Rattle.std.specs.Prelude.{◌≡◌, ◌<◌, ◌≤◌, [], ◌++◌, IfNone, IfOk, IfSome, OnOk, length, drop, take};
+ghost use Rattle.std.specs.Io.KnownBytes.{Consumes, IsAtEnd};
+ghost use Rattle.std.specs.Str.Lossy.{utf8_lossy};
+ghost use Rattle.std.specs.String.{string_bytes};
+ghost use Rattle.sipwhere.specs.LineInputs as spec;
 
 use std::alloc::{AllocError, Global};
-use std::io::{self, Read};
+use std::io::{self, ErrorKind, Read};
 
 /// How many octets are read at once at most.
 const READ_LIMIT: usize = 1_048_576;
@@ -13,7 +17,8 @@ const KEPT_LIMIT: usize = 4_096;
 
 /// Where the last whole line of a text ends, if there is one.
 fn last_end(octets: &[u8]) -> Option<usize>
-    ensures { IfSome result (λ end. end ≤ length octets.now) }
+    ensures some { IfSome result (spec.EndsAt octets.now) }
+    ensures none { IfNone result (spec.HasNoEnd octets.now) }
 {
     let last = octets.iter().rposition(|octet| *octet == b'\n')?;
     Some(last + 1)
@@ -26,8 +31,7 @@ const CUT_MARK: [u8; 2] = [0, 0];
 /// Keeps octets behind those that are kept, as far as there is room for them, and the mark once
 /// where there is not.
 fn keep(kept: &mut Vec<u8>, octets: &[u8]) -> Result<(), AllocError>
-    ensures whole { OnOk result (length kept.old.items + length octets.now ≤ 4096
-        → kept.new.items ≡ kept.old.items ++ octets.now) }
+    ensures kept { OnOk result (kept.new.items ≡ spec.kept kept.old.items octets.now) }
     ensures bounded { OnOk result (length kept.old.items ≤ 4098
         → length kept.new.items ≤ 4098) }
 {
@@ -45,7 +49,10 @@ fn keep(kept: &mut Vec<u8>, octets: &[u8]) -> Result<(), AllocError>
 }
 
 /// The text of octets, which are taken away.
-fn take_text(alloc: Global, kept: &mut Vec<u8>) -> Result<String, AllocError> {
+fn take_text(alloc: Global, kept: &mut Vec<u8>) -> Result<String, AllocError>
+    ensures text { IfOk result (λ text. string_bytes text ≡ utf8_lossy kept.old.items) }
+    ensures taken { OnOk result (kept.new.items ≡ []) }
+{
     let text = String::from_utf8_lossy(alloc, kept)?;
     kept.clear();
     Ok(text)
@@ -64,7 +71,10 @@ pub struct LineInput<R> {
 
 impl<R: Read + Drop> LineInput<R> {
     /// The lines of an input of which nothing was read.
-    pub fn new(alloc: Global, input: R) -> Result<LineInput<R>, AllocError> {
+    pub fn new(alloc: Global, input: R) -> Result<LineInput<R>, AllocError>
+        ensures made { IfOk result (λ it. (it.input ≡ input) × (it.begun.items ≡ [])) }
+        ensures room { IfOk result (λ it. 0 < length it.part.items) }
+    {
         Ok(LineInput {
             alloc,
             input,
@@ -78,6 +88,11 @@ impl<R: Read + Drop> LineInput<R> {
     fn take_lines(&mut self, end: usize, count: usize) -> Result<String, AllocError>
         requires ends { end ≤ count }
         requires within { count ≤ length self.old.part.items }
+        ensures text { IfOk result (λ text. string_bytes text
+            ≡ utf8_lossy (self.old.begun.items ++ take end self.old.part.items)) }
+        ensures next { OnOk result (self.new.begun.items
+            ≡ spec.kept [] (drop end (take count self.old.part.items))) }
+        ensures same { (self.new.input ≡ self.old.input) × (self.new.part ≡ self.old.part) }
     {
         self.begun.extend_from_slice(&self.part[..end])?;
         let text = take_text(self.alloc, &mut self.begun)?;
@@ -85,18 +100,41 @@ impl<R: Read + Drop> LineInput<R> {
         Ok(text)
     }
 
+    /// Reads what comes next into the part, and gives how many octets came: none at the end.
+    fn read_part(&mut self) -> io::Result<usize>
+        requires room { 0 < length self.old.part.items }
+        ensures within { IfOk result (λ count. count ≤ length self.new.part.items) }
+        ensures read { IfOk result (λ count. Consumes (R.remaining self.old.input)
+            (R.remaining self.new.input) (take count self.new.part.items)) }
+        ensures end { IfOk result (λ count. count ≡ 0 → IsAtEnd (R.remaining self.new.input)) }
+        ensures room { 0 < length self.new.part.items }
+        ensures same { self.new.begun ≡ self.old.begun }
+    {
+        self.input.read(&mut self.part)
+    }
+
     /// The next lines: as many as came at once, and one at least. An empty text is the end.
-    pub fn next_lines(&mut self) -> io::Result<String> {
+    ///
+    /// # Errors
+    ///
+    /// Those of the input, `OutOfMemory`, and `FileTooLarge` after 2^64 - 1 reads without a line.
+    pub fn next_lines(&mut self) -> io::Result<String>
+        requires room { 0 < length self.old.part.items }
+        ensures gives { IfOk result (λ text. spec.GivesLines (R.remaining self.old.input)
+            (R.remaining self.new.input) self.old.begun.items self.new.begun.items
+            (string_bytes text)) }
+        ensures room { 0 < length self.new.part.items }
+    {
         for _ in 0..u64::MAX {
-            let count = self.input.read(&mut self.part)?;
+            let count = self.read_part()?;
             if count == 0 {
-                break;
+                return Ok(take_text(self.alloc, &mut self.begun)?);
             }
             if let Some(end) = last_end(&self.part[..count]) {
                 return Ok(self.take_lines(end, count)?);
             }
             keep(&mut self.begun, &self.part[..count])?;
         }
-        Ok(take_text(self.alloc, &mut self.begun)?)
+        Err(ErrorKind::FileTooLarge.into())
     }
 }

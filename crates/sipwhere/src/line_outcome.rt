@@ -5,6 +5,21 @@ ghost use Rattle.sipwhere.specs.Lines as spec;
 use sip_resolver::Outcome;
 use sip_uri::UriRefusal;
 
+/// The status of a text that has targets.
+pub const TARGETS_STATUS: u8 = 0;
+
+/// The status of a text for which a question has no answer, or whose time was over.
+pub const GAVEUP_STATUS: u8 = 1;
+
+/// The status of a text whose request goes nowhere.
+pub const REFUSED_STATUS: u8 = 2;
+
+/// The status of a text that is no request.
+pub const BAD_STATUS: u8 = 3;
+
+/// The status where memory, input, output, a clock or a socket failed.
+pub const FAULT_STATUS: u8 = 5;
+
 /// What becomes of a text.
 #[derive(Debug, Drop)]
 pub enum LineOutcome {
@@ -48,12 +63,13 @@ pub fn status_of(line_outcome: &LineOutcome) -> u8
     ensures range { result ≤ 5 }
 {
     match line_outcome {
-        LineOutcome::Became(Outcome::Targets(_)) => 0,
-        LineOutcome::Became(Outcome::NoAnswer(_)) | LineOutcome::Became(Outcome::NoServer(_)) => 1,
-        LineOutcome::Became(Outcome::BadReply(_, _)) => 1,
-        LineOutcome::TimeOver => 1,
-        LineOutcome::Became(Outcome::Refused(_)) => 2,
-        LineOutcome::Bad(_) => 3,
-        LineOutcome::Became(Outcome::Memory) | LineOutcome::Memory => 5,
+        LineOutcome::Became(Outcome::Targets(_)) => TARGETS_STATUS,
+        LineOutcome::Became(Outcome::NoAnswer(_)) => GAVEUP_STATUS,
+        LineOutcome::Became(Outcome::NoServer(_)) => GAVEUP_STATUS,
+        LineOutcome::Became(Outcome::BadReply(_, _)) => GAVEUP_STATUS,
+        LineOutcome::TimeOver => GAVEUP_STATUS,
+        LineOutcome::Became(Outcome::Refused(_)) => REFUSED_STATUS,
+        LineOutcome::Bad(_) => BAD_STATUS,
+        LineOutcome::Became(Outcome::Memory) | LineOutcome::Memory => FAULT_STATUS,
     }
 }

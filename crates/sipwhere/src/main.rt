@@ -1,9 +1,11 @@
 //! The program `sipwhere`: where SIP requests are sent (RFC 3263), asked of DNS servers.
 #![tactic(auto)]
 
-ghost use Rattle.std.specs.Prelude.{◌≡◌, ◌≤◌, IfOk};
+ghost use Rattle.std.specs.Prelude.{◌≡◌, ◌≤◌, IfOk, IsFalse, IsTrue};
+ghost use Rattle.sipwhere.specs.declared.report.Report.TheVariants.{Check};
 
 mod address;
+mod check_limits;
 mod check_line;
 mod command_line;
 mod counting_book;
@@ -31,17 +33,20 @@ mod submitted_lines;
 mod tell;
 mod terminals;
 mod trace;
+mod verdict;
 
 use check_line::UNKNOWN_STATUS;
 use clap::Error;
 use clap::error::ErrorKind;
 use command_line::command;
+use line_outcome::FAULT_STATUS;
 use options::{OptionFault, Options, read_options};
 use plan::resolver_path;
 use report::Report;
 use run::run;
 use run_fault::RunFault;
 use std::env;
+use std::fmt::Display;
 use std::io::{self, IsTerminal};
 use std::net::Net;
 use std::process::ExitCode;
@@ -49,11 +54,15 @@ use std::random::RandomSource;
 use std::rt::{Env, Files};
 use std::sync::Wait;
 use std::time::Clock;
-use tell::FAULT_STATUS;
 use terminals::Terminals;
 
 /// The status where the words are none that the program knows.
 const USAGE_STATUS: u8 = 4;
+
+/// Whether words ask for a check.
+fn ask_for_check(words: &[String]) -> bool {
+    words.iter().any(|word| word.as_str() == "--check")
+}
 
 /// Tells how the program is used, or its version, or what is wrong with its words, or that memory
 /// was refused for them.
@@ -76,14 +85,18 @@ fn option_status(fault: OptionFault) -> u8
     }
 }
 
-/// The status where there is a fault: a check is UNKNOWN then.
-fn fault_status(report: Report) -> u8
-    ensures { result ≤ 5 }
+/// The status of a run. A check that ended as none of its states is UNKNOWN, and says why in the
+/// line that a monitoring system reads.
+fn status_in_form<R: Print, T: Display>(rt: &R, is_check: bool, status: u8, why: &T) -> u8
+    ensures check { IsTrue is_check → result ≤ 3 }
+    ensures other { IsFalse is_check → result ≡ status }
+    ensures range { status ≤ 5 → result ≤ 5 }
 {
-    match report {
-        Report::Lines | Report::Json => FAULT_STATUS,
-        Report::Check => UNKNOWN_STATUS,
+    if !is_check || status <= UNKNOWN_STATUS {
+        return status;
     }
+    let _ = println!(rt; "SIP UNKNOWN - {why}");
+    UNKNOWN_STATUS
 }
 
 /// Tells on standard error why nothing is asked, and of which resolver file where it is one.
@@ -99,14 +112,15 @@ fn run_as<R: Wait + Input + Print + Eprint + Files + Net + RandomSource + Clock 
     rt: &R,
     options: &Options<'_>,
 ) -> u8
-    ensures { result ≤ 5 }
+    ensures range { result ≤ 5 }
+    ensures check { options.now.report ≡ Check → result ≤ 3 }
 {
+    let is_check = options.report == Report::Check;
     match run(rt, options) {
-        Ok(FAULT_STATUS) => fault_status(options.report),
-        Ok(status) => status,
+        Ok(status) => status_in_form(rt, is_check, status, &"memory, input or output failed"),
         Err(fault) => {
             tell_fault(rt, options, &fault);
-            fault_status(options.report)
+            status_in_form(rt, is_check, FAULT_STATUS, &fault)
         }
     }
 }
@@ -121,13 +135,23 @@ fn perform<
     let words = env::args(rt)?.collect::<Vec<String>>(alloc)?;
     let matches = match command(alloc)?.try_get_matches_from(words.as_slice()) {
         Ok(matches) => matches,
-        Err(error) => return Ok(tell_usage(rt, &error)),
+        Err(error) => {
+            let status = tell_usage(rt, &error);
+            let is_check = ask_for_check(words.as_slice());
+            let why = if status == FAULT_STATUS {
+                "memory or output failed"
+            } else {
+                "the words are wrong"
+            };
+            return Ok(status_in_form(rt, is_check, status, &why));
+        }
     };
     match read_options(alloc, &matches, terminals) {
         Ok(options) => Ok(run_as(rt, &options)),
         Err(fault) => {
             let _ = eprintln!(rt; "sipwhere: {fault}");
-            Ok(option_status(fault))
+            let is_check = matches.get_flag("check");
+            Ok(status_in_form(rt, is_check, option_status(fault), &fault))
         }
     }
 }

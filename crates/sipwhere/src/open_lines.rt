@@ -1,8 +1,11 @@
 //! Texts that are located side by side.
-ghost use Rattle.std.specs.Prelude.{◌≡◌, ◌+◌, ◌<◌, ◌≤◌, IfOk, IfSome, None, length, replicate};
+ghost use Rattle.std.specs.Prelude.{◌≡◌, ◌+◌, ◌/◌, ◌^◌, ◌<◌, ◌≤◌, IfOk, IfSome, None, length};
+ghost use Rattle.std.specs.Prelude.{◌↔◌, ◌⊎◌, ◌++◌, ℕ, List, Option, IsTrue, replicate};
+ghost use Rattle.std.specs.Duration.{as_nanos};
 ghost use Rattle.answer_cache.specs.Seats.{SeatView};
 ghost use Rattle.sip_resolver.specs.Outcomes.{IsOutcome};
-ghost use Rattle.sipwhere.specs.OpenLines.{IsMeant, Stands, TellsFirst};
+ghost use Rattle.sipwhere.specs.OpenLines.{HasTold, IsMeant, Stands, TellsFirst};
+ghost use Rattle.sipwhere.specs.Runs.{IsGravest, StaysSo};
 
 use crate::line::Line;
 use crate::line_outcome::LineOutcome;
@@ -12,7 +15,7 @@ use crate::submitted_lines::{line_outcome_in_vain, line_outcome_of, submit};
 use crate::tell::{NOTHING_TOLD, Told, tell};
 use answer_cache::AnswerBook;
 use dns_asker::{Clock, MessageWire};
-use dns_transport::Tracer;
+use dns_transport::{Timer, Tracer};
 use rand_chacha::ChaCha20Rng;
 use sip_resolver::{
     Limits, RandomIds, Resolved, Resolver, WireOrigin, cancel_over, poll_over, random_ids,
@@ -42,6 +45,20 @@ fn limits_for(lines: usize) -> Limits
     }
 }
 
+/// When a line was begun, and how long it took, as far as that is known.
+#[derive(Clone, Copy, Debug)]
+struct LineTimes {
+    begun: Duration,
+    took: Duration,
+}
+
+/// The whole milliseconds of a time.
+fn whole_milliseconds(time: Duration) -> u64
+    ensures { as_nanos time / 1_000_000 < 2 ^ 64 → result ≡ as_nanos time / 1_000_000 }
+{
+    u64::try_from(time.as_millis()).unwrap_or(u64::MAX)
+}
+
 /// So many fates of which none is known.
 fn unknown(alloc: Global, count: usize) -> Result<Vec<Option<LineOutcome>>, AllocError>
     ensures { IfOk result (λ made. made.items ≡ replicate count None) }
@@ -60,8 +77,8 @@ pub struct OpenLines<'a, B, W, C> {
     alloc: Global,
     sender: Sender,
     lines: &'a [Line<'a>],
-    /// When the time of each line is over that was begun.
-    ends: Vec<Duration>,
+    /// The times of each line that was begun.
+    times: Vec<LineTimes>,
     /// How many of the lines were looked at whose time is over.
     late: usize,
     /// How many of the lines were reported.
@@ -86,7 +103,7 @@ impl<'a, B, W, C> Model for OpenLines<'a, B, W, C> {
     } };
 
     ghost invariant = { λ it.
-        Fits it.sender it.lines.now (length it.ends.items) it.resolver.requests
+        Fits it.sender it.lines.now (length it.times.items) it.resolver.requests
         it.line_outcomes.items };
 }
 
@@ -97,7 +114,8 @@ impl<'a, B: AnswerBook + Drop, W: MessageWire, C: Clock> OpenLines<'a, B, W, C> 
         sender: Sender,
         lines: &'a [Line<'a>],
     ) -> Result<OpenLines<'a, B, W, C>, AllocError>
-        ensures lines { IfOk result (λ it. it.lines ≡ lines.now) }
+        ensures made { IfOk result (λ it.
+            (it.told ≡ 0) × (it.lines ≡ lines.now) × (it.sender ≡ sender)) }
         ensures stands { IfOk result (λ it. (seat : SeatView) → Stands W.gives C.shows seat it) }
     {
         let first = lines.first().map_or(0, |line| line.number);
@@ -106,7 +124,7 @@ impl<'a, B: AnswerBook + Drop, W: MessageWire, C: Clock> OpenLines<'a, B, W, C> 
             alloc,
             sender,
             lines,
-            ends: Vec::with_capacity(alloc, lines.len())?,
+            times: Vec::with_capacity(alloc, lines.len())?,
             late: 0,
             told: 0,
             resolver: Resolver::new(alloc, limits_for(lines.len()), ids)?,
@@ -119,23 +137,32 @@ impl<'a, B: AnswerBook + Drop, W: MessageWire, C: Clock> OpenLines<'a, B, W, C> 
         self.told
     }
 
-    /// Whether all lines were reported.
-    pub fn is_done(&self) -> bool {
-        self.told == self.lines.len()
+    /// Whether nothing more is to be done after this was told: all lines were reported, or the
+    /// output takes no more.
+    pub fn is_done(&self, told: Told) -> bool
+        ensures { IsTrue result ↔
+            (self.now.told ≡ length self.now.lines ⊎ IsTrue told.is_closed) }
+    {
+        self.told == self.lines.len() || told.is_closed
     }
 
     /// Begins the next line, if there is one and there is room for its request, and tells whether
-    /// there was. Its time is over at this moment.
-    fn begin_next(&mut self, end: Duration) -> Result<bool, AllocError>
+    /// there was.
+    fn begin_next(&mut self, now: Duration) -> Result<bool, AllocError>
+        ensures same { (self.new.told ≡ self.old.told) × (self.new.lines ≡ self.old.lines)
+            × (self.new.sender ≡ self.old.sender) }
         ensures stands { (seat : SeatView) → Stands W.gives C.shows seat self.old
             → Stands W.gives C.shows seat self.new }
     {
-        let place = self.ends.len();
+        let place = self.times.len();
         if place == self.lines.len() || !self.resolver.has_room() {
             return Ok(false);
         }
         let lines = self.lines;
-        self.ends.push(end)?;
+        self.times.push(LineTimes {
+            begun: now,
+            took: Duration::ZERO,
+        })?;
         self.line_outcomes[place] = submit(
             self.alloc,
             &mut self.resolver,
@@ -146,23 +173,36 @@ impl<'a, B: AnswerBook + Drop, W: MessageWire, C: Clock> OpenLines<'a, B, W, C> 
         Ok(true)
     }
 
-    /// Begins as many lines as there is room for. Their time is over at this moment.
-    pub fn begin_all(&mut self, end: Duration) -> Result<(), AllocError>
+    /// Begins as many lines as there is room for.
+    pub fn begin_all(&mut self, now: Duration) -> Result<(), AllocError>
+        ensures same { (self.new.told ≡ self.old.told) × (self.new.lines ≡ self.old.lines)
+            × (self.new.sender ≡ self.old.sender) }
         ensures stands { (seat : SeatView) → Stands W.gives C.shows seat self.old
             → Stands W.gives C.shows seat self.new }
     {
         'lines: for _line in 0..self.lines.len() {
-            if !self.begin_next(end)? {
+            if !self.begin_next(now)? {
                 break;
             }
         }
         Ok(())
     }
 
+    /// Notes how long the line at a place took, of which it is known now what became of it.
+    fn note_time(&mut self, place: usize, now: Duration)
+        ensures { self.new ≡ self.old }
+    {
+        if let Some(times) = self.times.get_mut(place) {
+            times.took = now.saturating_sub(times.begun);
+        }
+    }
+
     /// Takes what became of a request, unless the time of its line was over.
     fn settle(&mut self, ended: Resolved<B>)
         requires inside { ended.sought.number < length self.old.lines }
         requires own { IsMeant self.old.sender self.old.lines ended.sought }
+        ensures same { (self.new.told ≡ self.old.told) × (self.new.lines ≡ self.old.lines)
+            × (self.new.sender ≡ self.old.sender) }
         ensures stands { (seat : SeatView) → Stands W.gives C.shows seat self.old
             → IsOutcome W.gives C.shows seat ended.sought ended.outcome
             → Stands W.gives C.shows seat self.new }
@@ -173,25 +213,6 @@ impl<'a, B: AnswerBook + Drop, W: MessageWire, C: Clock> OpenLines<'a, B, W, C> 
         }
         let text = self.lines[place].text;
         self.line_outcomes[place] = Some(line_outcome_of(self.alloc, text, ended.into_outcome()));
-    }
-
-    /// Goes on with the requests inside, until one comes out or something came over the wire.
-    pub fn advance<R: Wait>(
-        &mut self,
-        rt: &R,
-        book: &B,
-        seat: &mut B::Seat,
-        wire: &mut W,
-        clock: &C,
-    )
-        requires made_here { B.belongs book.now seat.old }
-        requires stands { Stands W.gives C.shows (B.shown seat.old) self.old }
-        ensures stays { B.belongs book.now seat.new }
-        ensures stands { Stands W.gives C.shows (B.shown seat.new) self.new }
-    {
-        if let Some(ended) = poll_over(rt, &mut self.resolver, book, seat, wire, clock) {
-            self.settle(ended);
-        }
     }
 
     /// Gives the line at a place up, whose time is over: its request is cancelled, and so has no
@@ -207,6 +228,14 @@ impl<'a, B: AnswerBook + Drop, W: MessageWire, C: Clock> OpenLines<'a, B, W, C> 
         self.line_outcomes[place] = Some(line_outcome_in_vain(self.alloc, self.lines[place].text));
     }
 
+    /// Whether the time of the line at a place is over by now.
+    fn is_over(&self, place: usize, now: Duration) -> bool {
+        match self.times.get(place) {
+            Some(times) => times.begun.saturating_add(self.sender.total) <= now,
+            None => false,
+        }
+    }
+
     /// Looks at the next line, if its time is over by now, and tells whether it was. It is given up
     /// where it is not known what became of it.
     fn give_next_up(&mut self, wire: &mut W, now: Duration) -> bool
@@ -216,12 +245,13 @@ impl<'a, B: AnswerBook + Drop, W: MessageWire, C: Clock> OpenLines<'a, B, W, C> 
             → Stands W.gives C.shows seat self.new }
     {
         let place = self.late;
-        if place >= self.ends.len() || self.ends[place] > now {
+        if place >= self.times.len() || !self.is_over(place, now) {
             return false;
         }
         self.late = place + 1;
         if self.line_outcomes[place].is_none() {
             self.give_up(wire, place);
+            self.note_time(place, now);
         }
         true
     }
@@ -242,21 +272,56 @@ impl<'a, B: AnswerBook + Drop, W: MessageWire, C: Clock> OpenLines<'a, B, W, C> 
     }
 }
 
+impl<'a, B: AnswerBook + Drop, W: MessageWire, C: Clock + Timer> OpenLines<'a, B, W, C> {
+    /// Goes on with the requests inside, until one comes out or something came over the wire.
+    pub fn advance<R: Wait>(
+        &mut self,
+        rt: &R,
+        book: &B,
+        seat: &mut B::Seat,
+        wire: &mut W,
+        clock: &C,
+    )
+        requires made_here { B.belongs book.now seat.old }
+        requires stands { Stands W.gives C.shows (B.shown seat.old) self.old }
+        ensures stays { B.belongs book.now seat.new }
+        ensures stands { Stands W.gives C.shows (B.shown seat.new) self.new }
+        ensures same { (self.new.told ≡ self.old.told) × (self.new.lines ≡ self.old.lines)
+            × (self.new.sender ≡ self.old.sender) }
+        ensures later { StaysSo W.gives C.shows (B.shown seat.old) (B.shown seat.new) }
+    {
+        if let Some(ended) = poll_over(rt, &mut self.resolver, book, seat, wire, clock) {
+            let place = ended.number() as usize;
+            self.settle(ended);
+            self.note_time(place, clock.elapsed());
+        }
+    }
+}
+
 impl<'a, B: AnswerBook + Drop, W: MessageWire + Tracer, C: Clock> OpenLines<'a, B, W, C> {
     /// Prints what became of the first line that was not reported, if it is known.
-    fn tell_first<O: Write>(&mut self, style: Style, wire: &mut W, output: &mut O) -> Option<Told>
+    fn tell_first<O: Write>(
+        &mut self,
+        style: Style<'_>,
+        wire: &mut W,
+        output: &mut O,
+    ) -> Option<Told>
         ensures stands { (seat : SeatView) → Stands W.gives C.shows seat self.old
             → Stands W.gives C.shows seat self.new }
         ensures tells { (seat : SeatView) → Stands W.gives C.shows seat self.old
-            → IfSome result (λ told. TellsFirst W.gives C.shows seat style self.old
+            → IfSome result (λ told. TellsFirst W.gives C.shows seat style.entry self.old
             (O.contents output.old) (O.contents output.new) told.status) }
         ensures next { IfSome result (λ told. self.new.told ≡ self.old.told + 1) }
-        ensures none { result ≡ None → O.contents output.new ≡ O.contents output.old }
+        ensures same { (self.new.lines ≡ self.old.lines) × (self.new.sender ≡ self.old.sender) }
+        ensures none { result ≡ None → (O.contents output.new ≡ O.contents output.old)
+            × (self.new.told ≡ self.old.told) }
         ensures range { IfSome result (λ told. told.status ≤ 5) }
+        ensures closed { IfSome result (λ told. IsTrue told.is_closed → told.status ≡ 5) }
     {
         let place = self.told;
         let line = self.lines.get(place)?;
         let line_outcome = self.line_outcomes[place].as_ref()?;
+        let took = whole_milliseconds(self.times.get(place)?.took);
         let tries = wire.take_tries();
         let told = tell(
             self.alloc,
@@ -264,6 +329,7 @@ impl<'a, B: AnswerBook + Drop, W: MessageWire + Tracer, C: Clock> OpenLines<'a, 
             style,
             tries.as_slice(),
             line.text,
+            took,
             line_outcome,
         );
         self.told = place + 1;
@@ -271,17 +337,25 @@ impl<'a, B: AnswerBook + Drop, W: MessageWire + Tracer, C: Clock> OpenLines<'a, 
     }
 
     /// Reports what became of lines in their order, as far as it is known and the output takes it.
-    pub fn tell_all<O: Write>(&mut self, style: Style, wire: &mut W, output: &mut O) -> Told
+    pub fn tell_all<O: Write>(&mut self, style: Style<'_>, wire: &mut W, output: &mut O) -> Told
         ensures stands { (seat : SeatView) → Stands W.gives C.shows seat self.old
             → Stands W.gives C.shows seat self.new }
+        ensures same { (self.new.lines ≡ self.old.lines) × (self.new.sender ≡ self.old.sender) }
+        ensures tells { (seat : SeatView) → Stands W.gives C.shows seat self.old
+            → (start : Option (List ℕ)) (before : List ℕ)
+            → HasTold W.gives C.shows seat style.entry self.old start (O.contents output.old)
+            before
+            → (more : List ℕ) × HasTold W.gives C.shows seat style.entry self.new start
+            (O.contents output.new) (before ++ more) × IsGravest more result.status }
         ensures range { result.status ≤ 5 }
+        ensures closed { IsTrue result.is_closed → result.status ≡ 5 }
     {
         let mut told = NOTHING_TOLD;
         'lines: for _line in 0..self.lines.len() {
-            match self.tell_first(style, wire, output) {
-                Some(first) => told = told.and(first),
-                None => break,
-            }
+            let Some(first) = self.tell_first(style, wire, output) else {
+                break;
+            };
+            told = told.and(first);
             if told.is_closed {
                 break;
             }

@@ -1,5 +1,5 @@
 //! The words after the program's name.
-ghost use Rattle.std.specs.Prelude.{◌≡◌, ◌⊎◌, ◌↔◌, List, Some, map, codes, not, option_map};
+ghost use Rattle.std.specs.Prelude.{◌≡◌, ◌⊎◌, ◌↔◌, List, Some, None, map, codes, not, option_map};
 ghost use Rattle.std.specs.Prelude.{IfErr, IfOk, IsTrue, OnOk};
 ghost use Rattle.std.specs.List.{AllZip, Any};
 ghost use Rattle.std.specs.Net.Grammar.{IsIpText};
@@ -10,6 +10,7 @@ ghost use Rattle.sipwhere.specs.Servers.{ServerText};
 ghost use Rattle.sipwhere.specs.declared.options.OptionFault.TheVariants as fault;
 
 use crate::address::AddressForm;
+use crate::check_limits::{Bounds, CheckLimits};
 use crate::report::{Report, Style};
 use crate::seed::key_from_text;
 use crate::server_text::{local_from_text, server_from_text};
@@ -43,6 +44,8 @@ pub struct Options<'a> {
     pub seed: Option<[u8; 32]>,
     /// What is printed of a text.
     pub report: Report,
+    /// What a check holds targets to.
+    pub limits: CheckLimits<'a>,
     /// The form of addresses.
     pub form: AddressForm,
     /// Whether the program prints each query that went out.
@@ -67,6 +70,9 @@ pub enum OptionFault {
     /// A local address that is no address.
     #[error("a local address is one of IPv4 or IPv6, without a port")]
     Local,
+    /// Families that are none.
+    #[error("families of addresses are 4, 6, 46 or 64")]
+    Families,
     /// A transport is named twice.
     #[error("transports are different ones of udp, tcp, tls and sctp")]
     Transports,
@@ -103,9 +109,12 @@ impl<T: Drop> From<AllocFailed<T>> for OptionFault {
 
 impl<'a> Options<'a> {
     /// The style in which what became of texts is printed.
-    pub fn style(&self, several: bool) -> Style {
+    pub fn style(&self, several: bool) -> Style<'a>
+        ensures { spec.IsStyle self.now several result }
+    {
         Style {
             report: self.report,
+            limits: self.limits,
             form: self.form,
             several,
             traced: self.traced,
@@ -174,24 +183,31 @@ fn query_form_of(matches: &ArgMatches<'_>) -> QueryForm
 }
 
 /// The families of a word.
-fn families_of(word: &str) -> Families
+fn families_of(word: &str) -> Option<Families>
     ensures { result ≡ spec.families_of word.now }
 {
     match word {
-        "4" => Families::V4,
-        "6" => Families::V6,
-        "64" => Families::V6ThenV4,
-        _ => Families::V4ThenV6,
+        "4" => Some(Families::V4),
+        "6" => Some(Families::V6),
+        "46" => Some(Families::V4ThenV6),
+        "64" => Some(Families::V6ThenV4),
+        _ => None,
     }
 }
 
 /// The families of a word, where there is one, and else those of both kinds.
-fn families_or_both(word: Option<&str>) -> Families
-    ensures { result ≡ spec.families_or_both (option_map (λ word. word.now) word.entry) }
+fn families_or_both(word: Option<&str>) -> Result<Families, OptionFault>
+    ensures read { IfOk result (λ families.
+        spec.families_or_both (option_map (λ word. word.now) word.entry) ≡ Some families) }
+    ensures refused { IfErr result (λ it. (it ≡ fault.Families)
+        × (spec.families_or_both (option_map (λ word. word.now) word.entry) ≡ None)) }
 {
     match word {
-        Some(word) => families_of(word),
-        None => Families::V4ThenV6,
+        None => Ok(Families::V4ThenV6),
+        Some(word) => match families_of(word) {
+            Some(families) => Ok(families),
+            None => Err(OptionFault::Families),
+        },
     }
 }
 
@@ -253,12 +269,13 @@ fn caps_of(transports: &[Transport], families: Families) -> Result<Caps, OptionF
 fn caps_in(alloc: Global, matches: &ArgMatches<'_>) -> Result<Caps, OptionFault>
     ensures read { IfOk result (λ caps.
         spec.AreTransports (spec.words_of matches.now (codes "transports")) caps.transports) }
-    ensures families { IfOk result (λ caps. caps.families
-        ≡ spec.families_or_both (spec.word_of matches.now (codes "families"))) }
+    ensures families { IfOk result (λ caps.
+        spec.families_or_both (spec.word_of matches.now (codes "families"))
+        ≡ Some caps.families) }
     ensures refused { IfErr result (spec.IsFault matches.now) }
 {
     let transports = transports_in(alloc, matches)?;
-    let families = families_or_both(matches.get_str("families"));
+    let families = families_or_both(matches.get_str("families"))?;
     caps_of(transports.as_slice(), families)
 }
 
@@ -299,6 +316,30 @@ fn report_of(matches: &ArgMatches<'_>) -> Report
         return Report::Json;
     }
     Report::Lines
+}
+
+/// Bounds of a check, as far as they are given.
+fn bounds_of(time: Option<u32>, targets: Option<u32>) -> Bounds
+    ensures { result ≡ record { time = time; targets = targets } }
+{
+    Bounds { time, targets }
+}
+
+/// What a check holds targets to.
+fn limits_of<'a>(matches: &ArgMatches<'a>) -> CheckLimits<'a>
+    ensures { spec.AreLimits matches.now result }
+{
+    CheckLimits {
+        warning: bounds_of(
+            matches.get_one::<u32>("warning"),
+            matches.get_one::<u32>("warning-targets"),
+        ),
+        critical: bounds_of(
+            matches.get_one::<u32>("critical"),
+            matches.get_one::<u32>("critical-targets"),
+        ),
+        expected: matches.get_str("expect"),
+    }
 }
 
 /// Whether there is one text, and it stands for itself.
@@ -365,6 +406,7 @@ pub fn read_options<'a>(
         total: total_of(matches),
         seed: seed_of(matches.get_str("seed"))?,
         report,
+        limits: limits_of(matches),
         form: form_for(is_set(matches, "short"), report, terminals),
         traced: is_set(matches, "trace"),
         stats: is_set(matches, "stats"),

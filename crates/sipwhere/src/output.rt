@@ -80,8 +80,21 @@ fn why_word(alloc: Global, refusal: ReplyRefusal) -> Result<String, AllocError>
     }
 }
 
+/// A target in words: its transport, address and port.
+pub fn target_words(alloc: Global, form: AddressForm, target: &Target) -> Result<String, AllocError>
+    ensures { IfOk result (λ words. string_bytes words ≡ spec.target_words form target.now) }
+{
+    let address = address_words(alloc, form, target.address)?;
+    let port = target.port;
+    let mut words = String::from_str(alloc, transport_word(target.transport))?;
+    words.push_str(" ")?;
+    words.push_str(&address)?;
+    words.push_str(&format!(in alloc; " {port}")?)?;
+    Ok(words)
+}
+
 /// The line of a target.
-pub fn target_line(
+fn target_line(
     alloc: Global,
     form: AddressForm,
     front: &str,
@@ -90,13 +103,10 @@ pub fn target_line(
     ensures { IfOk result (λ line.
         string_bytes line ≡ spec.target_line form front.now target.now) }
 {
-    let address = address_words(alloc, form, target.address)?;
-    let port = target.port;
+    let words = target_words(alloc, form, target)?;
     let mut line = String::from_str(alloc, front)?;
-    line.push_str(transport_word(target.transport))?;
-    line.push_str(" ")?;
-    line.push_str(&address)?;
-    line.push_str(&format!(in alloc; " {port}\n")?)?;
+    line.push_str(&words)?;
+    line.push_str("\n")?;
     Ok(line)
 }
 

@@ -4,6 +4,7 @@ ghost use Rattle.std.specs.String.{string_bytes};
 ghost use Rattle.sipwhere.specs.Reports as spec;
 
 use crate::address::AddressForm;
+use crate::check_limits::CheckLimits;
 use crate::check_line::{check_line, check_status};
 use crate::json::json_line;
 use crate::line_outcome::{LineOutcome, status_of};
@@ -11,6 +12,7 @@ use crate::output::lines_of;
 use crate::rule::is_via;
 use crate::shown_text::shown_text;
 use crate::trace::trace_lines;
+use crate::verdict::Verdict;
 use dns_transport::WireTry;
 use std::alloc::{AllocError, Global};
 
@@ -27,9 +29,11 @@ pub enum Report {
 
 /// The style in which what became of texts is printed.
 #[derive(Clone, Copy, Debug)]
-pub struct Style {
+pub struct Style<'a> {
     /// What is printed.
     pub report: Report,
+    /// What a check holds targets to.
+    pub limits: CheckLimits<'a>,
     /// The form of addresses.
     pub form: AddressForm,
     /// Whether each line begins with the text and a space.
@@ -50,54 +54,61 @@ fn front_of(alloc: Global, several: bool, text: &str) -> Result<String, AllocErr
     Ok(front)
 }
 
-/// What is printed of a text, by what became of it.
+/// What is printed of a text, by what became of it after so many milliseconds.
 pub fn report_of(
     alloc: Global,
-    style: Style,
+    style: Style<'_>,
     text: &str,
+    took: u64,
+    verdict: Verdict,
     line_outcome: &LineOutcome,
 ) -> Result<String, AllocError>
     ensures { IfOk result (λ report.
-        string_bytes report ≡ spec.report_of style text.now line_outcome.now) }
+        string_bytes report ≡ spec.report_of style.entry text.now took verdict line_outcome.now) }
 {
     match style.report {
         Report::Lines => {
             let front = front_of(alloc, style.several, text)?;
             lines_of(alloc, style.form, &front, line_outcome)
         }
-        Report::Json => json_line(alloc, style.form, text, line_outcome),
-        Report::Check => check_line(alloc, style.form, line_outcome),
+        Report::Json => json_line(alloc, style.form, text, took, line_outcome),
+        Report::Check => {
+            check_line(alloc, style.form, style.limits, took, verdict, line_outcome)
+        }
     }
 }
 
-/// What is printed of a text, by what went over the wire for it and by what became of it.
+/// What is printed of a text, by what went over the wire for it and by what became of it after so
+/// many milliseconds.
 pub fn traced_report(
     alloc: Global,
-    style: Style,
+    style: Style<'_>,
     tries: &[WireTry],
     text: &str,
+    took: u64,
+    verdict: Verdict,
     line_outcome: &LineOutcome,
 ) -> Result<String, AllocError>
-    ensures { IfOk result (λ report.
-        string_bytes report ≡ spec.traced_report style tries.now text.now line_outcome.now) }
+    ensures { IfOk result (λ report. string_bytes report
+        ≡ spec.traced_report style.entry tries.now text.now took verdict line_outcome.now) }
 {
     if !style.traced {
-        return report_of(alloc, style, text, line_outcome);
+        return report_of(alloc, style, text, took, verdict, line_outcome);
     }
-    let report = report_of(alloc, style, text, line_outcome)?;
+    let report = report_of(alloc, style, text, took, verdict, line_outcome)?;
     let mut lines = trace_lines(alloc, style.form, is_via(text), tries)?;
     lines.push_str(&report)?;
     Ok(lines)
 }
 
 /// The exit status of a text, by what became of it, in a form of report.
-pub fn status_in(report: Report, line_outcome: &LineOutcome) -> u8
-    ensures status { result ≡ spec.status_in report line_outcome.now }
+pub fn status_in(report: Report, verdict: Verdict, line_outcome: &LineOutcome) -> u8
+    ensures status { result ≡ spec.status_in report verdict line_outcome.now }
     ensures range { result ≤ 5 }
 {
     match report {
         Report::Lines => status_of(line_outcome),
         Report::Json => status_of(line_outcome),
-        Report::Check => check_status(line_outcome),
+        Report::Check => check_status(verdict, line_outcome),
     }
 }

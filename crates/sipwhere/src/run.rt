@@ -1,6 +1,7 @@
 //! Texts, from their words to what is printed.
-ghost use Rattle.std.specs.Prelude.{◌≡◌, ◌*◌, ◌<◌, ◌≤◌, IfOk};
+ghost use Rattle.std.specs.Prelude.{◌≡◌, ◌*◌, ◌≤◌, IfOk, IsTrue};
 ghost use Rattle.std.specs.Duration.{as_nanos};
+ghost use Rattle.sipwhere.specs.Runs.{AreRun, IsRun, StaysSo};
 
 use crate::counting_book::CountingBook;
 use crate::line::{Line, lines_in, numbered};
@@ -38,7 +39,7 @@ fn locate_side_by_side<
     rt: &R,
     alloc: Global,
     sender: &Sender,
-    style: Style,
+    style: Style<'_>,
     lines: &[Line<'_>],
     book: &B,
     seat: &mut B::Seat,
@@ -49,7 +50,11 @@ fn locate_side_by_side<
 ) -> Told
     requires made_here { B.belongs book.now seat.old }
     ensures stays { B.belongs book.now seat.new }
+    ensures run { AreRun W.gives C.shows (B.shown seat.new) sender.now style.entry lines.now
+        (O.contents output.old) (O.contents output.new) result.status }
+    ensures later { StaysSo W.gives C.shows (B.shown seat.old) (B.shown seat.new) }
     ensures range { result.status ≤ 5 }
+    ensures closed { IsTrue result.is_closed → result.status ≡ 5 }
 {
     progress.begin(lines.len());
     let Ok(mut open) = OpenLines::<B, W, C>::new(alloc, *sender, lines) else {
@@ -59,12 +64,12 @@ fn locate_side_by_side<
     'rounds: for _ in rt.forever() {
         let now = clock.elapsed();
         open.give_late_up(wire, now);
-        if open.begin_all(now.saturating_add(sender.total)).is_err() {
+        if open.begin_all(now).is_err() {
             return FAULT_TOLD;
         }
         told = told.and(open.tell_all(style, wire, output));
         progress.tell(rt, now, open.told());
-        if told.is_closed || open.is_done() {
+        if open.is_done(told) {
             return told;
         }
         open.advance(rt, book, seat, wire, clock);
@@ -72,12 +77,45 @@ fn locate_side_by_side<
     unreachable!()
 }
 
-/// How many lines are located side by side at most: one where what goes over the wire is printed,
-/// so that each line has its own.
-fn width_of(style: Style) -> usize
-    ensures { 0 < result }
+/// Locates lines one after the other, so that what went over the wire for each is with it, and
+/// prints what became of each, until the output takes no more.
+fn locate_in_turn<
+    R: Wait + Eprint,
+    B: AnswerBook + Drop,
+    W: MessageWire + Tracer,
+    C: Clock + Timer,
+    O: Write,
+>(
+    rt: &R,
+    alloc: Global,
+    sender: &Sender,
+    style: Style<'_>,
+    lines: &[Line<'_>],
+    book: &B,
+    seat: &mut B::Seat,
+    wire: &mut W,
+    clock: &C,
+    progress: &mut Progress,
+    output: &mut O,
+) -> Told
+    requires made_here { B.belongs book.now seat.old }
+    ensures stays { B.belongs book.now seat.new }
+    ensures run { IsRun W.gives C.shows (B.shown seat.new) sender.now style.entry lines.now
+        (O.contents output.old) (O.contents output.new) result.status }
+    ensures range { result.status ≤ 5 }
+    ensures closed { IsTrue result.is_closed → result.status ≡ 5 }
 {
-    if style.traced { 1 } else { usize::MAX }
+    let mut told = NOTHING_TOLD;
+    'lines: for line in lines {
+        let part = [*line];
+        told = told.and(locate_side_by_side(
+            rt, alloc, sender, style, &part, book, seat, wire, clock, progress, output,
+        ));
+        if told.is_closed {
+            break;
+        }
+    }
+    told
 }
 
 /// Locates lines, and prints what became of each, until the output takes no more.
@@ -91,7 +129,7 @@ pub fn locate_lines<
     rt: &R,
     alloc: Global,
     sender: &Sender,
-    style: Style,
+    style: Style<'_>,
     lines: &[Line<'_>],
     book: &B,
     seat: &mut B::Seat,
@@ -102,18 +140,19 @@ pub fn locate_lines<
 ) -> Told
     requires made_here { B.belongs book.now seat.old }
     ensures stays { B.belongs book.now seat.new }
+    ensures run { IsRun W.gives C.shows (B.shown seat.new) sender.now style.entry lines.now
+        (O.contents output.old) (O.contents output.new) result.status }
     ensures range { result.status ≤ 5 }
+    ensures closed { IsTrue result.is_closed → result.status ≡ 5 }
 {
-    let mut told = NOTHING_TOLD;
-    'parts: for part in lines.chunks(width_of(style)) {
-        told = told.and(locate_side_by_side(
-            rt, alloc, sender, style, part, book, seat, wire, clock, progress, output,
-        ));
-        if told.is_closed {
-            break;
-        }
+    if style.traced {
+        return locate_in_turn(
+            rt, alloc, sender, style, lines, book, seat, wire, clock, progress, output,
+        );
     }
-    told
+    locate_side_by_side(
+        rt, alloc, sender, style, lines, book, seat, wire, clock, progress, output,
+    )
 }
 
 /// Locates the lines of the input as they come, until the output takes no more.
@@ -127,7 +166,7 @@ fn locate_input<
     rt: &R,
     alloc: Global,
     sender: &Sender,
-    style: Style,
+    style: Style<'_>,
     book: &B,
     seat: &mut B::Seat,
     wire: &mut W,

@@ -1,17 +1,15 @@
 //! What is printed of a text, and its status.
-ghost use Rattle.std.specs.Prelude.{◌≡◌, ◌≤◌, ◌||◌, IsFalse, IsTrue, OnOk};
+ghost use Rattle.std.specs.Prelude.{◌≡◌, ◌⊎◌, ◌≤◌, ◌||◌, IsFalse, IsTrue, OnOk};
 ghost use Rattle.std.specs.Io.KnownBytes.{Appends};
 ghost use Rattle.sipwhere.specs.Lines.{graver_of};
 ghost use Rattle.sipwhere.specs.Runs.{IsTold, IsToldWhole};
 
-use crate::line_outcome::{LineOutcome, graver_of};
+use crate::line_outcome::{FAULT_STATUS, LineOutcome, graver_of};
 use crate::report::{Style, status_in, traced_report};
+use crate::verdict::verdict_of;
 use dns_transport::WireTry;
 use std::alloc::Global;
 use std::io::{self, Write};
-
-/// The status where memory, input, output, a clock or a socket failed.
-pub const FAULT_STATUS: u8 = 5;
 
 /// What came of printing texts.
 #[derive(Clone, Copy, Debug)]
@@ -40,6 +38,13 @@ impl Told {
         ensures status { result.status ≡ graver_of self.status others.status }
         ensures range { self.status ≤ 5 → others.status ≤ 5 → result.status ≤ 5 }
         ensures closed { result.is_closed ≡ self.is_closed || others.is_closed }
+        ensures fault { (self.status ≡ 5 ⊎ others.status ≡ 5)
+            → self.status ≤ 5 → others.status ≤ 5 → result.status ≡ 5 }
+        // Where an output that is closed has status 5, so it has afterwards.
+        ensures ended { (IsTrue self.is_closed → self.status ≡ 5)
+            → (IsTrue others.is_closed → others.status ≡ 5)
+            → self.status ≤ 5 → others.status ≤ 5
+            → IsTrue result.is_closed → result.status ≡ 5 }
     {
         Told {
             status: graver_of(self.status, others.status),
@@ -56,28 +61,32 @@ fn write_text<W: Write>(output: &mut W, text: &str) -> io::Result<()>
     output.flush()
 }
 
-/// Prints what went over the wire, and what became of a text.
+/// Prints what went over the wire, and what became of a text after so many milliseconds.
 pub fn tell<O: Write>(
     alloc: Global,
     output: &mut O,
-    style: Style,
+    style: Style<'_>,
     tries: &[WireTry],
     text: &str,
+    took: u64,
     line_outcome: &LineOutcome,
 ) -> Told
-    ensures told { IsTold (O.contents output.old) (O.contents output.new) style tries.now text.now
-        line_outcome.now result.status }
+    ensures told { IsTold (O.contents output.old) (O.contents output.new) style.entry tries.now
+        text.now took line_outcome.now result.status }
     ensures range { result.status ≤ 5 }
     ensures closed { IsTrue result.is_closed → result.status ≡ 5 }
     ensures open { IsFalse result.is_closed → IsToldWhole (O.contents output.old)
-        (O.contents output.new) style tries.now text.now line_outcome.now result.status }
+        (O.contents output.new) style.entry tries.now text.now took line_outcome.now result.status }
 {
-    let Ok(report) = traced_report(alloc, style, tries, text, line_outcome) else {
+    let Ok(verdict) = verdict_of(alloc, style.limits, took, line_outcome) else {
+        return FAULT_TOLD;
+    };
+    let Ok(report) = traced_report(alloc, style, tries, text, took, verdict, line_outcome) else {
         return FAULT_TOLD;
     };
     match write_text(output, &report) {
         Ok(()) => Told {
-            status: status_in(style.report, line_outcome),
+            status: status_in(style.report, verdict, line_outcome),
             is_closed: false,
         },
         Err(_) => Told {

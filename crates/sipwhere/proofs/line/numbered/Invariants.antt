@@ -1,5 +1,6 @@
-use Rattle.std.proofs.Common.{◌≡◌, length}
+use Rattle.std.proofs.Common.{◌≡◌, take}
+use Rattle.sipwhere.specs.LineInputs.{numbered_from}
 use Rattle.sipwhere.proofs.line.numbered.Given as goal
 
 abbrev pub invariant-texts : goal.invariant-texts
-invariant-texts l = length l.lines.items ≡ l.at
+invariant-texts l = l.lines.items ≡ numbered_from l.first (take l.at l.texts)

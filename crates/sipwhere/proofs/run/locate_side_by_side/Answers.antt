@@ -1,12 +1,19 @@
-use Rattle.std.proofs.Common.{lit≤}
+use Rattle.std.proofs.Common.{◌≡◌, ◌∙◌, ◌++◌, [], inl, inr, lit≤}
+use Rattle.sipwhere.proofs.Told.{all-told, gravest-more, gravest-none, told-later, told-none, told-of, told-same}
 use Rattle.sipwhere.proofs.run.locate_side_by_side.Goals as goal
 
 pub rounds-init : goal.rounds-init
-rounds-init g c = record {
-  stays = c.requires.made_here;
-  stands = c.in-Ok.ensures.stands (g.B.AnswerBook.shown c.args.seat.now);
-  range = lit≤ tt;
-}
+rounds-init g c =
+    let made = c.in-Ok.ensures.made in
+    record {
+      stays = c.requires.made_here;
+      stands = c.in-Ok.ensures.stands (g.B.AnswerBook.shown c.args.seat.now);
+      same = (made.1, made.2);
+      told = ([], told-none _ _ _ _ c.in-Ok.open _ made.0, gravest-none);
+      later = λ sender line it is. is;
+      range = lit≤ tt;
+      closed = λ is. absurd (cc (is));
+    }
 
 pub advance-requires-clause-stands : goal.advance-requires-clause-stands
 advance-requires-clause-stands g c =
@@ -14,8 +21,66 @@ advance-requires-clause-stands g c =
     c.tell_all.ensures.stands seat (c.begin_all.ensures.stands seat (c.give_late_up.ensures.stands seat c.rounds.invariant.stands))
 
 pub rounds-preserved : goal.rounds-preserved
-rounds-preserved g c = record {
-  stays = c.advance.ensures.stays;
-  stands = c.advance.ensures.stands;
-  range = c.and-told.ensures.range c.rounds.invariant.range c.tell_all.ensures.range;
-}
+rounds-preserved g c =
+    let seat = g.B.AnswerBook.shown c.rounds.seat in
+    let style = c.args.style in
+    let was = c.rounds.invariant.told in
+    let late = c.give_late_up.ensures.same in
+    let begun = c.begin_all.ensures.same in
+    let stands = c.begin_all.ensures.stands seat (c.give_late_up.ensures.stands seat c.rounds.invariant.stands) in
+    let before = told-same _ _ seat style c.rounds.open c.begin_all.new.self _ _ was.0
+    (begun.0 ∙ late.0, begun.1 ∙ late.1, begun.2 ∙ late.2) was.1 in
+    let more = c.tell_all.ensures.tells seat stands _ was.0 before in
+    let said = c.tell_all.ensures.same in
+    let on = c.advance.ensures.same in
+    let later = c.advance.ensures.later in
+    let all = was.0 ++ more.0 in
+    let there = told-same _ _ seat style c.tell_all.new.self c.advance.new.self _ _ all on more.1 in
+    record {
+      stays = c.advance.ensures.stays;
+      stands = c.advance.ensures.stands;
+      same = (
+        on.1 ∙ said.0 ∙ begun.1 ∙ late.1 ∙ c.rounds.invariant.same.0,
+        on.2 ∙ said.1 ∙ begun.2 ∙ late.2 ∙ c.rounds.invariant.same.1,
+      );
+      told = (
+        all,
+        told-later _ _ _ _ later _ style _ _ _ all there,
+        rw c.and-told.ensures.status (gravest-more was.0 more.0 _ _ was.2 more.2),
+      );
+      later = λ sender line it is. later sender line it (c.rounds.invariant.later sender line it is);
+      range = c.and-told.ensures.range c.rounds.invariant.range c.tell_all.ensures.range;
+      closed = c.and-told.ensures.ended c.rounds.invariant.closed c.tell_all.ensures.closed c.rounds.invariant.range
+          c.tell_all.ensures.range;
+    }
+
+pub returns-then-is_done-clause-run : goal.returns-then-is_done-clause-run
+returns-then-is_done-clause-run g c =
+    let seat = g.B.AnswerBook.shown c.rounds.seat in
+    let style = c.args.style in
+    let was = c.rounds.invariant.told in
+    let late = c.give_late_up.ensures.same in
+    let begun = c.begin_all.ensures.same in
+    let stands = c.begin_all.ensures.stands seat (c.give_late_up.ensures.stands seat c.rounds.invariant.stands) in
+    let before = told-same _ _ seat style c.rounds.open c.begin_all.new.self _ _ was.0
+    (begun.0 ∙ late.0, begun.1 ∙ late.1, begun.2 ∙ late.2) was.1 in
+    let more = c.tell_all.ensures.tells seat stands _ was.0 before in
+    let said = c.tell_all.ensures.same in
+    let lines : c.tell_all.new.self.lines ≡ c.args.lines.now = said.0 ∙ begun.1 ∙ late.1 ∙ c.rounds.invariant.same.0 in
+    let sender : c.tell_all.new.self.sender ≡ c.args.sender.now = said.1 ∙ begun.2 ∙ late.2 ∙ c.rounds.invariant.same.1 in
+    let all = was.0 ++ more.0 in
+    record {
+      count = c.tell_all.new.self.told;
+      statuses = all;
+      told = told-of _ _ seat style c.tell_all.new.self c.args.lines.now c.args.sender.now _ _ all lines sender more.1;
+      gravest = inl (rw c.and-told.ensures.status (gravest-more was.0 more.0 _ _ was.2 more.2));
+      whole = elim (c.is_done.ensures.0 c.if-is_done.true) [
+        | inl every ↦ inl (all-told c.tell_all.new.self.told c.tell_all.new.self.lines c.args.lines.now every lines)
+        | inr closed ↦ inr (c.and-told.ensures.ended c.rounds.invariant.closed c.tell_all.ensures.closed c.rounds.invariant.range
+            c.tell_all.ensures.range closed)
+      ];
+    }
+
+pub returns-then-is_done-clause-closed : goal.returns-then-is_done-clause-closed
+returns-then-is_done-clause-closed g c =
+    c.and-told.ensures.ended c.rounds.invariant.closed c.tell_all.ensures.closed c.rounds.invariant.range c.tell_all.ensures.range

@@ -1,4 +1,4 @@
-use Rattle.sipwhere.proofs.Later.{line_outcomes-later}
+use Rattle.sipwhere.proofs.Later.{line_outcome-later, line_outcomes-later}
 use Rattle.sipwhere.proofs.Meant.{meant-inside, meant-one}
 use Rattle.sipwhere.proofs.open_lines.OpenLines.advance.Goals as goal
 
@@ -14,11 +14,12 @@ pub returns-in-Some-clause-stands : goal.returns-in-Some-clause-stands
 returns-in-Some-clause-stands g c =
     let before = rw (← c.self.view_is) at c.requires.stands in
     let lines = c.self.inside.lines.now in
-    c.settle.ensures.stands _ (record {
+    rw c.note_time.ensures
+    (c.settle.ensures.stands _ (record {
       requests = c.in-Some.ensures.stand;
       line_outcomes = line_outcomes-later _ _ _ _ c.in-Some.ensures.works c.self.inside.sender lines c.self.inside.line_outcomes.items
           before.line_outcomes;
-    }) c.in-Some.ensures.outcome
+    }) c.in-Some.ensures.outcome)
 
 pub returns-in_default-clause-stands : goal.returns-in_default-clause-stands
 returns-in_default-clause-stands g c =
@@ -29,3 +30,9 @@ returns-in_default-clause-stands g c =
       line_outcomes = line_outcomes-later _ _ _ _ c.poll_over.ensures.works c.self.inside.sender lines c.self.inside.line_outcomes.items
           before.line_outcomes;
     }
+
+pub returns-in-Some-clause-later : goal.returns-in-Some-clause-later
+returns-in-Some-clause-later g c = line_outcome-later _ _ _ _ c.in-Some.ensures.works
+
+pub returns-in_default-clause-later : goal.returns-in_default-clause-later
+returns-in_default-clause-later g c = line_outcome-later _ _ _ _ c.poll_over.ensures.works

@@ -1,4 +1,4 @@
-use Rattle.std.proofs.Common.{◌<◌, length, arith, ◌∙◌}
+use Rattle.std.proofs.Common.{◌<◌, length, arith, ap, ◌∙◌}
 use Rattle.std.proofs.Math.ListN.{length-set}
 use Rattle.sipwhere.proofs.Meant.{line_outcomes-submitted, meant-next}
 use Rattle.sipwhere.proofs.open_lines.OpenLines.begin_next.Goals as goal
@@ -16,6 +16,7 @@ invariant_of-self-2 g c =
 
 pub returns : goal.returns
 returns g c = record {
+  same = (ap (λ it. it.told) c.self.view_is, ap (λ it. it.lines) c.self.view_is, ap (λ it. it.sender) c.self.view_is);
   stands = λ seat was.
       let before = rw (← c.self.view_is) at was in
       let lines = c.self.inside.lines.now in

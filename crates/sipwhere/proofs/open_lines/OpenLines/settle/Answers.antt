@@ -1,9 +1,10 @@
-use Rattle.std.proofs.Common.{◌<◌, length, arith}
+use Rattle.std.proofs.Common.{◌<◌, length, arith, ap}
 use Rattle.sipwhere.proofs.Meant.{line_outcomes-ended}
 use Rattle.sipwhere.proofs.open_lines.OpenLines.settle.Goals as goal
 
 pub returns : goal.returns
 returns g c = record {
+  same = (ap (λ it. it.told) c.self.view_is, ap (λ it. it.lines) c.self.view_is, ap (λ it. it.sender) c.self.view_is);
   stands = λ seat was is.
       let before = rw (← c.self.view_is) at was in
       let own = rw (← c.self.view_is) at c.requires.own in

@@ -20,6 +20,7 @@ returns-clause-tells g c = λ seat was.
       inside = inside;
       tells = λ d. record {
         tries = c.as_slice.result.now;
+        took = c.whole_milliseconds-took.result;
         line_outcome = line_outcome;
         became = zip-at (IsLineOutcomeOf g.W.MessageWire.gives g.C.Clock.shows seat c.self.inside.sender) lines line_outcomes told d
             (Some line_outcome) inside

@@ -1,8 +1,0 @@
-use Rattle.std.proofs.Common.{◌≤◌}
-use Rattle.sipwhere.proofs.run.locate_lines.Given as goal
-
-abbrev pub invariant-parts : goal.invariant-parts
-invariant-parts g l = record {
-  stays : g.B.AnswerBook.belongs l.book l.seat;
-  range : l.told.status ≤ 5;
-}
