@@ -9,33 +9,36 @@ use Rattle.dns_asker.proofs.Orders.{fewer-in-order, more-in-order, resent-in-ord
 use Rattle.dns_asker.proofs.Reading.{left-is}
 use Rattle.dns_asker.specs.Listed.{asking_of, is_of, resent, ticket_in}
 use Rattle.dns_asker.specs.Tickets.{IsAsking, IsSent, Sent, has_id}
+use Rattle.dns_asker.specs.declared.schedule.Schedule.{Schedule}
 
-module _ (list : Pending Sent) (it : IsAsking (asking_of list)) where
+module _ (schedule : Schedule) (list : Pending Sent) (it : IsAsking (asking_of schedule list)) where
   -- one more, of an id that has none
-  pub kept-more : (entry : Entry Sent) (serial : ℕ) → IsSent entry.item → find (is_of entry.item.id) list.entries ≡ None
-      → length list.entries < list.limit → IsAsking (asking_of (record list { entries = placed entry list.entries; serial = serial }))
+  pub kept-more : (entry : Entry Sent) (serial : ℕ) → IsSent schedule entry.item → find (is_of entry.item.id) list.entries ≡ None
+      → length list.entries < list.limit
+      → IsAsking (asking_of schedule (record list { entries = placed entry list.entries; serial = serial }))
   kept-more entry serial sent none room =
       rw (mapped-placed entry list.entries)
-      (more-in-order (asking_of list) it (ticket_in entry) serial sent (free list entry.item.id none)
+      (more-in-order (asking_of schedule list) it (ticket_in entry) serial sent (free list entry.item.id none)
       (rw (length-map list.entries ticket_in) room))
 
   -- one is taken out
   pub kept-without : (new : Pending Sent) (entry : Entry Sent) → IsTakenOut list.entries entry new.entries
-      → new ≡ record list { entries = new.entries } → IsAsking (asking_of new)
+      → new ≡ record list { entries = new.entries } → IsAsking (asking_of schedule new)
   kept-without new entry out rest =
-      rw (left-is list new it entry out rest) (fewer-in-order (asking_of list) it (λ ticket. not (has_id entry.item.id ticket)))
+      rw (left-is schedule list new it entry out rest)
+      (fewer-in-order (asking_of schedule list) it (λ ticket. not (has_id entry.item.id ticket)))
 
   module _ (first : Entry Sent) (others : List (Entry Sent)) (whole : list.entries ≡ first ∷ others) where
     -- the first was sent once more
-    pub kept-resent : (now : ℕ) → first.item.sends < 3
-        → IsAsking (asking_of (record list { entries = placed (resent (now + 1) first) others }))
+    pub kept-resent : (now : ℕ) → first.item.sends < schedule.sends
+        → IsAsking (asking_of schedule (record list { entries = placed (resent (now + schedule.wait) first) others }))
     kept-resent now more =
-        rw (mapped-placed (resent (now + 1) first) others)
-        (resent-in-order (asking_of list) it (ticket_in first) (map ticket_in others) (ap (map ticket_in) whole) now more)
+        rw (mapped-placed (resent (now + schedule.wait) first) others)
+        (resent-in-order (asking_of schedule list) it (ticket_in first) (map ticket_in others) (ap (map ticket_in) whole) now more)
 
     -- the first is gone
-    pub kept-rest : IsAsking (asking_of (record list { entries = others }))
-    kept-rest = rest-in-order (asking_of list) it (ticket_in first) (map ticket_in others) (ap (map ticket_in) whole)
+    pub kept-rest : IsAsking (asking_of schedule (record list { entries = others }))
+    kept-rest = rest-in-order (asking_of schedule list) it (ticket_in first) (map ticket_in others) (ap (map ticket_in) whole)
 
 pub there : {T : Type 0} (found : Option T) → IsSome found → (value : T) × (found ≡ Some value)
 there None it = absurd cc

@@ -14,6 +14,7 @@ use Rattle.dns_asker.specs.Tickets.{Sent, Ticket, has_id, waiting_too}
 use Rattle.dns_asker.specs.Tickets as tickets
 use Rattle.dns_asker.specs.declared.refusal.AskRefusal.{AskRefusal}
 use Rattle.dns_asker.specs.declared.refusal.AskRefusal.TheVariants.{IdTaken, Full, Spent, Memory}
+use Rattle.dns_asker.specs.declared.schedule.Schedule.{Schedule}
 
 module _ {X Y : Type 0} (f : X → Y) (p : Y → Bool) where
   filter-map-by : (x : X) (xs : List X) (is : Bool) → p (f x) ≡ is → filter p (map f xs) ≡ map f (filter (λ it. p (f it)) xs)
@@ -167,8 +168,8 @@ pub same-first : (entries : List (Entry Sent)) (a b : Entry Sent) (rest others :
     → (a ≡ b) × (rest ≡ others)
 same-first entries a b rest others one other = let both : a ∷ rest ≡ b ∷ others = sym one ∙ other in (cc, cc)
 
-pub not-more : (sends : ℕ) (is : Bool) → (IsTrue is → sends < 3) × (sends < 3 → IsTrue is) → is ≡ false → 3 ≤ sends
-not-more sends is it fails = search rules
+pub not-more : (sends limit : ℕ) (is : Bool) → (IsTrue is → sends < limit) × (sends < limit → IsTrue is) → is ≡ false → limit ≤ sends
+not-more sends limit is it fails = search rules
 
 still-some : (found : Option (Entry Sent)) → IsSome found → IsSome (option_map ticket_in found)
 still-some None it = it
@@ -182,21 +183,22 @@ pub taken : (list : Pending Sent) (id : ℕ) (entry : Entry Sent) → find (is_o
 taken list id entry found = find-map ticket_in (has_id id) list.entries ∙ ap (option_map ticket_in) found
 
 -- an ask is refused for the same reason, seen as tickets
-pub refused-is : (list : Pending Sent) (id : ℕ) (refusal : AskRefusal) → CannotOpen list id refusal → Refuses (asking_of list) id refusal
-refused-is list id IdTaken it = rw (find-map ticket_in (has_id id) list.entries) (still-some (find (is_of id) list.entries) it)
-refused-is list id Full it = (free list id it.0, (rw (length-map list.entries ticket_in) it.1))
-refused-is list id Spent it = (free list id it.0, (rw (length-map list.entries ticket_in) it.1), it.2)
-refused-is list id Memory it = (free list id it.0, (rw (length-map list.entries ticket_in) it.1), it.2)
+pub refused-is : (schedule : Schedule) (list : Pending Sent) (id : ℕ) (refusal : AskRefusal) → CannotOpen list id refusal
+    → Refuses (asking_of schedule list) id refusal
+refused-is schedule list id IdTaken it = rw (find-map ticket_in (has_id id) list.entries) (still-some (find (is_of id) list.entries) it)
+refused-is schedule list id Full it = (free list id it.0, (rw (length-map list.entries ticket_in) it.1))
+refused-is schedule list id Spent it = (free list id it.0, (rw (length-map list.entries ticket_in) it.1), it.2)
+refused-is schedule list id Memory it = (free list id it.0, (rw (length-map list.entries ticket_in) it.1), it.2)
 
 -- a question more, seen as tickets
-pub asked-is : (list new : Pending Sent) (at : Id) (sent : Sent) (now : ℕ)
-    → new ≡ record list { entries = placed (record { id = at; deadline = now + 1; item = sent }) list.entries; serial = list.serial + 1 }
-    → asking_of new ≡ record (asking_of list) {
-      tickets = waiting_too (record { sent = sent; deadline = now + 1 }) (map ticket_in list.entries);
+pub asked-is : (schedule : Schedule) (list new : Pending Sent) (at : Id) (sent : Sent) (deadline : ℕ)
+    → new ≡ record list { entries = placed (record { id = at; deadline = deadline; item = sent }) list.entries; serial = list.serial + 1 }
+    → asking_of schedule new ≡ record (asking_of schedule list) {
+      tickets = waiting_too (record { sent = sent; deadline = deadline }) (map ticket_in list.entries);
       serial = list.serial + 1;
     }
-asked-is list new at sent now is =
-    ap asking_of is ∙ (rw (mapped-placed (record { id = at; deadline = now + 1; item = sent }) list.entries) refl)
+asked-is schedule list new at sent deadline is =
+    ap (asking_of schedule) is ∙ (rw (mapped-placed (record { id = at; deadline = deadline; item = sent }) list.entries) refl)
 
 pub none-told : {A : Type 0} (found : Option A) (P : Type 0) (Q : A → Type 0) → MatchOption found P Q → false ≡ is_some found → P
 none-told None P Q it e = it

@@ -12,6 +12,7 @@ use Rattle.dns_asker.specs.Runs as runs
 use Rattle.dns_asker.specs.Tickets.{Asking, IsAsking, IsSent, Ticket, has_id, waiting_too}
 use Rattle.dns_asker.specs.declared.incoming.Due.TheVariants.{Resend, GaveUp}
 use Rattle.dns_asker.specs.declared.incoming.Incoming.TheVariants.{Ended, Ignored}
+use Rattle.dns_asker.specs.declared.schedule.Schedule.{Schedule}
 
 abbrev InOrder : Ticket → Ticket → Type 0
 InOrder ticket later = ticket.deadline ≤ later.deadline
@@ -51,12 +52,13 @@ module _ (ticket : Ticket) (tickets : List Ticket) where
       All-cons (InOrder it) ticket back first
       (λ j e below. let second : ticket.deadline ≤ (get_or back j e).deadline = back-behind j e below in omega (arith, first, second)))
 
-  waiting-sent : IsSent ticket.sent → All (λ it. IsSent it.sent) tickets → All (λ it. IsSent it.sent) (waiting_too ticket tickets)
-  waiting-sent sent all =
-      All-append (λ it. IsSent it.sent) (filter in-front tickets) (ticket ∷ filter (λ it. not (in-front it)) tickets)
-      (All-filter in-front (λ it. IsSent it.sent) tickets all)
-      (All-cons (λ it. IsSent it.sent) ticket (filter (λ it. not (in-front it)) tickets) sent
-      (All-filter (λ it. not (in-front it)) (λ it. IsSent it.sent) tickets all))
+  waiting-sent : (schedule : Schedule) → IsSent schedule ticket.sent → All (λ it. IsSent schedule it.sent) tickets
+      → All (λ it. IsSent schedule it.sent) (waiting_too ticket tickets)
+  waiting-sent schedule sent all =
+      All-append (λ it. IsSent schedule it.sent) (filter in-front tickets) (ticket ∷ filter (λ it. not (in-front it)) tickets)
+      (All-filter in-front (λ it. IsSent schedule it.sent) tickets all)
+      (All-cons (λ it. IsSent schedule it.sent) ticket (filter (λ it. not (in-front it)) tickets) sent
+      (All-filter (λ it. not (in-front it)) (λ it. IsSent schedule it.sent) tickets all))
 
 long-too : (ticket : Ticket) (tickets : List Ticket) → length (waiting_too ticket tickets) ≡ length tickets + 1
 long-too ticket tickets =
@@ -78,14 +80,16 @@ module _ (asking : Asking) (it : IsAsking asking) where
   single-by ticket id false is free = let single = it.single id in rw is omega (arith, single)
 
   -- a ticket more, of an id that has none
-  pub more-in-order : (ticket : Ticket) (serial : ℕ) → IsSent ticket.sent → find (has_id ticket.sent.id) asking.tickets ≡ None
+  pub more-in-order : (ticket : Ticket) (serial : ℕ) → IsSent asking.schedule ticket.sent
+      → find (has_id ticket.sent.id) asking.tickets ≡ None
       → length asking.tickets < asking.limit → IsAsking (record asking { tickets = waiting_too ticket asking.tickets; serial = serial })
   more-in-order ticket serial sent free room = record {
     in_order = waiting-in-order ticket asking.tickets it.in_order;
     single = λ id. rw (counted (in-front ticket asking.tickets) (has_id id) ticket asking.tickets)
         (single-by ticket id (has_id id ticket) refl free);
-    sent = waiting-sent ticket asking.tickets sent it.sent;
+    sent = waiting-sent ticket asking.tickets asking.schedule sent it.sent;
     few = let more = long-too ticket asking.tickets in omega (arith, more, room);
+    scheduled = it.scheduled;
   }
 
   -- tickets are left out
@@ -93,11 +97,12 @@ module _ (asking : Asking) (it : IsAsking asking) where
   fewer-in-order p = record {
     in_order = AllPairs-filter InOrder p asking.tickets it.in_order;
     single = λ id. let all = both p (has_id id) asking.tickets in let single = it.single id in omega (arith, all, single);
-    sent = All-filter p (λ (ticket : Ticket). IsSent ticket.sent) asking.tickets it.sent;
+    sent = All-filter p (λ (ticket : Ticket). IsSent asking.schedule ticket.sent) asking.tickets it.sent;
     few =
         let few = it.few in
         let all = length-filter_both p (λ ticket. not (p ticket)) (λ _. refl) asking.tickets in
         omega (arith, few, all);
+    scheduled = it.scheduled;
   }
 
   module _ (ticket : Ticket) (others : List Ticket) (whole : asking.tickets ≡ ticket ∷ others) where
@@ -113,37 +118,42 @@ module _ (asking : Asking) (it : IsAsking asking) where
               let all = first-counted (has_id id) ticket others in
               let single = rw whole at it.single id in
               omega (arith, all, single);
-          sent = All-tail (λ (it : Ticket). IsSent it.sent) ticket others sent;
+          sent = All-tail (λ (it : Ticket). IsSent asking.schedule it.sent) ticket others sent;
           few = omega (arith, few);
+          scheduled = it.scheduled;
         }
 
     same-count : (now id : ℕ) (is : Bool) → has_id id ticket ≡ is
-        → length (filter (has_id id) (again now ticket ∷ [])) ≡ length (filter (has_id id) (ticket ∷ []))
+        → length (filter (has_id id) (again asking.schedule now ticket ∷ [])) ≡ length (filter (has_id id) (ticket ∷ []))
     same-count now id true is = rw is refl
     same-count now id false is = rw is refl
 
     -- the first ticket is sent once more
-    pub resent-in-order : (now : ℕ) → ticket.sent.sends < 3 → IsAsking (record asking { tickets = waiting_too (again now ticket) others })
+    pub resent-in-order : (now : ℕ) → ticket.sent.sends < asking.schedule.sends
+        → IsAsking (record asking { tickets = waiting_too (again asking.schedule now ticket) others })
     resent-in-order now more =
+        let ticket' = again asking.schedule now ticket in
         let rest = rest-in-order in
         let few = rw whole at it.few in
         record {
-          in_order = waiting-in-order (again now ticket) others rest.in_order;
+          in_order = waiting-in-order ticket' others rest.in_order;
           single = λ id.
-              let one = counted (in-front (again now ticket) others) (has_id id) (again now ticket) others in
+              let one = counted (in-front ticket' others) (has_id id) ticket' others in
               let same = same-count now id (has_id id ticket) refl in
               let all = first-counted (has_id id) ticket others in
               let single = rw whole at it.single id in
               omega (arith, one, same, all, single);
-          sent = waiting-sent (again now ticket) others (record { some = omega arith; few = omega (arith, more) }) rest.sent;
-          few = let long = long-too (again now ticket) others in omega (arith, long, few);
+          sent = waiting-sent ticket' others asking.schedule (record { some = omega arith; few = omega (arith, more) }) rest.sent;
+          few = let long = long-too ticket' others in omega (arith, long, few);
+          scheduled = it.scheduled;
         }
 
 step-in-order : (old new : Asking) (event : Event) → IsAsking old → Step old new event → IsAsking new
 step-in-order old new (runs.ask id question now) it (runs.asked (Ok octets) asks) =
+    let some = it.scheduled.sends.0 in
     rw asks.1 (more-in-order old it
-    (record { sent = record { id = id; question = question; sends = 1 }; deadline = now + 1 }) (old.serial + 1)
-    (record { some = omega arith; few = omega arith }) asks.2 asks.3)
+    (record { sent = record { id = id; question = question; sends = 1 }; deadline = now + old.schedule.wait }) (old.serial + 1)
+    (record { some = omega arith; few = omega (arith, some) }) asks.2 asks.3)
 step-in-order old new (runs.ask id question now) it (runs.asked (Err refusal) asks) = rw asks.0 it
 step-in-order old new (runs.hear octets) it (runs.heard (Ended id question ending) means left) =
     rw left (fewer-in-order old it (λ ticket. not (has_id id ticket)))

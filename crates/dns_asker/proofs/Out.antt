@@ -12,6 +12,7 @@ use Rattle.dns_asker.specs.Events.{closed, sent_octets}
 use Rattle.dns_asker.specs.Listed.{asking_of, is_of, ticket_in}
 use Rattle.dns_asker.specs.Out.{HasQuestion, IsOctetsOf, LacksQuestion}
 use Rattle.dns_asker.specs.Tickets.{Asking, IsAsking, Sent, Ticket, has_id, ticket_of}
+use Rattle.dns_asker.specs.declared.schedule.Schedule.{Schedule}
 
 same-id : (a b : ℕ) → nat_eq a b ≡ true → a ≡ b
 same-id a b is = search rules
@@ -20,9 +21,10 @@ found-passes : {X : Type 0} (p : X → Bool) (xs : List X) (found : X) → find 
 found-passes p xs found is = (found-has p (λ it. ⊤) xs found (λ k it within. tt) is).1
 
 -- the octets of the ticket of an id
-pub octets-are : (list : Pending Sent) (id : ℕ) (entry : Entry Sent) (octets : List ℕ) → find (is_of id) list.entries ≡ Some entry
-    → octets ≡ sent_octets entry.item.id entry.item.question → IsOctetsOf octets id (asking_of list).tickets
-octets-are list id entry octets first are =
+pub octets-are : (schedule : Schedule) (list : Pending Sent) (id : ℕ) (entry : Entry Sent) (octets : List ℕ)
+    → find (is_of id) list.entries ≡ Some entry
+    → octets ≡ sent_octets entry.item.id entry.item.question → IsOctetsOf octets id (asking_of schedule list).tickets
+octets-are schedule list id entry octets first are =
     let its = same-id entry.item.id id (found-passes (is_of id) list.entries entry first) in
     record { ticket = ticket_in entry; there = taken list id entry first; are = are ∙ ap (λ i. sent_octets i entry.item.question) its }
 
@@ -31,9 +33,11 @@ pub id-is : (list : Pending Sent) (id : ℕ) (entry : Entry Sent) → find (is_o
 id-is list id entry first = same-id entry.item.id id (found-passes (is_of id) list.entries entry first)
 
 -- the question of the ticket of an id
-pub question-is : (list : Pending Sent) (id : ℕ) (entry : Entry Sent) (question : Question) → find (is_of id) list.entries ≡ Some entry
-    → question ≡ entry.item.question → HasQuestion question id (asking_of list).tickets
-question-is list id entry question first is = record { ticket = ticket_in entry; there = taken list id entry first; of_it = sym is }
+pub question-is : (schedule : Schedule) (list : Pending Sent) (id : ℕ) (entry : Entry Sent) (question : Question)
+    → find (is_of id) list.entries ≡ Some entry
+    → question ≡ entry.item.question → HasQuestion question id (asking_of schedule list).tickets
+question-is schedule list id entry question first is =
+    record { ticket = ticket_in entry; there = taken list id entry first; of_it = sym is }
 
 -- where an id has no ticket, all stay
 pub closed-none : (id : ℕ) (asking : Asking) → ticket_of id asking.tickets ≡ None → asking ≡ closed id asking
@@ -57,9 +61,9 @@ search-on question entries entry rest it other = record {
   none = All-push (λ (it : Entry Sent). it.item.question ≢ question) it.front entry it.none other;
 }
 
-pub search-over : (question : Question) (list : Pending Sent) → Searched question list.entries []
-    → LacksQuestion question (asking_of list).tickets
-search-over question list it =
+pub search-over : (schedule : Schedule) (question : Question) (list : Pending Sent) → Searched question list.entries []
+    → LacksQuestion question (asking_of schedule list).tickets
+search-over schedule question list it =
     let same : it.front ≡ list.entries = sym (it.whole ∙ append-nil it.front) in
     let none = rw same at it.none in
     All-map (λ (it : Ticket). it.sent.question ≢ question) ticket_in list.entries none
@@ -84,10 +88,10 @@ module _ {X : Type 0} (p : X → Bool) where
       only-by x (front ++ found ∷ back) found (p x) refl few passes (only front found back passes)
       (behind-passes front found back passes)
 
-pub search-hit : (question : Question) (list : Pending Sent) (entry : Entry Sent) (rest : List (Entry Sent))
-    → Searched question list.entries (entry ∷ rest) → entry.item.question ≡ question → IsAsking (asking_of list)
-    → HasQuestion question entry.item.id (asking_of list).tickets
-search-hit question list entry rest it is asking =
+pub search-hit : (schedule : Schedule) (question : Question) (list : Pending Sent) (entry : Entry Sent) (rest : List (Entry Sent))
+    → Searched question list.entries (entry ∷ rest) → entry.item.question ≡ question → IsAsking (asking_of schedule list)
+    → HasQuestion question entry.item.id (asking_of schedule list).tickets
+search-hit schedule question list entry rest it is asking =
     let id = entry.item.id in
     let whole : map ticket_in list.entries ≡ map ticket_in it.front ++ ticket_in entry ∷ map ticket_in rest =
     ap (map ticket_in) it.whole ∙ map-append ticket_in it.front (entry ∷ rest) in

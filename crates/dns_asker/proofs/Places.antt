@@ -12,6 +12,7 @@ use Rattle.pending_list.specs.declared.entry.Entry.{Entry}
 use Rattle.dns_asker.proofs.Listing.{both, counted-in, found-has, none-found}
 use Rattle.dns_asker.specs.Listed.{Finds, IsKept, asking_of, is_of, place_of, resent}
 use Rattle.dns_asker.specs.Tickets.{IsAsking, Sent}
+use Rattle.dns_asker.specs.declared.schedule.Schedule.{Schedule}
 
 module _ {X : Type 0} (q : X → Bool) where
   none-passes-by : (x : X) (xs : List X) (is : Bool) → q x ≡ is → length (filter q (x ∷ xs)) ≡ 0
@@ -76,10 +77,11 @@ module _ {X : Type 0} (q : X → Bool) (front : List X) (x : X) (back : List X) 
 same-id : (id other : ℕ) → (id == other) ≡ true → id ≡ other
 same-id id other is = search rules
 
-single-of : (list : Pending Sent) (it : IsAsking (asking_of list)) (id : ℕ) → length (filter (is_of id) list.entries) ≤ 1
-single-of list it id = let single = it.single id in rw (counted-in id list.entries) at single
+single-of : (schedule : Schedule) (list : Pending Sent) (it : IsAsking (asking_of schedule list)) (id : ℕ)
+    → length (filter (is_of id) list.entries) ≤ 1
+single-of schedule list it id = let single = it.single id in rw (counted-in id list.entries) at single
 
-module _ (list : Pending Sent) (it : IsAsking (asking_of list)) where
+module _ (schedule : Schedule) (list : Pending Sent) (it : IsAsking (asking_of schedule list)) where
   more-by : (entry : Entry Sent) (other : ℕ) (is : Bool) → (entry.item.id == other) ≡ is → find (is_of entry.item.id) list.entries ≡ None
       → place_of (placed entry list.entries) other ≡ update nat_eq (place_of list.entries) entry.item.id (Some entry.id) other
   more-by entry other true is free =
@@ -87,7 +89,7 @@ module _ (list : Pending Sent) (it : IsAsking (asking_of list)) where
       let none = none-found (is_of other) list.entries (rw same at free) in
       rw (is, only-put _ (is_of other) entry list.entries is none) refl
   more-by entry other false is free =
-      rw (is, other-put _ (is_of other) entry list.entries is (single-of list it other)) refl
+      rw (is, other-put _ (is_of other) entry list.entries is (single-of schedule list it other)) refl
 
   -- an entry more, of an id that has none
   pub place_of-placed : (entry : Entry Sent) (other : ℕ) → find (is_of entry.item.id) list.entries ≡ None
@@ -97,7 +99,7 @@ module _ (list : Pending Sent) (it : IsAsking (asking_of list)) where
   without-by : (entry : Entry Sent) (left : List (Entry Sent)) (out : IsTakenOut list.entries entry left) (other : ℕ) (is : Bool)
       → (entry.item.id == other) ≡ is → place_of left other ≡ update nat_eq (place_of list.entries) entry.item.id None other
   without-by entry left out other true is =
-      let single = rw out.whole at (single-of list it other) in
+      let single = rw out.whole at (single-of schedule list it other) in
       rw (is, out.left_is, only-out (is_of other) out.front entry out.back is single) refl
   without-by entry left out other false is =
       rw (is, out.left_is, out.whole, other-out (is_of other) out.front entry out.back is) refl
@@ -111,11 +113,11 @@ module _ (list : Pending Sent) (it : IsAsking (asking_of list)) where
     resent-by : (deadline other : ℕ) (is : Bool) → (first.item.id == other) ≡ is
         → place_of (placed (resent deadline first) others) other ≡ place_of (first ∷ others) other
     resent-by deadline other true is =
-        let single = rw whole at (single-of list it other) in
+        let single = rw whole at (single-of schedule list it other) in
         let none = rest-fails (is_of other) first others is single in
         rw (is, only-put _ (is_of other) (resent deadline first) others is none) refl
     resent-by deadline other false is =
-        let single = rw whole at (single-of list it other) in
+        let single = rw whole at (single-of schedule list it other) in
         rw (is, other-put _ (is_of other) (resent deadline first) others is (rest-single (is_of other) first others is single)) refl
 
     -- the first entry is sent once more
@@ -128,21 +130,21 @@ update-same : (f g : ℕ → Option Id) (id other : ℕ) (place : Option Id) (ke
     → update nat_eq f id place key ≡ update nat_eq g other place key
 update-same f g id other place key same is = rw (is, same) refl
 
-module _ (list : Pending Sent) (place : ℕ → Option Id) (it : IsKept list place) (new : ℕ → Option Id) where
+module _ (schedule : Schedule) (list : Pending Sent) (place : ℕ → Option Id) (it : IsKept schedule list place) (new : ℕ → Option Id) where
   -- an id more
   pub still-put : (entry : Entry Sent) (id : ℕ) → id ≡ entry.item.id → find (is_of entry.item.id) list.entries ≡ None
       → ((other : ℕ) → new other ≡ update nat_eq place id (Some entry.id) other)
       → (other : ℕ) → new other ≡ place_of (placed entry list.entries) other
   still-put entry id is free changed other =
       changed other ∙ update-same place (place_of list.entries) id entry.item.id (Some entry.id) other (it.places other) is
-      ∙ sym (place_of-placed list it.asking entry other free)
+      ∙ sym (place_of-placed schedule list it.asking entry other free)
 
   -- an id less
   pub still-out : (entry : Entry Sent) (left : List (Entry Sent)) → IsTakenOut list.entries entry left → (id : ℕ) → id ≡ entry.item.id
       → ((other : ℕ) → new other ≡ update nat_eq place id None other) → (other : ℕ) → new other ≡ place_of left other
   still-out entry left out id is changed other =
       changed other ∙ update-same place (place_of list.entries) id entry.item.id None other (it.places other) is
-      ∙ sym (place_of-out list it.asking entry left out other)
+      ∙ sym (place_of-out schedule list it.asking entry left out other)
 
   -- the id of the first entry less
   pub still-rest : (first : Entry Sent) (others : List (Entry Sent)) → list.entries ≡ first ∷ others → (id : ℕ) → id ≡ first.item.id

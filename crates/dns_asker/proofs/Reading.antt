@@ -20,6 +20,7 @@ use Rattle.dns_asker.specs.declared.incoming.Incoming.TheVariants.{Ended, Ignore
 use Rattle.dns_asker.specs.declared.incoming.Why.{Why}
 use Rattle.dns_asker.specs.declared.incoming.Why.TheVariants.{NotSpelled, UnknownId, NotReply, OtherQuestion}
 use Rattle.pending_list.specs.Ids.{Id}
+use Rattle.dns_asker.specs.declared.schedule.Schedule.{Schedule}
 
 pub short-by : (octets : List ℕ) → (65535 < length octets → ⊥) → length octets ≤ 65535
 short-by octets long =
@@ -36,12 +37,12 @@ pub on-err : {T E : Type 0} (result : Result T E) (P : Type 0) → P → OnErr r
 on-err (Ok value) P it = tt
 on-err (Err refusal) P it = it
 
-module _ (list : Pending Sent) (octets : List ℕ) (message : Message) (begins : Begins octets message) (at : Id)
+module _ (schedule : Schedule) (list : Pending Sent) (octets : List ℕ) (message : Message) (begins : Begins octets message) (at : Id)
     (found : Finds list.entries message.header.id at) where
   open-ticket : tickets.ticket_of message.header.id (map ticket_in list.entries) ≡ Some (ticket_in found.entry)
   open-ticket = taken list message.header.id found.entry found.first
 
-  pub ignored-is : (why : Why) → IsNoReply found.entry.item.question message why → Means (asking_of list) octets (Ignored why)
+  pub ignored-is : (why : Why) → IsNoReply found.entry.item.question message why → Means (asking_of schedule list) octets (Ignored why)
   ignored-is NotSpelled it = absurd it
   ignored-is UnknownId it = absurd it
   ignored-is NotReply it = record {
@@ -60,7 +61,7 @@ module _ (list : Pending Sent) (octets : List ℕ) (message : Message) (begins :
   }
 
   pub ended-is : (id : ℕ) (question : Question) (ending : Ending) → id ≡ found.entry.item.id → question ≡ found.entry.item.question
-      → EndsBy found.entry.item.question message ending → Tells (asking_of list) octets (Ended id question ending)
+      → EndsBy found.entry.item.question message ending → Tells (asking_of schedule list) octets (Ended id question ending)
   ended-is id question ending id-is question-is ends = record {
     message = message;
     begins = begins;
@@ -69,7 +70,7 @@ module _ (list : Pending Sent) (octets : List ℕ) (message : Message) (begins :
     says = (id-is, question-is, ends);
   }
 
-  pub answered-is : reply_refusal found.entry.item.question message ≡ None → MayWant (asking_of list) octets
+  pub answered-is : reply_refusal found.entry.item.question message ≡ None → MayWant (asking_of schedule list) octets
   answered-is fine = (
     begins.short,
     inr (
@@ -81,9 +82,10 @@ module _ (list : Pending Sent) (octets : List ℕ) (message : Message) (begins :
   )
 
 -- the ticket of an id is taken out
-pub left-is : (list new : Pending Sent) (it : IsAsking (asking_of list)) (entry : Entry Sent) → IsTakenOut list.entries entry new.entries
-    → new ≡ record list { entries = new.entries } → asking_of new ≡ closed entry.item.id (asking_of list)
-left-is list new it entry out rest =
-    ap asking_of rest
+pub left-is : (schedule : Schedule) (list new : Pending Sent) (it : IsAsking (asking_of schedule list)) (entry : Entry Sent)
+    → IsTakenOut list.entries entry new.entries → new ≡ record list { entries = new.entries }
+    → asking_of schedule new ≡ closed entry.item.id (asking_of schedule list)
+left-is schedule list new it entry out rest =
+    ap (asking_of schedule) rest
     ∙ (rw (mapped-out entry.item.id list.entries entry new.entries out (eq-eqb entry.item.id entry.item.id refl)
     (it.single entry.item.id)) refl)

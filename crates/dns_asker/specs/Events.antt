@@ -24,6 +24,7 @@ use Rattle.dns_asker.specs.declared.incoming.Why.{Why}
 use Rattle.dns_asker.specs.declared.incoming.Why.TheVariants.{NotSpelled, UnknownId, NotReply, OtherQuestion}
 use Rattle.dns_asker.specs.declared.refusal.AskRefusal.{AskRefusal}
 use Rattle.dns_asker.specs.declared.refusal.AskRefusal.TheVariants.{IdTaken, Full, Spent, Memory}
+use Rattle.dns_asker.specs.declared.schedule.Schedule.{Schedule}
 
 -- ---- a question is asked
 
@@ -31,12 +32,13 @@ use Rattle.dns_asker.specs.declared.refusal.AskRefusal.TheVariants.{IdTaken, Ful
 abbrev pub sent_octets : ℕ → Question → List ℕ
 sent_octets id question = plain (query_of id question)
 
--- the tickets after a question was asked: it gets one, and is sent for the first time
+-- the tickets after a question was asked: it gets one, and is sent for the first time; it is due
+-- when the wait of the schedule is over
 abbrev pub asked : ℕ → Question → ℕ → Asking → Asking
 asked id question now asking = record asking {
   tickets = waiting_too (record {
     sent = record { id = id; question = question; sends = 1 };
-    deadline = now + 1;
+    deadline = now + asking.schedule.wait;
   }) asking.tickets;
   serial = asking.serial + 1;
 }
@@ -132,30 +134,32 @@ MayWant asking octets = (length octets ≤ 65535)
 abbrev pub sent_again : Sent → Sent
 sent_again sent = record sent { sends = sent.sends + 1 }
 
--- a ticket whose query was sent again at this moment; it is due one second later
-abbrev pub again : ℕ → Ticket → Ticket
-again now ticket = record { sent = sent_again ticket.sent; deadline = now + 1 }
+-- a ticket whose query was sent again at this moment; it is due when the wait of the schedule is
+-- over
+abbrev pub again : Schedule → ℕ → Ticket → Ticket
+again schedule now ticket =
+    record { sent = sent_again ticket.sent; deadline = now + schedule.wait }
 
--- the question of the first ticket was sent once or twice, and no reply came in time: it is sent
--- once more
+-- the question of the first ticket was sent less often than the schedule says, and no reply came in
+-- time: it is sent once more
 pub record IsResent (old new : Asking) (now id : ℕ) (octets : List ℕ) : Type 0 where
   pub ticket : Ticket
   pub others : List Ticket
   pub first : old.tickets ≡ ticket ∷ others
   pub over : ticket.deadline ≤ now
-  pub more : ticket.sent.sends < 3
+  pub more : ticket.sent.sends < old.schedule.sends
   pub id_is : id ≡ ticket.sent.id
   pub octets_are : octets ≡ sent_octets ticket.sent.id ticket.sent.question
-  pub left : new ≡ record old { tickets = waiting_too (again now ticket) others }
+  pub left : new ≡ record old { tickets = waiting_too (again old.schedule now ticket) others }
 
--- the question of the first ticket was sent three times, and no reply came in time: it waits no
--- longer
+-- the question of the first ticket was sent as often as the schedule says, and no reply came in
+-- time: it waits no longer
 pub record IsGivenUp (old new : Asking) (now id : ℕ) (question : Question) : Type 0 where
   pub ticket : Ticket
   pub others : List Ticket
   pub first : old.tickets ≡ ticket ∷ others
   pub over : ticket.deadline ≤ now
-  pub enough : 3 ≤ ticket.sent.sends
+  pub enough : old.schedule.sends ≤ ticket.sent.sends
   pub id_is : id ≡ ticket.sent.id
   pub question_is : question ≡ ticket.sent.question
   pub left : new ≡ record old { tickets = others }

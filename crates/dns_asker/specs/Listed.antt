@@ -12,17 +12,19 @@ use Rattle.dns_asker.specs.declared.incoming.Due.{Due}
 use Rattle.dns_asker.specs.declared.incoming.Due.TheVariants.{Resend, GaveUp}
 use Rattle.dns_asker.specs.declared.refusal.AskRefusal.{AskRefusal}
 use Rattle.dns_asker.specs.declared.refusal.AskRefusal.TheVariants.{IdTaken, Full, Spent, Memory}
+use Rattle.dns_asker.specs.declared.schedule.Schedule.{Schedule}
 use Rattle.dns_asker.specs.declared.tickets.Overdue.{Overdue}
 use Rattle.dns_asker.specs.declared.tickets.Overdue.TheVariants.{Again, GivenUp}
 
 abbrev pub ticket_in : Entry Sent → Ticket
 ticket_in entry = record { sent = entry.item; deadline = entry.deadline }
 
-abbrev pub asking_of : Pending Sent → Asking
-asking_of list = record {
+abbrev pub asking_of : Schedule → Pending Sent → Asking
+asking_of schedule list = record {
   tickets = map ticket_in list.entries;
   limit = list.limit;
   serial = list.serial;
+  schedule = schedule;
 }
 
 abbrev pub is_of : ℕ → Entry Sent → Bool
@@ -39,9 +41,10 @@ abbrev pub place_of : List (Entry Sent) → ℕ → Option Id
 place_of entries id = option_map (λ it. it.id) (find (is_of id) entries)
 
 -- The tickets are as they always are, and a table of places leads from each id to its entry alone.
-pub record IsKept (list : Pending Sent) (place : ℕ → Option Id) : Type 0 where
-  pub asking : IsAsking (asking_of list)
-  pub places : (id : ℕ) → place id ≡ place_of list.entries id
+pub record IsKept (schedule : Schedule) (list : Pending Sent) (place : ℕ → Option Id) : Type 0
+  where
+    pub asking : IsAsking (asking_of schedule list)
+    pub places : (id : ℕ) → place id ≡ place_of list.entries id
 
 -- it was sent once more, and has another deadline
 abbrev pub resent : ℕ → Entry Sent → Entry Sent
@@ -60,17 +63,17 @@ CannotOpen list id Memory =
     (find (is_of id) list.entries ≡ None) × (length list.entries < list.limit)
     × (list.serial < 2 ^ 64 - 1)
 
--- what opening a ticket leaves and gives
+-- what opening a ticket with this deadline leaves and gives
 abbrev pub Opens : Pending Sent → Pending Sent → Sent → ℕ → Result Id AskRefusal → Type 0
-Opens old new sent now (Ok at) =
+Opens old new sent deadline (Ok at) =
     (new ≡ record old {
-      entries = placed (record { id = at; deadline = now + 1; item = sent }) old.entries;
+      entries = placed (record { id = at; deadline = deadline; item = sent }) old.entries;
       serial = old.serial + 1;
     })
-    × (entry_of at new.entries ≡ Some (record { id = at; deadline = now + 1; item = sent }))
+    × (entry_of at new.entries ≡ Some (record { id = at; deadline = deadline; item = sent }))
     × (find (is_of sent.id) old.entries ≡ None) × (length old.entries < old.limit)
     × (old.serial < 2 ^ 64 - 1)
-Opens old new sent now (Err refusal) = (new ≡ old) × CannotOpen old sent.id refusal
+Opens old new sent deadline (Err refusal) = (new ≡ old) × CannotOpen old sent.id refusal
 
 -- the first entry, and the others
 pub record IsFirst (entries : List (Entry Sent)) (now : ℕ) : Type 0 where
@@ -79,15 +82,17 @@ pub record IsFirst (entries : List (Entry Sent)) (now : ℕ) : Type 0 where
   pub first : entries ≡ entry ∷ others
   pub over : entry.deadline ≤ now
 
--- what a moment leaves of the list, and asks for
-abbrev pub IsOverdue : Pending Sent → TicketList → ℕ → Option Overdue → Type 0
-IsOverdue old new now None = (new.list ≡ old) × All (λ it. now < it.deadline) old.entries
-IsOverdue old new now (Some (Again at)) =
-    (first : IsFirst old.entries now) × (first.entry.item.sends < 3)
-    × (new.list ≡ record old { entries = placed (resent (now + 1) first.entry) first.others })
-    × (entry_of at new.list.entries ≡ Some (resent (now + 1) first.entry))
-IsOverdue old new now (Some GivenUp) =
-    (first : IsFirst old.entries now) × (3 ≤ first.entry.item.sends)
+-- what a moment leaves of the list by a schedule, and asks for
+abbrev pub IsOverdue : Schedule → Pending Sent → TicketList → ℕ → Option Overdue → Type 0
+IsOverdue schedule old new now None = (new.list ≡ old) × All (λ it. now < it.deadline) old.entries
+IsOverdue schedule old new now (Some (Again at)) =
+    (first : IsFirst old.entries now) × (first.entry.item.sends < schedule.sends)
+    × (new.list ≡ record old {
+      entries = placed (resent (now + schedule.wait) first.entry) first.others;
+    })
+    × (entry_of at new.list.entries ≡ Some (resent (now + schedule.wait) first.entry))
+IsOverdue schedule old new now (Some GivenUp) =
+    (first : IsFirst old.entries now) × (schedule.sends ≤ first.entry.item.sends)
     × (new.given_up ≡ Some first.entry.item)
     × (new.list ≡ record old { entries = first.others })
 

@@ -5,10 +5,11 @@ ghost use Rattle.std.specs.Option.{option_map};
 ghost use Rattle.dns_answers.specs.Replies.{reply_refusal};
 ghost use Rattle.dns_asker.specs.Events.{Asks, Dues, EndsBy, IsNoReply, MayWant, Means, closed, left_by};
 ghost use Rattle.dns_asker.specs.Out.{HasQuestion, IsOctetsOf, LacksQuestion};
-ghost use Rattle.dns_asker.specs.Tickets.{IsAsking, ticket_of};
+ghost use Rattle.dns_asker.specs.Tickets.{IsAsking, ticket_of, usual};
 
 use crate::incoming::{Due, Ending, Incoming, Why};
 use crate::refusal::AskRefusal;
+use crate::schedule::Schedule;
 use crate::tickets::Tickets;
 use dns_answers::{Moment, ReplyRefusal, answer_of};
 use dns_message::{Message, Question, message_in};
@@ -28,7 +29,7 @@ impl Model for Asker {
 
     ghost Value = { Asking };
 
-    ghost view = { λ it. asking_of it.tickets.list };
+    ghost view = { λ it. asking_of it.tickets.schedule it.tickets.list };
 }
 
 impl Asker {
@@ -36,22 +37,41 @@ impl Asker {
     ghost use Rattle.std.specs.Io.BufRead.{Rests};
     ghost use Rattle.dns_asker.specs.contracts.asker.Asker.{the_row};
 
-    /// An asker without questions. At most this number of questions wait at once; the tickets are
-    /// numbered from the serial on.
+    /// An asker without questions, which sends by the usual schedule (`Schedule::USUAL`). At most
+    /// this number of questions wait at once; the tickets are numbered from the serial on.
     pub fn new(alloc: Global, limit: usize, serial: u64) -> Result<Asker, AllocError>
         requires some { 1 ≤ limit }
         requires few { limit ≤ 256 }
-        ensures { IfOk result (λ it. it ≡ record { tickets = []; limit = limit; serial = serial }) }
+        ensures { IfOk result (λ it. it
+            ≡ record { tickets = []; limit = limit; serial = serial; schedule = usual }) }
+    {
+        Asker::with_schedule(alloc, limit, serial, Schedule::USUAL)
+    }
+
+    /// An asker without questions, which sends by this schedule. At most this number of questions
+    /// wait at once; the tickets are numbered from the serial on.
+    pub fn with_schedule(
+        alloc: Global,
+        limit: usize,
+        serial: u64,
+        schedule: Schedule,
+    ) -> Result<Asker, AllocError>
+        requires some { 1 ≤ limit }
+        requires few { limit ≤ 256 }
+        requires sends { (1 ≤ schedule.sends) × (schedule.sends ≤ 15) }
+        requires wait { (1 ≤ schedule.wait) × (schedule.wait ≤ 60) }
+        ensures { IfOk result (λ it. it
+            ≡ record { tickets = []; limit = limit; serial = serial; schedule = schedule }) }
     {
         Ok(Asker {
             alloc,
-            tickets: Tickets::new(alloc, limit, serial)?,
+            tickets: Tickets::new(alloc, limit, serial, schedule)?,
         })
     }
 
-    /// A law: the tickets are ordered by deadline, each has an id of its own and was sent once to
-    /// three times, and they are no more than the limit. A call does nothing; its contract states
-    /// this.
+    /// A law: the tickets are ordered by deadline, each has an id of its own and was sent at least
+    /// once and at most as often as the schedule says, and they are no more than the limit. A call
+    /// does nothing; its contract states this.
     pub fn law_stands_in_order(&self)
         ensures { IsAsking self.now }
     {

@@ -4,7 +4,8 @@ ghost use Rattle.dns_asker.specs.Runs.{Event, Runs};
 ghost use Rattle.dns_asker.specs.Tickets.{Asking, IsAsking};
 
 /// Along any events the tickets are ordered by deadline, there is at most one of each id, each was
-/// sent once to three times, and they are no more than the limit.
+/// sent at least once and at most as often as the schedule says, and they are no more than the
+/// limit.
 pub fn law_asking_stays_in_order()
     ensures { (first last : Asking) (events : List Event) → IsAsking first → Runs first events last
         → IsAsking last }

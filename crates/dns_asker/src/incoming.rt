@@ -38,6 +38,6 @@ pub enum Why {
 pub enum Due<'a> {
     /// The octets of the question of this id are to be sent once more.
     Resend(u16, &'a [u8]),
-    /// The question of this id was sent three times, and waits no longer.
+    /// The question of this id was sent as often as the schedule says, and waits no longer.
     GaveUp(u16, &'a Question),
 }

@@ -9,7 +9,9 @@
 //! `incoming` takes octets that came in: it says which question they end, by an answer or by a
 //! fault of the server, or why they are no reply to any. A message whose id fits and whose question
 //! does not is no reply, and the question waits on. `due` says which question is to be sent once
-//! more, and which one is given up after three times; it is called again until it gives nothing.
+//! more, and which one is given up; it is called again until it gives nothing. A `Schedule` says
+//! how often a question is sent and how long each send is waited for: three times and one second by
+//! `Asker::new`, what the caller gives by `Asker::with_schedule`.
 //!
 //! ```
 //! let mut asker = Asker::new(alloc, 8, 0).ok()?;
@@ -41,6 +43,7 @@ mod id_table;
 mod incoming;
 mod message_wire;
 mod refusal;
+mod schedule;
 mod server;
 mod ticket;
 mod tickets;
@@ -56,6 +59,7 @@ pub use dns_zone::{
 pub use incoming::{Due, Ending, Incoming, Why};
 pub use message_wire::{MessageWire, Received};
 pub use refusal::AskRefusal;
+pub use schedule::Schedule;
 pub use server::serve;
 pub use wire::{DATAGRAM_LIMIT, PeerWire, Wire, WireFault};
 pub use zone_wire::ZoneWire;

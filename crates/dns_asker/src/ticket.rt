@@ -6,9 +6,6 @@ use dns_message::{Question, write_query};
 use std::alloc::{AllocError, Global};
 use std::marker::Model;
 
-/// How often a question is sent.
-const SEND_LIMIT: u8 = 3;
-
 /// A question that was sent, its octets, and how many times it was sent.
 #[derive(Drop)]
 pub(crate) struct Ticket {
@@ -65,16 +62,16 @@ impl Ticket {
         self.octets.as_slice()
     }
 
-    /// Whether it may be sent once more: a question is sent three times.
-    pub(crate) fn may_be_sent_again(&self) -> bool
-        ensures { IsTrue result ↔ (self.now.sends < 3) }
+    /// Whether it may be sent once more, where a question is sent so many times at most.
+    pub(crate) fn may_be_sent_again(&self, limit: u8) -> bool
+        ensures { IsTrue result ↔ (self.now.sends < limit) }
     {
-        self.sends < SEND_LIMIT
+        self.sends < limit
     }
 
     /// Counts one send more.
     pub(crate) fn send_again(&mut self)
-        requires { self.old.sends < 3 }
+        requires { self.old.sends < 255 }
         ensures { self.new ≡ sent_again self.old }
     {
         self.sends += 1;

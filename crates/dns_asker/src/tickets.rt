@@ -1,5 +1,5 @@
 //! The tickets of an asker in their list.
-ghost use Rattle.std.specs.Prelude.{◌≡◌, ◌↔◌, ◌<◌, ◌≤◌, [], Some, None, slice_get, IsSome, IfOk, IfSome, IsTrue, MatchOption, length};
+ghost use Rattle.std.specs.Prelude.{◌≡◌, ◌↔◌, ◌+◌, ◌<◌, ◌≤◌, [], Some, None, slice_get, IsSome, IfOk, IfSome, IsTrue, MatchOption, length};
 ghost use Rattle.std.specs.List.{All, find};
 ghost use Rattle.std.specs.Option.{option_map};
 ghost use Rattle.pending_list.specs.Pending.{entry_of, placed, without};
@@ -12,15 +12,13 @@ ghost use Rattle.dns_asker.specs.Tickets.{IsAsking, Sent};
 use crate::id_table::IdTable;
 use crate::incoming::Due;
 use crate::refusal::AskRefusal;
+use crate::schedule::Schedule;
 use crate::ticket::Ticket;
 use dns_answers::Moment;
 use dns_message::{Question, law_same_questions_are_equal};
 use pending_list::{InsertRefusal, PendingId, PendingList};
 use std::alloc::{AllocError, Global};
 use std::marker::Model;
-
-/// How long a reply is waited for, in seconds, before the question is sent once more or given up.
-const WAIT: u64 = 1;
 
 /// What is to be done about the first ticket, since no reply came in time.
 #[derive(Clone, Copy)]
@@ -31,13 +29,14 @@ pub(crate) enum Overdue {
     GivenUp,
 }
 
-/// The tickets by their deadlines, at most one of each id, the table of their places, and the last
-/// one that was given up, for the caller.
+/// The tickets by their deadlines, at most one of each id, the table of their places, the last one
+/// that was given up, for the caller, and the schedule by which their questions are sent.
 #[derive(Drop)]
 pub(crate) struct Tickets {
     list: PendingList<Ticket>,
     table: IdTable,
     given_up: Option<Ticket>,
+    schedule: Schedule,
 }
 
 impl Model for Tickets {
@@ -48,29 +47,42 @@ impl Model for Tickets {
     ghost use Rattle.dns_asker.specs.IdTables.{place_in};
     ghost use Rattle.dns_asker.specs.Listed.{IsKept};
 
-    ghost view = { λ it. record { list = it.list; given_up = it.given_up } };
+    ghost view = { λ it. record {
+      list = it.list;
+      given_up = it.given_up;
+      schedule = it.schedule;
+    } };
 
-    ghost invariant = { λ it. IsKept it.list (place_in it.table) };
+    ghost invariant = { λ it. IsKept it.schedule it.list (place_in it.table) };
 }
 
 impl Tickets {
     /// None; at most so many, numbered from the serial on.
-    pub(crate) fn new(alloc: Global, limit: usize, serial: u64) -> Result<Tickets, AllocError>
+    pub(crate) fn new(
+        alloc: Global,
+        limit: usize,
+        serial: u64,
+        schedule: Schedule,
+    ) -> Result<Tickets, AllocError>
         requires some { 1 ≤ limit }
         requires few { limit ≤ 256 }
-        ensures { IfOk result
+        requires sends { (1 ≤ schedule.sends) × (schedule.sends ≤ 15) }
+        requires wait { (1 ≤ schedule.wait) × (schedule.wait ≤ 60) }
+        ensures none { IfOk result
             (λ it. it.list ≡ record { entries = []; limit = limit; serial = serial }) }
+        ensures schedule { IfOk result (λ it. it.schedule ≡ schedule) }
     {
         Ok(Tickets {
             list: PendingList::new(alloc, limit, serial)?,
             table: IdTable::new(alloc, limit)?,
             given_up: None,
+            schedule,
         })
     }
 
     /// What holds of them.
     pub(crate) fn law_stands_in_order(&self)
-        ensures { IsAsking (asking_of self.now.list) }
+        ensures { IsAsking (asking_of self.now.schedule self.now.list) }
     {
         self.list.law_stands_in_order();
     }
@@ -94,8 +106,10 @@ impl Tickets {
 
     /// The id of the ticket of a question.
     pub(crate) fn id_of(&self, question: &Question) -> Option<u16>
-        ensures { MatchOption result (LacksQuestion question.now (asking_of self.now.list).tickets)
-            (λ id. HasQuestion question.now id (asking_of self.now.list).tickets) }
+        ensures { MatchOption result
+            (LacksQuestion question.now (asking_of self.now.schedule self.now.list).tickets)
+            (λ id. HasQuestion question.now id
+            (asking_of self.now.schedule self.now.list).tickets) }
     {
         law_same_questions_are_equal();
         for (_, _, ticket) in self.list.walk() {
@@ -126,8 +140,10 @@ impl Tickets {
         id: u16,
         now: Moment,
     ) -> Result<PendingId, AskRefusal>
-        ensures { Opens self.old.list self.new.list
-            (record { id = id; question = question; sends = 1 }) now result }
+        ensures opens { Opens self.old.list self.new.list
+            (record { id = id; question = question; sends = 1 })
+            (now + self.old.schedule.wait) result }
+        ensures schedule { self.new.schedule ≡ self.old.schedule }
     {
         if self.place_of(id).is_some() {
             return Err(AskRefusal::IdTaken);
@@ -144,7 +160,7 @@ impl Tickets {
         let Ok(()) = self.table.reserve() else {
             return Err(AskRefusal::Memory);
         };
-        let Ok(at) = self.list.insert(now.get() + WAIT, ticket) else {
+        let Ok(at) = self.list.insert(self.schedule.deadline_after(now), ticket) else {
             return Err(AskRefusal::Memory);
         };
         self.table.insert(id, at);
@@ -179,7 +195,8 @@ impl Tickets {
         requires { IsSome (entry_of at self.old.list.entries) }
         ensures { (entry : Entry Sent) → entry_of at self.old.list.entries ≡ Some entry
             → (result.0 ≡ entry.item.id) × (result.1 ≡ entry.item.question)
-            × (asking_of self.new.list ≡ closed entry.item.id (asking_of self.old.list)) }
+            × (asking_of self.new.schedule self.new.list
+            ≡ closed entry.item.id (asking_of self.old.schedule self.old.list)) }
     {
         match self.list.remove(at) {
             Some(ticket) => {
@@ -193,15 +210,16 @@ impl Tickets {
 
     /// The first ticket whose deadline is over at a moment: it is sent once more, or closed.
     pub(crate) fn take_overdue(&mut self, now: Moment) -> Option<Overdue>
-        ensures { IsOverdue self.old.list self.new now result }
+        ensures overdue { IsOverdue self.old.schedule self.old.list self.new now result }
+        ensures schedule { self.new.schedule ≡ self.old.schedule }
     {
         let (at, deadline) = self.list.first()?;
         if deadline > now.get() {
             return None;
         }
         self.list.law_stands_in_order();
-        if may_be_sent_again(&self.list, at) {
-            send_again(&mut self.list, at, now.get() + WAIT);
+        if may_be_sent_again(&self.list, at, self.schedule.sends) {
+            send_again(&mut self.list, at, self.schedule.deadline_after(now));
             return Some(Overdue::Again(at));
         }
         let (_, _, ticket) = self.list.pop_due(now.get())?;
@@ -228,13 +246,14 @@ impl Tickets {
     }
 }
 
-/// Whether the ticket at a place may be sent once more.
-fn may_be_sent_again(list: &PendingList<Ticket>, at: PendingId) -> bool
+/// Whether the ticket at a place may be sent once more, where a question is sent so many times at
+/// most.
+fn may_be_sent_again(list: &PendingList<Ticket>, at: PendingId, limit: u8) -> bool
     ensures { (entry : Entry Sent) → entry_of at list.now.entries ≡ Some entry
-        → (IsTrue result ↔ (entry.item.sends < 3)) }
+        → (IsTrue result ↔ (entry.item.sends < limit)) }
 {
     match list.get(at) {
-        Some(ticket) => ticket.may_be_sent_again(),
+        Some(ticket) => ticket.may_be_sent_again(limit),
         None => false,
     }
 }
@@ -242,7 +261,7 @@ fn may_be_sent_again(list: &PendingList<Ticket>, at: PendingId) -> bool
 /// Counts one send more of the ticket at a place, and gives it another deadline.
 fn send_again(list: &mut PendingList<Ticket>, at: PendingId, deadline: u64)
     requires { (entry : Entry Sent) → entry_of at list.old.entries ≡ Some entry
-        → entry.item.sends < 3 }
+        → entry.item.sends < 255 }
     ensures { (entry : Entry Sent) → entry_of at list.old.entries ≡ Some entry
         → (list.new ≡ record list.old {
           entries = placed (resent deadline entry) (without at list.old.entries);

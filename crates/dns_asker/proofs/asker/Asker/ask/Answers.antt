@@ -1,4 +1,4 @@
-use Rattle.std.proofs.Common.{refl, ap}
+use Rattle.std.proofs.Common.{◌+◌, refl, ap}
 use Rattle.std.proofs.lemmas.List.{length-map}
 use Rattle.dns_asker.proofs.Listing.{asked-is, free, refused-is}
 use Rattle.dns_asker.specs.Listed.{asking_of, ticket_in}
@@ -6,15 +6,16 @@ use Rattle.dns_asker.proofs.asker.Asker.ask.Goals as goal
 
 pub returns-in-Ok : goal.returns-in-Ok
 returns-in-Ok c =
-    let it = c.in-Ok.ensures in
+    let it = c.in-Ok.ensures.opens in
+    let schedule = c.self.inside.tickets.schedule in
     let list = c.self.inside.tickets.list in
-    rw (← c.self.view_is) (
+    rw (← c.self.view_is, c.open.ensures.schedule) (
       (
         refl,
         (λ _. tt),
         (
           c.octets_at.ensures _ it.1,
-          asked-is list c.open.new.self.list c.in-Ok.at _ c.args.now it.0,
+          asked-is schedule list c.open.new.self.list c.in-Ok.at _ (c.args.now + schedule.wait) it.0,
           free list c.args.id it.2,
           (rw (length-map list.entries ticket_in) it.3),
           it.4,
@@ -25,6 +26,13 @@ returns-in-Ok c =
 
 pub returns-in-Err : goal.returns-in-Err
 returns-in-Err c =
-    let it = c.in-Err.ensures in
-    rw (← c.self.view_is)
-    ((refl, (λ _. tt), (ap asking_of it.0, refused-is c.self.inside.tickets.list c.args.id c.in-Err.refusal it.1)), record { asks = tt })
+    let it = c.in-Err.ensures.opens in
+    let schedule = c.self.inside.tickets.schedule in
+    rw (← c.self.view_is, c.open.ensures.schedule) (
+      (
+        refl,
+        (λ _. tt),
+        (ap (asking_of schedule) it.0, refused-is schedule c.self.inside.tickets.list c.args.id c.in-Err.refusal it.1),
+      ),
+      record { asks = tt },
+    )

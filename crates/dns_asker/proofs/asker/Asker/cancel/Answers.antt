@@ -10,15 +10,18 @@ pub returns-in-Some-clause-given : goal.returns-in-Some-clause-given
 returns-in-Some-clause-given c =
     let found = c.in-Some.ensures in
     let ended = c.close-question.ensures found.entry found.there in
-    rw (← c.self.view_is) (question-is c.self.inside.tickets.list c.args.id found.entry c.close-question.result.1 found.first ended.1)
+    rw (← c.self.view_is)
+    (question-is c.self.inside.tickets.schedule c.self.inside.tickets.list c.args.id found.entry c.close-question.result.1 found.first ended.1)
 
 pub returns-in-Some-clause-left : goal.returns-in-Some-clause-left
 returns-in-Some-clause-left c =
     let found = c.in-Some.ensures in
     let ended = c.close-question.ensures found.entry found.there in
-    subst (λ (old : Asking). asking_of c.close-question.new.self.list ≡ closed c.args.id old) c.self.view_is
+    subst (λ (old : Asking). asking_of c.close-question.new.self.schedule c.close-question.new.self.list ≡ closed c.args.id old)
+    c.self.view_is
     (ended.2
-    ∙ ap (λ id. closed id (asking_of c.self.inside.tickets.list)) (id-is c.self.inside.tickets.list c.args.id found.entry found.first))
+    ∙ ap (λ id. closed id (asking_of c.self.inside.tickets.schedule c.self.inside.tickets.list))
+    (id-is c.self.inside.tickets.list c.args.id found.entry found.first))
 
 pub returns-in-None-clause-given : goal.returns-in-None-clause-given
 returns-in-None-clause-given c = rw (← c.self.view_is) (free c.self.inside.tickets.list c.args.id c.in-None.ensures)
@@ -26,4 +29,5 @@ returns-in-None-clause-given c = rw (← c.self.view_is) (free c.self.inside.tic
 pub returns-in-None-clause-left : goal.returns-in-None-clause-left
 returns-in-None-clause-left c =
     rw (← c.self.view_is)
-    (closed-none c.args.id (asking_of c.self.inside.tickets.list) (free c.self.inside.tickets.list c.args.id c.in-None.ensures))
+    (closed-none c.args.id (asking_of c.self.inside.tickets.schedule c.self.inside.tickets.list)
+    (free c.self.inside.tickets.list c.args.id c.in-None.ensures))

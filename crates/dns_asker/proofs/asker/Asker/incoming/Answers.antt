@@ -25,8 +25,10 @@ returns-in_err-ending-clause-wanted c =
     let fine : reply_refusal found.entry.item.question c.in-Some.message ≡ None =
     subst (λ (question : Question). reply_refusal question c.in-Some.message ≡ None) asked c.in_err-ending.ensures.wanted in
     subst (λ (old : Asking). OnErr c.from_residual-in_err-ending.result (MayWant old c.args.octets.now)) c.self.view_is
-    (on-err c.from_residual-in_err-ending.result (MayWant (asking_of c.self.inside.tickets.list) c.args.octets.now)
-    (answered-is c.self.inside.tickets.list c.args.octets.now c.in-Some.message begins c.in-Some-place_of.at found fine))
+    (on-err c.from_residual-in_err-ending.result
+    (MayWant (asking_of c.self.inside.tickets.schedule c.self.inside.tickets.list) c.args.octets.now)
+    (answered-is c.self.inside.tickets.schedule c.self.inside.tickets.list c.args.octets.now c.in-Some.message begins
+    c.in-Some-place_of.at found fine))
 
 pub returns-in-Err-clause-means : goal.returns-in-Err-clause-means
 returns-in-Err-clause-means c =
@@ -36,7 +38,8 @@ returns-in-Err-clause-means c =
     let ignored : IsNoReply c.question_at.result.now c.in-Some.message c.in-Err.why = rw c.in-Err.is at c.in_ok-ending.ensures.ignored in
     let ignored' = subst (λ (question : Question). IsNoReply question c.in-Some.message c.in-Err.why) asked ignored in
     subst (λ (old : Asking). Means old c.args.octets.now (Ignored c.in-Err.why)) c.self.view_is
-    (ignored-is c.self.inside.tickets.list c.args.octets.now c.in-Some.message begins c.in-Some-place_of.at found c.in-Err.why ignored')
+    (ignored-is c.self.inside.tickets.schedule c.self.inside.tickets.list c.args.octets.now c.in-Some.message begins
+    c.in-Some-place_of.at found c.in-Err.why ignored')
 
 pub returns-clause-means : goal.returns-clause-means
 returns-clause-means c =
@@ -47,12 +50,13 @@ returns-clause-means c =
     let ends' = subst (λ (question : Question). EndsBy question c.in-Some.message c.in-Ok.ending) asked ends in
     let closed = c.close-id.ensures found.entry found.there in
     subst (λ (old : Asking). Tells old c.args.octets.now (Ended c.close-id.result.0 c.close-id.result.1 c.in-Ok.ending)) c.self.view_is
-    (ended-is c.self.inside.tickets.list c.args.octets.now c.in-Some.message begins c.in-Some-place_of.at found
-    c.close-id.result.0 c.close-id.result.1 c.in-Ok.ending closed.0 closed.1 ends')
+    (ended-is c.self.inside.tickets.schedule c.self.inside.tickets.list c.args.octets.now c.in-Some.message begins
+    c.in-Some-place_of.at found c.close-id.result.0 c.close-id.result.1 c.in-Ok.ending closed.0 closed.1 ends')
 
 pub returns-clause-left : goal.returns-clause-left
 returns-clause-left c =
     let found = c.in-Some-place_of.ensures in
     let closed' = c.close-id.ensures found.entry found.there in
-    subst (λ (old : Asking). asking_of c.close-id.new.self.list ≡ closed c.close-id.result.0 old) c.self.view_is
-    (closed'.2 ∙ ap (λ id. closed id (asking_of c.self.inside.tickets.list)) (sym closed'.0))
+    subst (λ (old : Asking). asking_of c.close-id.new.self.schedule c.close-id.new.self.list ≡ closed c.close-id.result.0 old)
+    c.self.view_is
+    (closed'.2 ∙ ap (λ id. closed id (asking_of c.self.inside.tickets.schedule c.self.inside.tickets.list)) (sym closed'.0))

@@ -26,10 +26,10 @@ invariant_of-self c =
     let same : c.in-Some.ticket ≡ found.0.item = cc in
     let id = ap (λ (it : ℕ × Question). it.0) c.into_parts-id.ensures ∙ ap (λ (sent : Sent). sent.id) same in
     record {
-      asking = kept-without c.self.inside.list c.self.invariant.asking c.remove.new.self found.0 apart
+      asking = kept-without c.self.inside.schedule c.self.inside.list c.self.invariant.asking c.remove.new.self found.0 apart
           (rest (goal.at.invariant_of-self c).In-Some);
-      places = still-out c.self.inside.list (place_in c.self.inside.table) c.self.invariant (place_in c.remove-in-Some.new.self)
-          found.0 c.remove.new.self.entries apart _ id c.remove-in-Some.ensures;
+      places = still-out c.self.inside.schedule c.self.inside.list (place_in c.self.inside.table) c.self.invariant
+          (place_in c.remove-in-Some.new.self) found.0 c.remove.new.self.entries apart _ id c.remove-in-Some.ensures;
     }
 
 pub returns : goal.returns
@@ -40,6 +40,6 @@ returns c =
     let same : c.in-Some.ticket ≡ entry.item = cc in (
       ap (λ (it : ℕ × Question). it.0) c.into_parts-id.ensures ∙ ap (λ (sent : Sent). sent.id) same,
       ap (λ (it : ℕ × Question). it.1) c.into_parts-id.ensures ∙ ap (λ (sent : Sent). sent.question) same,
-      left-is c.self.inside.list c.remove.new.self c.self.invariant.asking entry (c.in-Some.ensures.apart entry found)
-          (rest (goal.at.returns c).In-Some),
+      left-is c.self.inside.schedule c.self.inside.list c.remove.new.self c.self.invariant.asking entry
+          (c.in-Some.ensures.apart entry found) (rest (goal.at.returns c).In-Some),
     ))

@@ -10,7 +10,8 @@ returns-then-eq c =
     search rules in
     let at = rw c.in-Some.ensures.steps at c.loop-ticket.invariant in
     rw (c.id.ensures)
-    (search-hit c.args.question.now c.args.self.now.list _ c.next.new.self at is (rw (← c.self.view_is) c.self.invariant.asking))
+    (search-hit c.args.self.now.schedule c.args.question.now c.args.self.now.list _ c.next.new.self at is
+    (rw (← c.self.view_is) c.self.invariant.asking))
 
 pub loop-ticket-preserved : goal.loop-ticket-preserved
 loop-ticket-preserved c =
@@ -24,4 +25,4 @@ loop-ticket-preserved c =
 pub returns : goal.returns
 returns c =
     let at = rw c.in-None.ensures.steps.0 at c.loop-ticket.invariant in
-    search-over c.args.question.now c.args.self.now.list at
+    search-over c.args.self.now.schedule c.args.question.now c.args.self.now.list at
