@@ -11,6 +11,7 @@ use Rattle.dns_asker.specs.declared.incoming.Due.{Due}
 use Rattle.dns_asker.specs.declared.incoming.Due.TheVariants.{Resend, GaveUp}
 use Rattle.dns_asker.specs.declared.incoming.Incoming.{Incoming}
 use Rattle.dns_asker.specs.declared.incoming.Incoming.TheVariants.{Ended, Ignored}
+use Rattle.dns_asker.specs.declared.schedule.Schedule.{Schedule}
 use Rattle.dns_message.specs.declared.question.Question.{Question}
 use Rattle.sip_resolver.specs.Questions.{AreBounded, AreDistinct, Differ, Fewer, Lacks, QuestionsView, asked_over, closed_both, closed_over, left_over}
 use Rattle.sip_resolver.specs.declared.transmit.Over.{Over}
@@ -97,14 +98,16 @@ fewer-rest ticket others = record {
   from_all = λ front it. All-tail (λ one. All (Differ one) front) ticket others it;
 }
 
-fewer-again : (now : ℕ) (ticket : Ticket) (others : List Ticket) → Fewer (ticket ∷ others) (waiting_too (again now ticket) others)
-fewer-again now ticket others = record {
-  pairs = λ it. pairs-too (again now ticket) others (pairs-head ticket others it) (pairs-tail ticket others it);
+fewer-again : (schedule : Schedule) (now : ℕ) (ticket : Ticket) (others : List Ticket)
+    → Fewer (ticket ∷ others) (waiting_too (again schedule now ticket) others)
+fewer-again schedule now ticket others = record {
+  pairs = λ it. pairs-too (again schedule now ticket) others (pairs-head ticket others it) (pairs-tail ticket others it);
   from_one = λ one it.
-      all-too (again now ticket) others (Differ one) (All-head (Differ one) ticket others it) (All-tail (Differ one) ticket others it);
+      all-too (again schedule now ticket) others (Differ one) (All-head (Differ one) ticket others it)
+      (All-tail (Differ one) ticket others it);
   from_all = λ front it.
-      all-too (again now ticket) others (λ one. All (Differ one) front) (All-head (λ one. All (Differ one) front) ticket others it)
-      (All-tail (λ one. All (Differ one) front) ticket others it);
+      all-too (again schedule now ticket) others (λ one. All (Differ one) front)
+      (All-head (λ one. All (Differ one) front) ticket others it) (All-tail (λ one. All (Differ one) front) ticket others it);
 }
 
 fewer-kept : (p : Ticket → Bool) (tickets : List Ticket) → Fewer tickets (filter p tickets)
@@ -117,7 +120,7 @@ fewer-kept p tickets = record {
 -- a moment leaves no others
 pub fewer-due : (old new : Asking) (now : ℕ) (due : Option Due) → Dues old new now due → Fewer old.tickets new.tickets
 fewer-due old new now None it = rw it.0 (fewer-not old.tickets)
-fewer-due old new now (Some (Resend id octets)) it = rw (it.left, it.first) (fewer-again now it.ticket it.others)
+fewer-due old new now (Some (Resend id octets)) it = rw (it.left, it.first) (fewer-again old.schedule now it.ticket it.others)
 fewer-due old new now (Some (GaveUp id question)) it = rw (it.left, it.first) (fewer-rest it.ticket it.others)
 
 pub distinct-fewer : (old new : QuestionsView) → Fewer old.datagrams.tickets new.datagrams.tickets
@@ -147,12 +150,14 @@ closed-one Datagram id it bounded = record {
       (fewer-not it.streams.tickets) bounded.distinct;
   few_datagrams = bounded.few_datagrams;
   few_streams = bounded.few_streams;
+  scheduled = bounded.scheduled;
 }
 closed-one Stream id it bounded = record {
   distinct = distinct-fewer it (closed_over Stream id it) (fewer-not it.datagrams.tickets)
       (fewer-kept (λ ticket. not (has_id id ticket)) it.streams.tickets) bounded.distinct;
   few_datagrams = bounded.few_datagrams;
   few_streams = bounded.few_streams;
+  scheduled = bounded.scheduled;
 }
 
 -- one is closed over both
@@ -162,6 +167,7 @@ closed-bounded id it bounded = record {
       (fewer-kept (λ ticket. not (has_id id ticket)) it.streams.tickets) bounded.distinct;
   few_datagrams = bounded.few_datagrams;
   few_streams = bounded.few_streams;
+  scheduled = bounded.scheduled;
 }
 
 -- ---- a question is asked
@@ -178,32 +184,35 @@ none-has id [] none = All-nil (λ (it : Ticket). it.sent.id ≢ id)
 none-has id (x ∷ xs) none = none-by id x xs (has_id id x) refl none (none-has id xs)
 
 module _ (id : ℕ) (question : Question) (now : ℕ) where
-  abbrev ticket : Ticket
-  ticket = record { sent = record { id = id; question = question; sends = 1 }; deadline = now + 1 }
+  abbrev ticket : Schedule → Ticket
+  ticket schedule = record { sent = record { id = id; question = question; sends = 1 }; deadline = now + schedule.wait }
 
-  apart-from : (tickets : List Ticket) → LacksQuestion question tickets → ticket_of id tickets ≡ None → All (Differ ticket) tickets
-  apart-from tickets lacks none = λ k d small. ((λ e. none-has id tickets none k d small (sym e)), (λ e. lacks k d small (sym e)))
+  apart-from : (schedule : Schedule) (tickets : List Ticket) → LacksQuestion question tickets → ticket_of id tickets ≡ None
+      → All (Differ (ticket schedule)) tickets
+  apart-from schedule tickets lacks none = λ k d small. ((λ e. none-has id tickets none k d small (sym e)), (λ e. lacks k d small (sym e)))
 
   pub distinct-asked : (over : Over) (old : QuestionsView) → AreDistinct old → Lacks question old
       → ticket_of id old.datagrams.tickets ≡ None
       → ticket_of id old.streams.tickets ≡ None → AreDistinct (asked_over over id question now old)
   distinct-asked Datagram old it lacks none other =
-      let here = apart-from old.datagrams.tickets lacks.datagrams none in
-      let there = apart-from old.streams.tickets lacks.streams other in
+      let one-more = ticket old.datagrams.schedule in
+      let here = apart-from old.datagrams.schedule old.datagrams.tickets lacks.datagrams none in
+      let there = apart-from old.datagrams.schedule old.streams.tickets lacks.streams other in
       record {
-        datagrams = pairs-too ticket old.datagrams.tickets here it.datagrams;
+        datagrams = pairs-too one-more old.datagrams.tickets here it.datagrams;
         streams = it.streams;
-        across = all-too ticket old.datagrams.tickets (λ one. All (Differ one) old.streams.tickets) there it.across;
+        across = all-too one-more old.datagrams.tickets (λ one. All (Differ one) old.streams.tickets) there it.across;
       }
   distinct-asked Stream old it lacks none other =
-      let here = apart-from old.datagrams.tickets lacks.datagrams none in
-      let there = apart-from old.streams.tickets lacks.streams other in
+      let one-more = ticket old.streams.schedule in
+      let here = apart-from old.streams.schedule old.datagrams.tickets lacks.datagrams none in
+      let there = apart-from old.streams.schedule old.streams.tickets lacks.streams other in
       record {
         datagrams = it.datagrams;
-        streams = pairs-too ticket old.streams.tickets there it.streams;
+        streams = pairs-too one-more old.streams.tickets there it.streams;
         across = λ k d small.
             let one : Ticket = get_or old.datagrams.tickets k d in
-            all-too ticket old.streams.tickets (Differ one) (turned ticket one (here k d small)) (it.across k d small);
+            all-too one-more old.streams.tickets (Differ one) (turned one-more one (here k d small)) (it.across k d small);
       }
 
 -- ---- what the askers did

@@ -5,7 +5,8 @@ use Rattle.std.specs.Option.{IfSome, IsSome, MatchOption}
 use Rattle.std.proofs.lemmas.List.Elements.{All-cons, All-head, All-nil, All-push, All-tail, All-weaker}
 use Rattle.dns_asker.specs.Events.{IsGivenUp, IsResent, again}
 use Rattle.dns_asker.specs.Out.{HasQuestion, LacksQuestion}
-use Rattle.dns_asker.specs.Tickets.{Asking, Ticket, has_id, ticket_of, waiting_too, without}
+use Rattle.dns_asker.specs.Tickets.{Asking, Sent, Ticket, has_id, ticket_of, waiting_too, without}
+use Rattle.dns_asker.specs.declared.schedule.Schedule.{Schedule}
 use Rattle.dns_message.specs.declared.question.Question.{Question}
 use Rattle.sip_resolver.proofs.Apart.{none-has}
 use Rattle.sip_resolver.specs.Idle.{AreIn, IsIn, IsOut}
@@ -104,12 +105,12 @@ has-asked ticket tickets =
     some-unless (ticket_of ticket.sent.id (waiting_too ticket tickets))
     (λ none. of-ticket (is-other ticket.sent.id) ticket tickets (none-has ticket.sent.id (waiting_too ticket tickets) none) refl)
 
-stays-again : (id now : ℕ) (ticket : Ticket) (others : List Ticket) → IsSome (ticket_of id (ticket ∷ others))
-    → IsSome (ticket_of id (waiting_too (again now ticket) others))
-stays-again id now ticket others some =
-    stays id (ticket ∷ others) (waiting_too (again now ticket) others)
-    (λ all. All-cons (is-other id) ticket others (of-ticket (is-other id) (again now ticket) others all)
-    (of-others (is-other id) (again now ticket) others all)) some
+stays-again : (id : ℕ) (schedule : Schedule) (now : ℕ) (ticket : Ticket) (others : List Ticket)
+    → IsSome (ticket_of id (ticket ∷ others)) → IsSome (ticket_of id (waiting_too (again schedule now ticket) others))
+stays-again id schedule now ticket others some =
+    stays id (ticket ∷ others) (waiting_too (again schedule now ticket) others)
+    (λ all. All-cons (is-other id) ticket others (of-ticket (is-other id) (again schedule now ticket) others all)
+    (of-others (is-other id) (again schedule now ticket) others all)) some
 
 stays-rest : (id : ℕ) (ticket : Ticket) (others : List Ticket) → id ≢ ticket.sent.id → IsSome (ticket_of id (ticket ∷ others))
     → IsSome (ticket_of id others)
@@ -183,8 +184,8 @@ pub resent-in : (now id : ℕ) (octets : List ℕ) (old new : Asking) (others : 
 resent-in now id octets old new others waiting is it =
     let first : AreIn (is.ticket ∷ is.others) others waiting = rw is.first at it in
     rw is.left
-    (in-still (is.ticket ∷ is.others) (waiting_too (again now is.ticket) is.others) others
-    (λ other some. stays-again other now is.ticket is.others some) waiting first)
+    (in-still (is.ticket ∷ is.others) (waiting_too (again old.schedule now is.ticket) is.others) others
+    (λ other some. stays-again other old.schedule now is.ticket is.others some) waiting first)
 
 pub given-up-in : (now id : ℕ) (question : Question) (old new : Asking) (others : List Ticket) (waiting : List WaitingView)
     → IsGivenUp old new now id question → AreIn old.tickets others waiting → AreIn new.tickets others (waiting_without id waiting)
@@ -199,13 +200,15 @@ pub asked-in : (over : Over) (id : ℕ) (question : Question) (now : ℕ) (old :
     → AreIn (asked_over over id question now old).datagrams.tickets (asked_over over id question now old).streams.tickets
     (waiting ++ record { id = id; task = task } ∷ [])
 asked-in Datagram id question now old waiting task it =
-    let ticket : Ticket = record { sent = record { id = id; question = question; sends = 1 }; deadline = now + 1 } in
+    let sent : Sent = record { id = id; question = question; sends = 1 } in
+    let ticket : Ticket = record { sent = sent; deadline = now + old.datagrams.schedule.wait } in
     let datagrams = waiting_too ticket old.datagrams.tickets in
     All-push (IsIn datagrams old.streams.tickets) waiting (record { id = id; task = task })
     (in-still old.datagrams.tickets datagrams old.streams.tickets (λ other some. stays-asked other ticket old.datagrams.tickets some)
     waiting it) (inl (has-asked ticket old.datagrams.tickets))
 asked-in Stream id question now old waiting task it =
-    let ticket : Ticket = record { sent = record { id = id; question = question; sends = 1 }; deadline = now + 1 } in
+    let sent : Sent = record { id = id; question = question; sends = 1 } in
+    let ticket : Ticket = record { sent = sent; deadline = now + old.streams.schedule.wait } in
     let streams = waiting_too ticket old.streams.tickets in
     in-flipped streams old.datagrams.tickets (waiting ++ record { id = id; task = task } ∷ [])
     (All-push (IsIn streams old.datagrams.tickets) waiting (record { id = id; task = task })

@@ -5,6 +5,7 @@ use Rattle.std.proofs.lemmas.List.{append-nil, append_assoc}
 use Rattle.std.proofs.lemmas.List.Elements.{All-append, All-cons, All-head, All-nil}
 use Rattle.dns_answers.specs.declared.refusal.ReplyRefusal.{ReplyRefusal}
 use Rattle.dns_asker.specs.Tickets.{Ticket}
+use Rattle.dns_asker.specs.declared.schedule.Schedule.{Schedule}
 use Rattle.dns_message.specs.declared.question.Question.{Question}
 use Rattle.sip_resolver.specs.Ends.{EndsMore, IsByChoice, IsByClosing, IsByFault, IsBySilence}
 use Rattle.sip_resolver.specs.Outcomes.{Ended}
@@ -105,8 +106,8 @@ choice-ends resolution (progress.Ended (NoServer question)) leaves = absurd leav
 choice-ends resolution (progress.Ended (BadReply question refusal)) leaves = absurd leaves
 choice-ends resolution (progress.Ended Memory) leaves = tt
 
-module _ (tickets : List Ticket) (now : ℕ) where
-  pub choice-in-time : (outcome : Outcome) → IsByChoice outcome → IsInTime tickets now outcome
+module _ (schedule : Schedule) (tickets : List Ticket) (now : ℕ) where
+  pub choice-in-time : (outcome : Outcome) → IsByChoice outcome → IsInTime schedule tickets now outcome
   choice-in-time (Targets list) it = tt
   choice-in-time (Refused reason) it = tt
   choice-in-time (NoAnswer question) it = absurd it
@@ -114,8 +115,8 @@ module _ (tickets : List Ticket) (now : ℕ) where
   choice-in-time (BadReply question refusal) it = absurd it
   choice-in-time Memory it = tt
 
-  pub silence-in-time : (question : Question) → IsUnanswered tickets now question → (outcome : Outcome) → IsBySilence question outcome
-      → IsInTime tickets now outcome
+  pub silence-in-time : (question : Question) → IsUnanswered schedule tickets now question → (outcome : Outcome)
+      → IsBySilence question outcome → IsInTime schedule tickets now outcome
   silence-in-time question in-vain (Targets list) it = absurd it
   silence-in-time question in-vain (Refused reason) it = absurd it
   silence-in-time question in-vain (NoAnswer other) it = rw it in-vain
@@ -124,12 +125,12 @@ module _ (tickets : List Ticket) (now : ℕ) where
   silence-in-time question in-vain Memory it = tt
 
 -- what is so of some tickets is so of more
-pub in-time-of : (few many : List Ticket) (now : ℕ) → ((ticket : Ticket) → Contains few ticket → Contains many ticket)
-    → (outcome : Outcome) → IsInTime few now outcome → IsInTime many now outcome
-in-time-of few many now more (Targets list) it = tt
-in-time-of few many now more (Refused reason) it = tt
-in-time-of few many now more (NoAnswer question) it =
+pub in-time-of : (schedule : Schedule) (few many : List Ticket) (now : ℕ) → ((ticket : Ticket) → Contains few ticket → Contains many ticket)
+    → (outcome : Outcome) → IsInTime schedule few now outcome → IsInTime schedule many now outcome
+in-time-of schedule few many now more (Targets list) it = tt
+in-time-of schedule few many now more (Refused reason) it = tt
+in-time-of schedule few many now more (NoAnswer question) it =
     record { ticket = it.ticket; stands = more it.ticket it.stands; in_vain = it.in_vain; of_it = it.of_it }
-in-time-of few many now more (NoServer question) it = absurd it
-in-time-of few many now more (BadReply question refusal) it = absurd it
-in-time-of few many now more Memory it = tt
+in-time-of schedule few many now more (NoServer question) it = absurd it
+in-time-of schedule few many now more (BadReply question refusal) it = absurd it
+in-time-of schedule few many now more Memory it = tt

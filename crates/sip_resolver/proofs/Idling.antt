@@ -91,6 +91,20 @@ heard-few old new (Ok (Ended id question ending)) left unchanged few = rw left f
 heard-few old new (Ok (Ignored why)) left unchanged few = rw left few
 heard-few old new (Err _) left unchanged few = rw unchanged few
 
+-- ---- the schedule stays
+
+pub asked-schedule : {E : Type 0} (id : ℕ) (question : Question) (now : ℕ) (old new : Asking) (result : Result ℕ E)
+    → IfOk result (λ found. (found ≡ id) × (new ≡ asked id question now old)) → OnErr result (new ≡ old)
+    → new.schedule ≡ old.schedule
+asked-schedule id question now old new (Ok found) is unchanged = rw is.1 refl
+asked-schedule id question now old new (Err _) is unchanged = rw unchanged refl
+
+pub heard-schedule : {E : Type 0} (old new : Asking) (result : Result Incoming E) → IfOk result (λ it. new ≡ left_by it old)
+    → OnErr result (new ≡ old) → new.schedule ≡ old.schedule
+heard-schedule old new (Ok (Ended id question ending)) left unchanged = rw left refl
+heard-schedule old new (Ok (Ignored why)) left unchanged = rw left refl
+heard-schedule old new (Err _) left unchanged = rw unchanged refl
+
 -- ---- those that are held
 
 -- after as many turns as there were, none is left

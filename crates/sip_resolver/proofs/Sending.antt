@@ -8,8 +8,9 @@ use Rattle.std.proofs.lemmas.List.{append_assoc}
 use Rattle.std.proofs.lemmas.List.Elements.{All-append, All-cons, All-nil, Contains-append_right}
 use Rattle.dns_asker.specs.Events.{IsGivenUp, IsResent, again}
 use Rattle.dns_asker.specs.Tickets.{Asking, Ticket, has_id, waiting_too}
+use Rattle.dns_asker.specs.declared.schedule.Schedule.{Schedule}
 use Rattle.dns_message.specs.declared.question.Question.{Question}
-use Rattle.sip_resolver.specs.Questions.{QuestionsView, IsSent, asked_over, asking_over}
+use Rattle.sip_resolver.specs.Questions.{IsScheduled, IsSent, QuestionsView, asked_over, asking_over}
 use Rattle.sip_resolver.specs.Sends.{GivesUp, GivesUpBoth, IsInVain, IsOverdue, IsUnanswered, SendsAfter, SendsFirst, SendsOne, Sends, first, again as again-sent, with_over}
 use Rattle.sip_resolver.specs.Tasks.{WaitingView, over_of}
 use Rattle.sip_resolver.specs.Waits.{Resends}
@@ -18,7 +19,7 @@ use Rattle.sip_resolver.specs.declared.transmit.Over.TheVariants.{Datagram, Stre
 use Rattle.sip_resolver.specs.declared.transmit.Transmit.{Transmit}
 
 pub gives-up-not : (now : ℕ) (asking : Asking) → GivesUp now asking asking
-gives-up-not now asking = record { gone = []; were = refl; in_vain = All-nil (IsInVain now) }
+gives-up-not now asking = record { gone = []; were = refl; in_vain = All-nil (IsInVain asking.schedule now) }
 
 pub gives-up-none : (now : ℕ) (questions : QuestionsView) → GivesUpBoth now questions questions
 gives-up-none now questions =
@@ -40,6 +41,14 @@ given-up-by now sent id question old new due is =
       left = is.left;
     }
 
+-- the schedule stays
+schedule-left : (now : ℕ) (old new : Asking) → GivesUp now old new → old.schedule ≡ new.schedule
+schedule-left now old new it = ap (λ (asking : Asking). asking.schedule) it.were
+
+in-vain-by : (now id : ℕ) (question : Question) (old middle new : Asking) → GivesUp now old middle
+    → (is : IsGivenUp middle new now id question) → IsInVain old.schedule now is.ticket
+in-vain-by now id question old middle new gives is = rw (schedule-left now old middle gives) (is.enough, is.over)
+
 -- one more is given up
 pub gives-up-too : (now id : ℕ) (question : Question) (old middle new : Asking) → GivesUp now old middle
     → IsGivenUp middle new now id question → GivesUp now old new
@@ -47,17 +56,19 @@ gives-up-too now id question old middle new gives is = record {
   gone = gives.gone ++ is.ticket ∷ [];
   were = gives.were ∙ rw (is.first, is.left)
       (ap (λ l. record middle { tickets = l }) (sym (append_assoc gives.gone (is.ticket ∷ []) is.others)));
-  in_vain = All-append (IsInVain now) gives.gone (is.ticket ∷ []) gives.in_vain
-      (All-cons (IsInVain now) is.ticket [] (is.enough, is.over) (All-nil (IsInVain now)));
+  in_vain =
+      let kind = IsInVain old.schedule now in
+      All-append kind gives.gone (is.ticket ∷ []) gives.in_vain
+      (All-cons kind is.ticket [] (in-vain-by now id question old middle new gives is) (All-nil kind));
 }
 
 -- the question that is given up was one of those that were out at first
 pub unanswered : (now id : ℕ) (question : Question) (old middle new : Asking) → GivesUp now old middle
-    → IsGivenUp middle new now id question → IsUnanswered old.tickets now question
+    → IsGivenUp middle new now id question → IsUnanswered old.schedule old.tickets now question
 unanswered now id question old middle new gives is = record {
   ticket = is.ticket;
   stands = rw gives.were (Contains-append_right gives.gone middle.tickets is.ticket (rw is.first (0, omega arith, refl)));
-  in_vain = (is.enough, is.over);
+  in_vain = in-vain-by now id question old middle new gives is;
   of_it = sym is.question_is;
 }
 
@@ -98,10 +109,59 @@ pub sends-then : (now asked : ℕ) (waiting : List WaitingView) (old middle new 
 sends-then now asked waiting old middle new None gives it = rw it gives
 sends-then now asked waiting old middle new (Some id) gives it = record { middle = middle; gives_up = gives; sends = first it }
 
+-- ---- the schedule stays
+
+pub schedule-resent : (now sent : ℕ) (old new : Asking) (found : Option ℕ)
+    → MatchOption found (GivesUp now old new) (λ id. Resends now sent id old new) → new.schedule ≡ old.schedule
+schedule-resent now sent old new None it = sym (schedule-left now old new it)
+schedule-resent now sent old new (Some id) it =
+    ap (λ (asking : Asking). asking.schedule) it.resent.left ∙ sym (schedule-left now old it.middle it.gives_up)
+
+-- those over datagrams, and those over streams
+abbrev pub HaveSame : QuestionsView → QuestionsView → Type 0
+HaveSame old new = (old.datagrams.schedule ≡ new.datagrams.schedule) × (old.streams.schedule ≡ new.streams.schedule)
+
+pub same-given : (now : ℕ) (old new : QuestionsView) → GivesUpBoth now old new → HaveSame old new
+same-given now old new it =
+    (schedule-left now old.datagrams new.datagrams it.datagrams, schedule-left now old.streams new.streams it.streams)
+
+same-first : (over : Over) (id : ℕ) (question : Question) (asked : ℕ) (old new : QuestionsView)
+    → new ≡ asked_over over id question asked old → HaveSame old new
+same-first Datagram id question asked old new is = rw is (refl, refl)
+same-first Stream id question asked old new is = rw is (refl, refl)
+
+same-again : (over : Over) (asking : Asking) (octets : List ℕ) (now id : ℕ) (old new : QuestionsView)
+    → IsResent (asking_over over old) asking now id octets → new ≡ with_over over asking old → HaveSame old new
+same-again Datagram asking octets now id old new it is = rw is (rw it.left refl, refl)
+same-again Stream asking octets now id old new it is = rw is (refl, rw it.left refl)
+
+same-one : (now asked id : ℕ) (waiting : List WaitingView) (old new : QuestionsView) → SendsOne now asked id waiting old new
+    → HaveSame old new
+same-one now asked id waiting old new (first it) = same-first (over_of it.task) id it.question asked old new it.is_asked
+same-one now asked id waiting old new (again-sent over asking octets due it is) =
+    same-again over asking octets (max now asked) id old new it is
+
+pub same-after : (now asked id : ℕ) (waiting : List WaitingView) (old new : QuestionsView) → SendsAfter now asked id waiting old new
+    → HaveSame old new
+same-after now asked id waiting old new it =
+    let given = same-given now old it.middle it.gives_up in
+    let sent = same-one now asked id waiting it.middle new it.sends in
+    (given.0 ∙ sent.0, given.1 ∙ sent.1)
+
+pub same-sent : (now asked : ℕ) (waiting : List WaitingView) (old new : QuestionsView) (transmit : Option Transmit)
+    → Sends now asked waiting old new transmit → HaveSame old new
+same-sent now asked waiting old new None it = same-given now old new it
+same-sent now asked waiting old new (Some transmit) it = same-after now asked it.0 waiting old new it.1
+
+-- so it was the same before
+pub scheduled-before : (old new : QuestionsView) → HaveSame old new → IsScheduled new → IsScheduled old
+scheduled-before old new same it = (same.1 ∙ it.0 ∙ sym same.0, (rw same.0 it.1))
+
 -- ---- the one that is sent is out
 
-abbrev ticket-of : ℕ → Question → ℕ → Ticket
-ticket-of id question asked = record { sent = record { id = id; question = question; sends = 1 }; deadline = asked + 1 }
+abbrev ticket-of : Schedule → ℕ → Question → ℕ → Ticket
+ticket-of schedule id question asked =
+    record { sent = record { id = id; question = question; sends = 1 }; deadline = asked + schedule.wait }
 
 module _ (p : Ticket → Bool) (ticket : Ticket) (back : List Ticket) (is : p ticket ≡ true) where
   found-by : (before : Option Ticket) → option_or before (find p (ticket ∷ back)) ≡ None → ⊥
@@ -122,16 +182,16 @@ module _ (now asked id : ℕ) (waiting : List WaitingView) (old new : QuestionsV
 
   asked-there : (over : Over) (question : Question) → new ≡ asked_over over id question asked old → ⊥
   asked-there Datagram question is =
-      is-there Datagram (ticket-of id question asked) old.datagrams.tickets (search rules) (rw is refl)
+      is-there Datagram (ticket-of old.datagrams.schedule id question asked) old.datagrams.tickets (search rules) (rw is refl)
   asked-there Stream question is =
-      is-there Stream (ticket-of id question asked) old.streams.tickets (search rules) (rw is refl)
+      is-there Stream (ticket-of old.streams.schedule id question asked) old.streams.tickets (search rules) (rw is refl)
 
   again-there : (over : Over) (asking : Asking) (octets : List ℕ) → IsResent (asking_over over old) asking (max now asked) id octets
       → new ≡ with_over over asking old → ⊥
   again-there Datagram asking octets it is =
-      is-there Datagram (again (max now asked) it.ticket) it.others (search rules) (rw is (rw it.left refl))
+      is-there Datagram (again old.datagrams.schedule (max now asked) it.ticket) it.others (search rules) (rw is (rw it.left refl))
   again-there Stream asking octets it is =
-      is-there Stream (again (max now asked) it.ticket) it.others (search rules) (rw is (rw it.left refl))
+      is-there Stream (again old.streams.schedule (max now asked) it.ticket) it.others (search rules) (rw is (rw it.left refl))
 
   -- so its octets are there
   pub sent-there : SendsOne now asked id waiting old new → ⊥

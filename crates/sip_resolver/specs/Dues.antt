@@ -3,8 +3,9 @@ use Rattle.std.specs.Prelude.{◌≡◌, ℕ, ◌<◌, ◌≤◌, max, List, Som
 use Rattle.std.specs.List.{All, Contains}
 use Rattle.dns_asker.specs.Events.{again}
 use Rattle.dns_asker.specs.Tickets.{Ticket}
+use Rattle.dns_asker.specs.declared.schedule.Schedule.{Schedule}
 use Rattle.answer_cache.specs.Seats.{SeatView}
-use Rattle.sip_resolver.specs.Questions.{QuestionsView}
+use Rattle.sip_resolver.specs.Questions.{QuestionsView, schedule_of}
 use Rattle.sip_resolver.specs.Resolvers.{Polls, ResolverView}
 use Rattle.sip_resolver.specs.Sends.{IsInVain, tickets_of}
 use Rattle.sip_resolver.specs.declared.transmit.Transmit.{Transmit}
@@ -32,21 +33,23 @@ pub record PollsAll (gives : List ℕ → Type 0) (shows : ℕ → Type 0) {I : 
 -- ---- what becomes of a question
 
 -- A question before its deadline is as it was. From its deadline on it is sent once more, where it
--- was sent once or twice, and counts as sent at the later moment. Where it was sent three times it
--- is given up.
-pub data IsDealtWith (now asked : ℕ) (last : QuestionsView) (ticket : Ticket) : Type 0 where
+-- was sent less often than the schedule says, and counts as sent at the later moment. Where it was
+-- sent as often it is given up.
+pub data IsDealtWith (schedule : Schedule) (now asked : ℕ) (last : QuestionsView)
+    (ticket : Ticket) : Type 0 where
   waits_on : now < ticket.deadline → Contains (tickets_of last) ticket
-      → IsDealtWith now asked last ticket
-  sent_again : ticket.deadline ≤ now → ticket.sent.sends < 3
-      → Contains (tickets_of last) (again (max now asked) ticket)
-      → IsDealtWith now asked last ticket
-  given_up : IsInVain now ticket → (Contains (tickets_of last) ticket → ⊥)
-      → IsDealtWith now asked last ticket
+      → IsDealtWith schedule now asked last ticket
+  sent_again : ticket.deadline ≤ now → ticket.sent.sends < schedule.sends
+      → Contains (tickets_of last) (again schedule (max now asked) ticket)
+      → IsDealtWith schedule now asked last ticket
+  given_up : IsInVain schedule now ticket → (Contains (tickets_of last) ticket → ⊥)
+      → IsDealtWith schedule now asked last ticket
 
 -- each question that is out is dealt with by its deadline (`IsDealtWith`)
 abbrev pub AreDealtWith : ℕ → ℕ → ResolverView → ResolverView → Type 0
 AreDealtWith now asked first last =
-    All (IsDealtWith now asked last.questions) (tickets_of first.questions)
+    All (IsDealtWith (schedule_of first.questions) now asked last.questions)
+    (tickets_of first.questions)
 
 -- each question that is out is as it was
 abbrev pub AreAsBefore : ResolverView → ResolverView → Type 0

@@ -4,9 +4,10 @@ use Rattle.std.specs.List.{All, AllPairs, Contains}
 use Rattle.dns_message.specs.declared.question.Question.{Question}
 use Rattle.dns_asker.specs.Events.{asked, closed}
 use Rattle.dns_asker.specs.Out.{IsOctetsOf, LacksQuestion}
-use Rattle.dns_asker.specs.Tickets.{Asking, Ticket, ticket_of}
+use Rattle.dns_asker.specs.Tickets.{Asking, IsSchedule, Ticket, ticket_of}
 use Rattle.dns_asker.specs.declared.incoming.Incoming.{Incoming}
 use Rattle.dns_asker.specs.declared.incoming.Incoming.TheVariants.{Ended, Ignored}
+use Rattle.dns_asker.specs.declared.schedule.Schedule.{Schedule}
 use Rattle.sip_resolver.specs.declared.transmit.Over.{Over}
 use Rattle.sip_resolver.specs.declared.transmit.Over.TheVariants.{Datagram, Stream}
 use Rattle.sip_resolver.specs.declared.transmit.Transmit.{Transmit}
@@ -16,12 +17,21 @@ pub record QuestionsView : Type 0 where
   pub datagrams : Asking
   pub streams : Asking
 
--- no question is out; the number is how many can be out over datagrams, and over streams
-abbrev pub none_out : ℕ → QuestionsView
-none_out limit = record {
-  datagrams = record { tickets = []; limit = limit; serial = 0 };
-  streams = record { tickets = []; limit = limit; serial = 0 };
+-- no question is out; the number is how many can be out over datagrams, and over streams, and all
+-- are sent by this schedule
+abbrev pub none_out : ℕ → Schedule → QuestionsView
+none_out limit schedule = record {
+  datagrams = record { tickets = []; limit = limit; serial = 0; schedule = schedule };
+  streams = record { tickets = []; limit = limit; serial = 0; schedule = schedule };
 }
+
+-- the schedule by which questions are sent
+abbrev pub schedule_of : QuestionsView → Schedule
+schedule_of it = it.datagrams.schedule
+
+-- questions over datagrams and over streams are sent by one schedule
+abbrev pub IsScheduled : QuestionsView → Type 0
+IsScheduled it = (it.streams.schedule ≡ schedule_of it) × IsSchedule (schedule_of it)
 
 -- the questions that are out over datagrams, or over streams
 abbrev pub asking_over : Over → QuestionsView → Asking
@@ -63,11 +73,13 @@ pub record AreDistinct (it : QuestionsView) : Type 0 where
   pub streams : AllPairs Differ it.streams.tickets
   pub across : All (λ one. All (Differ one) it.streams.tickets) it.datagrams.tickets
 
--- They are so, and no more than 256 can be out over datagrams or over streams.
+-- They are so, no more than 256 can be out over datagrams or over streams, and all are sent by one
+-- schedule.
 pub record AreBounded (it : QuestionsView) : Type 0 where
   pub distinct : AreDistinct it
   pub few_datagrams : it.datagrams.limit ≤ 256
   pub few_streams : it.streams.limit ≤ 256
+  pub scheduled : IsScheduled it
 
 -- these octets are those of the question that is out under this id, over this
 abbrev pub IsSent : ℕ → QuestionsView → Option Transmit → Type 0

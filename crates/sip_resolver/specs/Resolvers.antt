@@ -10,6 +10,7 @@ use Rattle.dns_asker.specs.Out.{HasQuestion}
 use Rattle.dns_asker.specs.declared.incoming.Ending.{Ending}
 use Rattle.dns_asker.specs.declared.incoming.Ending.TheVariants as endings
 use Rattle.dns_asker.specs.declared.incoming.Incoming.TheVariants as incoming
+use Rattle.dns_asker.specs.declared.schedule.Schedule.{Schedule}
 use Rattle.answer_cache.specs.Seats.{SeatView}
 use Rattle.sip_selection.specs.Selections.{begun}
 use Rattle.sip_selection.specs.declared.caps.Caps.{Caps}
@@ -17,7 +18,7 @@ use Rattle.sip_selection.specs.declared.request.Request.{Request}
 use Rattle.sip_resolver.specs.Ends.{EndsMore, IsByClosing, IsByReply}
 use Rattle.sip_resolver.specs.Idle.{AreAwaited, IsIdle}
 use Rattle.sip_resolver.specs.Outcomes.{Ended}
-use Rattle.sip_resolver.specs.Questions.{AreDistinct, QuestionsView, asking_over, closed_over, none_out}
+use Rattle.sip_resolver.specs.Questions.{AreDistinct, IsScheduled, QuestionsView, asking_over, closed_over, none_out, schedule_of}
 use Rattle.sip_resolver.specs.Requests.{AreSame, RequestsView, Stand, count_of, numbers_of, requests_of}
 use Rattle.sip_resolver.specs.Sends.{AreSpaced, IsInTime, Sends, tickets_of}
 use Rattle.sip_resolver.specs.Settles.{GoesByReply, GoesOverStream, NeedsOther, SettlesAll}
@@ -38,10 +39,10 @@ pub record ResolverView : Type 0 where
   pub streams : Bool
 
 -- a resolver without a request inside and without a question out
-abbrev pub begun_of : ℕ → ℕ → Bool → ResolverView
-begun_of requests questions streams = record {
+abbrev pub begun_of : ℕ → ℕ → Bool → Schedule → ResolverView
+begun_of requests questions streams schedule = record {
   requests = requests_of [] [] [] [] requests;
-  questions = none_out questions;
+  questions = none_out questions schedule;
   streams = streams;
 }
 
@@ -140,16 +141,17 @@ pub record IsTaken (ended : Ended) (old new : ResolverView) : Type 0 where
 -- ends by its choice, because a question was in vain, or because memory was refused. What is sent
 -- are the octets of a question that is out, under an id of its own. Where nothing is sent, nothing
 -- is left to do at this moment. What is due is due by the first moment; what is sent waits until at
--- least a full second after the second one.
+-- least the whole wait of the schedule after the second one. All are sent by one schedule.
 pub record Polls (gives : List ℕ → Type 0) (shows : ℕ → Type 0) {I : Type 0}
     (draws : I → ℕ → I → Type 0) (seat : SeatView) (now asked : ℕ) (old new : ResolverView)
     (result : Option Transmit) : Type 0 where
   pub stand : Stand gives shows seat new.requests
   pub same : AreSame old.requests new.requests
-  pub ends : EndsMore (IsInTime (tickets_of old.questions) now)
+  pub ends : EndsMore (IsInTime (schedule_of old.questions) (tickets_of old.questions) now)
       old.requests.ended new.requests.ended
   pub sends : Sends now asked new.requests.waiting old.questions new.questions result
   pub spaced : AreSpaced asked old.questions new.questions
   pub idle : IfNone result (IsIdle draws now new.requests new.questions)
   pub awaited : AreAwaited old.requests old.questions → AreAwaited new.requests new.questions
   pub distinct : AreDistinct new.questions
+  pub scheduled : IsScheduled new.questions

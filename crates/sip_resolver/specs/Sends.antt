@@ -1,13 +1,14 @@
 -- What is sent at a moment, and what is given up.
-use Rattle.std.specs.Prelude.{◌≡◌, ◌⊎◌, ⊤, ℕ, ◌<◌, ◌≤◌, max, List, ◌∷◌, ◌++◌, Option, Some, None}
+use Rattle.std.specs.Prelude.{◌≡◌, ◌⊎◌, ⊤, ℕ, ◌+◌, ◌≤◌, max, List, ◌∷◌, ◌++◌, Option, Some, None}
 use Rattle.std.specs.List.{All, Contains}
 use Rattle.dns_message.specs.declared.question.Question.{Question}
 use Rattle.dns_asker.specs.Events.{IsResent}
 use Rattle.dns_asker.specs.Out.{IsOctetsOf}
 use Rattle.dns_asker.specs.Tickets.{Asking, Ticket}
+use Rattle.dns_asker.specs.declared.schedule.Schedule.{Schedule}
 use Rattle.sip_selection.specs.Choice.{need}
 use Rattle.sip_selection.specs.Selections.{now_of}
-use Rattle.sip_resolver.specs.Questions.{QuestionsView, asked_over, asking_over}
+use Rattle.sip_resolver.specs.Questions.{QuestionsView, asked_over, asking_over, schedule_of}
 use Rattle.sip_resolver.specs.Tasks.{TaskView, WaitingView, over_of}
 use Rattle.sip_resolver.specs.declared.outcome.Outcome.{Outcome}
 use Rattle.sip_resolver.specs.declared.outcome.Outcome.TheVariants.{Targets, Refused, NoAnswer, NoServer, BadReply, Memory}
@@ -17,26 +18,27 @@ use Rattle.sip_resolver.specs.declared.transmit.Transmit.{Transmit}
 
 -- ---- what is given up
 
--- a question was sent three times, and no reply came in time
-abbrev pub IsInVain : ℕ → Ticket → Type 0
-IsInVain now ticket = (3 ≤ ticket.sent.sends) × (ticket.deadline ≤ now)
+-- a question was sent as often as a schedule says, and no reply came in time
+abbrev pub IsInVain : Schedule → ℕ → Ticket → Type 0
+IsInVain schedule now ticket = (schedule.sends ≤ ticket.sent.sends) × (ticket.deadline ≤ now)
 
 -- the questions in front that were in vain are given up, and the others are as they were
 pub record GivesUp (now : ℕ) (old new : Asking) : Type 0 where
   pub gone : List Ticket
   pub were : old ≡ record new { tickets = gone ++ new.tickets }
-  pub in_vain : All (IsInVain now) gone
+  pub in_vain : All (IsInVain old.schedule now) gone
 
 -- the questions that were in vain are given up, over datagrams and over streams
 pub record GivesUpBoth (now : ℕ) (old new : QuestionsView) : Type 0 where
   pub datagrams : GivesUp now old.datagrams new.datagrams
   pub streams : GivesUp now old.streams new.streams
 
--- this question is one of those that are out, and was sent three times in vain
-pub record IsUnanswered (tickets : List Ticket) (now : ℕ) (question : Question) : Type 0 where
+-- this question is one of those that are out, and was sent in vain as often as a schedule says
+pub record IsUnanswered (schedule : Schedule) (tickets : List Ticket) (now : ℕ)
+    (question : Question) : Type 0 where
   pub ticket : Ticket
   pub stands : Contains tickets ticket
-  pub in_vain : IsInVain now ticket
+  pub in_vain : IsInVain schedule now ticket
   pub of_it : ticket.sent.question ≡ question
 
 -- the tickets of all questions that are out
@@ -45,13 +47,13 @@ tickets_of it = it.datagrams.tickets ++ it.streams.tickets
 
 -- how a request may end at a moment: without an answer only where the question was in vain, and by
 -- no reply
-abbrev pub IsInTime : List Ticket → ℕ → Outcome → Type 0
-IsInTime tickets now (Targets list) = ⊤
-IsInTime tickets now (Refused reason) = ⊤
-IsInTime tickets now (NoAnswer question) = IsUnanswered tickets now question
-IsInTime tickets now (NoServer question) = ⊥
-IsInTime tickets now (BadReply question refusal) = ⊥
-IsInTime tickets now Memory = ⊤
+abbrev pub IsInTime : Schedule → List Ticket → ℕ → Outcome → Type 0
+IsInTime schedule tickets now (Targets list) = ⊤
+IsInTime schedule tickets now (Refused reason) = ⊤
+IsInTime schedule tickets now (NoAnswer question) = IsUnanswered schedule tickets now question
+IsInTime schedule tickets now (NoServer question) = ⊥
+IsInTime schedule tickets now (BadReply question refusal) = ⊥
+IsInTime schedule tickets now Memory = ⊤
 
 -- ---- what is sent
 
@@ -107,7 +109,8 @@ Sends now asked waiting old new (Some transmit) =
     × IsOctetsOf transmit.octets.now id (asking_over transmit.over new).tickets
 
 -- Each question that is out was out before, and waits as long as it did; or it was sent, and its
--- deadline is at least a full second after the moment rounded up.
+-- deadline is at least the whole wait of the schedule after the moment rounded up.
 abbrev pub AreSpaced : ℕ → QuestionsView → QuestionsView → Type 0
 AreSpaced asked old new =
-    All (λ ticket. Contains (tickets_of old) ticket ⊎ (asked < ticket.deadline)) (tickets_of new)
+    All (λ ticket. Contains (tickets_of old) ticket
+    ⊎ (asked + (schedule_of old).wait ≤ ticket.deadline)) (tickets_of new)

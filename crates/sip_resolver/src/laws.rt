@@ -26,9 +26,9 @@ pub fn law_requests_are_awaited()
 
 /// Where `poll_transmit` is called at a moment until it gives nothing, each question that was out
 /// is dealt with by its deadline. Before its deadline, it is as it was. From its deadline on, it is
-/// sent again, or given up where it was sent three times. So before the second that `next_timeout`
-/// named, nothing is sent again or given up. From that second on, a question whose deadline it was
-/// is sent again or given up.
+/// sent again, or given up where it was sent as often as the schedule says. So before the second
+/// that `next_timeout` named, nothing is sent again or given up. From that second on, a question
+/// whose deadline it was is sent again or given up.
 pub fn law_questions_are_dealt_with<F: Origin, I: Ids>()
     ensures dealt { (now asked : ℕ) (first last : ResolverView)
         → PollsAll F.gives F.shows I.draws now asked first last

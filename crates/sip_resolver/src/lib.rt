@@ -24,7 +24,9 @@
 //!
 //! Moments are whole seconds. `now` is the time rounded down: what was due by then is sent again or
 //! given up. `asked` is the time rounded up, at which a question that is sent counts as sent: so no
-//! query is sent again before a full second is over.
+//! query is sent again before its full wait is over. A `Schedule` says how often a question is sent
+//! and how long each send is waited for: three times and one second by `Resolver::new`, what the
+//! caller gives by `Resolver::with_schedule`.
 //!
 //! A loop over it goes on so: `submit` what is to be resolved; call `poll_transmit` until it gives
 //! nothing, and send what it gives; take what `poll_outcome` gives; wait for a datagram until the
@@ -73,6 +75,7 @@ mod transmit;
 mod waits;
 mod wire_origin;
 
+pub use dns_asker::Schedule;
 pub use draw::draw_words;
 pub use drive::{cancel_over, next_outcome, poll_over};
 pub use id_streams::{law_id_streams_are_apart, random_ids};

@@ -70,7 +70,7 @@ pub enum Outcome {
     Targets(TargetList),
     /// The request goes nowhere, for this reason.
     Refused(Reason),
-    /// This question was sent three times, and has no answer.
+    /// This question was sent as often as the schedule says, and has no answer.
     NoAnswer(Question),
     /// No server takes this question, as the caller said (`Resolver::close`).
     NoServer(Question),

@@ -8,7 +8,7 @@ ghost use Rattle.dns_asker.specs.Tickets.{ticket_of};
 ghost use Rattle.sip_resolver.specs.Ends.{EndsMore};
 ghost use Rattle.dns_asker.specs.declared.refusal.AskRefusal.TheVariants as refusals;
 ghost use Rattle.sip_resolver.specs.Idle.{AreAwaited, AreTaken, HasNoRoom, IsFull, IsInWait, IsOut, MayRefuse};
-ghost use Rattle.sip_resolver.specs.Questions.{AreDistinct, IsLeast, IsSent, Lacks, asked_over, asking_over, closed_both, closed_over, deadlines_of, left_over, none_out};
+ghost use Rattle.sip_resolver.specs.Questions.{AreDistinct, IsLeast, IsScheduled, IsSent, Lacks, asked_over, asking_over, closed_both, closed_over, deadlines_of, left_over, none_out, schedule_of};
 ghost use Rattle.sip_resolver.specs.Requests.{AreSame, Stand};
 ghost use Rattle.sip_resolver.specs.Sends.{GivesUpBoth, IsInTime, SendsAfter, tickets_of};
 
@@ -20,7 +20,7 @@ use crate::transmit::{Over, Transmit};
 use crate::waits::next_resend;
 use answer_cache::AnswerBook;
 use dns_answers::Moment;
-use dns_asker::{AskRefusal, Asker, Incoming};
+use dns_asker::{AskRefusal, Asker, Incoming, Schedule};
 use dns_message::Question;
 use std::alloc::{AllocError, Global};
 use std::marker::Model;
@@ -28,7 +28,8 @@ use std::marker::Model;
 /// How many ids are drawn at most for a question: one more than the questions that can be out.
 const DRAW_LIMIT: usize = 513;
 
-/// The questions that are out. No two have one id, and no two are one question.
+/// The questions that are out. No two have one id, no two are one question, and all are sent by one
+/// schedule.
 #[derive(Drop)]
 pub(crate) struct Questions {
     datagrams: Asker,
@@ -49,20 +50,28 @@ impl Model for Questions {
 
 impl Questions {
     /// None. At most so many are out over datagrams, and as many over streams.
-    pub(crate) fn new(alloc: Global, limit: usize) -> Result<Questions, AllocError>
+    pub(crate) fn new(
+        alloc: Global,
+        limit: usize,
+        schedule: Schedule,
+    ) -> Result<Questions, AllocError>
         requires some { 1 ≤ limit }
         requires few { limit ≤ 256 }
-        ensures { IfOk result (λ it. it ≡ none_out limit) }
+        requires sends { (1 ≤ schedule.sends) × (schedule.sends ≤ 15) }
+        requires wait { (1 ≤ schedule.wait) × (schedule.wait ≤ 60) }
+        ensures { IfOk result (λ it. it ≡ none_out limit schedule) }
     {
         Ok(Questions {
-            datagrams: Asker::new(alloc, limit, 0)?,
-            streams: Asker::new(alloc, limit, 0)?,
+            datagrams: Asker::with_schedule(alloc, limit, 0, schedule)?,
+            streams: Asker::with_schedule(alloc, limit, 0, schedule)?,
         })
     }
 
-    /// A law: no two of them have one id, and no two are one question.
-    pub(crate) fn are_distinct(&self)
-        ensures { AreDistinct self.now }
+    /// A law: no two of them have one id, no two are one question, and all are sent by one
+    /// schedule.
+    pub(crate) fn law_stand_in_order(&self)
+        ensures distinct { AreDistinct self.now }
+        ensures scheduled { IsScheduled self.now }
     {
         let _ = &self.datagrams;
     }
@@ -189,9 +198,9 @@ impl Questions {
         let _over_streams = self.streams.cancel(id);
     }
 
-    /// Gives up the questions that were sent three times and whose replies did not come in time,
-    /// until one is to be sent once more, and gives its id. It counts as sent at the later one of
-    /// the moments.
+    /// Gives up the questions that were sent as often as the schedule says and whose replies did
+    /// not come in time, until one is to be sent once more, and gives its id. It counts as sent at
+    /// the later one of the moments.
     pub(crate) fn next_resend<B: AnswerBook, F: Origin>(
         &mut self,
         requests: &mut Requests<B>,
@@ -201,7 +210,7 @@ impl Questions {
         ensures stand { (seat : SeatView) → Stand F.gives F.shows seat requests.old
             → Stand F.gives F.shows seat requests.new }
         ensures same { AreSame requests.old requests.new }
-        ensures ends { EndsMore (IsInTime (tickets_of self.old) now)
+        ensures ends { EndsMore (IsInTime (schedule_of self.old) (tickets_of self.old) now)
             requests.old.ended requests.new.ended }
         ensures sends { MatchOption result (GivesUpBoth now self.old self.new)
             (λ id. SendsAfter now asked id requests.new.waiting self.old self.new) }

@@ -5,13 +5,14 @@ ghost use Rattle.std.specs.List.{All, Contains, sum_by};
 ghost use Rattle.answer_cache.specs.Seats.{GoesOn, SeatView, StoresNothing};
 ghost use Rattle.dns_answers.specs.Records.{kind_of};
 ghost use Rattle.dns_answers.specs.declared.refusal.ReplyRefusal.TheVariants as refusals;
+ghost use Rattle.dns_asker.specs.Tickets.{usual};
 ghost use Rattle.dns_asker.specs.declared.incoming.Ending.TheVariants as endings;
 ghost use Rattle.sip_locator.specs.Replies.{Answers};
 ghost use Rattle.sip_resolver.specs.Cancels.{questions_left, requests_with, requests_without};
 ghost use Rattle.sip_resolver.specs.Ends.{EndsMore, IsByChoice, IsByReply, IsMemory};
 ghost use Rattle.sip_resolver.specs.Idle.{AreAwaited, CannotAsk, IsIdle, IsOut};
 ghost use Rattle.sip_resolver.specs.Outcomes.{IsOutcome, Sought};
-ghost use Rattle.sip_resolver.specs.Questions.{IsLeast, deadlines_of};
+ghost use Rattle.sip_resolver.specs.Questions.{IsLeast, deadlines_of, schedule_of};
 ghost use Rattle.sip_resolver.specs.Requests.{AreSame, IsAwaitedBy, IsBack, Stand, count_of, numbers_of, weight};
 ghost use Rattle.sip_resolver.specs.Resolvers.{Closes, HasRoomFor, Hears, IsCut, IsEnded, IsTaken, Polls, RefusesSubmit, begun_of, with_request};
 ghost use Rattle.sip_resolver.specs.Sends.{GivesUpBoth, IsInTime, SendsAfter, SendsFirst, tickets_of};
@@ -32,7 +33,7 @@ use crate::transmit::{Over, Transmit};
 use crate::waits::{WaitEnd, settle_all};
 use answer_cache::AnswerBook;
 use dns_answers::{Answer, Moment, ReplyRefusal, law_answers_are_bounded};
-use dns_asker::{Ending, Incoming, Why};
+use dns_asker::{Ending, Incoming, Schedule, Why};
 use dns_message::Question;
 use sip_selection::{Caps, Request};
 use srv_choice::Words;
@@ -99,16 +100,34 @@ impl<B: AnswerBook, F: Origin, I: Ids + Drop> Resolver<B, F, I> {
     ghost use Rattle.std.specs.Io.BufRead.{Rests};
     ghost use Rattle.sip_resolver.specs.contracts.resolver.Resolver.{the_row};
 
-    /// A resolver with no request inside and no question out.
+    /// A resolver with no request inside and no question out, which sends by the usual schedule
+    /// (`Schedule::USUAL`).
     pub fn new(alloc: Global, limits: Limits, ids: I) -> Result<Resolver<B, F, I>, AllocError>
         requires requests { (1 ≤ limits.requests) × (limits.requests ≤ 1024) }
         requires questions { (1 ≤ limits.questions) × (limits.questions ≤ 256) }
         ensures { IfOk result
-            (λ it. it ≡ begun_of limits.requests limits.questions limits.streams) }
+            (λ it. it ≡ begun_of limits.requests limits.questions limits.streams usual) }
+    {
+        Resolver::with_schedule(alloc, limits, Schedule::USUAL, ids)
+    }
+
+    /// A resolver with no request inside and no question out, which sends by this schedule.
+    pub fn with_schedule(
+        alloc: Global,
+        limits: Limits,
+        schedule: Schedule,
+        ids: I,
+    ) -> Result<Resolver<B, F, I>, AllocError>
+        requires requests { (1 ≤ limits.requests) × (limits.requests ≤ 1024) }
+        requires questions { (1 ≤ limits.questions) × (limits.questions ≤ 256) }
+        requires sends { (1 ≤ schedule.sends) × (schedule.sends ≤ 15) }
+        requires wait { (1 ≤ schedule.wait) × (schedule.wait ≤ 60) }
+        ensures { IfOk result
+            (λ it. it ≡ begun_of limits.requests limits.questions limits.streams schedule) }
     {
         Ok(Resolver {
             alloc,
-            questions: Questions::new(alloc, limits.questions)?,
+            questions: Questions::new(alloc, limits.questions, schedule)?,
             ids,
             requests: Requests::new(alloc, limits.requests)?,
             streams: limits.streams,
@@ -162,14 +181,15 @@ impl<B: AnswerBook, F: Origin, I: Ids + Drop> Resolver<B, F, I> {
     /// The octets to send next, if there are any now. The caller calls it again until it gives
     /// none.
     ///
-    /// Questions whose replies did not come in time are given up after three sends, or sent once
-    /// more; then each request that can goes on, by what the book has.
+    /// Questions whose replies did not come in time are sent once more, or given up where they were
+    /// sent as often as the schedule says; then each request that can goes on, by what the book
+    /// has.
     ///
     /// Moments are whole seconds, and most calls come between two of them. `now` is the time
     /// rounded down: what was due by then is due, and the book is read at it. `asked` is the time
-    /// rounded up (`rounded_up`): a question that is sent counts as sent then, and is due one
-    /// second later. So it is not sent again in less than a full second. Where `asked` comes before
-    /// `now`, one that is sent again counts as sent at `now`.
+    /// rounded up (`rounded_up`): a question that is sent counts as sent then, and is due when the
+    /// wait of the schedule is over. So it is not sent again in less than that many full seconds.
+    /// Where `asked` comes before `now`, one that is sent again counts as sent at `now`.
     pub fn poll_transmit(
         &mut self,
         book: &B,
@@ -187,7 +207,7 @@ impl<B: AnswerBook, F: Origin, I: Ids + Drop> Resolver<B, F, I> {
             Polls F.gives F.shows I.draws (B.shown seat.new) now asked self.old ended result)) }
     {
         let id = self.next_transmit(book, seat, now, asked);
-        self.questions.are_distinct();
+        self.questions.law_stand_in_order();
         self.questions.transmit_of(id?)
     }
 
@@ -348,7 +368,8 @@ impl<B: AnswerBook, F: Origin, I: Ids + Drop> Resolver<B, F, I> {
         ensures stores_nothing { StoresNothing (B.shown seat.old) (B.shown seat.new) }
         ensures stand { Stand F.gives F.shows (B.shown seat.new) self.new.requests }
         ensures same { AreSame self.old.requests self.new.requests }
-        ensures ends { EndsMore (IsInTime (tickets_of self.old.questions) now)
+        ensures ends { EndsMore
+            (IsInTime (schedule_of self.old.questions) (tickets_of self.old.questions) now)
             self.old.requests.ended self.new.requests.ended }
         ensures sends { MatchOption result
             (GivesUpBoth now self.old.questions self.new.questions)

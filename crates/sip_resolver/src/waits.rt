@@ -39,7 +39,7 @@ pub(crate) enum WaitEnd<'a> {
     Faulty(&'a Question, ReplyRefusal),
     /// The reply to the question was cut, and the question goes over a stream next.
     Cut,
-    /// This question was sent three times.
+    /// This question was sent as often as the schedule says.
     GivenUp(&'a Question),
     /// No server takes this question.
     Closed(&'a Question),
@@ -67,8 +67,8 @@ fn is_overdue(asker: &Asker, now: Moment) -> bool
     }
 }
 
-/// Gives up the questions that were sent three times and whose replies did not come in time, until
-/// one is to be sent once more, and gives its id. It counts as sent at `sent`.
+/// Gives up the questions that were sent as often as the schedule says and whose replies did not
+/// come in time, until one is to be sent once more, and gives its id. It counts as sent at `sent`.
 pub(crate) fn next_resend<B: AnswerBook, F: Origin>(
     asker: &mut Asker,
     requests: &mut Requests<B>,
@@ -85,7 +85,7 @@ pub(crate) fn next_resend<B: AnswerBook, F: Origin>(
     ensures stand { (seat : SeatView) → Stand F.gives F.shows seat requests.old
         → Stand F.gives F.shows seat requests.new }
     ensures same { AreSame requests.old requests.new }
-    ensures ends { EndsMore (IsInTime asker.old.tickets now)
+    ensures ends { EndsMore (IsInTime asker.old.schedule asker.old.tickets now)
         requests.old.ended requests.new.ended }
     ensures sends { MatchOption result (GivesUp now asker.old asker.new)
         (λ id. Resends now sent id asker.old asker.new) }
@@ -192,7 +192,7 @@ fn faulty<B: AnswerBook>(task: &Task<B>, question: &Question, refusal: ReplyRefu
     }
 }
 
-/// What becomes of a request, as this question was sent three times.
+/// What becomes of a request, as this question was sent as often as the schedule says.
 fn given_up<B: AnswerBook>(task: &Task<B>, question: &Question) -> WaitOutcome
     ensures { IsGivenUp task.now question.now result }
 {

@@ -16,7 +16,7 @@ pub dues-init : goal.dues-init
 dues-init g c = record {
   fewer = fewer-not c.args.asker.now.tickets;
   stand = λ seat it. it;
-  ends = ends-not (IsInTime c.args.asker.now.tickets c.args.now) c.args.requests.now.ended;
+  ends = ends-not (IsInTime c.args.asker.now.schedule c.args.asker.now.tickets c.args.now) c.args.requests.now.ended;
   few = let few = c.requires.few in omega (arith, few);
   awaited = λ others it. it;
   limit = refl;
@@ -30,12 +30,13 @@ dues-preserved g c = record {
   stand = λ seat it. c.settle_all.ensures.stand seat tt (c.dues.invariant.stand seat it);
   ends =
       let tickets = c.args.asker.now.tickets in
+      let kind = IsInTime c.args.asker.now.schedule tickets c.args.now in
       let due = rw c.in-Some-GaveUp.field-0-is at (rw c.in-Some-GaveUp.is at c.due.follows.holds-at-none) in
       let is = given-up-by c.args.now c.args.sent _ _ c.dues.asker _ (c.is_overdue.ensures.over c.if-not-is_overdue.false) due in
       let in-vain = unanswered _ _ _ c.args.asker.now _ _ c.dues.invariant.gives_up is in
-      ends-through (IsInTime tickets c.args.now) c.args.requests.now.ended c.dues.requests.ended c.settle_all.new.requests.ended
+      ends-through kind c.args.requests.now.ended c.dues.requests.ended c.settle_all.new.requests.ended
       c.dues.invariant.ends
-      (ends-as _ (IsInTime tickets c.args.now) (silence-in-time tickets c.args.now _ in-vain) c.dues.requests.ended
+      (ends-as _ kind (silence-in-time c.args.asker.now.schedule tickets c.args.now _ in-vain) c.dues.requests.ended
       c.settle_all.new.requests.ended (settles-ends _ _ _ c.settle_all.ensures.settles));
   few =
       let due = rw c.in-Some-GaveUp.field-0-is at (rw c.in-Some-GaveUp.is at c.due.follows.holds-at-none) in

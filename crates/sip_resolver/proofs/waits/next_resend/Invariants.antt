@@ -13,7 +13,7 @@ invariant-dues g l = record {
   fewer : Fewer l.fn.asker.tickets l.asker.tickets;
   stand : (seat : SeatView) → Stand g.F.Origin.gives g.F.Origin.shows seat l.fn.requests
       → Stand g.F.Origin.gives g.F.Origin.shows seat l.requests;
-  ends : EndsMore (IsInTime l.fn.asker.tickets l.now) l.fn.requests.ended l.requests.ended;
+  ends : EndsMore (IsInTime l.fn.asker.schedule l.fn.asker.tickets l.now) l.fn.requests.ended l.requests.ended;
   few : length l.asker.tickets + l._due ≤ 256;
   awaited : (others : List Ticket) → AreIn l.fn.asker.tickets others l.fn.requests.waiting
       → AreIn l.asker.tickets others l.requests.waiting;

@@ -1,5 +1,7 @@
+use Rattle.std.proofs.Common.{refl}
 use Rattle.sip_resolver.proofs.Apart.{asked-datagram, asked-stream}
-use Rattle.sip_resolver.proofs.Idling.{asked-few, may-refuse-all}
+use Rattle.sip_resolver.proofs.Idling.{asked-few, asked-schedule, may-refuse-all}
+use Rattle.sip_resolver.proofs.Sending.{scheduled-before}
 use Rattle.sip_resolver.specs.Questions.{Lacks, QuestionsView}
 use Rattle.sip_resolver.specs.declared.transmit.Over.TheVariants.{Datagram, Stream}
 use Rattle.sip_resolver.proofs.questions.Questions.ask.Goals as goal
@@ -19,6 +21,12 @@ invariant_of-self g c =
       few_datagrams = asked-few c.in-Some.id c.in-Ok.question c.args.now old.datagrams c.asked.new.asker c.asked.result
           c.asked.ensures.asked c.asked.ensures.unchanged c.self.invariant.few_datagrams;
       few_streams = c.self.invariant.few_streams;
+      scheduled = scheduled-before (record { datagrams = c.asked.new.asker; streams = old.streams }) old (
+        asked-schedule c.in-Some.id c.in-Ok.question c.args.now old.datagrams c.asked.new.asker c.asked.result
+            c.asked.ensures.asked c.asked.ensures.unchanged,
+        refl,
+      )
+          c.self.invariant.scheduled;
     }
 
 pub invariant_of-self-in-Stream : goal.invariant_of-self-in-Stream
@@ -36,6 +44,12 @@ invariant_of-self-in-Stream g c =
       few_datagrams = c.self.invariant.few_datagrams;
       few_streams = asked-few c.in-Some.id c.in-Ok.question c.args.now old.streams c.asked-in-Stream.new.asker c.asked-in-Stream.result
           c.asked-in-Stream.ensures.asked c.asked-in-Stream.ensures.unchanged c.self.invariant.few_streams;
+      scheduled = scheduled-before (record { datagrams = old.datagrams; streams = c.asked-in-Stream.new.asker }) old (
+        refl,
+        asked-schedule c.in-Some.id c.in-Ok.question c.args.now old.streams c.asked-in-Stream.new.asker c.asked-in-Stream.result
+            c.asked-in-Stream.ensures.asked c.asked-in-Stream.ensures.unchanged,
+      )
+          c.self.invariant.scheduled;
     }
 
 pub returns-in-Datagram-clause-refused : goal.returns-in-Datagram-clause-refused

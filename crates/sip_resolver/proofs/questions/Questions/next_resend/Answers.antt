@@ -2,8 +2,8 @@ use Rattle.std.proofs.lemmas.List.Elements.{Contains-append_left, Contains-appen
 use Rattle.sip_resolver.proofs.Apart.{distinct-fewer}
 use Rattle.sip_resolver.proofs.Awaiting.{in-flipped}
 use Rattle.sip_resolver.proofs.Ending.{ends-as, ends-through, in-time-of}
-use Rattle.sip_resolver.proofs.Sending.{sends-both, sends-datagram}
-use Rattle.sip_resolver.specs.Questions.{QuestionsView}
+use Rattle.sip_resolver.proofs.Sending.{schedule-resent, scheduled-before, sends-both, sends-datagram}
+use Rattle.sip_resolver.specs.Questions.{QuestionsView, schedule_of}
 use Rattle.sip_resolver.specs.Sends.{IsInTime, tickets_of}
 use Rattle.sip_resolver.proofs.questions.Questions.next_resend.Goals as goal
 
@@ -15,6 +15,12 @@ invariant_of-self-2 g c =
           c.next_resend-2.ensures.fewer c.self.invariant.distinct;
       few_datagrams = rw c.next_resend.ensures.limit c.self.invariant.few_datagrams;
       few_streams = rw c.next_resend-2.ensures.limit c.self.invariant.few_streams;
+      scheduled = scheduled-before (record { datagrams = c.next_resend.new.asker; streams = c.next_resend-2.new.asker })
+          (record { datagrams = c.self.inside.datagrams; streams = c.self.inside.streams }) (
+            schedule-resent _ _ c.self.inside.datagrams c.next_resend.new.asker c.next_resend.result c.next_resend.ensures.sends,
+            schedule-resent _ _ c.self.inside.streams c.next_resend-2.new.asker c.next_resend-2.result c.next_resend-2.ensures.sends,
+          )
+          c.self.invariant.scheduled;
     }
 
 pub returns-clause-stand : goal.returns-clause-stand
@@ -24,8 +30,9 @@ pub returns-in-Some-clause-ends : goal.returns-in-Some-clause-ends
 returns-in-Some-clause-ends g c =
     let old : QuestionsView = record { datagrams = c.self.inside.datagrams; streams = c.self.inside.streams } in
     rw (← c.self.view_is)
-    (ends-as _ (IsInTime (tickets_of old) c.args.now)
-    (in-time-of old.datagrams.tickets (tickets_of old) c.args.now (Contains-append_left old.datagrams.tickets old.streams.tickets))
+    (ends-as _ (IsInTime (schedule_of old) (tickets_of old) c.args.now)
+    (in-time-of (schedule_of old) old.datagrams.tickets (tickets_of old) c.args.now
+    (Contains-append_left old.datagrams.tickets old.streams.tickets))
     _ _ c.next_resend.ensures.ends)
 
 pub returns-in-Some-clause-sends : goal.returns-in-Some-clause-sends
@@ -37,15 +44,18 @@ returns-in-Some-clause-sends g c =
 pub returns-clause-ends : goal.returns-clause-ends
 returns-clause-ends g c =
     let old : QuestionsView = record { datagrams = c.self.inside.datagrams; streams = c.self.inside.streams } in
-    let kind = IsInTime (tickets_of old) c.args.now in
+    let kind = IsInTime (schedule_of old) (tickets_of old) c.args.now in
+    let streams-end = rw c.self.invariant.scheduled.0 at c.next_resend-2.ensures.ends in
     rw (← c.self.view_is)
     (ends-through kind _ _ _
     (ends-as _ kind
-    (in-time-of old.datagrams.tickets (tickets_of old) c.args.now (Contains-append_left old.datagrams.tickets old.streams.tickets))
+    (in-time-of (schedule_of old) old.datagrams.tickets (tickets_of old) c.args.now
+    (Contains-append_left old.datagrams.tickets old.streams.tickets))
     _ _ c.next_resend.ensures.ends)
     (ends-as _ kind
-    (in-time-of old.streams.tickets (tickets_of old) c.args.now (Contains-append_right old.datagrams.tickets old.streams.tickets))
-    _ _ c.next_resend-2.ensures.ends))
+    (in-time-of (schedule_of old) old.streams.tickets (tickets_of old) c.args.now
+    (Contains-append_right old.datagrams.tickets old.streams.tickets))
+    _ _ streams-end))
 
 pub returns-clause-sends : goal.returns-clause-sends
 returns-clause-sends g c =

@@ -3,6 +3,7 @@ use Rattle.sip_resolver.proofs.Ending.{choice-in-time, ends-as, ends-through}
 use Rattle.sip_resolver.proofs.Idling.{idle-after}
 use Rattle.sip_resolver.proofs.Sending.{sends-then}
 use Rattle.sip_resolver.specs.Ends.{IsByChoice}
+use Rattle.sip_resolver.specs.Questions.{schedule_of}
 use Rattle.sip_resolver.specs.Sends.{IsInTime, SendsFirst, first, tickets_of}
 use Rattle.sip_resolver.proofs.resolver.Resolver.next_transmit.Goals as goal
 
@@ -16,11 +17,12 @@ run_ready-requires-clause-stand g c =
 
 pub returns-in-Some-run_ready-clause-ends : goal.returns-in-Some-run_ready-clause-ends
 returns-in-Some-run_ready-clause-ends g c =
+    let schedule = schedule_of c.self.inside.questions in
     let tickets = tickets_of c.self.inside.questions in
-    let kind = IsInTime tickets c.args.now in
+    let kind = IsInTime schedule tickets c.args.now in
     rw (← c.self.view_is)
     (ends-through kind _ _ _ c.next_resend.ensures.ends
-    (ends-as IsByChoice kind (choice-in-time tickets c.args.now) _ _ c.run_ready.ensures.ends))
+    (ends-as IsByChoice kind (choice-in-time schedule tickets c.args.now) _ _ c.run_ready.ensures.ends))
 
 pub returns-in-Some-clause-sends : goal.returns-in-Some-clause-sends
 returns-in-Some-clause-sends g c = rw (← c.self.view_is) c.in-Some.ensures.sends
@@ -32,9 +34,10 @@ returns-in-Some-run_ready-clause-sends g c =
 
 pub returns-clause-ends : goal.returns-clause-ends
 returns-clause-ends g c =
+    let schedule = schedule_of c.self.inside.questions in
     let tickets = tickets_of c.self.inside.questions in
-    let kind = IsInTime tickets c.args.now in
-    let by-choice = ends-as IsByChoice kind (choice-in-time tickets c.args.now) in
+    let kind = IsInTime schedule tickets c.args.now in
+    let by-choice = ends-as IsByChoice kind (choice-in-time schedule tickets c.args.now) in
     rw (← c.self.view_is)
     (ends-through kind _ _ _ c.next_resend.ensures.ends
     (ends-through kind _ _ _ (by-choice _ _ c.run_ready.ensures.ends) (by-choice _ _ c.run_held.ensures.ends)))

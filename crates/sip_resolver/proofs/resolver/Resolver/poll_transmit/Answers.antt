@@ -16,11 +16,12 @@ returns g c =
           sends = sends-octets c.args.now c.args.asked c.in_ok-id.field-0 c.self.inside.requests.waiting c.args.self.now.questions
               c.self.inside.questions c.transmit_of.result told.sends c.transmit_of.ensures;
           spaced = spaced c.args.now c.args.asked c.self.inside.requests.waiting c.args.self.now.questions c.self.inside.questions
-              (Some c.in_ok-id.field-0) told.sends;
+              (Some c.in_ok-id.field-0) c.law_stand_in_order.ensures.scheduled told.sends;
           idle = sends-some c.args.now c.args.asked c.in_ok-id.field-0 c.self.inside.requests.waiting c.args.self.now.questions
               c.self.inside.questions c.transmit_of.result told.sends c.transmit_of.ensures _;
           awaited = told.awaited;
-          distinct = c.are_distinct.ensures;
+          distinct = c.law_stand_in_order.ensures.distinct;
+          scheduled = c.law_stand_in_order.ensures.scheduled;
         },
       ),
       record {
@@ -44,10 +45,11 @@ returns-in_err-id g c =
           ends = told.ends;
           sends = told.sends;
           spaced = spaced c.args.now c.args.asked c.self.inside.requests.waiting c.args.self.now.questions c.self.inside.questions None
-              told.sends;
+              c.law_stand_in_order.ensures.scheduled told.sends;
           idle = told.idle;
           awaited = told.awaited;
-          distinct = c.are_distinct.ensures;
+          distinct = c.law_stand_in_order.ensures.distinct;
+          scheduled = c.law_stand_in_order.ensures.scheduled;
         },
       ),
       record {
