@@ -2,9 +2,10 @@
 use crate::lookups::{
     moment_of, push_answer, push_debug_line, push_number_line, push_question, push_yes, question_of,
 };
+use crate::schedules::{is_in_range, schedule_of};
 use crate::servers;
 use dns_answers::{Answer, Moment, ReplyRefusal};
-use dns_asker::{Asker, Due, Ending, Incoming, Why};
+use dns_asker::{Asker, Due, Ending, Incoming, Schedule, Why};
 use dns_message::Question;
 use row_fields::{Fault, Output, first_line, number16, number64, octets, split_word};
 use std::alloc::{AllocError, Global};
@@ -25,20 +26,29 @@ pub(crate) fn told<R: Wait>(
 }
 
 /// What an asker gives for what happens to it, line by line. The first line has the most questions
-/// that wait at once, and the number of the first ticket.
+/// that wait at once, the number of the first ticket, and the schedule, if it is another than the
+/// usual one.
 fn script(output: &mut Output, input: &str) -> Result<(), Fault> {
     let (first, lines) = first_line(input)?;
-    let (limit, serial) = split_word(first);
+    let (limit, rest) = split_word(first);
+    let (serial, schedule) = split_word(rest);
     let limit = usize::from(number16(limit)?);
-    play_new(output, limit, number64(serial)?, lines)
+    let schedule = schedule_of(schedule)?;
+    play_new(output, limit, number64(serial)?, schedule, lines)
 }
 
 /// Plays lines to a new asker.
-fn play_new(output: &mut Output, limit: usize, serial: u64, lines: &str) -> Result<(), Fault> {
-    if limit < 1 || limit > 256 {
+fn play_new(
+    output: &mut Output,
+    limit: usize,
+    serial: u64,
+    schedule: Schedule,
+    lines: &str,
+) -> Result<(), Fault> {
+    if limit < 1 || limit > 256 || !is_in_range(schedule) {
         return Err(Fault::Form);
     }
-    match Asker::new(output.alloc(), limit, serial) {
+    match Asker::with_schedule(output.alloc(), limit, serial, schedule) {
         Ok(mut asker) => {
             play(output, &mut asker, lines);
             drop(asker);

@@ -12,6 +12,7 @@ mod resolver_calls;
 mod resolver_lines;
 mod resolver_steps;
 mod resolvers;
+mod schedules;
 mod servers;
 
 use row_fields::{Fault, Output, print_row};

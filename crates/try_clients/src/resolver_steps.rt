@@ -1,10 +1,11 @@
 //! Lines that tell what happens to a resolver.
 use crate::lookups::{Part, keep, key_of, moment_of, parts, push_line};
+use crate::schedules::schedule_of;
 use dns_answers::Moment;
 use rand_chacha::ChaCha20Rng;
 use rand_core::SeedableRng;
 use row_fields::{Fault, number16, number64, octets, split_word};
-use sip_resolver::{CountingIds, Ids, Limits, Over, RandomIds};
+use sip_resolver::{CountingIds, Ids, Limits, Over, RandomIds, Schedule};
 use sip_selection::{Caps, Families, Request};
 use sip_uri::{Transport, read_uri, read_via};
 use srv_choice::{WORD_COUNT, Words};
@@ -44,6 +45,8 @@ impl Ids for LineIds {
 pub(crate) struct Setting {
     /// How much the resolver takes.
     pub(crate) limits: Limits,
+    /// How often it sends a question.
+    pub(crate) schedule: Schedule,
     /// Where its ids come from.
     pub(crate) ids: LineIds,
 }
@@ -140,10 +143,16 @@ pub(crate) fn setting_of(alloc: Global, line: &str) -> Result<Setting, Fault> {
     let (requests, rest) = split_word(line);
     let (questions, rest) = split_word(rest);
     let (over, rest) = split_word(rest);
-    let (kind, ids) = split_word(rest);
+    let (kind, rest) = split_word(rest);
+    let (ids, schedule) = split_word(rest);
     let limits = limits_of(requests, questions, over)?;
+    let schedule = schedule_of(schedule)?;
     match ids_of(alloc, kind, ids) {
-        Ok(ids) => Ok(Setting { limits, ids }),
+        Ok(ids) => Ok(Setting {
+            limits,
+            schedule,
+            ids,
+        }),
         Err(fault) => Err(fault),
     }
 }

@@ -9,10 +9,11 @@ use crate::resolver_calls::{
     cancel, close, hear, outcome, poll, poll_octets, push_awaited, serve, submit,
 };
 use crate::resolver_steps::{LineIds, Setting, Step, setting_of, steps_of, zone_text};
+use crate::schedules::is_in_range;
 use answer_cache::{AnswerBook, ListCache};
 use dns_asker::Zone;
 use row_fields::{Fault, Output, first_line, only_line};
-use sip_resolver::{Anything, Limits, Origin, Resolver, rounded_up};
+use sip_resolver::{Anything, Limits, Origin, Resolver, Schedule, rounded_up};
 use std::alloc::Global;
 use std::sync::Wait;
 
@@ -53,7 +54,7 @@ fn script_with<R: Wait>(
     zone: &Zone,
 ) -> Result<(), Fault> {
     let setting = setting_of(output.alloc(), first)?;
-    if !are_limits(setting.limits) {
+    if !are_limits(setting.limits) || !is_in_range(setting.schedule) {
         return Err(Fault::Form);
     }
     match steps_of(output.alloc(), lines) {
@@ -87,14 +88,17 @@ fn are_limits(limits: Limits) -> bool
 fn empty<B: AnswerBook, F: Origin>(
     alloc: Global,
     limits: Limits,
+    schedule: Schedule,
     ids: LineIds,
 ) -> Option<Resolver<B, F, LineIds>>
     requires requests { (1 ≤ limits.requests) × (limits.requests ≤ 1024) }
     requires questions { (1 ≤ limits.questions) × (limits.questions ≤ 256) }
+    requires sends { (1 ≤ schedule.sends) × (schedule.sends ≤ 15) }
+    requires wait { (1 ≤ schedule.wait) × (schedule.wait ≤ 60) }
     ensures { (seat : SeatView) → IfSome result
         (λ made. Stand F.gives F.shows seat made.requests) }
 {
-    let Ok(resolver) = Resolver::new(alloc, limits, ids) else {
+    let Ok(resolver) = Resolver::with_schedule(alloc, limits, schedule, ids) else {
         return None;
     };
     Some(resolver)
@@ -104,10 +108,16 @@ fn empty<B: AnswerBook, F: Origin>(
 fn play_new<R: Wait>(rt: &R, output: &mut Output, setting: Setting, zone: &Zone, steps: Vec<Step>)
     requires requests { (1 ≤ setting.limits.requests) × (setting.limits.requests ≤ 1024) }
     requires questions { (1 ≤ setting.limits.questions) × (setting.limits.questions ≤ 256) }
+    requires sends { (1 ≤ setting.schedule.sends) × (setting.schedule.sends ≤ 15) }
+    requires wait { (1 ≤ setting.schedule.wait) × (setting.schedule.wait ≤ 60) }
 {
     let alloc = output.alloc();
-    let Setting { limits, ids } = setting;
-    let Some(mut resolver) = empty::<ListCache, Anything>(alloc, limits, ids) else {
+    let Setting {
+        limits,
+        schedule,
+        ids,
+    } = setting;
+    let Some(mut resolver) = empty::<ListCache, Anything>(alloc, limits, schedule, ids) else {
         output.fail(Fault::Memory);
         return;
     };
