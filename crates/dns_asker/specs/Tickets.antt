@@ -56,7 +56,7 @@ pub record IsSent (schedule : Schedule) (sent : Sent) : Type 0 where
   pub few : sent.sends ≤ schedule.sends
 
 -- what always holds of the tickets: they are by deadline, at most one of each id, each sent as the
--- schedule allows, and no more than the limit
+-- schedule allows, and no more than the limit; and the schedule's numbers are in range
 pub record IsAsking (asking : Asking) : Type 0 where
   pub in_order : AllPairs (λ ticket later. ticket.deadline ≤ later.deadline) asking.tickets
   pub single : (id : ℕ) → length (filter (has_id id) asking.tickets) ≤ 1

@@ -11,7 +11,8 @@ returns-in-Some-clause-given c =
     let found = c.in-Some.ensures in
     let ended = c.close-question.ensures found.entry found.there in
     rw (← c.self.view_is)
-    (question-is c.self.inside.tickets.schedule c.self.inside.tickets.list c.args.id found.entry c.close-question.result.1 found.first ended.1)
+    (question-is c.self.inside.tickets.schedule c.self.inside.tickets.list c.args.id found.entry c.close-question.result.1
+    found.first ended.1)
 
 pub returns-in-Some-clause-left : goal.returns-in-Some-clause-left
 returns-in-Some-clause-left c =
