@@ -8,11 +8,11 @@ use Rattle.std.proofs.lemmas.List.Folds.{list_any-append}
 use Rattle.std.proofs.lemmas.List.FromFn.{get_or-enumerate_from, length-enumerate_from}
 use Rattle.ip_text.specs.declared.address.Address.{Address}
 use Rattle.ip_text.specs.declared.address.Address.TheVariants.{V4}
-use Rattle.resolver_file.specs.ResolverFiles.{FileSays, FileValue, LinesSay, Said, at_line, attempts_in, is_over_tcp, last_or, or_local, server_in, timeout_in, value_of, warning_in, with_local}
+use Rattle.resolver_file.specs.ResolverFiles.{FileSays, FileValue, LinesSay, Said, at_line, attempts_in, is_over_tcp, is_rotate, last_or, or_local, server_in, timeout_in, value_of, warning_in, with_local}
 use Rattle.resolver_file.specs.ResolverLines.{LineSays, lines_of}
 use Rattle.resolver_file.specs.Views.{with_fact, with_facts}
 use Rattle.resolver_file.specs.declared.resolver_fact.Fact.{Fact}
-use Rattle.resolver_file.specs.declared.resolver_fact.Fact.TheVariants.{Server, Timeout, Attempts, OverTcp, Fault}
+use Rattle.resolver_file.specs.declared.resolver_fact.Fact.TheVariants.{Server, Timeout, Attempts, OverTcp, Rotate, Fault}
 
 -- ---- one fact more
 
@@ -31,11 +31,12 @@ or_true : (is : Bool) → (is || true) ≡ true
 or_true true = refl
 or_true false = refl
 
-not_over_tcp : (said : List Said) (it : Said) → is_over_tcp it ≡ false → list_any is_over_tcp (said ++ it ∷ []) ≡ list_any is_over_tcp said
-not_over_tcp said it is = list_any-append is_over_tcp said (it ∷ []) ∙ (rw is (or_false (list_any is_over_tcp said)))
+module _ (is_said : Said → Bool) (said : List Said) (it : Said) where
+  not_said : is_said it ≡ false → list_any is_said (said ++ it ∷ []) ≡ list_any is_said said
+  not_said is = list_any-append is_said said (it ∷ []) ∙ (rw is (or_false (list_any is_said said)))
 
-over_tcp : (said : List Said) (it : Said) → is_over_tcp it ≡ true → list_any is_over_tcp (said ++ it ∷ []) ≡ true
-over_tcp said it is = list_any-append is_over_tcp said (it ∷ []) ∙ (rw is (or_true (list_any is_over_tcp said)))
+  now_said : is_said it ≡ true → list_any is_said (said ++ it ∷ []) ≡ true
+  now_said is = list_any-append is_said said (it ∷ []) ∙ (rw is (or_true (list_any is_said said)))
 
 last_or-push : (default : ℕ) (numbers : List ℕ) (last : ℕ) → last_or default (numbers ++ last ∷ []) ≡ last
 last_or-push default [] last = refl
@@ -62,7 +63,8 @@ with_fact-value number (Server server) said =
       one_more server_in said it server refl,
       none_more timeout_in said it refl,
       none_more attempts_in said it refl,
-      not_over_tcp said it refl,
+      not_said is_over_tcp said it refl,
+      not_said is_rotate said it refl,
       none_more warning_in said it refl,
       first_three (filter_map server_in said) server,
     ) refl)
@@ -73,7 +75,8 @@ with_fact-value number (Timeout seconds) said =
       one_more timeout_in said it seconds refl,
       last_or-push 5 (filter_map timeout_in said) seconds,
       none_more attempts_in said it refl,
-      not_over_tcp said it refl,
+      not_said is_over_tcp said it refl,
+      not_said is_rotate said it refl,
       none_more warning_in said it refl,
     ) refl
 with_fact-value number (Attempts count) said =
@@ -83,7 +86,8 @@ with_fact-value number (Attempts count) said =
       none_more timeout_in said it refl,
       one_more attempts_in said it count refl,
       last_or-push 2 (filter_map attempts_in said) count,
-      not_over_tcp said it refl,
+      not_said is_over_tcp said it refl,
+      not_said is_rotate said it refl,
       none_more warning_in said it refl,
     ) refl
 with_fact-value number OverTcp said =
@@ -92,7 +96,18 @@ with_fact-value number OverTcp said =
       none_more server_in said it refl,
       none_more timeout_in said it refl,
       none_more attempts_in said it refl,
-      over_tcp said it refl,
+      now_said is_over_tcp said it refl,
+      not_said is_rotate said it refl,
+      none_more warning_in said it refl,
+    ) refl
+with_fact-value number Rotate said =
+    let it : Said = at_line number Rotate in
+    rw (
+      none_more server_in said it refl,
+      none_more timeout_in said it refl,
+      none_more attempts_in said it refl,
+      not_said is_over_tcp said it refl,
+      now_said is_rotate said it refl,
       none_more warning_in said it refl,
     ) refl
 with_fact-value number (Fault fault) said =
@@ -101,7 +116,8 @@ with_fact-value number (Fault fault) said =
       none_more server_in said it refl,
       none_more timeout_in said it refl,
       none_more attempts_in said it refl,
-      not_over_tcp said it refl,
+      not_said is_over_tcp said it refl,
+      not_said is_rotate said it refl,
       one_more warning_in said it (record { line = number; fault = fault }) refl,
     ) refl
 

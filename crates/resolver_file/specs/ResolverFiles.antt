@@ -5,16 +5,17 @@ use Rattle.ip_text.specs.declared.address.Address.{Address}
 use Rattle.ip_text.specs.declared.address.Address.TheVariants.{V4}
 use Rattle.resolver_file.specs.ResolverLines.{LineSays, lines_of}
 use Rattle.resolver_file.specs.declared.resolver_fact.Fact.{Fact}
-use Rattle.resolver_file.specs.declared.resolver_fact.Fact.TheVariants.{Server, Timeout, Attempts, OverTcp, Fault}
+use Rattle.resolver_file.specs.declared.resolver_fact.Fact.TheVariants.{Server, Timeout, Attempts, OverTcp, Rotate, Fault}
 use Rattle.resolver_file.specs.declared.warning.LineWarning.{LineWarning}
 
 -- the name servers, for how many seconds a reply is waited for, how often each is asked, whether
--- over TCP alone, and which lines can't be read
+-- over TCP alone, whether each query begins with the next server, and which lines can't be read
 pub record FileValue : Type 0 where
   pub servers : List Address
   pub timeout : ℕ
   pub attempts : ℕ
   pub over_tcp : Bool
+  pub rotates : Bool
   pub warnings : List LineWarning
 
 -- what a line of a number says
@@ -54,6 +55,11 @@ abbrev pub is_over_tcp : Said → Bool
 is_over_tcp (number, OverTcp) = true
 is_over_tcp _ = false
 
+-- a fact says that each query begins with the next server
+abbrev pub is_rotate : Said → Bool
+is_rotate (number, Rotate) = true
+is_rotate _ = false
+
 -- the warning of a line that can't be read, if a fact is one
 abbrev pub warning_in : Said → Option LineWarning
 warning_in (number, Fault fault) = Some (record { line = number; fault = fault })
@@ -71,6 +77,7 @@ value_of said = record {
   timeout = last_or 5 (filter_map timeout_in said);
   attempts = last_or 2 (filter_map attempts_in said);
   over_tcp = list_any is_over_tcp said;
+  rotates = list_any is_rotate said;
   warnings = filter_map warning_in said;
 }
 

@@ -7,7 +7,7 @@ use Rattle.ip_text.specs.Addresses.{AddressText}
 use Rattle.ip_text.specs.Numbers.{decimal}
 use Rattle.ip_text.specs.declared.address.Address.{Address}
 use Rattle.resolver_file.specs.declared.resolver_fact.Fact.{Fact}
-use Rattle.resolver_file.specs.declared.resolver_fact.Fact.TheVariants.{Server, Timeout, Attempts, OverTcp, Fault}
+use Rattle.resolver_file.specs.declared.resolver_fact.Fact.TheVariants.{Server, Timeout, Attempts, OverTcp, Rotate, Fault}
 use Rattle.resolver_file.specs.declared.warning.LineFault.{LineFault}
 use Rattle.resolver_file.specs.declared.warning.LineFault.TheVariants.{NoKeyword, Indented, NoAddress, BadAddress, ScopedAddress, BadNumber}
 
@@ -121,9 +121,13 @@ abbrev pub number_fact : (ℕ → Fact) → Option ℕ → Fact
 number_fact fact None = Fault BadNumber
 number_fact fact (Some number) = fact number
 
--- what the option `use-vc` says: that queries go over TCP
+-- what the option `rotate` says: that each query begins with the next server
+abbrev pub rotate_fact : List ℕ → Option Fact
+rotate_fact word = if bytes_eq word (codes "rotate") then Some Rotate else None
+
+-- what an option says: `use-vc` that queries go over TCP; else what `rotate_fact` says
 abbrev pub use_vc_fact : List ℕ → Option Fact
-use_vc_fact word = if bytes_eq word (codes "use-vc") then Some OverTcp else None
+use_vc_fact word = if bytes_eq word (codes "use-vc") then Some OverTcp else rotate_fact word
 
 -- what an option says: after `attempts:` how often each server is asked, from 1 to 5; else what
 -- `use_vc_fact` says
@@ -137,7 +141,8 @@ abbrev pub timeout_fact : Option (List ℕ) → List ℕ → Option Fact
 timeout_fact (Some text) word = Some (number_fact Timeout (capped 30 text))
 timeout_fact None word = attempts_fact (behind (codes "attempts:") word) word
 
--- what an option says: `timeout:` or `attempts:` with a number, or `use-vc`; others say nothing
+-- what an option says: `timeout:` or `attempts:` with a number, `use-vc` or `rotate`; others say
+-- nothing
 abbrev pub option_fact : List ℕ → Option Fact
 option_fact word = timeout_fact (behind (codes "timeout:") word) word
 

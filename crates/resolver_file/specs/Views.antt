@@ -4,7 +4,7 @@ use Rattle.resolver_file.specs.ResolverFiles.{FileValue}
 use Rattle.resolver_file.specs.ResolverLines.{words_of}
 use Rattle.resolver_file.specs.ResolverLines as spec
 use Rattle.resolver_file.specs.declared.resolver_fact.Fact.{Fact}
-use Rattle.resolver_file.specs.declared.resolver_fact.Fact.TheVariants.{Server, Timeout, Attempts, OverTcp, Fault}
+use Rattle.resolver_file.specs.declared.resolver_fact.Fact.TheVariants.{Server, Timeout, Attempts, OverTcp, Rotate, Fault}
 use Rattle.resolver_file.specs.declared.resolver_line.LineForm.{LineForm}
 use Rattle.resolver_file.specs.declared.resolver_line.LineForm.TheVariants.{Nothing, Server as server, Options, Faulty}
 
@@ -22,6 +22,7 @@ with_fact number (Server address) file =
 with_fact number (Timeout seconds) file = record file { timeout = seconds }
 with_fact number (Attempts count) file = record file { attempts = count }
 with_fact number OverTcp file = record file { over_tcp = true }
+with_fact number Rotate file = record file { rotates = true }
 with_fact number (Fault fault) file =
     record file { warnings = file.warnings ++ record { line = number; fault = fault } ∷ [] }
 

@@ -37,6 +37,7 @@ pub struct ResolverFile {
     timeout: u32,
     attempts: u32,
     over_tcp: bool,
+    rotates: bool,
     warnings: Vec<LineWarning>,
 }
 
@@ -50,6 +51,7 @@ impl Model for ResolverFile {
       timeout = it.timeout;
       attempts = it.attempts;
       over_tcp = it.over_tcp;
+      rotates = it.rotates;
       warnings = it.warnings.items;
     } };
 }
@@ -87,6 +89,15 @@ impl ResolverFile {
         self.over_tcp
     }
 
+    /// Whether each question begins with the server after the one that the question before it began
+    /// with, which spreads the load among all servers.
+    #[must_use]
+    pub fn rotates(&self) -> bool
+        ensures { result ≡ self.now.rotates }
+    {
+        self.rotates
+    }
+
     /// The lines that can't be read, in their order, for a caller that reports them.
     #[must_use]
     pub fn warnings(&self) -> &[LineWarning]
@@ -104,6 +115,7 @@ impl ResolverFile {
             timeout: TIMEOUT,
             attempts: ATTEMPTS,
             over_tcp: false,
+            rotates: false,
             warnings: Vec::new(alloc),
         }
     }
@@ -121,6 +133,7 @@ impl ResolverFile {
             Fact::Timeout(seconds) => self.timeout = seconds,
             Fact::Attempts(count) => self.attempts = count,
             Fact::OverTcp => self.over_tcp = true,
+            Fact::Rotate => self.rotates = true,
             Fact::Fault(fault) => self.warnings.push(LineWarning { line, fault })?,
         }
         Ok(())
@@ -162,8 +175,9 @@ impl ResolverFile {
     /// - `nameserver` and an address of IPv4 or IPv6, without a scope: a server. The first three
     ///   count, and where there is none that of the local host, 127.0.0.1.
     /// - `options` and any of `timeout:N` (1 to 30 seconds, else 5), `attempts:N` (1 to 5 times,
-    ///   else 2), of which the last one counts, and `use-vc` (TCP alone). A number beyond a limit
-    ///   is that limit. Other options say nothing.
+    ///   else 2), of which the last one counts, `use-vc` (TCP alone) and `rotate` (each question
+    ///   begins with the next server). A number beyond a limit is that limit. Other options say
+    ///   nothing.
     /// - `domain`, `search` and `sortlist` say nothing: names are absolute here.
     ///
     /// A line of blanks says nothing, and neither does one with `#` or `;` in its first column. Any

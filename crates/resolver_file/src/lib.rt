@@ -1,5 +1,6 @@
 //! What the system's resolver file (resolv.conf(5)) says: the name servers, how long and how often
-//! each is asked, and whether over TCP alone. Its octets are handed in: nothing here opens a file.
+//! each is asked, whether over TCP alone, and whether each question begins with the next server.
+//! Its octets are handed in: nothing here opens a file.
 //!
 //! ```
 //! let text = b"nameserver 192.0.2.1\noptions timeout:3 use-vc\nnameserver\n";

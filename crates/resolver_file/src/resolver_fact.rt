@@ -26,6 +26,8 @@ pub(crate) enum Fact {
     Attempts(u32),
     /// Questions go over TCP alone.
     OverTcp,
+    /// Each question begins with the next server.
+    Rotate,
     /// It can't be read.
     Fault(LineFault),
 }
@@ -88,6 +90,9 @@ pub(crate) fn option_fact(word: &[u8]) -> Option<Fact>
     }
     if word == b"use-vc".as_slice() {
         return Some(Fact::OverTcp);
+    }
+    if word == b"rotate".as_slice() {
+        return Some(Fact::Rotate);
     }
     None
 }

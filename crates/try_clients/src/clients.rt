@@ -60,7 +60,8 @@ fn push_file(output: &mut Output, file: &ResolverFile) {
     }
 }
 
-/// Writes how long and how often servers are asked, and whether over TCP alone.
+/// Writes how long and how often servers are asked, whether over TCP alone, and whether each query
+/// begins with the next one.
 fn push_times(output: &mut Output, file: &ResolverFile) {
     output.push_number(u64::from(file.timeout()));
     output.push(" s, ");
@@ -68,6 +69,9 @@ fn push_times(output: &mut Output, file: &ResolverFile) {
     output.push(" times");
     if file.is_over_tcp() {
         output.push(", over TCP");
+    }
+    if file.rotates() {
+        output.push(", rotate");
     }
     output.push("\n");
 }
