@@ -1,6 +1,7 @@
 pub mod Replies
 pub mod Ends
 pub mod Frames
+pub mod Deadlines
 pub mod ServerOrders
 pub mod QueryForms
 pub mod Letters

@@ -1,5 +1,5 @@
 -- Which octets are a reply to a query.
-use Rattle.std.specs.Prelude.{◌≡◌, ℕ, ◌+◌, ◌-◌, ◌/◌, ◌≤◌, take, drop, List, length, slice_index_or}
+use Rattle.std.specs.Prelude.{◌≡◌, ℕ, ◌+◌, ◌/◌, ◌≤◌, take, drop, List, length, slice_index_or}
 use Rattle.dns_name.specs.Labels.{small_letters}
 
 -- a query has a header, and a message has as many octets as it at least

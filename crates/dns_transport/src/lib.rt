@@ -3,8 +3,9 @@
 //! `ServerWire` is a wire to DNS servers: it takes queries, asks the servers in turn, and gives
 //! replies. It retries over TCP what was cut (RFC 1035 4.2.1, RFC 7766), goes on to the next server
 //! where one fails, asks without EDNS where a server refuses that (RFC 6891), and asks CNAME chains
-//! on that a server cut short. `WireOptions` and `QueryForm` say how it asks; `WireCounts` and
-//! `WireTry` say what went over it. Like any `MessageWire` (`dns_asker`) it gives whole messages.
+//! on that a server cut short. `WireOptions`, `QueryForm` and `ReplyTimes` say how it asks;
+//! `WireCounts` and `WireTry` say what went over it. Like any `MessageWire` (`dns_asker`) it gives
+//! whole messages.
 //!
 //! Below it `Transport` has queries out side by side, and gives for each at most one end: a reply,
 //! silence until its deadline, or that it failed. A query in a datagram has a socket of its own,
@@ -39,6 +40,7 @@ mod query;
 mod query_form;
 mod reply;
 mod reply_bits;
+mod reply_times;
 mod route;
 mod run_clock;
 mod server;
@@ -58,6 +60,7 @@ pub use host_wire::{HostWire, open_wire};
 pub use link::{Link, Step, System};
 pub use query::{End, Outcome, Query};
 pub use query_form::QueryForm;
+pub use reply_times::ReplyTimes;
 pub use route::Route;
 pub use run_clock::{RunClock, Timer};
 pub use server_wire::{ServerWire, WireOptions};

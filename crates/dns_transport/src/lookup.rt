@@ -1,5 +1,5 @@
 //! A query of the caller that is open.
-ghost use Rattle.std.specs.Prelude.{◌≡◌};
+ghost use Rattle.std.specs.Prelude.{◌≡◌, IfOk};
 ghost use Rattle.dns_transport.specs.Sends.{asked_by};
 
 use crate::open_chain::OpenChain;
@@ -34,7 +34,11 @@ impl Lookup {
         number: u64,
         query: &[u8],
         first: usize,
-    ) -> Result<Lookup, AllocError> {
+    ) -> Result<Lookup, AllocError>
+        ensures number { IfOk result (λ lookup. lookup.number ≡ number) }
+        ensures first { IfOk result (λ lookup. lookup.first ≡ first) }
+        ensures unsent { IfOk result (λ lookup. lookup.sends ≡ 0) }
+    {
         Ok(Lookup {
             number,
             query: Vec::from_slice(alloc, query)?,
@@ -85,7 +89,10 @@ impl Lookup {
     }
 
     /// Begins with what asks a chain on, which goes to this server first.
-    pub(crate) fn go_on(&mut self, chain: OpenChain, first: usize) {
+    pub(crate) fn go_on(&mut self, chain: OpenChain, first: usize)
+        ensures first { self.new.first ≡ first }
+        ensures unsent { self.new.sends ≡ 0 }
+    {
         drop(self.chain.replace(chain));
         self.first = first;
         self.sends = 0;

@@ -1,5 +1,5 @@
 //! The order in which a query goes to servers.
-ghost use Rattle.std.specs.Prelude.{◌≡◌, ◌<◌};
+ghost use Rattle.std.specs.Prelude.{◌≡◌, ◌%◌, ◌<◌};
 ghost use Rattle.dns_transport.specs.ServerOrders.{IsPlace};
 ghost use Rattle.dns_transport.specs.ServerOrders as spec;
 
@@ -17,6 +17,14 @@ pub(crate) fn server_at(first: usize, sends: usize, servers: usize) -> usize
     } else {
         place - behind
     }
+}
+
+/// The server whose turn it is at the query of a number: the one after that of the number before.
+pub(crate) fn turn_of(number: u64, servers: usize) -> usize
+    requires { 0 < servers }
+    ensures { result ≡ number % servers }
+{
+    (number % servers as u64) as usize
 }
 
 /// How many servers come before this one, where a query goes to that one first.

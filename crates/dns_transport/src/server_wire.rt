@@ -1,15 +1,16 @@
 //! A wire to DNS servers over sockets.
-ghost use Rattle.std.specs.Prelude.{◌≡◌, ℕ, List, false, IfOk, IfSome, IsFalse, IsTrue, length, slice_get};
+ghost use Rattle.std.specs.Prelude.{◌≡◌, ◌↔◌, ◌+◌, ◌%◌, ◌^◌, ℕ, List, false, true, IfOk, IfSome, IsFalse, IsTrue, OnErr, OnOk, length, slice_get};
 ghost use Rattle.std.specs.List.{All};
 ghost use Rattle.dns_asker.specs.MessageWires.{IfMessage};
 ghost use Rattle.dns_transport.specs.CnameChains.{EndsWith, IsHandedOn, OpenValue};
+ghost use Rattle.dns_transport.specs.Deadlines.{IsAfter, time_over};
 ghost use Rattle.dns_transport.specs.Ends.{HasIdOver};
 ghost use Rattle.dns_transport.specs.Letters.{IsRespelled};
 ghost use Rattle.dns_transport.specs.QueryForms.{form_for};
 ghost use Rattle.dns_transport.specs.ServerOrders as orders;
 ghost use Rattle.dns_transport.specs.Steps.{IfReplied, Steps};
 ghost use Rattle.dns_transport.specs.Sends.{HasAsked, asked_by, sent_octets, with_id};
-ghost use Rattle.dns_transport.specs.Wires.{HandsOn};
+ghost use Rattle.dns_transport.specs.Wires.{HandsOn, IsKnownAfter, Refuses, with_refusal};
 
 use crate::letters::respell;
 use crate::link::System;
@@ -19,9 +20,10 @@ use crate::open_chain::{OpenChain, Step};
 use crate::query::{End, Outcome, Query};
 use crate::query_form::QueryForm;
 use crate::reply_bits::{is_cut, refuses_edns, tells_failure};
+use crate::reply_times::ReplyTimes;
 use crate::route::Route;
 use crate::server::Server;
-use crate::server_order::server_at;
+use crate::server_order::{server_at, turn_of};
 use crate::transport::Transport;
 use crate::try_log::TryLog;
 use crate::wire_counts::WireCounts;
@@ -33,17 +35,12 @@ use std::io::ErrorKind;
 use std::net::SocketAddr;
 use std::time::Duration;
 
-/// How long the reply to a query in a datagram is waited for, in milliseconds.
-const DATAGRAM_TIME: u64 = 6_000;
-
-/// How long the reply to a query over TCP is waited for, in milliseconds.
-const TCP_TIME: u64 = 2_000;
-
 /// How long a receive waits at most, in milliseconds.
 const RECEIVE_TIME: u64 = 100;
 
 /// How long after a query went to a server the caller's resend is none, in milliseconds: the query
-/// went on to that server meanwhile.
+/// went on to that server meanwhile. It bounds no wait, so no caller chooses it: a caller waits for
+/// a second at least before it sends again.
 const RESEND_TIME: u64 = 500;
 
 /// How many queries may end at one receive.
@@ -62,6 +59,11 @@ pub struct WireOptions {
     pub over_tcp: bool,
     /// The form in which queries go out.
     pub form: QueryForm,
+    /// How long replies are waited for.
+    pub reply_times: ReplyTimes,
+    /// Whether each query of the caller begins with the server after the one that the query before
+    /// it began with, round all servers.
+    pub rotates: bool,
     /// Whether each query that goes out is kept for `take_tries`.
     pub keeps_tries: bool,
     /// After how long the time of the wire is over.
@@ -85,7 +87,9 @@ enum Course {
 ///
 /// The first send of a query goes to the first server, the second to the second, and so on round. A
 /// server that comes first and does not reply in time, or can't be reached, comes last from then
-/// on: the queries that follow go round from the one after it. Each send in a datagram has a socket
+/// on: the queries that follow go round from the one after it. Where servers take turns
+/// (`WireOptions::rotates`), each query goes round from the server after the one that the query
+/// before it went to first, whatever came of that. Each send in a datagram has a socket
 /// and an id of its own (RFC 5452 9.2), and a message counts only where it comes from the server
 /// that was asked, over that socket or connection, with the id and the question that went out.
 /// What is sent to one server over TCP shares a connection (RFC 7766 6.2.1).
@@ -104,6 +108,8 @@ enum Course {
 /// Where queries have an OPT record and a server refuses that, by FORMERR, NOTIMP or an RCODE
 /// greater than 15, it is asked the same once more without one, and from then on so (RFC 6891
 /// 6.2.2, 7). Such a reply is never given: where it comes again, it is as if the send had failed.
+/// Where memory is refused to look whether a reply is such a one, it is lost, and its server is
+/// asked as before.
 ///
 /// Where a reply without a fault has CNAME records that lead from the name that is asked to one
 /// about which it says nothing, the server cut a chain short (RFC 1034 5.2.2, RFC 2308 2.2). The
@@ -117,7 +123,7 @@ pub struct ServerWire<S: System, G> {
     transport: Transport<S>,
     draws: G,
     servers: Vec<Server>,
-    /// The server that a query goes to first.
+    /// The server that a query goes to first, where servers don't take turns.
     first: usize,
     options: WireOptions,
     lookups: Lookups,
@@ -231,11 +237,43 @@ impl<S: System + Drop, G: Rng + Drop> ServerWire<S, G> {
         }
     }
 
-    /// Whether a message refuses the EDNS that is asked for, or memory is refused to look.
-    fn refuses(&self, message: &[u8]) -> bool
-        ensures { IsFalse result → HandsOn self.now.options.form message.now }
+    /// Whether a message refuses the EDNS that is asked for.
+    fn refuses(&self, message: &[u8]) -> Result<bool, AllocError>
+        ensures told { IfOk result
+            (λ is. IsTrue is ↔ Refuses self.now.options.form message.now) }
+        ensures handed_on { IfOk result
+            (λ is. IsFalse is → HandsOn self.now.options.form message.now) }
     {
-        self.options.form.edns.is_some() && refuses_edns(self.alloc, message).unwrap_or(true)
+        if self.options.form.edns.is_none() {
+            return Ok(false);
+        }
+        refuses_edns(self.alloc, message)
+    }
+
+    /// Lets a server count as one that refuses EDNS.
+    fn note_refusal(&mut self, server: usize)
+        ensures noted { self.new.servers.items ≡ with_refusal server self.old.servers.items }
+    {
+        if server < self.servers.len() {
+            self.servers[server].refused_edns = true;
+        }
+    }
+
+    /// Whether a server's reply refuses the EDNS that is asked for. Then the server counts as one
+    /// that does. Where memory is refused to look, nothing is known: the server counts as it did.
+    fn hears_refusal(&mut self, server: usize, reply: &[u8]) -> Result<bool, AllocError>
+        ensures told { IfOk result (λ is. IsTrue is ↔ Refuses self.old.options.form reply.now) }
+        ensures refusing { IfOk result (λ is. IsTrue is
+            → self.new.servers.items ≡ with_refusal server self.old.servers.items) }
+        ensures taking { IfOk result
+            (λ is. IsFalse is → self.new.servers.items ≡ self.old.servers.items) }
+        ensures unknown { OnErr result (self.new.servers.items ≡ self.old.servers.items) }
+    {
+        let refuses = self.refuses(reply)?;
+        if refuses {
+            self.note_refusal(server);
+        }
+        Ok(refuses)
     }
 
     /// An id that no query has which is out over the same route (RFC 7766 6.2.1), if one is drawn.
@@ -256,8 +294,10 @@ impl<S: System + Drop, G: Rng + Drop> ServerWire<S, G> {
     }
 
     /// When a query is waited for no more that is sent now.
-    fn deadline(&self, over_tcp: bool) -> u64 {
-        let time = if over_tcp { TCP_TIME } else { DATAGRAM_TIME };
+    fn deadline(&self, over_tcp: bool) -> u64
+        ensures { IsAfter S.shows (time_over self.now.options.reply_times over_tcp) result }
+    {
+        let time = self.options.reply_times.of(over_tcp);
         self.transport.now().saturating_add(time)
     }
 
@@ -271,6 +311,8 @@ impl<S: System + Drop, G: Rng + Drop> ServerWire<S, G> {
         draws_letters: bool,
     ) -> Result<Vec<u8>, AllocError>
         ensures transport { self.new.transport ≡ self.old.transport }
+        ensures options { self.new.options ≡ self.old.options }
+        ensures servers { self.new.servers ≡ self.old.servers }
         ensures octets { IfOk result (λ octets. IsRespelled (length asked.now)
             (sent_octets form id asked.now) octets.items) }
         ensures plain { IfOk result
@@ -287,6 +329,9 @@ impl<S: System + Drop, G: Rng + Drop> ServerWire<S, G> {
     /// Notes that a query goes out.
     fn note_sent(&mut self, lookup: &mut Lookup, route: TryRoute, octets: &[u8])
         ensures same { self.new.transport ≡ self.old.transport }
+        ensures options { self.new.options ≡ self.old.options }
+        ensures servers { self.new.servers ≡ self.old.servers }
+        ensures lookup { lookup.new ≡ record lookup.old { went_out = true } }
         ensures asks { asked_by lookup.new ≡ asked_by lookup.old }
     {
         let now = self.time();
@@ -294,13 +339,23 @@ impl<S: System + Drop, G: Rng + Drop> ServerWire<S, G> {
         lookup.went_out = true;
     }
 
+    /// The server at a place.
+    fn server(&self, place: usize) -> Option<Server>
+        ensures { result ≡ slice_get self.now.servers.items place }
+    {
+        self.servers.get(place).copied()
+    }
+
     /// Asks a server, and tells whether its reply may come. What is out over TCP to a server is not
     /// sent there once more.
     fn ask(&mut self, lookup: &mut Lookup, server: usize, over_tcp: bool) -> bool
-        ensures { IsTrue result → HasAsked S.sends lookup.old over_tcp self.old.options.form
-            (slice_get self.old.servers.items server) self.old.transport self.new.transport }
+        ensures servers { self.new.servers ≡ self.old.servers }
+        ensures first { lookup.new.first ≡ lookup.old.first }
+        ensures asked { IsTrue result → HasAsked S.sends S.shows lookup.old over_tcp
+            self.old.options (slice_get self.old.servers.items server)
+            self.old.transport self.new.transport }
     {
-        let Some(to) = self.servers.get(server).copied() else {
+        let Some(to) = self.server(server) else {
             return false;
         };
         let route = Route {
@@ -347,10 +402,25 @@ impl<S: System + Drop, G: Rng + Drop> ServerWire<S, G> {
         }
     }
 
+    /// The server that the query of the caller of a number goes to first.
+    fn first_for(&self, number: u64) -> usize
+        ensures { result ≡ orders.first_for self.now.options.rotates self.now.first number
+            (length self.now.servers.items) }
+    {
+        let servers = self.servers.len();
+        if self.options.rotates && servers > 0 {
+            turn_of(number, servers)
+        } else {
+            self.first
+        }
+    }
+
     /// Asks the server whose turn it is, and tells whether its reply may come.
     fn ask_in_turn(&mut self, lookup: &mut Lookup) -> bool
-        ensures { IsTrue result → HasAsked S.sends lookup.old self.old.options.over_tcp
-            self.old.options.form (slice_get self.old.servers.items
+        ensures servers { self.new.servers ≡ self.old.servers }
+        ensures first { lookup.new.first ≡ lookup.old.first }
+        ensures asked { IsTrue result → HasAsked S.sends S.shows lookup.old
+            self.old.options.over_tcp self.old.options (slice_get self.old.servers.items
             (orders.server_at lookup.old.first lookup.old.sends (length self.old.servers.items)))
             self.old.transport self.new.transport }
     {
@@ -368,7 +438,10 @@ impl<S: System + Drop, G: Rng + Drop> ServerWire<S, G> {
     }
 
     /// Asks the next server, or one behind it that can be asked, and tells whether one was asked.
-    fn ask_next(&mut self, lookup: &mut Lookup) -> bool {
+    fn ask_next(&mut self, lookup: &mut Lookup) -> bool
+        ensures servers { self.new.servers ≡ self.old.servers }
+        ensures first { lookup.new.first ≡ lookup.old.first }
+    {
         let servers = self.servers.len();
         'servers: for _server in 0..servers {
             if self.ask_in_turn(lookup) {
@@ -387,7 +460,10 @@ impl<S: System + Drop, G: Rng + Drop> ServerWire<S, G> {
     }
 
     /// Lets a server that comes first come last: it did not reply in time, or can't be reached.
-    fn put_last(&mut self, server: usize) {
+    fn put_last(&mut self, server: usize)
+        ensures { self.new.first ≡ orders.first_after_silence server self.old.first
+            (length self.old.servers.items) }
+    {
         let servers = self.servers.len();
         if servers > 0 && server == self.first {
             self.first = server_at(server, 1, servers);
@@ -404,7 +480,9 @@ impl<S: System + Drop, G: Rng + Drop> ServerWire<S, G> {
     /// What becomes of a query that this server failed to answer, with this reply, if with one: it
     /// is with another server that was asked since, or with the next one, which is asked now, or
     /// none is left.
-    fn go_on(&mut self, lookup: &mut Lookup, server: usize, reply: Option<Vec<u8>>) -> Course {
+    fn go_on(&mut self, lookup: &mut Lookup, server: usize, reply: Option<Vec<u8>>) -> Course
+        ensures { self.new.servers ≡ self.old.servers }
+    {
         let servers = self.servers.len();
         if reply.is_some() {
             lookup.kept = reply;
@@ -457,7 +535,9 @@ impl<S: System + Drop, G: Rng + Drop> ServerWire<S, G> {
     }
 
     /// Asks for a reply over TCP that was cut.
-    fn ask_whole(&mut self, lookup: &mut Lookup, server: usize, reply: Vec<u8>) -> Course {
+    fn ask_whole(&mut self, lookup: &mut Lookup, server: usize, reply: Vec<u8>) -> Course
+        ensures { self.new.servers ≡ self.old.servers }
+    {
         lookup.kept = Some(reply);
         if self.ask(lookup, server, true) {
             return Course::Open;
@@ -466,13 +546,23 @@ impl<S: System + Drop, G: Rng + Drop> ServerWire<S, G> {
     }
 
     /// Asks a server that refused EDNS the same without it, where it was asked with it.
-    fn ask_plainly(&mut self, lookup: &mut Lookup, server: usize, query: &Query) -> Course {
-        if let Some(server) = self.servers.get_mut(server) {
-            server.refused_edns = true;
-        }
+    fn ask_plainly(&mut self, lookup: &mut Lookup, server: usize, query: &Query) -> Course
+        ensures { self.new.servers ≡ self.old.servers }
+    {
         if has_opt(query.octets.as_slice()) && self.ask(lookup, server, query.route.over_tcp) {
             return Course::Open;
         }
+        self.go_on(lookup, server, None)
+    }
+
+    /// What becomes of a query whose reply is lost: memory was refused to look whether it refuses
+    /// EDNS. It may, so it is not handed on, and the next server is asked. But the fault is of this
+    /// host, so the server neither counts as one that refuses EDNS nor comes last, and where none
+    /// is left the query stays open.
+    fn lose_reply(&mut self, lookup: &mut Lookup, server: usize) -> Course
+        ensures { self.new.servers ≡ self.old.servers }
+    {
+        lookup.was_lost = true;
         self.go_on(lookup, server, None)
     }
 
@@ -487,10 +577,13 @@ impl<S: System + Drop, G: Rng + Drop> ServerWire<S, G> {
 
     /// Asks a chain on.
     fn ask_on(&mut self, lookup: &mut Lookup, chain: OpenChain) -> Course
-        ensures { IfReplied result (λ _. ⊥) }
+        ensures servers { self.new.servers ≡ self.old.servers }
+        ensures first { lookup.new.first ≡ orders.first_for self.old.options.rotates
+            self.old.first lookup.old.number (length self.old.servers.items) }
+        ensures open { IfReplied result (λ _. ⊥) }
     {
         self.transport.leave(lookup.number);
-        lookup.go_on(chain, self.first);
+        lookup.go_on(chain, self.first_for(lookup.number));
         if self.ask_next(lookup) {
             return Course::Open;
         }
@@ -500,7 +593,8 @@ impl<S: System + Drop, G: Rng + Drop> ServerWire<S, G> {
     /// What becomes of a query without a chain to which this is the reply: nothing is handed on yet
     /// where a chain begins by it.
     fn begin_chain(&mut self, lookup: &mut Lookup, reply: Vec<u8>) -> Course
-        ensures { IfReplied result (λ octets. octets ≡ reply.items) }
+        ensures servers { self.new.servers ≡ self.old.servers }
+        ensures whole { IfReplied result (λ octets. octets ≡ reply.items) }
     {
         if reply.len() > CHAIN_REPLY_LIMIT {
             return Course::Replied(reply);
@@ -513,7 +607,8 @@ impl<S: System + Drop, G: Rng + Drop> ServerWire<S, G> {
 
     /// What becomes of a query by what a message means to its chain.
     fn follow_step(&mut self, lookup: &mut Lookup, step: Step) -> Course
-        ensures { (old : OpenValue) (reply : List ℕ) → Steps old reply step
+        ensures servers { self.new.servers ≡ self.old.servers }
+        ensures ended { (old : OpenValue) (reply : List ℕ) → Steps old reply step
             → IfReplied result (EndsWith old reply) }
     {
         match step {
@@ -529,7 +624,8 @@ impl<S: System + Drop, G: Rng + Drop> ServerWire<S, G> {
     /// What becomes of a query along whose chain this is the reply: nothing is handed on yet where
     /// the chain goes further.
     fn step_chain(&mut self, lookup: &mut Lookup, chain: OpenChain, reply: &[u8]) -> Course
-        ensures { IfReplied result (EndsWith chain reply.now) }
+        ensures servers { self.new.servers ≡ self.old.servers }
+        ensures ended { IfReplied result (EndsWith chain reply.now) }
     {
         if reply.len() > CHAIN_REPLY_LIMIT {
             drop(chain);
@@ -544,7 +640,8 @@ impl<S: System + Drop, G: Rng + Drop> ServerWire<S, G> {
     /// What becomes of a query to which this is the reply: nothing is handed on yet where a chain
     /// is asked on.
     fn hand_on(&mut self, lookup: &mut Lookup, reply: Vec<u8>) -> Course
-        ensures { IfReplied result (IsHandedOn lookup.old.chain reply.items) }
+        ensures servers { self.new.servers ≡ self.old.servers }
+        ensures handed_on { IfReplied result (IsHandedOn lookup.old.chain reply.items) }
     {
         match lookup.chain.take() {
             Some(chain) => self.step_chain(lookup, chain, reply.as_slice()),
@@ -571,13 +668,29 @@ impl<S: System + Drop, G: Rng + Drop> ServerWire<S, G> {
         if is_cut(reply.as_slice()) && !query.route.over_tcp {
             return self.ask_whole(lookup, server, reply);
         }
-        if self.refuses(reply.as_slice()) {
-            return self.ask_plainly(lookup, server, query);
+        self.hear_whole(lookup, server, query, reply)
+    }
+
+    /// What becomes of a query to which a server gave this reply, which nothing more is asked for
+    /// over TCP.
+    fn hear_whole(
+        &mut self,
+        lookup: &mut Lookup,
+        server: usize,
+        query: &Query,
+        reply: Vec<u8>,
+    ) -> Course
+        ensures { IsKnownAfter self.old.options.form server reply.items
+            self.old.servers.items self.new.servers.items }
+    {
+        match self.hears_refusal(server, reply.as_slice()) {
+            Ok(true) => self.ask_plainly(lookup, server, query),
+            Ok(false) if tells_failure(reply.as_slice()) => {
+                self.go_on(lookup, server, Some(reply))
+            }
+            Ok(false) => self.hand_on(lookup, reply),
+            Err(_) => self.lose_reply(lookup, server),
         }
-        if tells_failure(reply.as_slice()) {
-            return self.go_on(lookup, server, Some(reply));
-        }
-        self.hand_on(lookup, reply)
     }
 
     /// What becomes of a query to which nothing came until its deadline. Silence closes none.
@@ -620,15 +733,15 @@ impl<S: System + Drop, G: Rng + Drop> ServerWire<S, G> {
     }
 
     /// Lets a query of the caller go to which this is the reply, and gives that, unless it refuses
-    /// EDNS.
+    /// EDNS or memory is refused to look.
     fn give(&mut self, lookup: Lookup, reply: Vec<u8>) -> Option<Received>
         ensures { IfSome result (λ it. IfMessage it (HandsOn self.new.options.form)) }
     {
         self.end(lookup);
-        if !self.refuses(reply.as_slice()) {
-            return Some(Received::Message(reply));
+        match self.refuses(reply.as_slice()) {
+            Ok(false) => Some(Received::Message(reply)),
+            Ok(true) | Err(_) => None,
         }
-        None
     }
 
     /// Does what becomes of a query of the caller, and gives what is to be handed on.
@@ -672,11 +785,21 @@ impl<S: System + Drop, G: Rng + Drop> ServerWire<S, G> {
         None
     }
 
-    /// A query of the caller that was not open.
-    fn begin_lookup(&mut self, query: &[u8]) -> Result<Lookup, AllocError> {
+    /// A query of the caller that was not open: the number that is next is its own.
+    fn begin_lookup(&mut self, query: &[u8]) -> Result<Lookup, AllocError>
+        ensures number { IfOk result (λ lookup. lookup.number ≡ self.old.next_number) }
+        ensures first { IfOk result (λ lookup. lookup.first ≡ orders.first_for
+            self.old.options.rotates self.old.first self.old.next_number
+            (length self.old.servers.items)) }
+        ensures unsent { IfOk result (λ lookup. lookup.sends ≡ 0) }
+        ensures next { OnOk result
+            (self.new.next_number ≡ (self.old.next_number + 1) % 2 ^ 64) }
+        ensures refused { OnErr result (self.new.next_number ≡ self.old.next_number) }
+    {
         let number = self.next_number;
+        let lookup = Lookup::new(self.alloc, number, query, self.first_for(number))?;
         self.next_number = number.wrapping_add(1);
-        Lookup::new(self.alloc, number, query, self.first)
+        Ok(lookup)
     }
 }
 

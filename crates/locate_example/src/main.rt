@@ -8,7 +8,7 @@
 use answer_cache::{AnswerBook, ListCache};
 use dns_asker as asker;
 use dns_asker::MessageWire;
-use dns_transport::{QueryForm, RunClock, WireOptions, open_wire};
+use dns_transport::{QueryForm, ReplyTimes, RunClock, WireOptions, open_wire};
 use sip_resolver::{
     Limits, Outcome, Resolver, WireOrigin, draw_words, next_outcome, random_ids, random_key,
 };
@@ -66,6 +66,8 @@ fn resolve_at<R: Wait + Net + Clock + RandomSource + AllocGlobal>(
     let options = WireOptions {
         over_tcp: false,
         form: QueryForm::PLAIN,
+        reply_times: ReplyTimes::DEFAULT,
+        rotates: false,
         keeps_tries: false,
         total: Duration::from_secs(5),
     };

@@ -14,7 +14,7 @@ use crate::run::run_text;
 use answer_cache::{CacheRefusal, SharedCache};
 use dns_asker::{PeerWire, serve};
 use dns_transport::{
-    BufferWire, HostWire, QueryForm, SystemClock, UdpServerWire, WireOptions, open_wire,
+    BufferWire, HostWire, QueryForm, ReplyTimes, SystemClock, UdpServerWire, WireOptions, open_wire,
 };
 use dns_zone::{Zone, ZoneRefusal};
 use sip_resolver::random_key;
@@ -129,6 +129,8 @@ pub(crate) fn local_wire<R: Net>(rt: &R) -> io::Result<UdpServerWire>
 const WIRE_OPTIONS: WireOptions = WireOptions {
     over_tcp: false,
     form: QueryForm::PLAIN,
+    reply_times: ReplyTimes::DEFAULT,
+    rotates: false,
     keeps_tries: false,
     total: Duration::MAX,
 };

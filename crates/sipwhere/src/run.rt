@@ -17,7 +17,7 @@ use crate::stats::tell_stats;
 use crate::tell::{FAULT_TOLD, NOTHING_TOLD, Told};
 use answer_cache::{AnswerBook, ListCache};
 use dns_asker::{Clock, MessageWire};
-use dns_transport::{RunClock, Timer, Tracer, WireOptions, open_wire};
+use dns_transport::{ReplyTimes, RunClock, Timer, Tracer, WireOptions, open_wire};
 use sip_resolver::random_key;
 use std::alloc::Global;
 use std::io::{self, Write};
@@ -221,6 +221,8 @@ fn wire_options(options: &Options<'_>, plan: &Plan) -> WireOptions
     WireOptions {
         over_tcp: plan.over_tcp,
         form: options.query_form,
+        reply_times: ReplyTimes::DEFAULT,
+        rotates: false,
         keeps_tries: options.traced,
         total: total_of(options),
     }

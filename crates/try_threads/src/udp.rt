@@ -5,7 +5,9 @@ use crate::seats::question;
 use dns_answers::{Answer, Records, answer_of};
 use dns_asker::{DATAGRAM_LIMIT, PeerWire, Wire, Zone, serve};
 use dns_message::{Kind, Message, Question, read_message};
-use dns_transport::{BufferWire, HostWire, QueryForm, UdpServerWire, WireOptions, open_wire};
+use dns_transport::{
+    BufferWire, HostWire, QueryForm, ReplyTimes, UdpServerWire, WireOptions, open_wire,
+};
 use std::alloc::Global;
 use std::net::{Ipv4Addr, Ipv6Addr, Net, SocketAddr};
 use std::sync::Arc;
@@ -61,6 +63,8 @@ fn is_right(alloc: Global, octets: &[u8]) -> Option<bool> {
 const OPTIONS: WireOptions = WireOptions {
     over_tcp: false,
     form: QueryForm::PLAIN,
+    reply_times: ReplyTimes::DEFAULT,
+    rotates: false,
     keeps_tries: false,
     total: Duration::MAX,
 };
