@@ -8,7 +8,7 @@ use Rattle.std.proofs.lemmas.List.Folds.{list_any-append}
 use Rattle.std.proofs.lemmas.List.FromFn.{get_or-enumerate_from, length-enumerate_from}
 use Rattle.ip_text.specs.declared.address.Address.{Address}
 use Rattle.ip_text.specs.declared.address.Address.TheVariants.{V4}
-use Rattle.resolver_file.specs.ResolverFiles.{FileSays, FileValue, LinesSay, Said, at_line, attempts_in, is_over_tcp, is_rotate, last_or, or_local, server_in, timeout_in, value_of, warning_in, with_local}
+use Rattle.resolver_file.specs.ResolverFiles.{FileSays, FileValue, LinesSay, Said, at_line, attempts_in, is_over_tcp, is_rotate, last_of, or_local, server_in, timeout_in, value_of, warning_in, with_local}
 use Rattle.resolver_file.specs.ResolverLines.{LineSays, lines_of}
 use Rattle.resolver_file.specs.Views.{with_fact, with_facts}
 use Rattle.resolver_file.specs.declared.resolver_fact.Fact.{Fact}
@@ -38,9 +38,10 @@ module _ (is_said : Said → Bool) (said : List Said) (it : Said) where
   now_said : is_said it ≡ true → list_any is_said (said ++ it ∷ []) ≡ true
   now_said is = list_any-append is_said said (it ∷ []) ∙ (rw is (or_true (list_any is_said said)))
 
-last_or-push : (default : ℕ) (numbers : List ℕ) (last : ℕ) → last_or default (numbers ++ last ∷ []) ≡ last
-last_or-push default [] last = refl
-last_or-push default (number ∷ numbers) last = last_or-push number numbers last
+last_of-push : (numbers : List ℕ) (last : ℕ) → last_of (numbers ++ last ∷ []) ≡ Some last
+last_of-push [] last = refl
+last_of-push (number ∷ []) last = refl
+last_of-push (number ∷ other ∷ numbers) last = last_of-push (other ∷ numbers) last
 
 first_three : (servers : List Address) (server : Address)
     → (if nat_lt (length (take 3 servers)) 3 then take 3 servers ++ server ∷ [] else take 3 servers) ≡ take 3 (servers ++ server ∷ [])
@@ -73,7 +74,7 @@ with_fact-value number (Timeout seconds) said =
     rw (
       none_more server_in said it refl,
       one_more timeout_in said it seconds refl,
-      last_or-push 5 (filter_map timeout_in said) seconds,
+      last_of-push (filter_map timeout_in said) seconds,
       none_more attempts_in said it refl,
       not_said is_over_tcp said it refl,
       not_said is_rotate said it refl,
@@ -85,7 +86,7 @@ with_fact-value number (Attempts count) said =
       none_more server_in said it refl,
       none_more timeout_in said it refl,
       one_more attempts_in said it count refl,
-      last_or-push 2 (filter_map attempts_in said) count,
+      last_of-push (filter_map attempts_in said) count,
       not_said is_over_tcp said it refl,
       not_said is_rotate said it refl,
       none_more warning_in said it refl,

@@ -8,12 +8,13 @@ use Rattle.resolver_file.specs.declared.resolver_fact.Fact.{Fact}
 use Rattle.resolver_file.specs.declared.resolver_fact.Fact.TheVariants.{Server, Timeout, Attempts, OverTcp, Rotate, Fault}
 use Rattle.resolver_file.specs.declared.warning.LineWarning.{LineWarning}
 
--- the name servers, for how many seconds a reply is waited for, how often each is asked, whether
--- over TCP alone, whether each query begins with the next server, and which lines can't be read
+-- the name servers, for how many seconds a reply is waited for and how often each is asked, where
+-- options say so, whether over TCP alone, whether each query begins with the next server, and which
+-- lines can't be read
 pub record FileValue : Type 0 where
   pub servers : List Address
-  pub timeout : ℕ
-  pub attempts : ℕ
+  pub timeout : Option ℕ
+  pub attempts : Option ℕ
   pub over_tcp : Bool
   pub rotates : Bool
   pub warnings : List LineWarning
@@ -65,17 +66,18 @@ abbrev pub warning_in : Said → Option LineWarning
 warning_in (number, Fault fault) = Some (record { line = number; fault = fault })
 warning_in _ = None
 
--- the last of these numbers, or the default where there is none
-abbrev pub last_or : ℕ → List ℕ → ℕ
-last_or default [] = default
-last_or default (number ∷ numbers) = last_or number numbers
+-- the last of these numbers, if there is one
+abbrev pub last_of : List ℕ → Option ℕ
+last_of [] = None
+last_of (number ∷ []) = Some number
+last_of (number ∷ other ∷ numbers) = last_of (other ∷ numbers)
 
 -- what facts say in all: the first three servers, and of each number the last one
 abbrev pub value_of : List Said → FileValue
 value_of said = record {
   servers = take 3 (filter_map server_in said);
-  timeout = last_or 5 (filter_map timeout_in said);
-  attempts = last_or 2 (filter_map attempts_in said);
+  timeout = last_of (filter_map timeout_in said);
+  attempts = last_of (filter_map attempts_in said);
   over_tcp = list_any is_over_tcp said;
   rotates = list_any is_rotate said;
   warnings = filter_map warning_in said;

@@ -1,5 +1,5 @@
 -- How what the code keeps is seen in the definitions. No public clause cites this module.
-use Rattle.std.specs.Prelude.{ℕ, ◌++◌, nat_lt, List, [], ◌∷◌, length, true, if◌then◌else◌}
+use Rattle.std.specs.Prelude.{ℕ, ◌++◌, nat_lt, List, [], ◌∷◌, length, Some, true, if◌then◌else◌}
 use Rattle.resolver_file.specs.ResolverFiles.{FileValue}
 use Rattle.resolver_file.specs.ResolverLines.{words_of}
 use Rattle.resolver_file.specs.ResolverLines as spec
@@ -19,8 +19,8 @@ abbrev pub with_fact : ℕ → Fact → FileValue → FileValue
 with_fact number (Server address) file =
     if nat_lt (length file.servers) 3
     then record file { servers = file.servers ++ address ∷ [] } else file
-with_fact number (Timeout seconds) file = record file { timeout = seconds }
-with_fact number (Attempts count) file = record file { attempts = count }
+with_fact number (Timeout seconds) file = record file { timeout = Some seconds }
+with_fact number (Attempts count) file = record file { attempts = Some count }
 with_fact number OverTcp file = record file { over_tcp = true }
 with_fact number Rotate file = record file { rotates = true }
 with_fact number (Fault fault) file =

@@ -1,5 +1,5 @@
 //! The system's resolver file (resolv.conf(5)).
-ghost use Rattle.std.specs.Prelude.{◌≡◌, ◌+◌, [], List, ℕ, IfOk, OnOk};
+ghost use Rattle.std.specs.Prelude.{◌≡◌, ◌+◌, [], List, ℕ, IfOk, OnOk, unwrap_or};
 ghost use Rattle.std.specs.List.{filter_map};
 ghost use Rattle.resolver_file.specs.ResolverFiles.{FileSays, FileValue, value_of};
 ghost use Rattle.resolver_file.specs.ResolverLines.{LineSays, option_fact as option_says, words_of};
@@ -34,8 +34,8 @@ const LOCAL_HOST: Address = Address::V4([127, 0, 0, 1]);
 #[derive(Debug, Drop)]
 pub struct ResolverFile {
     servers: Vec<Address>,
-    timeout: u32,
-    attempts: u32,
+    timeout: Option<u32>,
+    attempts: Option<u32>,
     over_tcp: bool,
     rotates: bool,
     warnings: Vec<LineWarning>,
@@ -68,6 +68,14 @@ impl ResolverFile {
     /// The seconds for which a reply is waited for: 1 to 30.
     #[must_use]
     pub fn timeout(&self) -> u32
+        ensures { result ≡ unwrap_or self.now.timeout 5 }
+    {
+        self.timeout.unwrap_or(TIMEOUT)
+    }
+
+    /// The seconds that the file's option says, where it has one.
+    #[must_use]
+    pub fn timeout_option(&self) -> Option<u32>
         ensures { result ≡ self.now.timeout }
     {
         self.timeout
@@ -76,6 +84,14 @@ impl ResolverFile {
     /// How often each server is asked: 1 to 5 times.
     #[must_use]
     pub fn attempts(&self) -> u32
+        ensures { result ≡ unwrap_or self.now.attempts 2 }
+    {
+        self.attempts.unwrap_or(ATTEMPTS)
+    }
+
+    /// How often each server is asked by the file's option, where it has one.
+    #[must_use]
+    pub fn attempts_option(&self) -> Option<u32>
         ensures { result ≡ self.now.attempts }
     {
         self.attempts
@@ -112,8 +128,8 @@ impl ResolverFile {
     {
         ResolverFile {
             servers: Vec::new(alloc),
-            timeout: TIMEOUT,
-            attempts: ATTEMPTS,
+            timeout: None,
+            attempts: None,
             over_tcp: false,
             rotates: false,
             warnings: Vec::new(alloc),
@@ -130,8 +146,8 @@ impl ResolverFile {
                     self.servers.push(address)?;
                 }
             }
-            Fact::Timeout(seconds) => self.timeout = seconds,
-            Fact::Attempts(count) => self.attempts = count,
+            Fact::Timeout(seconds) => self.timeout = Some(seconds),
+            Fact::Attempts(count) => self.attempts = Some(count),
             Fact::OverTcp => self.over_tcp = true,
             Fact::Rotate => self.rotates = true,
             Fact::Fault(fault) => self.warnings.push(LineWarning { line, fault })?,
