@@ -2,15 +2,15 @@
 _sipwhere() {
     local word=${COMP_WORDS[COMP_CWORD]} before=${COMP_WORDS[COMP_CWORD - 1]}
     case $before in
-        -s | --server | -b | --bind | --total | --seed | -w | --warning | -c | --critical | --warning-targets | \
-            --critical-targets | --expect) COMPREPLY=() ;;
+        -s | --server | -b | --bind | --timeout | --tries | --total | --seed | -w | --warning | -c | --critical | \
+            --warning-targets | --critical-targets | --expect) COMPREPLY=() ;;
         --resolver-file) mapfile -t COMPREPLY < <(compgen -f -- "$word") ;;
         --families) mapfile -t COMPREPLY < <(compgen -W '4 6 46 64' -- "$word") ;;
         -t | --transports) mapfile -t COMPREPLY < <(compgen -W 'udp tcp tls sctp' -- "$word") ;;
         *)
             mapfile -t COMPREPLY < <(compgen -W '--server --resolver-file --tcp --bind --norecurse --edns --families
-                --transports --total --seed --short --json --check --warning --critical --warning-targets
-                --critical-targets --expect --trace --stats --help --version' -- "$word")
+                --transports --timeout --tries --total --seed --short --json --check --warning --critical
+                --warning-targets --critical-targets --expect --trace --stats --help --version' -- "$word")
             ;;
     esac
 }

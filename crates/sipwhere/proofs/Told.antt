@@ -1,16 +1,18 @@
 -- What is told of many lines.
-use Rattle.std.proofs.Common.{◌≡◌, ◌⊎◌, ℕ, ◌+◌, ◌≤◌, nat_lt, List, [], ◌∷◌, ◌++◌, Option, get_or, length, take, refl, sym, ap, subst, inl, inr, append_assoc, arith}
+use Rattle.std.proofs.Common.{◌≡◌, ◌⊎◌, ℕ, ◌+◌, ◌≤◌, nat_lt, List, [], ◌∷◌, ◌++◌, Option, get_or, length, take, refl, sym, ap, subst, inl, inr, map, append_assoc, ◌∙◌, arith}
 use Rattle.std.proofs.lemmas.Bool.{cases_Bool}
 use Rattle.std.proofs.lemmas.Bool.Decides.{nat_tests}
-use Rattle.std.proofs.lemmas.List.{take_all, take_more}
+use Rattle.std.proofs.lemmas.List.{map-append, take_all, take_more}
 use Rattle.std.proofs.lemmas.List.Elements.{All-append, All-cons, All-nil, All-weaker}
 use Rattle.answer_cache.specs.Seats.{SeatView}
+use Rattle.sipwhere.specs.LineInputs.{numbered_from, said}
 use Rattle.sipwhere.specs.Lines.{graver_of, gravity}
 use Rattle.sipwhere.specs.OpenLines.{HasTold, OpenView, TellsFirst}
-use Rattle.sipwhere.specs.Runs.{AreRun, AreTold, IsGravest, IsOneOf, IsRun, StaysSo, Tells}
+use Rattle.sipwhere.specs.Runs.{AreRun, AreTold, AreToldFrom, IsGravest, IsOneOf, IsRun, StaysSo, Tells}
 use Rattle.sipwhere.specs.declared.line.Line.{Line}
 use Rattle.sipwhere.specs.declared.report.Style.{Style}
 use Rattle.sipwhere.specs.declared.sender.Sender.{Sender}
+use Rattle.sipwhere.proofs.Inputs.{numbered-append}
 
 -- ---- the gravest status
 
@@ -217,3 +219,45 @@ run-more gives shows before after sender style lines others old middle new first
       told-append gives shows after sender style lines others old middle new told.0 more.0 there more.1,
       rw is (gravest-more told.0 more.0 first second told.2 more.2),
     )
+
+-- ---- texts
+
+module _ (gives : List ℕ → Type 0) (shows : ℕ → Type 0) (sender : Sender) (style : Style) where
+  -- no text was told
+  pub texts-none : (seat : SeatView) (now : Option (List ℕ)) → AreToldFrom gives shows seat sender style 1 [] now now []
+  texts-none seat now = record { lines = []; numbered = refl; told = (refl, refl) }
+
+  -- texts behind others
+  pub texts-append : (before after : SeatView) (first : ℕ) (texts others : List (List ℕ)) (old middle new : Option (List ℕ))
+      (statuses more : List ℕ) → StaysSo gives shows before after
+      → AreToldFrom gives shows before sender style first texts old middle statuses
+      → AreToldFrom gives shows after sender style (first + length texts) others middle new more
+      → AreToldFrom gives shows after sender style first (texts ++ others) old new (statuses ++ more)
+  texts-append before after first texts others old middle new statuses more later told second = record {
+    lines = told.lines ++ second.lines;
+    numbered = map-append said told.lines second.lines ∙ ap (λ l. l ++ map said second.lines) told.numbered
+        ∙ ap (λ l. numbered_from first texts ++ l) second.numbered ∙ sym (numbered-append first texts others);
+    told = told-append gives shows after sender style told.lines second.lines old middle new statuses more
+        (told-later gives shows before after later sender style told.lines old middle statuses told.told) second.told;
+  }
+
+  -- what was told of texts, and then of lines behind them
+  pub texts-on : (before after : SeatView) (texts others : List (List ℕ)) (lines : List Line) (old middle new : Option (List ℕ))
+      (first second status : ℕ) → StaysSo gives shows before after → ((first ≡ 5) ⊎ (second ≡ 5) → status ≡ 5)
+      → status ≡ graver_of first second
+      → (first ≡ 5) ⊎ ((statuses : List ℕ) × AreToldFrom gives shows before sender style 1 texts old middle statuses
+      × IsGravest statuses first)
+      → map said lines ≡ numbered_from (1 + length texts) others → IsRun gives shows after sender style lines middle new second
+      → (status ≡ 5) ⊎ ((statuses : List ℕ) × AreToldFrom gives shows after sender style 1 (texts ++ others) old new statuses
+      × IsGravest statuses status)
+  texts-on before after texts others lines old middle new first second status later fault is (inl five) numbered run =
+      inl (fault (inl five))
+  texts-on before after texts others lines old middle new first second status later fault is (inr told) numbered (inl five) =
+      inl (fault (inr five))
+  texts-on before after texts others lines old middle new first second status later fault is (inr told) numbered (inr run) =
+      inr (
+        told.0 ++ run.0,
+        texts-append before after 1 texts others old middle new told.0 run.0 later told.1
+            (record { lines = lines; numbered = numbered; told = run.1 }),
+        rw is (gravest-more told.0 run.0 first second told.2 run.2),
+      )

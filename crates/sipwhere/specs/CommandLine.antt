@@ -21,6 +21,7 @@ use Rattle.sipwhere.specs.declared.options.OptionFault.{OptionFault}
 use Rattle.sipwhere.specs.declared.options.OptionFault.TheVariants as fault
 use Rattle.sipwhere.specs.declared.check_limits.CheckLimits.{CheckLimits}
 use Rattle.sipwhere.specs.declared.options.Options.{Options}
+use Rattle.sipwhere.specs.declared.options.Timing.{Timing}
 use Rattle.sipwhere.specs.declared.report.Report.{Report}
 use Rattle.sipwhere.specs.declared.report.Report.TheVariants.{Lines, Json, Check}
 use Rattle.sipwhere.specs.declared.report.Style.{Style}
@@ -148,6 +149,12 @@ pub record AreLimits (matches : ArgMatches) (limits : CheckLimits) : Type 0 wher
       (one_text (found_of matches) (codes "critical-targets")) limits.critical.targets
   pub expected : option_map (λ word. word.now) limits.expected ≡ word_of matches (codes "expect")
 
+-- how long each query is waited for, and how often each question is sent, where words say so: as
+-- numbers of 8 bits
+pub record AreTimings (matches : ArgMatches) (timing : Timing) : Type 0 where
+  pub timeout : MaySay (NumberText 8) (one_text (found_of matches) (codes "timeout")) timing.timeout
+  pub tries : MaySay (NumberText 8) (one_text (found_of matches) (codes "tries")) timing.tries
+
 -- one text, and not the lines of the input
 abbrev pub IsOneText : List (List ℕ) → Type 0
 IsOneText [] = ⊥
@@ -174,6 +181,7 @@ pub record AreOptions (matches : ArgMatches) (terminals : Terminals) (options : 
     pub transports : AreTransports (words_of matches (codes "transports")) options.caps.transports
     pub families : families_or_both (word_of matches (codes "families"))
         ≡ Some options.caps.families
+    pub timing : AreTimings matches options.timing
     pub total : IsTotal (one_text (found_of matches) (codes "total")) options.total
     pub seed : Says SeedText (word_of matches (codes "seed")) options.seed
     pub report : IsReport matches options.report

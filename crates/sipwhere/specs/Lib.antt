@@ -14,5 +14,6 @@ pub mod Jsons
 pub mod Reports
 pub mod Runs
 pub mod Terminals
+pub mod Timings
 pub mod CommandLine
 pub mod Plans

@@ -1,5 +1,5 @@
 -- Whom to ask.
-use Rattle.std.specs.Prelude.{◌≡◌, ◌≢◌, ◌⊎◌, ◌||◌, ℕ, Bool, true, false, List, [], Option, Some, None, ⊤}
+use Rattle.std.specs.Prelude.{◌≡◌, ◌≢◌, ◌⊎◌, ◌||◌, ℕ, true, false, List, [], length, Option, Some, None, ⊤}
 use Rattle.std.specs.List.{AllZip}
 use Rattle.std.specs.Net.Addr.{IsV4And, IsV6And, ipv4_octets, ipv6_segments, segments_of}
 use Rattle.std.specs.Net.Socket.{socket_ip, socket_port}
@@ -9,6 +9,7 @@ use Rattle.ip_text.specs.declared.address.Address.{Address}
 use Rattle.ip_text.specs.declared.address.Address.TheVariants.{V4, V6}
 use Rattle.resolver_file.specs.ResolverFiles.{FileSays, FileValue}
 use Rattle.sipwhere.specs.Servers.{servers_from}
+use Rattle.sipwhere.specs.Timings.{IsSchedule, sends_of}
 use Rattle.sipwhere.specs.declared.options.Options.{Options}
 use Rattle.sipwhere.specs.declared.plan.Plan.{Plan}
 use Rattle.sipwhere.specs.declared.run_fault.RunFault.{RunFault}
@@ -22,17 +23,24 @@ IsServerAt (V6 octets) server =
     IsV6And (socket_ip server) (λ ip. ipv6_segments ip ≡ segments_of octets)
     × (socket_port server ≡ 53)
 
--- the servers that a resolver file names, in its order, over TCP alone where a word or the file
--- says so
-pub record IsOfFile (file : FileValue) (over_tcp : Bool) (plan : Plan) : Type 0 where
+-- The servers that a resolver file names, in its order, over TCP alone where a word or the file
+-- says so, as often and for as long as words say or else the file, and round all servers where the
+-- file says so.
+pub record IsOfFile (options : Options) (file : FileValue) (plan : Plan) : Type 0 where
   pub servers : AllZip IsServerAt file.servers plan.servers.items
-  pub tcp : plan.over_tcp ≡ over_tcp || file.over_tcp
+  pub tcp : plan.over_tcp ≡ options.over_tcp || file.over_tcp
+  pub schedule : IsSchedule options file.timeout (sends_of file.attempts (length file.servers))
+      plan.schedule
+  pub rotates : plan.rotates ≡ file.rotates
 
--- the servers that words name, in their order, over TCP alone where a word says so
+-- the servers that words name, in their order, over TCP alone where a word says so, as often and
+-- for as long as words say
 pub record IsNamed (options : Options) (plan : Plan) : Type 0 where
   pub some : options.servers.items ≢ []
   pub servers : plan.servers.items ≡ options.servers.items
   pub tcp : plan.over_tcp ≡ options.over_tcp
+  pub schedule : IsSchedule options None None plan.schedule
+  pub rotates : plan.rotates ≡ false
 
 -- where words name no servers: those of a resolver file
 pub record IsRead (options : Options) (plan : Plan) : Type 0 where
@@ -40,7 +48,7 @@ pub record IsRead (options : Options) (plan : Plan) : Type 0 where
   pub text : List ℕ
   pub file : FileValue
   pub says : FileSays text file
-  pub is : IsOfFile file options.over_tcp plan
+  pub is : IsOfFile options file plan
 
 -- whom to ask, from any local address
 abbrev pub IsWhole : Options → Plan → Type 0
@@ -52,6 +60,8 @@ pub record IsFrom (local : IpAddr) (whole plan : Plan) : Type 0 where
   pub servers : plan.servers.items ≡ servers_from local whole.servers.items
   pub some : plan.servers.items ≢ []
   pub tcp : plan.over_tcp ≡ false
+  pub schedule : plan.schedule ≡ whole.schedule
+  pub rotates : plan.rotates ≡ whole.rotates
 
 -- the system has a fault
 abbrev pub IsOfSystem : RunFault → Type 0

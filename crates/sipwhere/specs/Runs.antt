@@ -1,14 +1,17 @@
 -- What is printed of a text.
-use Rattle.std.specs.Prelude.{◌≡◌, ◌⊎◌, ◌≤◌, ℕ, List, [], ◌∷◌, Option, length, take, All}
+use Rattle.std.specs.Prelude.{◌≡◌, ◌≢◌, ◌⊎◌, ◌≤◌, ℕ, Bool, true, false, List, [], ◌∷◌, Option, codes, length, map, take, All}
 use Rattle.std.specs.Io.KnownBytes.{Appends}
 use Rattle.answer_cache.specs.Seats.{SeatView}
 use Rattle.dns_transport.specs.declared.wire_try.WireTry.{WireTry}
+use Rattle.sipwhere.specs.CommandLine.{IsStyle}
+use Rattle.sipwhere.specs.LineInputs.{AreInputTexts, numbered_from, said}
 use Rattle.sipwhere.specs.LineOutcomes.{IsLineOutcome}
 use Rattle.sipwhere.specs.Lines.{gravity}
 use Rattle.sipwhere.specs.Reports.{status_in, traced_report}
 use Rattle.sipwhere.specs.Verdicts.{verdict_of}
 use Rattle.sipwhere.specs.declared.line_outcome.LineOutcome.{LineOutcome}
 use Rattle.sipwhere.specs.declared.line.Line.{Line}
+use Rattle.sipwhere.specs.declared.options.Options.{Options}
 use Rattle.sipwhere.specs.declared.report.Style.{Style}
 use Rattle.sipwhere.specs.declared.sender.Sender.{Sender}
 use Rattle.sipwhere.specs.declared.verdict.Verdict.{Verdict}
@@ -97,3 +100,50 @@ abbrev pub IsRun : (List ℕ → Type 0) → (ℕ → Type 0) → SeatView → S
 IsRun gives shows seat sender style lines old new status =
     (status ≡ 5) ⊎ ((statuses : List ℕ)
     × AreTold gives shows seat sender style lines old new statuses × IsGravest statuses status)
+
+-- ---- texts
+
+-- what became of texts, which are numbered from this number on, is printed in their order, with
+-- these statuses
+pub record AreToldFrom (gives : List ℕ → Type 0) (shows : ℕ → Type 0) (seat : SeatView)
+    (sender : Sender) (style : Style) (first : ℕ) (texts : List (List ℕ))
+    (old new : Option (List ℕ)) (statuses : List ℕ) : Type 0 where
+  pub lines : List Line
+  pub numbered : map said lines ≡ numbered_from first texts
+  pub told : AreTold gives shows seat sender style lines old new statuses
+
+-- What became of texts is printed in their order, numbered from 1, and the status is the gravest of
+-- theirs.
+pub record IsRunOf (gives : List ℕ → Type 0) (shows : ℕ → Type 0) (seat : SeatView)
+    (sender : Sender) (style : Style) (texts : List (List ℕ)) (old new : Option (List ℕ))
+    (status : ℕ) : Type 0 where
+  pub statuses : List ℕ
+  pub told : AreToldFrom gives shows seat sender style 1 texts old new statuses
+  pub gravest : IsGravest statuses status
+
+-- the word for the lines of the input
+abbrev pub from_input : List (List ℕ)
+from_input = codes "-" ∷ []
+
+-- the texts of a run: those that are given, or for `-` those of the input
+abbrev pub AreTextsOf : List (List ℕ) → Option (List ℕ) → List (List ℕ) → Type 0
+AreTextsOf given input texts =
+    ((given ≡ from_input) × AreInputTexts input texts) ⊎ ((given ≢ from_input) × (texts ≡ given))
+
+-- each line begins with its text: where several are given, or those of the input
+abbrev pub HasFronts : List (List ℕ) → Bool → Type 0
+HasFronts given true = (given ≡ from_input) ⊎ (2 ≤ length given)
+HasFronts given false = (given ≢ from_input) × (length given ≤ 1)
+
+-- What became of the texts of the options, or of the lines of the input, is printed in their order,
+-- in the style that the options ask for, and the status is the gravest.
+pub record IsRunBy (gives : List ℕ → Type 0) (shows : ℕ → Type 0) (seat : SeatView)
+    (sender : Sender) (options : Options) (input old new : Option (List ℕ)) (status : ℕ) : Type 0
+  where
+    pub texts : List (List ℕ)
+    pub are : AreTextsOf (map (λ text. text.now) options.texts.items) input texts
+    pub fronts : Bool
+    pub has_fronts : HasFronts (map (λ text. text.now) options.texts.items) fronts
+    pub style : Style
+    pub is_style : IsStyle options fronts style
+    pub run : IsRunOf gives shows seat sender style texts old new status

@@ -1,7 +1,7 @@
 -- How a check judges targets.
-use Rattle.std.specs.Prelude.{◌||◌, ℕ, nat_lt, Bool, true, false, not, List, length, Option, Some, None}
-use Rattle.std.specs.Prelude.{if◌then◌else◌, option_map}
-use Rattle.std.specs.List.{list_any}
+use Rattle.std.specs.Prelude.{◌≡◌, ◌||◌, ◌≤◌, ℕ, nat_lt, Bool, true, false, not, List, length, Option, Some, None}
+use Rattle.std.specs.Prelude.{if◌then◌else◌, option_map, IsTrue, ⊤}
+use Rattle.std.specs.List.{Any, list_any}
 use Rattle.std.specs.Str.{bytes_eq}
 use Rattle.sip_resolver.specs.declared.outcome.Outcome.TheVariants as outcome
 use Rattle.sip_selection.specs.declared.target.Target.{Target}
@@ -80,3 +80,31 @@ verdict_of limits took (line_outcome.Became outcome.Memory) = Well
 verdict_of limits took line_outcome.TimeOver = Well
 verdict_of limits took (line_outcome.Bad refusal) = Well
 verdict_of limits took line_outcome.Memory = Well
+
+-- ---- what a verdict says
+
+-- so much is within bounds: it took no longer, and there are as many targets as there have to be
+pub record IsWithin (bounds : Bounds) (took count : ℕ) : Type 0 where
+  pub time : (most : ℕ) → bounds.time ≡ Some most → took ≤ most
+  pub targets : (least : ℕ) → bounds.targets ≡ Some least → least ≤ count
+
+-- the target that is expected, where one is, is one of these
+pub record HasExpected (limits : CheckLimits) (targets : List Target) : Type 0 where
+  pub has : (word : List ℕ) → option_map (λ word. word.now) limits.expected ≡ Some word
+      → Any (λ target. IsTrue (is_shown word target)) targets
+
+-- nothing critical is wrong with targets
+pub record IsNotCritical (limits : CheckLimits) (took : ℕ) (targets : List Target) : Type 0 where
+  pub bounds : IsWithin limits.critical took (length targets)
+  pub expected : HasExpected limits targets
+
+-- all holds that a check asks of targets
+pub record IsWell (limits : CheckLimits) (took : ℕ) (targets : List Target) : Type 0 where
+  pub critical : IsNotCritical limits took targets
+  pub warning : IsWithin limits.warning took (length targets)
+
+-- a verdict that is not critical
+abbrev pub IsBelowCritical : Verdict → Type 0
+IsBelowCritical Well = ⊤
+IsBelowCritical (Warning shortfall) = ⊤
+IsBelowCritical (Critical shortfall) = ⊥

@@ -87,9 +87,23 @@ fn with_sender<'a>(alloc: Global, command: Command<'a>) -> Result<Command<'a>, A
         )
 }
 
-/// With the options of how long, and of the random words.
+/// With the options of how long and how often, and of the random words.
 fn with_limits<'a>(alloc: Global, command: Command<'a>) -> Result<Command<'a>, AllocError> {
     command
+        .arg(value(
+            alloc,
+            "timeout",
+            "SECONDS",
+            "How long each query is waited for, 1 if not given",
+        )
+        .value_parser(value_parser!(u8).range(1..=60)))?
+        .arg(value(
+            alloc,
+            "tries",
+            "N",
+            "How often each question is sent in all, 3 if not given",
+        )
+        .value_parser(value_parser!(u8).range(1..=15)))?
         .arg(
             value(
                 alloc,

@@ -1,7 +1,6 @@
 //! The texts that are located, with their numbers.
-ghost use Rattle.std.specs.Prelude.{◌≡◌, ◌++◌, ◌∷◌, [], ℕ, List, IfOk, OnOk, map};
-ghost use Rattle.std.specs.Borrow.{Bor};
-ghost use Rattle.std.specs.List.{filter};
+ghost use Rattle.std.specs.Prelude.{◌≡◌, IfOk, map};
+ghost use Rattle.std.specs.String.{string_bytes};
 ghost use Rattle.sipwhere.specs.LineInputs as spec;
 
 use std::alloc::{AllocError, Global};
@@ -21,7 +20,8 @@ pub fn numbered<'a>(
     first: u64,
     texts: &[&'a str],
 ) -> Result<Vec<Line<'a>>, AllocError>
-    ensures { IfOk result (λ lines. lines.items ≡ spec.numbered_from first texts.now) }
+    ensures { IfOk result (λ lines. map spec.said lines.items
+        ≡ spec.numbered_from first (map (λ text. text.now) texts.now)) }
 {
     let mut lines = Vec::with_capacity(alloc, texts.len())?;
     'texts: for (at, text) in texts.iter().enumerate() {
@@ -31,27 +31,27 @@ pub fn numbered<'a>(
     Ok(lines)
 }
 
-/// Adds a text, where it has an octet.
-fn push_some<'a>(texts: &mut Vec<&'a str>, text: &'a str) -> Result<(), AllocError>
-    ensures { OnOk result (map (λ it. it.now) texts.new.items
-        ≡ map (λ it. it.now) texts.old.items ++ filter spec.has_some (text.now ∷ [])) }
+/// The texts of strings.
+fn texts_of<'a>(alloc: Global, strings: &'a [String]) -> Result<Vec<&'a str>, AllocError>
+    ensures { IfOk result
+        (λ texts. map (λ text. text.now) texts.items ≡ map string_bytes strings.now) }
 {
-    if text.is_empty() {
-        return Ok(());
+    let mut texts = Vec::with_capacity(alloc, strings.len())?;
+    'strings: for string in strings {
+        texts.push(string.as_str())?;
     }
-    texts.push(text)?;
-    Ok(())
+    Ok(texts)
 }
 
-/// The lines of a text that have more than blanks, numbered from this number on.
-pub fn lines_in<'a>(alloc: Global, first: u64, text: &'a str) -> Result<Vec<Line<'a>>, AllocError>
-    ensures { IfOk result (λ lines. (texts : List (Bor (List ℕ)))
-        × (map (λ it. it.now) texts ≡ spec.texts_in text.now)
-        × (lines.items ≡ spec.numbered_from first texts)) }
+/// These strings as lines, numbered from this number on.
+pub fn lines_of<'a>(
+    alloc: Global,
+    first: u64,
+    strings: &'a [String],
+) -> Result<Vec<Line<'a>>, AllocError>
+    ensures { IfOk result (λ lines. map spec.said lines.items
+        ≡ spec.numbered_from first (map string_bytes strings.now)) }
 {
-    let mut texts = Vec::new(alloc);
-    'lines: for line in text.lines() {
-        push_some(&mut texts, line.trim())?;
-    }
+    let texts = texts_of(alloc, strings)?;
     numbered(alloc, first, texts.as_slice())
 }

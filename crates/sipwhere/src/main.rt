@@ -32,6 +32,7 @@ mod stats;
 mod submitted_lines;
 mod tell;
 mod terminals;
+mod timing;
 mod trace;
 mod verdict;
 

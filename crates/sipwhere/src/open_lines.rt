@@ -14,7 +14,7 @@ use crate::sender::Sender;
 use crate::submitted_lines::{line_outcome_in_vain, line_outcome_of, submit};
 use crate::tell::{NOTHING_TOLD, Told, tell};
 use answer_cache::AnswerBook;
-use dns_asker::{Clock, MessageWire};
+use dns_asker::{Clock, MessageWire, Schedule};
 use dns_transport::{Timer, Tracer};
 use rand_chacha::ChaCha20Rng;
 use sip_resolver::{
@@ -42,6 +42,19 @@ fn limits_for(lines: usize) -> Limits
         requests: lines.min(REQUEST_LIMIT).max(1),
         questions: QUESTION_LIMIT,
         streams: false,
+    }
+}
+
+/// A schedule within the bounds of a resolver.
+fn bounded(schedule: Schedule) -> Schedule
+    ensures sends { (1 ≤ result.sends) × (result.sends ≤ 15) }
+    ensures wait { (1 ≤ result.wait) × (result.wait ≤ 60) }
+    ensures same { (1 ≤ schedule.sends) × (schedule.sends ≤ 15) → (1 ≤ schedule.wait)
+        × (schedule.wait ≤ 60) → result ≡ schedule }
+{
+    Schedule {
+        sends: schedule.sends.max(1).min(15),
+        wait: schedule.wait.max(1).min(60),
     }
 }
 
@@ -127,7 +140,12 @@ impl<'a, B: AnswerBook + Drop, W: MessageWire, C: Clock> OpenLines<'a, B, W, C> 
             times: Vec::with_capacity(alloc, lines.len())?,
             late: 0,
             told: 0,
-            resolver: Resolver::new(alloc, limits_for(lines.len()), ids)?,
+            resolver: Resolver::with_schedule(
+                alloc,
+                limits_for(lines.len()),
+                bounded(sender.schedule),
+                ids,
+            )?,
             line_outcomes: unknown(alloc, lines.len())?,
         })
     }

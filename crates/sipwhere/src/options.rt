@@ -23,6 +23,15 @@ use std::alloc::{AllocError, AllocFailed, Global};
 use std::net::{IpAddr, SocketAddr};
 use thiserror::Error;
 
+/// How long each query is waited for, and how often each question is sent, as far as words say so.
+#[derive(Clone, Copy, Debug)]
+pub struct Timing {
+    /// For how many seconds each query is waited for.
+    pub timeout: Option<u8>,
+    /// How often each question is sent in all.
+    pub tries: Option<u8>,
+}
+
 /// The options of a run.
 #[derive(Debug, Drop)]
 pub struct Options<'a> {
@@ -38,6 +47,8 @@ pub struct Options<'a> {
     pub query_form: QueryForm,
     /// What can be sent: transports and families of addresses.
     pub caps: Caps,
+    /// How long each query is waited for, and how often each question is sent.
+    pub timing: Timing,
     /// How long one text may take, in milliseconds.
     pub total: u32,
     /// The key of the random words and ids, where it is named.
@@ -279,6 +290,16 @@ fn caps_in(alloc: Global, matches: &ArgMatches<'_>) -> Result<Caps, OptionFault>
     caps_of(transports.as_slice(), families)
 }
 
+/// How long each query is waited for, and how often each question is sent, where words say so.
+fn timing_of(matches: &ArgMatches<'_>) -> Timing
+    ensures { spec.AreTimings matches.now result }
+{
+    Timing {
+        timeout: matches.get_one::<u8>("timeout"),
+        tries: matches.get_one::<u8>("tries"),
+    }
+}
+
 /// The milliseconds that one text may take.
 fn total_of(matches: &ArgMatches<'_>) -> u32
     ensures { spec.IsTotal (one_text (found_of matches.now) (codes "total")) result }
@@ -403,6 +424,7 @@ pub fn read_options<'a>(
         local: local_of(matches.get_str("bind"))?,
         query_form: query_form_of(matches),
         caps: caps_in(alloc, matches)?,
+        timing: timing_of(matches),
         total: total_of(matches),
         seed: seed_of(matches.get_str("seed"))?,
         report,

@@ -5,6 +5,8 @@ ghost use Rattle.sipwhere.specs.Servers as spec;
 
 use crate::options::Options;
 use crate::run_fault::RunFault;
+use crate::timing::{schedule_by, sends_of};
+use dns_asker::Schedule;
 use resolver_file::{ResolverFile, SERVER_PORT};
 use sip_uri::Address;
 use std::alloc::{AllocError, Global};
@@ -13,13 +15,18 @@ use std::io::{self, ErrorKind};
 use std::net::{IpAddr, SocketAddr};
 use std::rt::Files;
 
-/// Which servers to ask, and whether over TCP alone.
+/// Which servers to ask, and how.
 #[derive(Debug, Drop)]
 pub struct Plan {
     /// The name servers.
     pub servers: Vec<SocketAddr>,
     /// Whether the servers are asked over TCP alone.
     pub over_tcp: bool,
+    /// How often each question is sent, and for how long each query is waited for.
+    pub schedule: Schedule,
+    /// Whether each question begins with the server after the one that the question before it began
+    /// with.
+    pub rotates: bool,
 }
 
 /// The server of an address in a resolver file.
@@ -63,16 +70,19 @@ fn octets_of<R: Files + AllocGlobal>(
 }
 
 /// The plan of a resolver file.
-fn plan_of(alloc: Global, file: &ResolverFile, over_tcp: bool) -> Result<Plan, AllocError>
-    ensures { IfOk result (plans.IsOfFile file.now over_tcp) }
+fn plan_of(alloc: Global, options: &Options<'_>, file: &ResolverFile) -> Result<Plan, AllocError>
+    ensures { IfOk result (plans.IsOfFile options.now file.now) }
 {
     let mut servers = Vec::new(alloc);
     'addresses: for address in file.servers() {
         servers.push(server_at(*address))?;
     }
+    let sends = sends_of(file.attempts_option(), file.servers().len());
     Ok(Plan {
         servers,
-        over_tcp: over_tcp || file.is_over_tcp(),
+        over_tcp: options.over_tcp || file.is_over_tcp(),
+        schedule: schedule_by(options, file.timeout_option(), sends),
+        rotates: file.rotates(),
     })
 }
 
@@ -115,6 +125,8 @@ fn plan_from(alloc: Global, local: IpAddr, plan: Plan) -> Result<Plan, RunFault>
     Ok(Plan {
         servers,
         over_tcp: false,
+        schedule: plan.schedule,
+        rotates: plan.rotates,
     })
 }
 
@@ -137,6 +149,8 @@ fn read_servers<R: Files + Eprint + AllocGlobal>(
         return Ok(Plan {
             servers: Vec::from_slice(alloc, options.servers.as_slice())?,
             over_tcp: options.over_tcp,
+            schedule: schedule_by(options, None, None),
+            rotates: false,
         });
     }
     let octets = match octets_of(rt, alloc, options.resolver_file) {
@@ -145,7 +159,7 @@ fn read_servers<R: Files + Eprint + AllocGlobal>(
     };
     let file = ResolverFile::read(alloc, octets.as_slice())?;
     warn(rt, resolver_path(options), &file);
-    Ok(plan_of(alloc, &file, options.over_tcp)?)
+    Ok(plan_of(alloc, options, &file)?)
 }
 
 /// The plan of the options: the servers that they name, or those of the resolver file; where they

@@ -1,10 +1,12 @@
 //! Texts, from their words to what is printed.
-ghost use Rattle.std.specs.Prelude.{◌≡◌, ◌*◌, ◌≤◌, IfOk, IsTrue};
+ghost use Rattle.std.specs.Prelude.{◌≡◌, ◌⊎◌, ◌↔◌, ◌*◌, ◌≤◌, IfOk, IsTrue, List, map, ℕ};
 ghost use Rattle.std.specs.Duration.{as_nanos};
-ghost use Rattle.sipwhere.specs.Runs.{AreRun, IsRun, StaysSo};
+ghost use Rattle.sipwhere.specs.LineInputs.{AreInputTexts};
+ghost use Rattle.sipwhere.specs.Timings.{AreReplyTimes};
+ghost use Rattle.sipwhere.specs.Runs.{AreRun, IsRun, IsRunBy, IsRunOf, StaysSo, from_input};
 
 use crate::counting_book::CountingBook;
-use crate::line::{Line, lines_in, numbered};
+use crate::line::{Line, lines_of, numbered};
 use crate::line_input::LineInput;
 use crate::open_lines::OpenLines;
 use crate::options::Options;
@@ -15,12 +17,13 @@ use crate::run_fault::RunFault;
 use crate::sender::Sender;
 use crate::stats::tell_stats;
 use crate::tell::{FAULT_TOLD, NOTHING_TOLD, Told};
+use crate::timing::reply_times_of;
 use answer_cache::{AnswerBook, ListCache};
 use dns_asker::{Clock, MessageWire};
-use dns_transport::{ReplyTimes, RunClock, Timer, Tracer, WireOptions, open_wire};
+use dns_transport::{RunClock, Timer, Tracer, WireOptions, open_wire};
 use sip_resolver::random_key;
 use std::alloc::Global;
-use std::io::{self, Write};
+use std::io::{self, Read, Write};
 use std::net::Net;
 use std::random::RandomSource;
 use std::rt::Files;
@@ -102,6 +105,7 @@ fn locate_in_turn<
     ensures stays { B.belongs book.now seat.new }
     ensures run { IsRun W.gives C.shows (B.shown seat.new) sender.now style.entry lines.now
         (O.contents output.old) (O.contents output.new) result.status }
+    ensures later { StaysSo W.gives C.shows (B.shown seat.old) (B.shown seat.new) }
     ensures range { result.status ≤ 5 }
     ensures closed { IsTrue result.is_closed → result.status ≡ 5 }
 {
@@ -142,6 +146,7 @@ pub fn locate_lines<
     ensures stays { B.belongs book.now seat.new }
     ensures run { IsRun W.gives C.shows (B.shown seat.new) sender.now style.entry lines.now
         (O.contents output.old) (O.contents output.new) result.status }
+    ensures later { StaysSo W.gives C.shows (B.shown seat.old) (B.shown seat.new) }
     ensures range { result.status ≤ 5 }
     ensures closed { IsTrue result.is_closed → result.status ≡ 5 }
 {
@@ -157,10 +162,11 @@ pub fn locate_lines<
 
 /// Locates the lines of the input as they come, until the output takes no more.
 fn locate_input<
-    R: Wait + Input + Eprint,
+    R: Wait + Eprint,
     B: AnswerBook + Drop,
     W: MessageWire + Tracer,
     C: Clock + Timer,
+    I: Read + Drop,
     O: Write,
 >(
     rt: &R,
@@ -172,24 +178,29 @@ fn locate_input<
     wire: &mut W,
     clock: &C,
     progress: &mut Progress,
+    input: I,
     output: &mut O,
 ) -> Told
     requires made_here { B.belongs book.now seat.old }
+    ensures run { (result.status ≡ 5) ⊎ ((texts : List (List ℕ))
+        × AreInputTexts (I.remaining input) texts
+        × IsRunOf W.gives C.shows (B.shown seat.new) sender.now style.entry texts
+        (O.contents output.old) (O.contents output.new) result.status) }
     ensures range { result.status ≤ 5 }
 {
-    let Ok(mut input) = LineInput::new(alloc, rt.reader()) else {
+    let Ok(mut input) = LineInput::new(alloc, input) else {
         return FAULT_TOLD;
     };
     let mut first = 1;
     let mut told = NOTHING_TOLD;
-    'parts: for _ in 0..u64::MAX {
-        let Ok(text) = input.next_lines() else {
+    'parts: for _ in rt.forever() {
+        let Ok(texts) = input.next_texts() else {
             return FAULT_TOLD;
         };
-        if text.is_empty() {
-            break;
+        if texts.is_empty() {
+            return told;
         }
-        let Ok(lines) = lines_in(alloc, first, &text) else {
+        let Ok(lines) = lines_of(alloc, first, texts.as_slice()) else {
             return FAULT_TOLD;
         };
         let lines = lines.as_slice();
@@ -198,10 +209,10 @@ fn locate_input<
             rt, alloc, sender, style, lines, book, seat, wire, clock, progress, output,
         ));
         if told.is_closed {
-            break;
+            return told;
         }
     }
-    told
+    unreachable!()
 }
 
 /// How long one text may take.
@@ -211,53 +222,66 @@ fn total_of(options: &Options<'_>) -> Duration
     Duration::from_millis(u64::from(options.total))
 }
 
+/// The sender of the requests.
+fn sender_of(options: &Options<'_>, plan: &Plan, key: [u8; 32]) -> Sender
+    ensures caps { result.caps ≡ options.now.caps }
+    ensures key { result.key ≡ key }
+    ensures schedule { result.schedule ≡ plan.now.schedule }
+    ensures total { as_nanos result.total ≡ options.now.total * 1000000 }
+{
+    Sender {
+        caps: options.caps,
+        key,
+        schedule: plan.schedule,
+        total: total_of(options),
+    }
+}
+
 /// How the wire asks.
 fn wire_options(options: &Options<'_>, plan: &Plan) -> WireOptions
     ensures tcp { result.over_tcp ≡ plan.now.over_tcp }
     ensures form { result.form ≡ options.now.query_form }
+    ensures times { AreReplyTimes plan.now.schedule result.reply_times }
+    ensures rotates { result.rotates ≡ plan.now.rotates }
     ensures tries { result.keeps_tries ≡ options.now.traced }
     ensures total { as_nanos result.total ≡ options.now.total * 1000000 }
 {
     WireOptions {
         over_tcp: plan.over_tcp,
         form: options.query_form,
-        reply_times: ReplyTimes::DEFAULT,
-        rotates: false,
+        reply_times: reply_times_of(plan.schedule),
+        rotates: plan.rotates,
         keeps_tries: options.traced,
         total: total_of(options),
     }
 }
 
-/// Locates the texts of the options, or the lines of the input.
-fn locate_all<
-    R: Wait + Input + Print + Eprint,
+/// Locates texts that are given, until the output takes no more.
+fn locate_texts<
+    R: Wait + Eprint,
     B: AnswerBook + Drop,
     W: MessageWire + Tracer,
     C: Clock + Timer,
+    O: Write,
 >(
     rt: &R,
     alloc: Global,
-    options: &Options<'_>,
     sender: &Sender,
+    style: Style<'_>,
+    texts: &[&str],
     book: &B,
     seat: &mut B::Seat,
     wire: &mut W,
     clock: &C,
     progress: &mut Progress,
+    output: &mut O,
 ) -> Told
     requires made_here { B.belongs book.now seat.old }
+    ensures run { (result.status ≡ 5) ⊎ IsRunOf W.gives C.shows (B.shown seat.new) sender.now
+        style.entry (map (λ text. text.now) texts.now) (O.contents output.old)
+        (O.contents output.new) result.status }
     ensures range { result.status ≤ 5 }
 {
-    let mut output = io::writer(rt);
-    let output = &mut output;
-    let texts = options.texts.as_slice();
-    if texts == ["-"].as_slice() {
-        let style = options.style(true);
-        return locate_input(
-            rt, alloc, sender, style, book, seat, wire, clock, progress, output,
-        );
-    }
-    let style = options.style(texts.len() > 1);
     let Ok(lines) = numbered(alloc, 1, texts) else {
         return FAULT_TOLD;
     };
@@ -276,6 +300,56 @@ fn locate_all<
     )
 }
 
+/// Whether the lines of the input are to be located.
+fn is_from_input(texts: &[&str]) -> bool
+    ensures { IsTrue result ↔ (map (λ text. text.now) texts.now ≡ from_input) }
+{
+    match texts {
+        ["-"] => true,
+        _ => false,
+    }
+}
+
+/// Locates the texts of the options, or the lines of the input, until the output takes no more.
+fn locate_all<
+    R: Wait + Eprint,
+    B: AnswerBook + Drop,
+    W: MessageWire + Tracer,
+    C: Clock + Timer,
+    I: Read + Drop,
+    O: Write,
+>(
+    rt: &R,
+    alloc: Global,
+    options: &Options<'_>,
+    sender: &Sender,
+    book: &B,
+    seat: &mut B::Seat,
+    wire: &mut W,
+    clock: &C,
+    progress: &mut Progress,
+    input: I,
+    output: &mut O,
+) -> Told
+    requires made_here { B.belongs book.now seat.old }
+    ensures run { (result.status ≡ 5) ⊎ IsRunBy W.gives C.shows (B.shown seat.new) sender.now
+        options.now (I.remaining input) (O.contents output.old) (O.contents output.new)
+        result.status }
+    ensures range { result.status ≤ 5 }
+{
+    let texts = options.texts.as_slice();
+    if is_from_input(texts) {
+        let style = options.style(true);
+        return locate_input(
+            rt, alloc, sender, style, book, seat, wire, clock, progress, input, output,
+        );
+    }
+    let style = options.style(texts.len() > 1);
+    locate_texts(
+        rt, alloc, sender, style, texts, book, seat, wire, clock, progress, output,
+    )
+}
+
 /// Does what the options ask for, over these servers, and gives the status.
 fn run_over<R: Wait + Input + Print + Eprint + Net + time::Clock>(
     rt: &R,
@@ -286,11 +360,7 @@ fn run_over<R: Wait + Input + Print + Eprint + Net + time::Clock>(
 ) -> io::Result<u8>
     ensures { IfOk result (λ status. status ≤ 5) }
 {
-    let sender = Sender {
-        caps: options.caps,
-        key,
-        total: total_of(options),
-    };
+    let sender = sender_of(options, plan, key);
     let servers = plan.servers.as_slice();
     let asks = wire_options(options, plan);
     let mut wire = open_wire(rt, alloc, servers, options.local, asks, key)?;
@@ -308,6 +378,8 @@ fn run_over<R: Wait + Input + Print + Eprint + Net + time::Clock>(
         &mut wire,
         &clock,
         &mut progress,
+        rt.reader(),
+        &mut io::writer(rt),
     );
     progress.wipe(rt);
     if options.stats {

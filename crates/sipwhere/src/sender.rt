@@ -1,14 +1,18 @@
 //! The sender of requests: what it can do.
+use dns_asker::Schedule;
 use sip_selection::Caps;
 use std::time::Duration;
 
-/// What can be sent, the key of the random words and ids, and how long one text may take.
+/// What can be sent, the key of the random words and ids, how often each question is sent, and how
+/// long one text may take.
 #[derive(Clone, Copy, Debug)]
 pub struct Sender {
     /// The transports and families of addresses.
     pub caps: Caps,
     /// The key.
     pub key: [u8; 32],
+    /// How often each question is sent, and for how long each query is waited for.
+    pub schedule: Schedule,
     /// After how long the time of a text is over.
     pub total: Duration,
 }

@@ -1,5 +1,8 @@
 //! How a check judges targets.
-ghost use Rattle.std.specs.Prelude.{◌≡◌, ◌≤◌, IfOk, option_map};
+ghost use Rattle.std.specs.Prelude.{◌≡◌, ◌↔◌, ℕ, List, IfOk, option_map};
+ghost use Rattle.sip_selection.specs.declared.target.Target.{Target};
+ghost use Rattle.sipwhere.specs.declared.check_limits.CheckLimits.{CheckLimits};
+ghost use Rattle.sipwhere.specs.declared.verdict.Verdict.TheVariants.{Well};
 ghost use Rattle.sipwhere.specs.Verdicts as spec;
 
 use crate::address::AddressForm;
@@ -156,3 +159,14 @@ pub fn verdict_of(
         _ => Ok(Verdict::Well),
     }
 }
+
+/// A law: targets are well exactly where they are within all bounds and the one that is expected is
+/// among them; and the state is below CRITICAL exactly where no critical bound is passed and that
+/// one is there. A call does nothing; its contract states this.
+pub fn law_verdicts()
+    ensures well { (limits : CheckLimits) (took : ℕ) (targets : List Target)
+        → (spec.verdict_on limits took targets ≡ Well) ↔ spec.IsWell limits took targets }
+    ensures critical { (limits : CheckLimits) (took : ℕ) (targets : List Target)
+        → spec.IsBelowCritical (spec.verdict_on limits took targets)
+        ↔ spec.IsNotCritical limits took targets }
+{}

@@ -24,6 +24,7 @@ lines-preserved g c =
           (run-more _ _ (g.B.AnswerBook.shown c.lines.seat) _ _ _ (take at lines) (line ∷ []) _ (g.O.Write.contents c.lines.output) _
           c.lines.told.status c.locate_side_by_side.result.status _ done.later
           (λ five. c.and-told.ensures.fault five was.range done.range) c.and-told.ensures.status was.run one);
+      later = λ sender line it is. done.later sender line it (was.later sender line it is);
       range = c.and-told.ensures.range was.range done.range;
       closed = c.and-told.ensures.ended was.closed done.closed was.range done.range;
     }
