@@ -2,22 +2,17 @@
 use Rattle.std.specs.Prelude.{ℕ, Bool, true, false, List, [], ◌∷◌, ◌++◌, ◌+◌, codes, if◌then◌else◌}
 use Rattle.std.specs.Fmt.{decimal}
 use Rattle.std.specs.List.{flat_map, list_any, list_all}
-use Rattle.dns_name.specs.Texts.{text_of}
-use Rattle.dns_message.specs.declared.question.Question.{Question}
 use Rattle.sip_selection.specs.declared.target.Target.{Target}
 use Rattle.sip_resolver.specs.declared.outcome.Outcome.{Outcome}
 use Rattle.sip_resolver.specs.declared.outcome.Outcome.TheVariants as outcome
-use Rattle.siplocate.specs.Words.{target_line, reason_word, kind_word, refusal_word, request_word}
+use Rattle.sip_report.specs.Lines.{question_words, reason_word, request_word}
+use Rattle.siplocate.specs.Words.{refusal_word, target_line}
 use Rattle.siplocate.specs.declared.line_outcome.LineOutcome.{LineOutcome}
 use Rattle.siplocate.specs.declared.line_outcome.LineOutcome.TheVariants as line_outcome
 
 -- a line that begins with a number
 abbrev pub numbered : ℕ → List ℕ → List ℕ
 numbered number text = decimal number ++ 32 ∷ text
-
--- a question: its kind and its name
-abbrev pub question_words : Question → List ℕ
-question_words question = kind_word question.kind ++ 32 ∷ text_of question.name
 
 -- the lines of an outcome, each after the number of its request
 abbrev pub outcome_lines : ℕ → Outcome → List ℕ

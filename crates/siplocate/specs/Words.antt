@@ -1,60 +1,18 @@
 -- What the program prints.
 use Rattle.std.specs.Prelude.{◌≡◌, ◌⊎◌, ℕ, List, [], ◌∷◌, ◌++◌, codes}
 use Rattle.std.specs.List.{flat_map}
-use Rattle.std.specs.Fmt.{decimal}
-use Rattle.dns_name.specs.Texts.{text_of}
-use Rattle.dns_message.specs.declared.kind.Kind.{Kind}
-use Rattle.dns_message.specs.declared.kind.Kind.TheVariants.{A, Aaaa, Srv, Naptr}
 use Rattle.dns_message.specs.declared.question.Question.{Question}
-use Rattle.ip_text.specs.Shown.{address_text}
-use Rattle.sip_uri.specs.declared.transport.Transport.{Transport}
-use Rattle.sip_uri.specs.declared.transport.Transport.TheVariants.{Udp, Tcp, Sctp, Tls}
 use Rattle.sip_uri.specs.declared.refusal.UriRefusal.{UriRefusal}
-use Rattle.sip_uri.specs.declared.refusal.UriRefusal.TheVariants as uri
 use Rattle.dns_answers.specs.declared.refusal.ReplyRefusal.{ReplyRefusal}
 use Rattle.dns_answers.specs.declared.refusal.ReplyRefusal.TheVariants as refusal
 use Rattle.siplocate.specs.declared.reply.BadReply.{BadReply}
 use Rattle.siplocate.specs.declared.reply.BadReply.TheVariants as bad
-use Rattle.sip_selection.specs.declared.reason.Reason.{Reason}
-use Rattle.sip_selection.specs.declared.reason.Reason.TheVariants.{TransportUnsupported, TransportNotSecure, NotOffered, NoAddress}
 use Rattle.sip_selection.specs.declared.target.Target.{Target}
 use Rattle.sip_selection.specs.declared.caps.Families.{Families}
 use Rattle.sip_selection.specs.Choice.{Resolution, targets, refused, need}
+use Rattle.sip_report.specs.Lines.{question_words, reason_word, request_word, target_words}
+use Rattle.sip_report.specs.declared.address.AddressForm.TheVariants.{Full}
 use Rattle.siplocate.specs.Requests.{HasBadRequest, HasBadReply}
-
--- the word that is printed for a transport
-abbrev pub transport_word : Transport → List ℕ
-transport_word Udp = codes "udp"
-transport_word Tcp = codes "tcp"
-transport_word Sctp = codes "sctp"
-transport_word Tls = codes "tls"
-
--- the word that is printed for the reason why a request goes nowhere
-abbrev pub reason_word : Reason → List ℕ
-reason_word TransportUnsupported = codes "TransportUnsupported"
-reason_word TransportNotSecure = codes "TransportNotSecure"
-reason_word NotOffered = codes "NotOffered"
-reason_word NoAddress = codes "NoAddress"
-
--- the name of the type of records that a question asks for
-abbrev pub kind_word : Kind → List ℕ
-kind_word A = codes "A"
-kind_word Aaaa = codes "AAAA"
-kind_word Srv = codes "SRV"
-kind_word Naptr = codes "NAPTR"
-
--- the word that is printed for why a line is no request
-abbrev pub request_word : UriRefusal → List ℕ
-request_word uri.TooLong = codes "TooLong"
-request_word uri.BadScheme = codes "BadScheme"
-request_word uri.BadUser = codes "BadUser"
-request_word uri.BadHost = codes "BadHost"
-request_word uri.BadPort = codes "BadPort"
-request_word uri.BadParam = codes "BadParam"
-request_word uri.RepeatedParam = codes "RepeatedParam"
-request_word uri.BadHeader = codes "BadHeader"
-request_word uri.BadVia = codes "BadVia"
-request_word uri.Memory = codes "Memory"
 
 -- the word that is printed for why a message gives no answer
 abbrev pub refusal_word : ReplyRefusal → List ℕ
@@ -89,14 +47,11 @@ IsBadLine families text line =
 
 -- the line of a target
 abbrev pub target_line : Target → List ℕ
-target_line target =
-    transport_word target.transport ++ (32 ∷ address_text target.address)
-    ++ (32 ∷ decimal target.port) ++ 10 ∷ []
+target_line target = target_words Full target ++ 10 ∷ []
 
 -- the line of a question
 abbrev pub question_line : Question → List ℕ
-question_line question = codes "ask " ++ kind_word question.kind ++ 32 ∷ text_of question.name
-    ++ 10 ∷ []
+question_line question = codes "ask " ++ question_words question ++ 10 ∷ []
 
 -- the lines of a resolution, and its status
 abbrev pub shown : Resolution → List ℕ

@@ -6,10 +6,10 @@ ghost use Rattle.siplocate.specs.Outcomes as spec;
 ghost use Rattle.siplocate.specs.Runs.{line_outcomes_of};
 ghost use Rattle.siplocate.specs.Words.{target_line};
 
-use crate::output::{kind_word, reason_word, refusal_word, request_word, target_line};
+use crate::output::{refusal_word, target_line};
 use crate::requests::Entry;
 use answer_cache::Notice;
-use dns_message::Question;
+use sip_report::{question_words, reason_word, request_word};
 use sip_selection::Target;
 use sip_uri::UriRefusal;
 use sip_workers::Outcome;
@@ -75,15 +75,6 @@ fn numbered_targets(alloc: Global, number: usize, targets: &[Target]) -> Result<
         lines.push_str(&format!(in alloc; "{number} {line}")?)?;
     }
     Ok(lines)
-}
-
-/// A question in words: its kind and its name.
-fn question_words(alloc: Global, question: &Question) -> Result<String, AllocError>
-    ensures { IfOk result (λ words. string_bytes words ≡ spec.question_words question.now) }
-{
-    let kind = kind_word(question.kind);
-    let name = question.name.text()?;
-    format!(in alloc; "{kind} {name}")
 }
 
 /// The lines of what became of the request of a number.

@@ -7,57 +7,18 @@ ghost use Rattle.siplocate.specs.Words as spec;
 
 use crate::reply::BadReply;
 use dns_answers::ReplyRefusal;
-use dns_message::{Kind, Question};
-use sip_selection::{Next, Reason, Target};
-use sip_uri::{Transport, UriRefusal, address_text};
+use dns_message::Question;
+use sip_report::{AddressForm, question_words, reason_word, request_word, target_words};
+use sip_selection::{Next, Target};
+use sip_uri::UriRefusal;
 use std::alloc::{AllocError, Global};
-
-/// The word that is printed for a transport.
-fn transport_word(transport: Transport) -> &'static str
-    ensures { result.now ≡ spec.transport_word transport }
-{
-    match transport {
-        Transport::Udp => "udp",
-        Transport::Tcp => "tcp",
-        Transport::Sctp => "sctp",
-        Transport::Tls => "tls",
-    }
-}
-
-/// The word that is printed for the reason why a request goes nowhere.
-pub fn reason_word(reason: Reason) -> &'static str
-    ensures { result.now ≡ spec.reason_word reason }
-{
-    match reason {
-        Reason::TransportUnsupported => "TransportUnsupported",
-        Reason::TransportNotSecure => "TransportNotSecure",
-        Reason::NotOffered => "NotOffered",
-        Reason::NoAddress => "NoAddress",
-    }
-}
-
-/// The name of the type of records that a question asks for.
-pub fn kind_word(kind: Kind) -> &'static str
-    ensures { result.now ≡ spec.kind_word kind }
-{
-    match kind {
-        Kind::A => "A",
-        Kind::Aaaa => "AAAA",
-        Kind::Srv => "SRV",
-        Kind::Naptr => "NAPTR",
-    }
-}
 
 /// The line of a target.
 pub fn target_line(alloc: Global, target: &Target) -> Result<String, AllocError>
     ensures { IfOk result (λ line. string_bytes line ≡ spec.target_line target.now) }
 {
-    let address = address_text(alloc, target.address)?;
-    let port = target.port;
-    let mut line = String::from_str(alloc, transport_word(target.transport))?;
-    line.push_str(" ")?;
-    line.push_str(&address)?;
-    line.push_str(&format!(in alloc; " {port}\n")?)?;
+    let mut line = target_words(alloc, AddressForm::Full, target)?;
+    line.push_str("\n")?;
     Ok(line)
 }
 
@@ -76,9 +37,8 @@ fn target_lines(alloc: Global, targets: &[Target]) -> Result<String, AllocError>
 fn question_line(alloc: Global, question: &Question) -> Result<String, AllocError>
     ensures { IfOk result (λ line. string_bytes line ≡ spec.question_line question.now) }
 {
-    let kind = kind_word(question.kind);
-    let name = question.name.text()?;
-    format!(in alloc; "ask {kind} {name}\n")
+    let words = question_words(alloc, question)?;
+    format!(in alloc; "ask {words}\n")
 }
 
 /// The lines of what is next for a request.
@@ -107,24 +67,6 @@ pub fn status_of(next: Next<'_>) -> u8
     }
 }
 
-/// The word that is printed for why a line is no request.
-pub fn request_word(refusal: UriRefusal) -> &'static str
-    ensures { result.now ≡ spec.request_word refusal }
-{
-    match refusal {
-        UriRefusal::TooLong => "TooLong",
-        UriRefusal::BadScheme => "BadScheme",
-        UriRefusal::BadUser => "BadUser",
-        UriRefusal::BadHost => "BadHost",
-        UriRefusal::BadPort => "BadPort",
-        UriRefusal::BadParam => "BadParam",
-        UriRefusal::RepeatedParam => "RepeatedParam",
-        UriRefusal::BadHeader => "BadHeader",
-        UriRefusal::BadVia => "BadVia",
-        UriRefusal::Memory => "Memory",
-    }
-}
-
 /// The word that is printed for why a message gives no answer.
 pub fn refusal_word(refusal: ReplyRefusal) -> &'static str
     ensures { result.now ≡ spec.refusal_word refusal }
@@ -138,6 +80,7 @@ pub fn refusal_word(refusal: ReplyRefusal) -> &'static str
     }
 }
 
+/// The word that is printed for why a line is no reply.
 fn reply_word(reply: BadReply) -> &'static str
     ensures { result.now ≡ spec.reply_word reply }
 {

@@ -13,8 +13,8 @@ use Rattle.sip_resolver.specs.declared.outcome.Outcome.{Outcome}
 use Rattle.sip_resolver.specs.declared.outcome.Outcome.TheVariants as outcomes
 use Rattle.sipwhere.specs.LineOutcomes.{IsLineOutcome}
 use Rattle.sipwhere.specs.OpenLines.{IsLineOutcomeOf}
-use Rattle.sipwhere.specs.declared.line_outcome.LineOutcome.{LineOutcome}
-use Rattle.sipwhere.specs.declared.line_outcome.LineOutcome.TheVariants.{Became, TimeOver, Bad, Memory}
+use Rattle.sip_report.specs.declared.line_outcome.LineOutcome.{LineOutcome}
+use Rattle.sip_report.specs.declared.line_outcome.LineOutcome.TheVariants.{Became, TimeOver, Bad, Memory}
 use Rattle.sipwhere.specs.declared.line.Line.{Line}
 use Rattle.sipwhere.specs.declared.sender.Sender.{Sender}
 

@@ -1,8 +1,5 @@
-mod Floats
 mod Later
 mod Meant
-mod Shown
-mod Verdicts
-mod Words
+mod Results
 pub mod Inputs
 pub mod Told

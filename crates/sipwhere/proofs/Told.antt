@@ -6,11 +6,11 @@ use Rattle.std.proofs.lemmas.List.{map-append, take_all, take_more}
 use Rattle.std.proofs.lemmas.List.Elements.{All-append, All-cons, All-nil, All-weaker}
 use Rattle.answer_cache.specs.Seats.{SeatView}
 use Rattle.sipwhere.specs.LineInputs.{numbered_from, said}
-use Rattle.sipwhere.specs.Lines.{graver_of, gravity}
+use Rattle.sip_report.specs.Lines.{graver_of, gravity}
 use Rattle.sipwhere.specs.OpenLines.{HasTold, OpenView, TellsFirst}
 use Rattle.sipwhere.specs.Runs.{AreRun, AreTold, AreToldFrom, IsGravest, IsOneOf, IsRun, StaysSo, Tells}
 use Rattle.sipwhere.specs.declared.line.Line.{Line}
-use Rattle.sipwhere.specs.declared.report.Style.{Style}
+use Rattle.sip_report.specs.declared.report.Style.{Style}
 use Rattle.sipwhere.specs.declared.sender.Sender.{Sender}
 use Rattle.sipwhere.proofs.Inputs.{numbered-append}
 

@@ -6,9 +6,9 @@ use Rattle.sip_resolver.specs.Outcomes.{Sought}
 use Rattle.sip_resolver.specs.Requests.{RequestsView, Stand, weight}
 use Rattle.sipwhere.specs.LineOutcomes.{IsLineOutcome, IsOfLine}
 use Rattle.sipwhere.specs.Runs.{AreTold, Tells}
-use Rattle.sipwhere.specs.declared.line_outcome.LineOutcome.{LineOutcome}
+use Rattle.sip_report.specs.declared.line_outcome.LineOutcome.{LineOutcome}
 use Rattle.sipwhere.specs.declared.line.Line.{Line}
-use Rattle.sipwhere.specs.declared.report.Style.{Style}
+use Rattle.sip_report.specs.declared.report.Style.{Style}
 use Rattle.sipwhere.specs.declared.sender.Sender.{Sender}
 
 -- what contracts see of open lines: who sends, the lines, how many of them were reported, the

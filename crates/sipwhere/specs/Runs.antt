@@ -3,18 +3,18 @@ use Rattle.std.specs.Prelude.{◌≡◌, ◌≢◌, ◌⊎◌, ◌≤◌, ℕ, B
 use Rattle.std.specs.Io.KnownBytes.{Appends}
 use Rattle.answer_cache.specs.Seats.{SeatView}
 use Rattle.dns_transport.specs.declared.wire_try.WireTry.{WireTry}
-use Rattle.sipwhere.specs.CommandLine.{IsStyle}
+use Rattle.sipwhere_options.specs.CommandLine.{IsStyle}
 use Rattle.sipwhere.specs.LineInputs.{AreInputTexts, numbered_from, said}
 use Rattle.sipwhere.specs.LineOutcomes.{IsLineOutcome}
-use Rattle.sipwhere.specs.Lines.{gravity}
-use Rattle.sipwhere.specs.Reports.{status_in, traced_report}
-use Rattle.sipwhere.specs.Verdicts.{verdict_of}
-use Rattle.sipwhere.specs.declared.line_outcome.LineOutcome.{LineOutcome}
+use Rattle.sip_report.specs.Lines.{gravity}
+use Rattle.sip_report.specs.Reports.{status_in, traced_report}
+use Rattle.sip_report.specs.Verdicts.{verdict_of}
+use Rattle.sip_report.specs.declared.line_outcome.LineOutcome.{LineOutcome}
 use Rattle.sipwhere.specs.declared.line.Line.{Line}
-use Rattle.sipwhere.specs.declared.options.Options.{Options}
-use Rattle.sipwhere.specs.declared.report.Style.{Style}
+use Rattle.sipwhere_options.specs.declared.options.Options.{Options}
+use Rattle.sip_report.specs.declared.report.Style.{Style}
 use Rattle.sipwhere.specs.declared.sender.Sender.{Sender}
-use Rattle.sipwhere.specs.declared.verdict.Verdict.{Verdict}
+use Rattle.sip_report.specs.declared.verdict.Verdict.{Verdict}
 
 -- the report of a text was printed, with this verdict of a check, and the status is that of what
 -- became of it

@@ -2,50 +2,26 @@
 #![tactic(auto)]
 
 ghost use Rattle.std.specs.Prelude.{◌≡◌, ◌≤◌, IfOk, IsFalse, IsTrue};
-ghost use Rattle.sipwhere.specs.declared.report.Report.TheVariants.{Check};
+ghost use Rattle.sip_report.specs.declared.report.Report.TheVariants.{Check};
 
-mod address;
-mod check_limits;
-mod check_line;
-mod command_line;
 mod counting_book;
-mod json;
 mod line;
 mod line_input;
-mod line_outcome;
 mod open_lines;
-mod options;
-mod output;
-mod plan;
 mod progress;
-mod record_lines;
-mod record_words;
-mod report;
-mod rule;
 mod run;
-mod run_fault;
-mod seed;
 mod sender;
-mod server_text;
-mod shown_text;
 mod stats;
 mod submitted_lines;
 mod tell;
-mod terminals;
-mod timing;
-mod trace;
-mod verdict;
 
-use check_line::UNKNOWN_STATUS;
 use clap::Error;
 use clap::error::ErrorKind;
-use command_line::command;
-use line_outcome::FAULT_STATUS;
-use options::{OptionFault, Options, read_options};
-use plan::resolver_path;
-use report::Report;
 use run::run;
-use run_fault::RunFault;
+use sip_report::{FAULT_STATUS, Report, UNKNOWN_STATUS};
+use sipwhere_options::{
+    OptionFault, Options, RunFault, Terminals, command, read_options, resolver_path,
+};
 use std::env;
 use std::fmt::Display;
 use std::io::{self, IsTerminal};
@@ -55,7 +31,6 @@ use std::random::RandomSource;
 use std::rt::{Env, Files};
 use std::sync::Wait;
 use std::time::Clock;
-use terminals::Terminals;
 
 /// The status where the words are none that the program knows.
 const USAGE_STATUS: u8 = 4;

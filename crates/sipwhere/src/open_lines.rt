@@ -8,8 +8,6 @@ ghost use Rattle.sipwhere.specs.OpenLines.{HasTold, IsMeant, Stands, TellsFirst}
 ghost use Rattle.sipwhere.specs.Runs.{IsGravest, StaysSo};
 
 use crate::line::Line;
-use crate::line_outcome::LineOutcome;
-use crate::report::Style;
 use crate::sender::Sender;
 use crate::submitted_lines::{line_outcome_in_vain, line_outcome_of, submit};
 use crate::tell::{NOTHING_TOLD, Told, tell};
@@ -17,6 +15,7 @@ use answer_cache::AnswerBook;
 use dns_asker::{Clock, MessageWire, Schedule};
 use dns_transport::{Timer, Tracer};
 use rand_chacha::ChaCha20Rng;
+use sip_report::{LineOutcome, Style};
 use sip_resolver::{
     Limits, RandomIds, Resolved, Resolver, WireOrigin, cancel_over, poll_over, random_ids,
 };

@@ -7,9 +7,9 @@ ghost use Rattle.sipwhere.specs.LineOutcomes as spec;
 ghost use Rattle.sipwhere.specs.LineOutcomes.{EndsAs, IsOfLine, NeedsNoReply};
 
 use crate::line::Line;
-use crate::line_outcome::LineOutcome;
 use crate::sender::Sender;
 use answer_cache::AnswerBook;
+use sip_report::LineOutcome;
 use sip_resolver::{Ids, Origin, Outcome, Resolver, draw_words};
 use sip_selection::{Request, read_request};
 use sip_uri::UriRefusal;

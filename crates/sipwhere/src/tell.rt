@@ -1,13 +1,13 @@
 //! What is printed of a text, and its status.
 ghost use Rattle.std.specs.Prelude.{◌≡◌, ◌⊎◌, ◌≤◌, ◌||◌, IsFalse, IsTrue, OnOk};
 ghost use Rattle.std.specs.Io.KnownBytes.{Appends};
-ghost use Rattle.sipwhere.specs.Lines.{graver_of};
+ghost use Rattle.sip_report.specs.Lines.{graver_of};
 ghost use Rattle.sipwhere.specs.Runs.{IsTold, IsToldWhole};
 
-use crate::line_outcome::{FAULT_STATUS, LineOutcome, graver_of};
-use crate::report::{Style, status_in, traced_report};
-use crate::verdict::verdict_of;
 use dns_transport::WireTry;
+use sip_report::{
+    FAULT_STATUS, LineOutcome, Style, graver_of, status_in, traced_report, verdict_of,
+};
 use std::alloc::Global;
 use std::io::{self, Write};
 

@@ -5,7 +5,7 @@ use Rattle.std.specs.Str.Lossy.{utf8_lossy}
 use Rattle.std.specs.String.{string_bytes}
 use Rattle.sipwhere.specs.LineInputs.{IsReading, has_some}
 use Rattle.sipwhere.proofs.Inputs.{reading-end, reading-more}
-use Rattle.sipwhere.proofs.Words.{on_ok, on_ok_both}
+use Rattle.sipwhere.proofs.Results.{on_ok, on_ok_both}
 use Rattle.sipwhere.proofs.line_input.BegunLine.take.Goals as goal
 
 pub returns-then-octet-eq10 : goal.returns-then-octet-eq10

@@ -1,0 +1,3 @@
+mod Floats
+mod Shown
+mod Verdicts

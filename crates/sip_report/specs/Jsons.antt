@@ -1,0 +1,124 @@
+-- What became of a text as an object of JSON (RFC 8259). The members of an object stand in the
+-- order of their keys.
+use Rattle.std.specs.Prelude.{ℕ, List, [], ◌∷◌, ◌++◌, map, codes}
+use Rattle.dns_name.specs.Texts.{text_of}
+use Rattle.dns_answers.specs.declared.refusal.ReplyRefusal.{ReplyRefusal}
+use Rattle.dns_answers.specs.declared.refusal.ReplyRefusal.TheVariants as refusal
+use Rattle.dns_message.specs.declared.question.Question.{Question}
+use Rattle.serde_json.specs.Data.{Data, Members, array, member, no_members, number, object, string, unsigned}
+use Rattle.serde_json.specs.View.{items_of}
+use Rattle.serde_json.specs.Written.{compact_text}
+use Rattle.sip_resolver.specs.declared.outcome.Outcome.{Outcome}
+use Rattle.sip_resolver.specs.declared.outcome.Outcome.TheVariants as outcome
+use Rattle.sip_selection.specs.declared.target.Target.{Target}
+use Rattle.sip_report.specs.Addresses.{address_words}
+use Rattle.sip_report.specs.Lines.{kind_word, reason_word, request_word, transport_word}
+use Rattle.sip_report.specs.declared.address.AddressForm.{AddressForm}
+use Rattle.sip_report.specs.declared.line_outcome.LineOutcome.{LineOutcome}
+use Rattle.sip_report.specs.declared.line_outcome.LineOutcome.TheVariants as line_outcome
+
+-- ---- the parts
+
+-- a target as an object: address, port and transport
+abbrev pub target_data : AddressForm → Target → Data
+target_data form target =
+    object (member (codes "address") (string (address_words form target.address))
+    (member (codes "port") (number (unsigned target.port))
+    (member (codes "transport") (string (transport_word target.transport)) no_members)))
+
+-- targets as an array of objects
+abbrev pub targets_data : AddressForm → List Target → Data
+targets_data form targets = array (items_of (map (target_data form) targets))
+
+-- a question, and the RCODE of the reply to it (RFC 1035 4.1.1)
+abbrev pub rcode_data : Question → ℕ → Data
+rcode_data question rcode =
+    object (member (codes "kind") (string (kind_word question.kind))
+    (member (codes "name") (string (text_of question.name))
+    (member (codes "rcode") (number (unsigned rcode)) no_members)))
+
+-- a question, and why it has no answer
+abbrev pub why_data : Question → List ℕ → Data
+why_data question why =
+    object (member (codes "kind") (string (kind_word question.kind))
+    (member (codes "name") (string (text_of question.name))
+    (member (codes "why") (string why) no_members)))
+
+-- a question, and why the reply to it gives no answer
+abbrev pub reply_data : Question → ReplyRefusal → Data
+reply_data question refusal.NotReply = why_data question (codes "NotReply")
+reply_data question refusal.OtherQuestion = why_data question (codes "OtherQuestion")
+reply_data question refusal.Truncated = why_data question (codes "Truncated")
+reply_data question (refusal.ServerFault rcode) = rcode_data question rcode
+reply_data question refusal.Memory = why_data question (codes "Memory")
+
+-- ---- the object: what became of the text, and the text
+
+-- the members that stand last in each object: the text, the milliseconds that it took, and the
+-- number of this format
+abbrev pub last_members : List ℕ → ℕ → Members
+last_members text took =
+    member (codes "text") (string text)
+    (member (codes "time") (number (unsigned took))
+    (member (codes "v") (number (unsigned 1)) no_members))
+
+-- the object of a text with targets
+abbrev pub with_targets : List ℕ → ℕ → Data → Data
+with_targets text took targets =
+    object (member (codes "status") (number (unsigned 0))
+    (member (codes "targets") targets (last_members text took)))
+
+-- the object of a text whose request gave up
+abbrev pub with_gaveup : List ℕ → ℕ → Data → Data
+with_gaveup text took gaveup =
+    object (member (codes "gaveup") gaveup
+    (member (codes "status") (number (unsigned 1)) (last_members text took)))
+
+-- why a question has no answer whose time was over
+abbrev pub total_data : Data
+total_data = object (member (codes "why") (string (codes "total")) no_members)
+
+-- the object of a text whose request goes nowhere, with the reason
+abbrev pub with_refused : List ℕ → ℕ → List ℕ → Data
+with_refused text took word =
+    object (member (codes "refused") (string word)
+    (member (codes "status") (number (unsigned 2)) (last_members text took)))
+
+-- the object of a text that is no request, with the word for why
+abbrev pub with_bad : List ℕ → ℕ → List ℕ → Data
+with_bad text took word =
+    object (member (codes "bad") (string word)
+    (member (codes "status") (number (unsigned 3)) (last_members text took)))
+
+-- the object of a text for which memory was refused
+abbrev pub with_fault : List ℕ → ℕ → Data
+with_fault text took =
+    object (member (codes "fault") (string (codes "memory"))
+    (member (codes "status") (number (unsigned 5)) (last_members text took)))
+
+-- the object of a text, by the outcome of its request
+abbrev pub outcome_data : AddressForm → List ℕ → ℕ → Outcome → Data
+outcome_data form text took (outcome.Targets list) =
+    with_targets text took (targets_data form list)
+outcome_data form text took (outcome.Refused reason) = with_refused text took (reason_word reason)
+outcome_data form text took (outcome.NoAnswer question) =
+    with_gaveup text took (why_data question (codes "timeout"))
+outcome_data form text took (outcome.NoServer question) =
+    with_gaveup text took (why_data question (codes "closed"))
+outcome_data form text took (outcome.BadReply question refusal) =
+    with_gaveup text took (reply_data question refusal)
+outcome_data form text took outcome.Memory = with_fault text took
+
+-- the object of a text, by what became of it after so many milliseconds
+abbrev pub line_outcome_data : AddressForm → List ℕ → ℕ → LineOutcome → Data
+line_outcome_data form text took (line_outcome.Became outcome) =
+    outcome_data form text took outcome
+line_outcome_data form text took line_outcome.TimeOver = with_gaveup text took total_data
+line_outcome_data form text took (line_outcome.Bad refusal) =
+    with_bad text took (request_word refusal)
+line_outcome_data form text took line_outcome.Memory = with_fault text took
+
+-- the line with the object of what became of a text (RFC 8259)
+abbrev pub json_line : AddressForm → List ℕ → ℕ → LineOutcome → List ℕ
+json_line form text took line_outcome =
+    compact_text (line_outcome_data form text took line_outcome) ++ 10 ∷ []

@@ -1,0 +1,10 @@
+pub mod Escapes
+pub mod Addresses
+pub mod Lines
+pub mod RecordLines
+pub mod Rules
+pub mod Traces
+pub mod Verdicts
+pub mod Checks
+pub mod Jsons
+pub mod Reports

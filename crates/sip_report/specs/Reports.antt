@@ -1,0 +1,53 @@
+-- What is printed of a text.
+use Rattle.std.specs.Prelude.{ℕ, Bool, true, false, List, [], ◌∷◌, ◌++◌}
+use Rattle.std.specs.List.{flat_map}
+use Rattle.dns_transport.specs.declared.wire_try.WireTry.{WireTry}
+use Rattle.sip_report.specs.Escapes.{shown}
+use Rattle.sip_report.specs.Checks.{check_line, check_status}
+use Rattle.sip_report.specs.Jsons.{json_line}
+use Rattle.sip_report.specs.Lines.{lines_of, status_of}
+use Rattle.sip_report.specs.Rules.{is_via}
+use Rattle.sip_report.specs.Traces.{try_lines}
+use Rattle.sip_report.specs.declared.address.AddressForm.{AddressForm}
+use Rattle.sip_report.specs.declared.line_outcome.LineOutcome.{LineOutcome}
+use Rattle.sip_report.specs.declared.report.Report.{Report}
+use Rattle.sip_report.specs.declared.report.Report.TheVariants.{Lines, Json, Check}
+use Rattle.sip_report.specs.declared.report.Style.{Style}
+use Rattle.sip_report.specs.declared.verdict.Verdict.{Verdict}
+
+-- what is in front of the lines of a text: the text as it is shown and a space, where there are
+-- several texts
+abbrev pub front_of : Bool → List ℕ → List ℕ
+front_of true text = shown text ++ 32 ∷ []
+front_of false text = []
+
+-- what is printed of a text, in a form of report
+abbrev pub report_as : Report → Style → List ℕ → ℕ → Verdict → LineOutcome → List ℕ
+report_as Lines style text took verdict line_outcome =
+    lines_of style.form (front_of style.several text) line_outcome
+report_as Json style text took verdict line_outcome = json_line style.form text took line_outcome
+report_as Check style text took verdict line_outcome =
+    check_line style.form style.limits took verdict line_outcome
+
+-- what is printed of a text, in the style that is asked for, by what became of it after so many
+-- milliseconds, and the verdict of a check
+abbrev pub report_of : Style → List ℕ → ℕ → Verdict → LineOutcome → List ℕ
+report_of style text took verdict line_outcome =
+    report_as style.report style text took verdict line_outcome
+
+-- the lines of what went over the wire, where they are asked for
+abbrev pub trace_of : Bool → AddressForm → List ℕ → List WireTry → List ℕ
+trace_of true form text tries = flat_map (try_lines form (is_via text)) tries
+trace_of false form text tries = []
+
+-- the lines of what went over the wire, where they are asked for, and after them what is printed of
+-- a text
+abbrev pub traced_report : Style → List WireTry → List ℕ → ℕ → Verdict → LineOutcome → List ℕ
+traced_report style tries text took verdict line_outcome =
+    trace_of style.traced style.form text tries ++ report_of style text took verdict line_outcome
+
+-- the exit status of a text in a form of report: a check has one of its own
+abbrev pub status_in : Report → Verdict → LineOutcome → ℕ
+status_in Lines verdict line_outcome = status_of line_outcome
+status_in Json verdict line_outcome = status_of line_outcome
+status_in Check verdict line_outcome = check_status verdict line_outcome

@@ -1,0 +1,200 @@
+//! What became of a text as an object of JSON (RFC 8259). Its keys and types are those of
+//! docs/sipwhere.schema.json.
+ghost use Rattle.std.specs.Prelude.{◌≡◌, ◌++◌, ◌∷◌, [], IfOk};
+ghost use Rattle.std.specs.String.{string_bytes};
+ghost use Rattle.serde_json.specs.View.{view};
+ghost use Rattle.sip_report.specs.Jsons as spec;
+
+use crate::address::{AddressForm, address_words};
+use crate::line_outcome::{
+    BAD_STATUS, FAULT_STATUS, GAVEUP_STATUS, LineOutcome, REFUSED_STATUS, TARGETS_STATUS,
+};
+use crate::output::{kind_word, reason_word, request_word, transport_word};
+use dns_answers::ReplyRefusal;
+use dns_message::Question;
+use serde_json::{Value, json};
+use sip_resolver::Outcome;
+use sip_selection::Target;
+use std::alloc::{AllocError, Global};
+
+/// The number of this format. It changes where a key goes, or means something else; a key that is
+/// added does not change it.
+const FORMAT: u8 = 1;
+
+/// A target.
+fn target_value(alloc: Global, form: AddressForm, target: &Target) -> Result<Value, AllocError>
+    ensures { IfOk result (λ value. view value ≡ spec.target_data form target.now) }
+{
+    let address = address_words(alloc, form, target.address)?;
+    let transport = transport_word(target.transport);
+    json!(in alloc; {"address": &address, "port": target.port, "transport": transport})
+}
+
+/// Targets, in their order.
+fn targets_value(alloc: Global, form: AddressForm, targets: &[Target]) -> Result<Value, AllocError>
+    ensures { IfOk result (λ value. view value ≡ spec.targets_data form targets.now) }
+{
+    let mut items = Vec::new(alloc);
+    'targets: for target in targets {
+        items.push(target_value(alloc, form, target)?)?;
+    }
+    Ok(Value::Array(items))
+}
+
+/// A question, and the RCODE of the reply to it.
+fn rcode_value(alloc: Global, question: &Question, rcode: u8) -> Result<Value, AllocError>
+    ensures { IfOk result (λ value. view value ≡ spec.rcode_data question.now rcode) }
+{
+    let name = question.name.text()?;
+    let kind = kind_word(question.kind);
+    json!(in alloc; {"kind": kind, "name": &name, "rcode": rcode})
+}
+
+/// A question, and why it has no answer.
+fn why_value(alloc: Global, question: &Question, why: &str) -> Result<Value, AllocError>
+    ensures { IfOk result (λ value. view value ≡ spec.why_data question.now why.now) }
+{
+    let name = question.name.text()?;
+    let kind = kind_word(question.kind);
+    json!(in alloc; {"kind": kind, "name": &name, "why": why})
+}
+
+/// A question, and what is wrong with the reply to it.
+fn reply_value(
+    alloc: Global,
+    question: &Question,
+    refusal: ReplyRefusal,
+) -> Result<Value, AllocError>
+    ensures { IfOk result (λ value. view value ≡ spec.reply_data question.now refusal) }
+{
+    match refusal {
+        ReplyRefusal::NotReply => why_value(alloc, question, "NotReply"),
+        ReplyRefusal::OtherQuestion => why_value(alloc, question, "OtherQuestion"),
+        ReplyRefusal::Truncated => why_value(alloc, question, "Truncated"),
+        ReplyRefusal::ServerFault(rcode) => rcode_value(alloc, question, rcode),
+        ReplyRefusal::Memory => why_value(alloc, question, "Memory"),
+    }
+}
+
+/// An object of targets.
+fn with_targets(alloc: Global, text: &str, took: u64, targets: Value) -> Result<Value, AllocError>
+    ensures { IfOk result (λ value. view value ≡ spec.with_targets text.now took (view targets)) }
+{
+    json!(in alloc; {
+        "status": TARGETS_STATUS, "targets": targets, "text": text, "time": took, "v": FORMAT
+    })
+}
+
+/// An object of a question without an answer.
+fn with_gaveup(alloc: Global, text: &str, took: u64, gaveup: Value) -> Result<Value, AllocError>
+    ensures { IfOk result (λ value. view value ≡ spec.with_gaveup text.now took (view gaveup)) }
+{
+    json!(in alloc; {
+        "gaveup": gaveup, "status": GAVEUP_STATUS, "text": text, "time": took, "v": FORMAT
+    })
+}
+
+/// Why a question has no answer whose time was over.
+fn total_value(alloc: Global) -> Result<Value, AllocError>
+    ensures { IfOk result (λ value. view value ≡ spec.total_data) }
+{
+    json!(in alloc; {"why": "total"})
+}
+
+/// An object of a refusal.
+fn with_refused(alloc: Global, text: &str, took: u64, word: &str) -> Result<Value, AllocError>
+    ensures { IfOk result (λ value. view value ≡ spec.with_refused text.now took word.now) }
+{
+    json!(in alloc; {
+        "refused": word, "status": REFUSED_STATUS, "text": text, "time": took, "v": FORMAT
+    })
+}
+
+/// An object of a text that is no request.
+fn with_bad(alloc: Global, text: &str, took: u64, word: &str) -> Result<Value, AllocError>
+    ensures { IfOk result (λ value. view value ≡ spec.with_bad text.now took word.now) }
+{
+    json!(in alloc; {
+        "bad": word, "status": BAD_STATUS, "text": text, "time": took, "v": FORMAT
+    })
+}
+
+/// An object of a fault.
+fn with_fault(alloc: Global, text: &str, took: u64) -> Result<Value, AllocError>
+    ensures { IfOk result (λ value. view value ≡ spec.with_fault text.now took) }
+{
+    json!(in alloc; {
+        "fault": "memory", "status": FAULT_STATUS, "text": text, "time": took, "v": FORMAT
+    })
+}
+
+/// The object of what became of a request.
+fn outcome_value(
+    alloc: Global,
+    form: AddressForm,
+    text: &str,
+    took: u64,
+    outcome: &Outcome,
+) -> Result<Value, AllocError>
+    ensures { IfOk result (λ value.
+        view value ≡ spec.outcome_data form text.now took outcome.now) }
+{
+    match outcome {
+        Outcome::Targets(list) => {
+            with_targets(
+                alloc,
+                text,
+                took,
+                targets_value(alloc, form, list.as_slice())?,
+            )
+        }
+        Outcome::Refused(reason) => with_refused(alloc, text, took, reason_word(*reason)),
+        Outcome::NoAnswer(question) => {
+            with_gaveup(alloc, text, took, why_value(alloc, question, "timeout")?)
+        }
+        Outcome::NoServer(question) => {
+            with_gaveup(alloc, text, took, why_value(alloc, question, "closed")?)
+        }
+        Outcome::BadReply(question, refusal) => {
+            with_gaveup(alloc, text, took, reply_value(alloc, question, *refusal)?)
+        }
+        Outcome::Memory => with_fault(alloc, text, took),
+    }
+}
+
+/// The object of what became of a text.
+fn line_outcome_value(
+    alloc: Global,
+    form: AddressForm,
+    text: &str,
+    took: u64,
+    line_outcome: &LineOutcome,
+) -> Result<Value, AllocError>
+    ensures { IfOk result (λ value. view value
+        ≡ spec.line_outcome_data form text.now took line_outcome.now) }
+{
+    match line_outcome {
+        LineOutcome::Became(outcome) => outcome_value(alloc, form, text, took, outcome),
+        LineOutcome::TimeOver => with_gaveup(alloc, text, took, total_value(alloc)?),
+        LineOutcome::Bad(refusal) => with_bad(alloc, text, took, request_word(*refusal)),
+        LineOutcome::Memory => with_fault(alloc, text, took),
+    }
+}
+
+/// The line of what became of a text after so many milliseconds: its object, without a space
+/// between its parts.
+pub fn json_line(
+    alloc: Global,
+    form: AddressForm,
+    text: &str,
+    took: u64,
+    line_outcome: &LineOutcome,
+) -> Result<String, AllocError>
+    ensures { IfOk result (λ line. string_bytes line
+        ≡ spec.json_line form text.now took line_outcome.now) }
+{
+    let value = line_outcome_value(alloc, form, text, took, line_outcome)?;
+    let mut line = value.to_string(alloc)?;
+    line.push_str("\n")?;
+    Ok(line)
+}

@@ -1,0 +1,209 @@
+//! What the program prints.
+ghost use Rattle.std.specs.Prelude.{◌≡◌, IfOk};
+ghost use Rattle.std.specs.List.{flat_map};
+ghost use Rattle.std.specs.String.{string_bytes};
+ghost use Rattle.sip_report.specs.Lines as spec;
+
+use crate::address::{AddressForm, address_words};
+use crate::line_outcome::LineOutcome;
+use dns_answers::ReplyRefusal;
+use dns_message::{Kind, Question};
+use sip_resolver::Outcome;
+use sip_selection::{Reason, Target};
+use sip_uri::{Transport, UriRefusal};
+use std::alloc::{AllocError, Global};
+
+/// The word that is printed for a transport.
+pub fn transport_word(transport: Transport) -> &'static str
+    ensures { result.now ≡ spec.transport_word transport }
+{
+    match transport {
+        Transport::Udp => "udp",
+        Transport::Tcp => "tcp",
+        Transport::Sctp => "sctp",
+        Transport::Tls => "tls",
+    }
+}
+
+/// The word that is printed for the reason why a request goes nowhere.
+pub fn reason_word(reason: Reason) -> &'static str
+    ensures { result.now ≡ spec.reason_word reason }
+{
+    match reason {
+        Reason::TransportUnsupported => "TransportUnsupported",
+        Reason::TransportNotSecure => "TransportNotSecure",
+        Reason::NotOffered => "NotOffered",
+        Reason::NoAddress => "NoAddress",
+    }
+}
+
+/// The name of the type of records that a question asks for.
+pub fn kind_word(kind: Kind) -> &'static str
+    ensures { result.now ≡ spec.kind_word kind }
+{
+    match kind {
+        Kind::A => "A",
+        Kind::Aaaa => "AAAA",
+        Kind::Srv => "SRV",
+        Kind::Naptr => "NAPTR",
+    }
+}
+
+/// The word that is printed for why a text is no request.
+pub fn request_word(refusal: UriRefusal) -> &'static str
+    ensures { result.now ≡ spec.request_word refusal }
+{
+    match refusal {
+        UriRefusal::TooLong => "TooLong",
+        UriRefusal::BadScheme => "BadScheme",
+        UriRefusal::BadUser => "BadUser",
+        UriRefusal::BadHost => "BadHost",
+        UriRefusal::BadPort => "BadPort",
+        UriRefusal::BadParam => "BadParam",
+        UriRefusal::RepeatedParam => "RepeatedParam",
+        UriRefusal::BadHeader => "BadHeader",
+        UriRefusal::BadVia => "BadVia",
+        UriRefusal::Memory => "Memory",
+    }
+}
+
+/// Why a reply has no answer.
+fn why_word(alloc: Global, refusal: ReplyRefusal) -> Result<String, AllocError>
+    ensures { IfOk result (λ word. string_bytes word ≡ spec.why_word refusal) }
+{
+    match refusal {
+        ReplyRefusal::NotReply => String::from_str(alloc, "NotReply"),
+        ReplyRefusal::OtherQuestion => String::from_str(alloc, "OtherQuestion"),
+        ReplyRefusal::Truncated => String::from_str(alloc, "Truncated"),
+        ReplyRefusal::ServerFault(rcode) => format!(in alloc; "rcode {rcode}"),
+        ReplyRefusal::Memory => String::from_str(alloc, "Memory"),
+    }
+}
+
+/// A target in words: its transport, address and port.
+pub fn target_words(alloc: Global, form: AddressForm, target: &Target) -> Result<String, AllocError>
+    ensures { IfOk result (λ words. string_bytes words ≡ spec.target_words form target.now) }
+{
+    let address = address_words(alloc, form, target.address)?;
+    let port = target.port;
+    let mut words = String::from_str(alloc, transport_word(target.transport))?;
+    words.push_str(" ")?;
+    words.push_str(&address)?;
+    words.push_str(&format!(in alloc; " {port}")?)?;
+    Ok(words)
+}
+
+/// The line of a target.
+fn target_line(
+    alloc: Global,
+    form: AddressForm,
+    front: &str,
+    target: &Target,
+) -> Result<String, AllocError>
+    ensures { IfOk result (λ line.
+        string_bytes line ≡ spec.target_line form front.now target.now) }
+{
+    let words = target_words(alloc, form, target)?;
+    let mut line = String::from_str(alloc, front)?;
+    line.push_str(&words)?;
+    line.push_str("\n")?;
+    Ok(line)
+}
+
+/// The lines of targets.
+fn target_lines(
+    alloc: Global,
+    form: AddressForm,
+    front: &str,
+    targets: &[Target],
+) -> Result<String, AllocError>
+    ensures { IfOk result (λ lines.
+        string_bytes lines ≡ flat_map (spec.target_line form front.now) targets.now) }
+{
+    let mut lines = String::new(alloc);
+    'targets: for target in targets {
+        lines.push_str(&target_line(alloc, form, front, target)?)?;
+    }
+    Ok(lines)
+}
+
+/// A question in words: its kind and its name.
+pub fn question_words(alloc: Global, question: &Question) -> Result<String, AllocError>
+    ensures { IfOk result (λ words. string_bytes words ≡ spec.question_words question.now) }
+{
+    let kind = kind_word(question.kind);
+    let name = question.name.text()?;
+    format!(in alloc; "{kind} {name}")
+}
+
+/// The line of a question that has no answer, and why it has none.
+fn gaveup_line(
+    alloc: Global,
+    front: &str,
+    question: &Question,
+    why: &str,
+) -> Result<String, AllocError>
+    ensures { IfOk result (λ line.
+        string_bytes line ≡ spec.gaveup_line front.now question.now why.now) }
+{
+    let question = question_words(alloc, question)?;
+    let mut line = String::from_str(alloc, front)?;
+    line.push_str("gaveup ")?;
+    line.push_str(&question)?;
+    line.push_str(" ")?;
+    line.push_str(why)?;
+    line.push_str("\n")?;
+    Ok(line)
+}
+
+/// A line of two words, after the front.
+fn words_line(alloc: Global, front: &str, word: &str, other: &str) -> Result<String, AllocError>
+    ensures { IfOk result (λ line.
+        string_bytes line ≡ spec.words_line front.now word.now other.now) }
+{
+    let mut line = String::from_str(alloc, front)?;
+    line.push_str(word)?;
+    line.push_str(other)?;
+    line.push_str("\n")?;
+    Ok(line)
+}
+
+/// The lines of what became of a text, each after the same front.
+pub fn lines_of(
+    alloc: Global,
+    form: AddressForm,
+    front: &str,
+    line_outcome: &LineOutcome,
+) -> Result<String, AllocError>
+    ensures { IfOk result (λ lines. string_bytes lines
+        ≡ spec.lines_of form front.now line_outcome.now) }
+{
+    match line_outcome {
+        LineOutcome::Became(outcome) => outcome_lines(alloc, form, front, outcome),
+        LineOutcome::TimeOver => words_line(alloc, front, "gaveup ", "total"),
+        LineOutcome::Bad(refusal) => words_line(alloc, front, "bad ", request_word(*refusal)),
+        LineOutcome::Memory => words_line(alloc, front, "fault ", "memory"),
+    }
+}
+
+/// The lines of what became of a request.
+pub fn outcome_lines(
+    alloc: Global,
+    form: AddressForm,
+    front: &str,
+    outcome: &Outcome,
+) -> Result<String, AllocError>
+    ensures { IfOk result (λ lines.
+        string_bytes lines ≡ spec.outcome_lines form front.now outcome.now) }
+{
+    match outcome {
+        Outcome::Targets(list) => target_lines(alloc, form, front, list.as_slice()),
+        Outcome::Refused(reason) => words_line(alloc, front, "refused ", reason_word(*reason)),
+        Outcome::NoAnswer(question) => gaveup_line(alloc, front, question, "timeout"),
+        Outcome::NoServer(question) => gaveup_line(alloc, front, question, "closed"),
+        Outcome::BadReply(question, refusal) => {
+            gaveup_line(alloc, front, question, &why_word(alloc, *refusal)?)
+        }
+        Outcome::Memory => words_line(alloc, front, "fault ", "memory"),
+    }
+}

@@ -1,0 +1,114 @@
+//! What is printed of a text.
+ghost use Rattle.std.specs.Prelude.{◌≡◌, ◌≤◌, IfOk};
+ghost use Rattle.std.specs.String.{string_bytes};
+ghost use Rattle.sip_report.specs.Reports as spec;
+
+use crate::address::AddressForm;
+use crate::check_limits::CheckLimits;
+use crate::check_line::{check_line, check_status};
+use crate::json::json_line;
+use crate::line_outcome::{LineOutcome, status_of};
+use crate::output::lines_of;
+use crate::rule::is_via;
+use crate::shown_text::shown_text;
+use crate::trace::trace_lines;
+use crate::verdict::Verdict;
+use dns_transport::WireTry;
+use std::alloc::{AllocError, Global};
+
+/// The form of report of a text.
+#[derive(Clone, Copy, Debug, PartialEq, Eq)]
+pub enum Report {
+    /// A line for each target, or why there is none.
+    Lines,
+    /// An object of JSON, in one line.
+    Json,
+    /// One line for a monitoring system.
+    Check,
+}
+
+/// The style in which what became of texts is printed.
+#[derive(Clone, Copy, Debug)]
+pub struct Style<'a> {
+    /// What is printed.
+    pub report: Report,
+    /// What a check holds targets to.
+    pub limits: CheckLimits<'a>,
+    /// The form of addresses.
+    pub form: AddressForm,
+    /// Whether each line begins with the text and a space.
+    pub several: bool,
+    /// Whether the lines of what went over the wire come first.
+    pub traced: bool,
+}
+
+/// What stands in front of the lines of a text: the text as it is shown, where there are several.
+fn front_of(alloc: Global, several: bool, text: &str) -> Result<String, AllocError>
+    ensures { IfOk result (λ front. string_bytes front ≡ spec.front_of several text.now) }
+{
+    let mut front = String::new(alloc);
+    if several {
+        front.push_str(&shown_text(alloc, text)?)?;
+        front.push_str(" ")?;
+    }
+    Ok(front)
+}
+
+/// What is printed of a text, by what became of it after so many milliseconds.
+pub fn report_of(
+    alloc: Global,
+    style: Style<'_>,
+    text: &str,
+    took: u64,
+    verdict: Verdict,
+    line_outcome: &LineOutcome,
+) -> Result<String, AllocError>
+    ensures { IfOk result (λ report.
+        string_bytes report ≡ spec.report_of style.entry text.now took verdict line_outcome.now) }
+{
+    match style.report {
+        Report::Lines => {
+            let front = front_of(alloc, style.several, text)?;
+            lines_of(alloc, style.form, &front, line_outcome)
+        }
+        Report::Json => json_line(alloc, style.form, text, took, line_outcome),
+        Report::Check => {
+            check_line(alloc, style.form, style.limits, took, verdict, line_outcome)
+        }
+    }
+}
+
+/// What is printed of a text, by what went over the wire for it and by what became of it after so
+/// many milliseconds.
+pub fn traced_report(
+    alloc: Global,
+    style: Style<'_>,
+    tries: &[WireTry],
+    text: &str,
+    took: u64,
+    verdict: Verdict,
+    line_outcome: &LineOutcome,
+) -> Result<String, AllocError>
+    ensures { IfOk result (λ report. string_bytes report
+        ≡ spec.traced_report style.entry tries.now text.now took verdict line_outcome.now) }
+{
+    if !style.traced {
+        return report_of(alloc, style, text, took, verdict, line_outcome);
+    }
+    let report = report_of(alloc, style, text, took, verdict, line_outcome)?;
+    let mut lines = trace_lines(alloc, style.form, is_via(text), tries)?;
+    lines.push_str(&report)?;
+    Ok(lines)
+}
+
+/// The exit status of a text, by what became of it, in a form of report.
+pub fn status_in(report: Report, verdict: Verdict, line_outcome: &LineOutcome) -> u8
+    ensures status { result ≡ spec.status_in report verdict line_outcome.now }
+    ensures range { result ≤ 5 }
+{
+    match report {
+        Report::Lines => status_of(line_outcome),
+        Report::Json => status_of(line_outcome),
+        Report::Check => check_status(verdict, line_outcome),
+    }
+}

@@ -1,0 +1,11 @@
+-- What holds of results where there is a value.
+use Rattle.std.specs.Prelude.{Result, Ok, Err, OnOk}
+
+-- what follows of a value
+pub on_ok : {T E P Q : Type 0} (r : Result T E) → (P → Q) → OnOk r P → OnOk r Q
+on_ok (Ok x) f h = f h
+on_ok (Err e) f h = tt
+
+pub on_ok_both : {T E P Q S : Type 0} (r : Result T E) → (P → Q → S) → OnOk r P → OnOk r Q → OnOk r S
+on_ok_both (Ok x) f h k = f h k
+on_ok_both (Err e) f h k = tt

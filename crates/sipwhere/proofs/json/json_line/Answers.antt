@@ -1,9 +1,0 @@
-use Rattle.std.proofs.Common.{rules}
-use Rattle.sipwhere.proofs.Floats.{none}
-use Rattle.sipwhere.proofs.json.json_line.Goals as goal
-
-pub returns : goal.returns
-returns c =
-    let no_float = none c.args.form c.args.text.now c.args.took c.args.line_outcome.now in
-    let written = c.in_ok-line.ensures.text (rw c.in_ok-value.ensures no_float) in
-    rw (c.in_ok-push_str.ensures.bytes, written, c.in_ok-value.ensures) (search rules)

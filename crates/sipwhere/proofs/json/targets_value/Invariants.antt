@@ -1,7 +1,0 @@
-use Rattle.std.proofs.Common.{◌≡◌, map, take}
-use Rattle.serde_json.specs.View.{view}
-use Rattle.sipwhere.specs.Jsons.{target_data}
-use Rattle.sipwhere.proofs.json.targets_value.Given as goal
-
-abbrev pub invariant-targets : goal.invariant-targets
-invariant-targets l = map view l.items.items ≡ map (target_data l.form) (take l.target-index l.targets)

@@ -1,8 +1,0 @@
-use Rattle.std.proofs.Common.{◌≡◌, take}
-use Rattle.std.specs.List.{flat_map}
-use Rattle.std.specs.String.{string_bytes}
-use Rattle.sipwhere.specs.Lines.{target_line}
-use Rattle.sipwhere.proofs.output.target_lines.Given as goal
-
-abbrev pub invariant-targets : goal.invariant-targets
-invariant-targets l = string_bytes l.lines ≡ flat_map (target_line l.form l.front) (take l.target-index l.targets)

@@ -1,7 +1,0 @@
-use Rattle.std.proofs.Common.{take}
-use Rattle.std.specs.List.{AllZip}
-use Rattle.sipwhere.specs.Plans.{IsServerAt}
-use Rattle.sipwhere.proofs.plan.plan_of.Given as goal
-
-abbrev pub invariant-addresses : goal.invariant-addresses
-invariant-addresses l = AllZip IsServerAt (take l.address-index l.file.servers) l.servers.items

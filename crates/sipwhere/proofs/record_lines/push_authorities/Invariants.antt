@@ -1,9 +1,0 @@
-use Rattle.std.proofs.Common.{◌≡◌, ◌++◌, take}
-use Rattle.std.specs.List.{flat_map}
-use Rattle.std.specs.String.{string_bytes}
-use Rattle.sipwhere.specs.RecordLines.{authority_line}
-use Rattle.sipwhere.proofs.record_lines.push_authorities.Given as goal
-
-abbrev pub invariant-loop-entry : goal.invariant-loop-entry
-invariant-loop-entry l =
-    string_bytes l.lines ≡ string_bytes l.initial.lines ++ flat_map (authority_line l.form) (take l.entry-index l.records)

@@ -1,8 +1,0 @@
-use Rattle.sipwhere.proofs.Verdicts.{below-from, below-to, well-at, well-to}
-use Rattle.sipwhere.proofs.verdict.law_verdicts.Goals as goal
-
-pub returns-clause-well : goal.returns-clause-well
-returns-clause-well c limits took targets = (well-at limits took targets, well-to limits took targets)
-
-pub returns-clause-critical : goal.returns-clause-critical
-returns-clause-critical c limits took targets = (below-from limits took targets, below-to limits took targets)
