@@ -1,11 +1,11 @@
 //! What is printed of what became of a SIP URI, or of a Via, and the exit status of a program that
 //! prints it.
 //!
-//! `LineOutcome` is what became of a text. `traced_report` gives what is printed of it, in a `Style`:
-//! lines of words (a line for each target, or why there is none), an object of JSON (RFC 8259), or
-//! one line for a monitoring system, behind what went over the wire for it where that is asked for.
-//! `status_in` gives its exit status, and `graver_of` the one of two that counts. `verdict_of` is how
-//! a check judges targets by its `CheckLimits`.
+//! `LineOutcome` is what became of a text. `traced_report` gives what is printed of it, in a
+//! `Style`: lines of words (a line for each target, or why there is none), an object of JSON
+//! (RFC 8259), or one line for a monitoring system; behind what went over the wire for it, where
+//! that is asked for. `status_in` gives its exit status, and `graver_of` the one of two that
+//! counts. `verdict_of` is how a check judges targets by its `CheckLimits`.
 //!
 //! `target_words`, `question_words`, `reason_word` and `request_word` are the words of the parts.
 //! `shown_text` is how a text of somebody else is shown, so that it ends no line and commands no

@@ -1,9 +1,9 @@
 //! What `sipwhere` is asked to do: its command line, its options, and whom and how it asks by them.
 //!
 //! `command` is the command line, and `read_options` gives the `Options` that its words say.
-//! `read_plan` gives the `Plan`: which servers are asked, and how, by these and by the resolver file.
-//! `reply_times_of` is how long replies are waited for by a plan. `RunFault` is what ends a run
-//! before anything is asked.
+//! `read_plan` gives the `Plan`: which servers are asked, and how, by these and by the resolver
+//! file. `reply_times_of` is how long replies are waited for by a plan. `RunFault` is what ends a
+//! run before anything is asked.
 //!
 //! Read `specs/CommandLine.antt` first: what each word says. `specs/Plans.antt` says whom to ask,
 //! and `specs/Timings.antt` how often, and for how long.
