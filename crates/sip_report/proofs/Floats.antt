@@ -29,4 +29,5 @@ none form text took (line_outcome.Became (outcome.BadReply question refusal.Memo
 none form text took (line_outcome.Became outcome.Memory) = refl
 none form text took line_outcome.TimeOver = refl
 none form text took (line_outcome.Bad why) = refl
+none form text took line_outcome.NotText = refl
 none form text took line_outcome.Memory = refl

@@ -34,6 +34,7 @@ check_status verdict (line_outcome.Became (outcome.BadReply question refusal)) =
 check_status verdict (line_outcome.Became outcome.Memory) = 3
 check_status verdict line_outcome.TimeOver = 2
 check_status verdict (line_outcome.Bad refusal) = 3
+check_status verdict line_outcome.NotText = 3
 check_status verdict line_outcome.Memory = 3
 
 -- ---- the line of targets
@@ -122,5 +123,7 @@ check_line form limits took verdict line_outcome.TimeOver =
     lines_of form (codes "SIP CRITICAL - ") line_outcome.TimeOver
 check_line form limits took verdict (line_outcome.Bad refusal) =
     lines_of form (codes "SIP UNKNOWN - ") (line_outcome.Bad refusal)
+check_line form limits took verdict line_outcome.NotText =
+    lines_of form (codes "SIP UNKNOWN - ") line_outcome.NotText
 check_line form limits took verdict line_outcome.Memory =
     lines_of form (codes "SIP UNKNOWN - ") line_outcome.Memory

@@ -116,6 +116,7 @@ line_outcome_data form text took (line_outcome.Became outcome) =
 line_outcome_data form text took line_outcome.TimeOver = with_gaveup text took total_data
 line_outcome_data form text took (line_outcome.Bad refusal) =
     with_bad text took (request_word refusal)
+line_outcome_data form text took line_outcome.NotText = with_bad text took (codes "NotText")
 line_outcome_data form text took line_outcome.Memory = with_fault text took
 
 -- the line with the object of what became of a text (RFC 8259)

@@ -7,4 +7,5 @@ pub mod Traces
 pub mod Verdicts
 pub mod Checks
 pub mod Jsons
+pub mod Metrics
 pub mod Reports

@@ -108,6 +108,7 @@ lines_of form front (line_outcome.Became outcome) = outcome_lines form front out
 lines_of form front line_outcome.TimeOver = words_line front (codes "gaveup ") (codes "total")
 lines_of form front (line_outcome.Bad refusal) = words_line front (codes "bad ")
     (request_word refusal)
+lines_of form front line_outcome.NotText = words_line front (codes "bad ") (codes "NotText")
 lines_of form front line_outcome.Memory = words_line front (codes "fault ") (codes "memory")
 
 -- ---- the status
@@ -132,4 +133,5 @@ status_of (line_outcome.Became (outcome.BadReply question refusal)) = 1
 status_of (line_outcome.Became outcome.Memory) = 5
 status_of line_outcome.TimeOver = 1
 status_of (line_outcome.Bad refusal) = 3
+status_of line_outcome.NotText = 3
 status_of line_outcome.Memory = 5

@@ -6,12 +6,13 @@ use Rattle.sip_report.specs.Escapes.{shown}
 use Rattle.sip_report.specs.Checks.{check_line, check_status}
 use Rattle.sip_report.specs.Jsons.{json_line}
 use Rattle.sip_report.specs.Lines.{lines_of, status_of}
+use Rattle.sip_report.specs.Metrics.{metrics_of}
 use Rattle.sip_report.specs.Rules.{is_via}
 use Rattle.sip_report.specs.Traces.{try_lines}
 use Rattle.sip_report.specs.declared.address.AddressForm.{AddressForm}
 use Rattle.sip_report.specs.declared.line_outcome.LineOutcome.{LineOutcome}
 use Rattle.sip_report.specs.declared.report.Report.{Report}
-use Rattle.sip_report.specs.declared.report.Report.TheVariants.{Lines, Json, Check}
+use Rattle.sip_report.specs.declared.report.Report.TheVariants.{Lines, Json, Check, Metrics}
 use Rattle.sip_report.specs.declared.report.Style.{Style}
 use Rattle.sip_report.specs.declared.verdict.Verdict.{Verdict}
 
@@ -28,6 +29,7 @@ report_as Lines style text took verdict line_outcome =
 report_as Json style text took verdict line_outcome = json_line style.form text took line_outcome
 report_as Check style text took verdict line_outcome =
     check_line style.form style.limits took verdict line_outcome
+report_as Metrics style text took verdict line_outcome = metrics_of text took line_outcome
 
 -- what is printed of a text, in the style that is asked for, by what became of it after so many
 -- milliseconds, and the verdict of a check
@@ -50,4 +52,5 @@ traced_report style tries text took verdict line_outcome =
 abbrev pub status_in : Report → Verdict → LineOutcome → ℕ
 status_in Lines verdict line_outcome = status_of line_outcome
 status_in Json verdict line_outcome = status_of line_outcome
+status_in Metrics verdict line_outcome = status_of line_outcome
 status_in Check verdict line_outcome = check_status verdict line_outcome

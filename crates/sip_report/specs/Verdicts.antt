@@ -79,6 +79,7 @@ verdict_of limits took (line_outcome.Became (outcome.BadReply question refusal))
 verdict_of limits took (line_outcome.Became outcome.Memory) = Well
 verdict_of limits took line_outcome.TimeOver = Well
 verdict_of limits took (line_outcome.Bad refusal) = Well
+verdict_of limits took line_outcome.NotText = Well
 verdict_of limits took line_outcome.Memory = Well
 
 -- ---- what a verdict says

@@ -41,7 +41,7 @@ pub fn check_status(verdict: Verdict, line_outcome: &LineOutcome) -> u8
         LineOutcome::Became(Outcome::BadReply(_, _)) => 2,
         LineOutcome::TimeOver => 2,
         LineOutcome::Became(Outcome::Memory) => 3,
-        LineOutcome::Bad(_) | LineOutcome::Memory => 3,
+        LineOutcome::Bad(_) | LineOutcome::NotText | LineOutcome::Memory => 3,
     }
 }
 
@@ -279,6 +279,7 @@ pub fn check_line(
         LineOutcome::Became(outcome) => outcome_line(alloc, form, limits, took, verdict, outcome),
         LineOutcome::TimeOver => lines_of(alloc, form, "SIP CRITICAL - ", line_outcome),
         LineOutcome::Bad(_) => lines_of(alloc, form, "SIP UNKNOWN - ", line_outcome),
+        LineOutcome::NotText => lines_of(alloc, form, "SIP UNKNOWN - ", line_outcome),
         LineOutcome::Memory => lines_of(alloc, form, "SIP UNKNOWN - ", line_outcome),
     }
 }

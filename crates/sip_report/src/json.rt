@@ -177,6 +177,7 @@ fn line_outcome_value(
         LineOutcome::Became(outcome) => outcome_value(alloc, form, text, took, outcome),
         LineOutcome::TimeOver => with_gaveup(alloc, text, took, total_value(alloc)?),
         LineOutcome::Bad(refusal) => with_bad(alloc, text, took, request_word(*refusal)),
+        LineOutcome::NotText => with_bad(alloc, text, took, "NotText"),
         LineOutcome::Memory => with_fault(alloc, text, took),
     }
 }

@@ -3,17 +3,17 @@
 //!
 //! `LineOutcome` is what became of a text. `traced_report` gives what is printed of it, in a
 //! `Style`: lines of words (a line for each target, or why there is none), an object of JSON
-//! (RFC 8259), or one line for a monitoring system; behind what went over the wire for it, where
-//! that is asked for. `status_in` gives its exit status, and `graver_of` the one of two that
+//! (RFC 8259), one line for a monitoring system, or metrics; behind what went over the wire for it,
+//! where that is asked for. `status_in` gives its exit status, and `graver_of` the one of two that
 //! counts. `verdict_of` is how a check judges targets by its `CheckLimits`.
 //!
 //! `target_words`, `question_words`, `reason_word` and `request_word` are the words of the parts.
-//! `shown_text` is how a text of somebody else is shown, so that it ends no line and commands no
-//! terminal.
+//! A text of somebody else is shown so that it ends no line and commands no terminal
+//! (`specs/Escapes.antt`).
 //!
 //! Read `specs/Lines.antt` first: the lines of words. `specs/Jsons.antt` says the objects of JSON,
-//! `specs/Checks.antt` the line of a check, `specs/Traces.antt` the lines of the wire, and
-//! `specs/Reports.antt` which of them is printed.
+//! `specs/Checks.antt` the line of a check, `specs/Metrics.antt` the metrics, `specs/Traces.antt`
+//! the lines of the wire, and `specs/Reports.antt` which of them is printed.
 #![tactic(auto)]
 
 mod address;
@@ -21,6 +21,7 @@ mod check_limits;
 mod check_line;
 mod json;
 mod line_outcome;
+mod metrics;
 mod output;
 mod record_lines;
 mod record_words;
@@ -36,5 +37,4 @@ pub use check_line::UNKNOWN_STATUS;
 pub use line_outcome::{FAULT_STATUS, LineOutcome, graver_of};
 pub use output::{question_words, reason_word, request_word, target_words};
 pub use report::{Report, Style, status_in, traced_report};
-pub use shown_text::shown_text;
 pub use verdict::{Shortfall, Verdict, law_verdicts, verdict_of};

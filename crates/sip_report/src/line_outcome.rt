@@ -29,6 +29,8 @@ pub enum LineOutcome {
     TimeOver,
     /// The text is no request, for this reason.
     Bad(UriRefusal),
+    /// The text is no request: it has octets that are no text (UTF-8, RFC 3629).
+    NotText,
     /// Memory was refused for the text.
     Memory,
 }
@@ -69,7 +71,7 @@ pub fn status_of(line_outcome: &LineOutcome) -> u8
         LineOutcome::Became(Outcome::BadReply(_, _)) => GAVEUP_STATUS,
         LineOutcome::TimeOver => GAVEUP_STATUS,
         LineOutcome::Became(Outcome::Refused(_)) => REFUSED_STATUS,
-        LineOutcome::Bad(_) => BAD_STATUS,
+        LineOutcome::Bad(_) | LineOutcome::NotText => BAD_STATUS,
         LineOutcome::Became(Outcome::Memory) | LineOutcome::Memory => FAULT_STATUS,
     }
 }

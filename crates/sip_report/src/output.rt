@@ -182,6 +182,7 @@ pub fn lines_of(
         LineOutcome::Became(outcome) => outcome_lines(alloc, form, front, outcome),
         LineOutcome::TimeOver => words_line(alloc, front, "gaveup ", "total"),
         LineOutcome::Bad(refusal) => words_line(alloc, front, "bad ", request_word(*refusal)),
+        LineOutcome::NotText => words_line(alloc, front, "bad ", "NotText"),
         LineOutcome::Memory => words_line(alloc, front, "fault ", "memory"),
     }
 }

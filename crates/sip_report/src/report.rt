@@ -8,6 +8,7 @@ use crate::check_limits::CheckLimits;
 use crate::check_line::{check_line, check_status};
 use crate::json::json_line;
 use crate::line_outcome::{LineOutcome, status_of};
+use crate::metrics::metrics_of;
 use crate::output::lines_of;
 use crate::rule::is_via;
 use crate::shown_text::shown_text;
@@ -25,6 +26,8 @@ pub enum Report {
     Json,
     /// One line for a monitoring system.
     Check,
+    /// Metrics in the text format of Prometheus.
+    Metrics,
 }
 
 /// The style in which what became of texts is printed.
@@ -75,6 +78,7 @@ pub fn report_of(
         Report::Check => {
             check_line(alloc, style.form, style.limits, took, verdict, line_outcome)
         }
+        Report::Metrics => metrics_of(alloc, text, took, line_outcome),
     }
 }
 
@@ -109,6 +113,7 @@ pub fn status_in(report: Report, verdict: Verdict, line_outcome: &LineOutcome) -
     match report {
         Report::Lines => status_of(line_outcome),
         Report::Json => status_of(line_outcome),
+        Report::Metrics => status_of(line_outcome),
         Report::Check => check_status(verdict, line_outcome),
     }
 }

@@ -14,7 +14,7 @@ use Rattle.sip_resolver.specs.declared.outcome.Outcome.TheVariants as outcomes
 use Rattle.sipwhere.specs.LineOutcomes.{IsLineOutcome}
 use Rattle.sipwhere.specs.OpenLines.{IsLineOutcomeOf}
 use Rattle.sip_report.specs.declared.line_outcome.LineOutcome.{LineOutcome}
-use Rattle.sip_report.specs.declared.line_outcome.LineOutcome.TheVariants.{Became, TimeOver, Bad, Memory}
+use Rattle.sip_report.specs.declared.line_outcome.LineOutcome.TheVariants.{Became, TimeOver, Bad, NotText, Memory}
 use Rattle.sipwhere.specs.declared.line.Line.{Line}
 use Rattle.sipwhere.specs.declared.sender.Sender.{Sender}
 
@@ -111,6 +111,7 @@ module _ (gives : List ℕ → Type 0) (shows : ℕ → Type 0) where
       }
       line_outcome-later line TimeOver it = record { request = it.request; is = it.is; place = it.place; became = tt }
       line_outcome-later line (Bad refusal) it = it
+      line_outcome-later line NotText it = it
       line_outcome-later line Memory it = record { request = it.request; is = it.is; place = it.place; became = tt }
 
       line_outcome-of-later : (line : Line) (line_outcome : Option LineOutcome) → IsLineOutcomeOf gives shows old sender line line_outcome

@@ -18,7 +18,7 @@ use Rattle.sipwhere.specs.LineOutcomes.{AreAlike, EndsAs, IsLineOutcome, IsOfLin
 use Rattle.sipwhere.proofs.Later.{zip-set}
 use Rattle.sipwhere.specs.OpenLines.{AreMeant, IsLineOutcomeOf, IsMeant, IsOwn}
 use Rattle.sip_report.specs.declared.line_outcome.LineOutcome.{LineOutcome}
-use Rattle.sip_report.specs.declared.line_outcome.LineOutcome.TheVariants.{Became, TimeOver, Bad, Memory}
+use Rattle.sip_report.specs.declared.line_outcome.LineOutcome.TheVariants.{Became, TimeOver, Bad, NotText, Memory}
 use Rattle.sipwhere.specs.declared.line.Line.{Line}
 use Rattle.sipwhere.specs.declared.sender.Sender.{Sender}
 
@@ -139,6 +139,7 @@ module _ (gives : List ℕ → Type 0) (shows : ℕ → Type 0) (seat : SeatView
   line_outcome-needless line (Became outcome) it = absurd it
   line_outcome-needless line TimeOver it = record { request = it.request; is = it.is; place = 0; became = tt }
   line_outcome-needless line (Bad refusal) it = it
+  line_outcome-needless line NotText it = it
   line_outcome-needless line Memory it = record { request = it.request; is = it.is; place = 0; became = tt }
 
   pub line_outcome-ended : (lines : List Line) (line : Line) (ended : Sought) (outcome : Outcome) (line_outcome : LineOutcome)
@@ -156,6 +157,7 @@ module _ (gives : List ℕ → Type 0) (shows : ℕ → Type 0) (seat : SeatView
   }
   line_outcome-ended lines line ended outcome TimeOver at meant ends is = absurd ends
   line_outcome-ended lines line ended outcome (Bad refusal) at meant ends is = ends
+  line_outcome-ended lines line ended outcome NotText at meant ends is = ends
   line_outcome-ended lines line ended outcome Memory at meant ends is =
       record { request = ends.request; is = ends.is; place = 0; became = tt }
 

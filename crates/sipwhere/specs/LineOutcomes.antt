@@ -1,5 +1,6 @@
 -- What becomes of a text.
-use Rattle.std.specs.Prelude.{◌≡◌, ◌≢◌, ℕ, List}
+use Rattle.std.specs.Prelude.{◌≡◌, ◌≢◌, ℕ, List, Some, None}
+use Rattle.std.specs.Str.Pattern.{FindsChar}
 use Rattle.answer_cache.specs.Seats.{SeatView}
 use Rattle.sip_resolver.specs.Draws.{drawn}
 use Rattle.sip_resolver.specs.Outcomes.{IsOutcome, Sought}
@@ -9,7 +10,7 @@ use Rattle.sip_selection.specs.declared.request.Request.{Request}
 use Rattle.sip_uri.specs.declared.refusal.UriRefusal.{UriRefusal}
 use Rattle.sip_uri.specs.declared.refusal.UriRefusal.TheVariants as uri
 use Rattle.sip_report.specs.declared.line_outcome.LineOutcome.{LineOutcome}
-use Rattle.sip_report.specs.declared.line_outcome.LineOutcome.TheVariants.{Became, TimeOver, Bad, Memory}
+use Rattle.sip_report.specs.declared.line_outcome.LineOutcome.TheVariants.{Became, TimeOver, Bad, NotText, Memory}
 use Rattle.sipwhere.specs.declared.line.Line.{Line}
 use Rattle.sipwhere.specs.declared.sender.Sender.{Sender}
 use Rattle.sip_resolver.specs.declared.outcome.Outcome.{Outcome}
@@ -26,12 +27,24 @@ MayBecome gives shows seat asked (Became outcome) =
     (sought : Sought) × AreAlike sought asked × IsOutcome gives shows seat sought outcome
 MayBecome gives shows seat asked TimeOver = Unit {0}
 MayBecome gives shows seat asked (Bad refusal) = ⊥
+MayBecome gives shows seat asked NotText = ⊥
 MayBecome gives shows seat asked Memory = Unit {0}
 
--- a text is no request: it spells none, so it was not for want of memory that it was refused
+-- a text has the character that stands for octets that are no UTF-8 (U+FFFD)
+abbrev pub HasReplacement : List ℕ → Type 0
+HasReplacement text = (from : ℕ) × (until : ℕ) × FindsChar 65533 text (Some (from, until))
+
+-- a text is no request: it spells none, so it was not for want of memory that it was refused; and
+-- its octets are text
 pub record IsNoRequest (text : List ℕ) (refusal : UriRefusal) : Type 0 where
   pub none : (request : Request) → RequestText text request → ⊥
   pub why : refusal ≢ uri.Memory
+  pub whole : FindsChar 65533 text None
+
+-- a text is no request, and has octets that are no text
+pub record IsNotText (text : List ℕ) : Type 0 where
+  pub none : (request : Request) → RequestText text request → ⊥
+  pub has : HasReplacement text
 
 -- A text is a request, of which this may become, under whatever number a resolver had it. Its words
 -- are those of its own number.
@@ -47,6 +60,7 @@ pub record IsLocated (gives : List ℕ → Type 0) (shows : ℕ → Type 0) (sea
 abbrev pub IsLineOutcome : (List ℕ → Type 0) → (ℕ → Type 0) → SeatView → Sender → Line → LineOutcome
     → Type 0
 IsLineOutcome gives shows seat sender line (Bad refusal) = IsNoRequest line.text.now refusal
+IsLineOutcome gives shows seat sender line NotText = IsNotText line.text.now
 IsLineOutcome gives shows seat sender line line_outcome =
     IsLocated gives shows seat sender.caps (drawn sender.key line.number) line.text.now line_outcome
 
@@ -68,6 +82,7 @@ abbrev pub IsUnread : List ℕ → LineOutcome → Type 0
 IsUnread text (Became outcome) = ⊥
 IsUnread text TimeOver = ⊥
 IsUnread text (Bad refusal) = IsNoRequest text refusal
+IsUnread text NotText = IsNotText text
 IsUnread text Memory = IsRequest text
 
 -- what became of a text without a reply: it is no request, its time was over, or memory was refused
@@ -75,6 +90,7 @@ abbrev pub NeedsNoReply : List ℕ → LineOutcome → Type 0
 NeedsNoReply text (Became outcome) = ⊥
 NeedsNoReply text TimeOver = IsRequest text
 NeedsNoReply text (Bad refusal) = IsNoRequest text refusal
+NeedsNoReply text NotText = IsNotText text
 NeedsNoReply text Memory = IsRequest text
 
 -- a text is this request, and no other (RFC 3261 25.1)
@@ -87,4 +103,5 @@ abbrev pub EndsAs : List ℕ → Outcome → LineOutcome → Type 0
 EndsAs text outcome (Became it) = (it ≡ outcome) × (request : Request) × IsOnly text request
 EndsAs text outcome TimeOver = ⊥
 EndsAs text outcome (Bad refusal) = IsNoRequest text refusal
+EndsAs text outcome NotText = IsNotText text
 EndsAs text outcome Memory = IsRequest text

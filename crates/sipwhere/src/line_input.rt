@@ -12,7 +12,7 @@ use std::io::{self, ErrorKind, Read};
 use std::marker::Model;
 
 /// How many octets are read at once at most.
-const READ_LIMIT: usize = 1_048_576;
+const READ_LIMIT: usize = 131_072;
 
 /// How many octets are kept of a line: more than a request has. So an input without line ends takes
 /// no more memory than one with them.

@@ -1,5 +1,6 @@
 //! What becomes of a text, from what becomes of its request.
-ghost use Rattle.std.specs.Prelude.{◌≡◌, ℕ, IfErr, IfOk, IfSome};
+ghost use Rattle.std.specs.Prelude.{◌≡◌, ℕ, IfErr, IfOk, IfSome, IsFalse, IsTrue, None};
+ghost use Rattle.std.specs.Str.Pattern.{FindsChar};
 ghost use Rattle.answer_cache.specs.Seats.{SeatView};
 ghost use Rattle.sip_resolver.specs.Outcomes.{Sought};
 ghost use Rattle.sip_resolver.specs.Requests.{Stand, weight};
@@ -15,6 +16,14 @@ use sip_selection::{Request, read_request};
 use sip_uri::UriRefusal;
 use std::alloc::Global;
 
+/// Whether a text has the character that stands for octets that are no UTF-8.
+fn has_replacement(text: &str) -> bool
+    ensures has { IsTrue result → spec.HasReplacement text.now }
+    ensures whole { IsFalse result → FindsChar 65533 text.now None }
+{
+    text.contains('\u{FFFD}')
+}
+
 /// The request of a text, or what became of the text: it is none, or memory was refused for it.
 fn request_of(alloc: Global, text: &str) -> Result<Request, LineOutcome>
     ensures found { IfOk result (spec.IsOnly text.now) }
@@ -24,6 +33,7 @@ fn request_of(alloc: Global, text: &str) -> Result<Request, LineOutcome>
         Ok(request) => Ok(request),
         Err(refusal) => match refusal {
             UriRefusal::Memory => Err(LineOutcome::Memory),
+            _ if has_replacement(text) => Err(LineOutcome::NotText),
             _ => Err(LineOutcome::Bad(refusal)),
         },
     }

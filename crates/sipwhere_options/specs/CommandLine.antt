@@ -23,7 +23,7 @@ use Rattle.sip_report.specs.declared.check_limits.CheckLimits.{CheckLimits}
 use Rattle.sipwhere_options.specs.declared.options.Options.{Options}
 use Rattle.sipwhere_options.specs.declared.options.Timing.{Timing}
 use Rattle.sip_report.specs.declared.report.Report.{Report}
-use Rattle.sip_report.specs.declared.report.Report.TheVariants.{Lines, Json, Check}
+use Rattle.sip_report.specs.declared.report.Report.TheVariants.{Lines, Json, Check, Metrics}
 use Rattle.sip_report.specs.declared.report.Style.{Style}
 use Rattle.sipwhere_options.specs.declared.terminals.Terminals.{Terminals}
 
@@ -131,11 +131,15 @@ pub record AreNotOffered (words : List (List ℕ)) : Type 0 where
 
 -- ---- the options of a run
 
--- what is printed of a text: one line for a monitoring system, an object of JSON, or lines
+-- what is printed of a text: one line for a monitoring system, metrics, an object of JSON, or lines
 abbrev pub IsReport : ArgMatches → Report → Type 0
 IsReport matches Check = IsFlag matches (codes "check") true
-IsReport matches Json = IsFlag matches (codes "check") false × IsFlag matches (codes "json") true
-IsReport matches Lines = IsFlag matches (codes "check") false × IsFlag matches (codes "json") false
+IsReport matches Metrics =
+    IsFlag matches (codes "check") false × IsFlag matches (codes "metrics") true
+IsReport matches Json = IsFlag matches (codes "check") false
+    × IsFlag matches (codes "metrics") false × IsFlag matches (codes "json") true
+IsReport matches Lines = IsFlag matches (codes "check") false
+    × IsFlag matches (codes "metrics") false × IsFlag matches (codes "json") false
 
 -- what a check holds targets to: bounds as numbers of 32 bits, and a target that is expected
 pub record AreLimits (matches : ArgMatches) (limits : CheckLimits) : Type 0 where
@@ -161,9 +165,10 @@ IsOneText [] = ⊥
 IsOneText (text ∷ []) = text ≢ codes "-"
 IsOneText (text ∷ other ∷ others) = ⊥
 
--- texts can be reported so: a check is of one text
+-- texts can be reported so: a check is of one text, and so are metrics
 abbrev pub CanReport : Report → List (List ℕ) → Type 0
 CanReport Check texts = IsOneText texts
+CanReport Metrics texts = IsOneText texts
 CanReport Lines texts = ⊤
 CanReport Json texts = ⊤
 
@@ -212,6 +217,6 @@ IsFault matches fault.Transports =
     Any IsNoTransport (words_of matches (codes "transports"))
     ⊎ AreNotOffered (words_of matches (codes "transports"))
 IsFault matches fault.Seed = SaysNothing SeedText (word_of matches (codes "seed"))
-IsFault matches fault.Check =
-    IsReport matches Check × (IsOneText (words_of matches (codes "uri")) → ⊥)
+IsFault matches fault.OneText = (IsReport matches Check ⊎ IsReport matches Metrics)
+    × (IsOneText (words_of matches (codes "uri")) → ⊥)
 IsFault matches fault.Memory = ⊤

@@ -184,11 +184,21 @@ fn with_output<'a>(alloc: Global, command: Command<'a>) -> Result<Command<'a>, A
         .arg(
             flag(
                 alloc,
+                "metrics",
+                "Metrics of one URI in the text format of Prometheus",
+            )
+            .conflicts_with("json")?
+            .conflicts_with("check")?,
+        )?
+        .arg(
+            flag(
+                alloc,
                 "trace",
                 "A line for each query in front of what it led to",
             )
             .conflicts_with("json")?
-            .conflicts_with("check")?,
+            .conflicts_with("check")?
+            .conflicts_with("metrics")?,
         )?
         .arg(flag(alloc, "stats", "How much was asked, on standard error"))
 }

@@ -88,9 +88,9 @@ pub enum OptionFault {
     /// A seed that is no key.
     #[error("a seed has 1 to 64 hexadecimal digits")]
     Seed,
-    /// There is more to check than one URI.
-    #[error("--check takes one URI")]
-    Check,
+    /// There is more than one URI.
+    #[error("--check and --metrics take one URI")]
+    OneText,
     /// Memory was refused.
     #[error("out of memory")]
     Memory,
@@ -331,6 +331,9 @@ fn report_of(matches: &ArgMatches<'_>) -> Report
     if is_set(matches, "check") {
         return Report::Check;
     }
+    if is_set(matches, "metrics") {
+        return Report::Metrics;
+    }
     if is_set(matches, "json") {
         return Report::Json;
     }
@@ -372,13 +375,13 @@ fn is_one_text(texts: &[&str]) -> bool
     }
 }
 
-/// Whether texts can be reported so: a check is of one text.
+/// Whether texts can be reported so: a check is of one text, and so are metrics.
 fn can_report(report: Report, texts: &[&str]) -> bool
     ensures { IsTrue result ↔ spec.CanReport report (map (λ text. text.now) texts.now) }
 {
     match report {
         Report::Lines | Report::Json => true,
-        Report::Check => is_one_text(texts),
+        Report::Check | Report::Metrics => is_one_text(texts),
     }
 }
 
@@ -393,7 +396,7 @@ fn report_in(matches: &ArgMatches<'_>) -> Result<Report, OptionFault>
     if can_report(report, matches.get_strs("uri").unwrap_or(&[])) {
         Ok(report)
     } else {
-        Err(OptionFault::Check)
+        Err(OptionFault::OneText)
     }
 }
 

@@ -21,6 +21,7 @@ pub fn form_for(short: bool, report: Report, terminals: Terminals) -> AddressFor
         Report::Lines if short || terminals.output => AddressForm::Short,
         Report::Json if short => AddressForm::Short,
         Report::Check if short => AddressForm::Short,
+        Report::Metrics if short => AddressForm::Short,
         _ => AddressForm::Full,
     }
 }
