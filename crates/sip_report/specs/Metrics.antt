@@ -26,11 +26,18 @@ thousandths number = (48 + number / 100) ∷ (48 + number / 10 % 10) ∷ (48 + n
 abbrev pub seconds : ℕ → List ℕ
 seconds milliseconds = decimal (milliseconds / 1000) ++ 46 ∷ thousandths (milliseconds % 1000)
 
--- a gauge of a text: what it counts, its type, and its value
-abbrev pub gauge : List ℕ → List ℕ → List ℕ → List ℕ → List ℕ
-gauge name help label value =
+-- the lines that say what a gauge counts, and that it is one
+abbrev pub head : List ℕ → List ℕ → List ℕ
+head name help =
     codes "# HELP " ++ name ++ 32 ∷ help ++ codes "\n# TYPE " ++ name ++ codes " gauge\n"
-    ++ name ++ codes "{uri=\"" ++ label ++ codes "\"} " ++ value ++ 10 ∷ []
+
+-- the line of its value
+abbrev pub sample : List ℕ → List ℕ → List ℕ → List ℕ
+sample name label value = name ++ codes "{uri=\"" ++ label ++ codes "\"} " ++ value ++ 10 ∷ []
+
+-- a gauge of a text: what it counts, and its value
+abbrev pub gauge : List ℕ → List ℕ → List ℕ → List ℕ → List ℕ
+gauge name help label value = head name help ++ sample name label value
 
 -- how many targets a text has
 abbrev pub count_of : LineOutcome → ℕ

@@ -57,7 +57,34 @@ fn seconds(alloc: Global, milliseconds: u64) -> Result<String, AllocError>
     Ok(words)
 }
 
-/// A gauge of a text, with what it counts, and its value.
+/// Adds the lines that say what a gauge counts, and that it is one.
+fn push_head(metrics: &mut String, name: &str, help: &str) -> Result<(), AllocError>
+    ensures { OnOk result (string_bytes metrics.new
+        ≡ string_bytes metrics.old ++ spec.head name.now help.now) }
+{
+    metrics.push_str("# HELP ")?;
+    metrics.push_str(name)?;
+    metrics.push_str(" ")?;
+    metrics.push_str(help)?;
+    metrics.push_str("\n# TYPE ")?;
+    metrics.push_str(name)?;
+    metrics.push_str(" gauge\n")
+}
+
+/// Adds the line of a gauge's value.
+fn push_sample(metrics: &mut String, name: &str, label: &str, value: &str) -> Result<(), AllocError>
+    ensures { OnOk result (string_bytes metrics.new
+        ≡ string_bytes metrics.old ++ spec.sample name.now label.now value.now) }
+{
+    metrics.push_str(name)?;
+    metrics.push_str("{uri=\"")?;
+    metrics.push_str(label)?;
+    metrics.push_str("\"} ")?;
+    metrics.push_str(value)?;
+    metrics.push_str("\n")
+}
+
+/// Adds a gauge of a text, with what it counts, and its value.
 fn push_gauge(
     metrics: &mut String,
     name: &str,
@@ -68,19 +95,8 @@ fn push_gauge(
     ensures { OnOk result (string_bytes metrics.new ≡ string_bytes metrics.old
         ++ spec.gauge name.now help.now label.now value.now) }
 {
-    metrics.push_str("# HELP ")?;
-    metrics.push_str(name)?;
-    metrics.push_str(" ")?;
-    metrics.push_str(help)?;
-    metrics.push_str("\n# TYPE ")?;
-    metrics.push_str(name)?;
-    metrics.push_str(" gauge\n")?;
-    metrics.push_str(name)?;
-    metrics.push_str("{uri=\"")?;
-    metrics.push_str(label)?;
-    metrics.push_str("\"} ")?;
-    metrics.push_str(value)?;
-    metrics.push_str("\n")
+    push_head(metrics, name, help)?;
+    push_sample(metrics, name, label, value)
 }
 
 /// How many targets a text has.
