@@ -1,9 +1,10 @@
 """What the sources of the crates say, for `tools/make-docs` and `tools/check-docs`: public calls with the names of their
-clauses, and definitions of specs/ with the comments over them."""
+clauses, definitions of specs/ with the comments over them, and the texts of both."""
 import functools
 import glob
 import os
 import re
+import textwrap
 
 FUNCTION = re.compile(r"^( *)(pub(?:\(crate\))? )?(?:const |unsafe )*fn (\w+)")
 CLAUSE = re.compile(r"^ *(requires|ensures)\*? (?:(\w+) )?\{")
@@ -31,6 +32,7 @@ class Call:
         self.public, self.name, self.docs = public, name, docs
         self.clauses = []
         self.text = ""
+        self.line = 0
 
     @property
     def title(self):
@@ -80,6 +82,7 @@ def calls_in(path):
             indent, public, name = found.groups()
             kind, owner, trait = block if indent else (None, "", None)
             call = Call(path, kind, owner, trait, (public or "").strip(), name, docs_above(lines, at))
+            call.line = at + 1
             read_head(call, lines[at:], indent)
             yield call
 
@@ -106,6 +109,7 @@ class Definition:
     def __init__(self, crate, module, name, comment, section):
         self.crate, self.module, self.name, self.comment, self.section = crate, module, name, comment, section
         self.body = ""
+        self.line = 0
 
     @property
     def key(self):
@@ -120,7 +124,7 @@ def definitions_in(crate, module, text):
     """The definitions of a module, in their order."""
     lines = text.split("\n")
     comment, section, current, found = [], "", None, []
-    for line in lines:
+    for at, line in enumerate(lines, 1):
         if line.strip().startswith("-- ----"):
             section, comment = line.strip().removeprefix("-- ----").strip(), []
         elif line.strip().startswith("--"):
@@ -129,6 +133,7 @@ def definitions_in(crate, module, text):
             head = DEFINITION.match(line) or PLAIN.match(line)
             if head:
                 current = Definition(crate, module, head[2], sentence_of(comment), section)
+                current.line = at
                 found.append(current)
             if current:
                 current.body += line + "\n"
@@ -216,6 +221,81 @@ class Crate:
                 if title in self.exported and item not in UNSEEN:
                     for key in named_in(body, imported(text)):
                         yield key, title, item == "invariant"
+
+
+class Passage:
+    """A part of a source: what it is called, its file and first line, its text, and the lines of `module` over that."""
+
+    def __init__(self, title, path, line, text, over=""):
+        self.title, self.path, self.line, self.text, self.over = title, path, line, text, over
+
+
+def to_empty_line(lines, at):
+    """The lines from this one on, up to the next empty one."""
+    end = next((it for it in range(at, len(lines)) if not lines[it].strip()), len(lines))
+    return "\n".join(lines[at:end])
+
+
+def modules_over(lines, at):
+    """The lines of `module` that a definition stands under, each with those that it goes on in."""
+    found, depth = [], len(lines[at]) - len(lines[at].lstrip())
+    while depth > 0:
+        at -= 1
+        if lines[at].startswith(" " * (depth - 2) + "module "):
+            depth -= 2
+            end = next(it for it in range(at, len(lines)) if lines[it].endswith(" where"))
+            found.insert(0, "\n".join(lines[at : end + 1]))
+    return "\n".join(found)
+
+
+def head_and_clauses(call):
+    """The signature of a function, and each of its clauses: its kind, its name and its text."""
+    head, clauses, depth = [], [], 0
+    for line in call.text.split("\n"):
+        clause = CLAUSE.match(line) if depth == 0 else None
+        if clause:
+            clauses.append((clause[1], clause[2], [line]))
+        elif depth > 0:
+            clauses[-1][2].append(line)
+        elif not clauses:
+            head.append(line)
+        depth += line.count("{") - line.count("}")
+    return "\n".join(head), [(kind, name, "\n".join(those).rstrip(";")) for kind, name, those in clauses]
+
+
+def definition_passage(crate, title):
+    """The definition of a title `Module.Name`, if there is one."""
+    module, _, name = title.rpartition(".")
+    for it in crate.definitions.get(module, ()):
+        if it.name == name:
+            lines = crate.modules[module].split("\n")
+            path = f"{crate.folder}/specs/{module.replace('.', '/')}.antt"
+            at = it.line - 1
+            return Passage(title, path, it.line, to_empty_line(lines, at), modules_over(lines, at))
+    return None
+
+
+def call_passage(crate, title, names):
+    """The function of a title with what it asks, and with those clauses of what it says that are named, or all where none
+    is; nothing where one is not there."""
+    for call in crate.calls:
+        if call.title == title:
+            head, clauses = head_and_clauses(call)
+            those = [it for it in clauses if it[0] == "requires" or not names or it[1] in names]
+            text = textwrap.dedent("\n".join([head, *(it[2] for it in those)]))
+            is_whole = {*names} <= {*call.names_of("ensures")}
+            return Passage(title, call.path, call.line, text) if is_whole else None
+    return None
+
+
+def type_passage(crate, title):
+    """The public struct or enum of a name, without the comments in it, if there is one."""
+    for path, source in crate.sources.items():
+        found = re.search(rf"(?ms)^pub (?:struct|enum) {title}\b.*?(?:^\}}|;$)", source)
+        if found:
+            lines = [it for it in found[0].split("\n") if not it.lstrip().startswith("//")]
+            return Passage(title, path, source.count("\n", 0, found.start()) + 1, "\n".join(lines))
+    return None
 
 
 def ghosts_of(text):
