@@ -15,6 +15,14 @@ fn flag<'a>(alloc: Global, name: &'a str, help: &'a str) -> Arg<'a> {
         .help(help)
 }
 
+/// With one option more, unless memory was refused for it.
+fn with<'a>(
+    command: Command<'a>,
+    option: Result<Arg<'a>, AllocError>,
+) -> Result<Command<'a>, AllocError> {
+    command.arg(option?)
+}
+
 /// With the options of whom to ask.
 fn with_servers<'a>(alloc: Global, command: Command<'a>) -> Result<Command<'a>, AllocError> {
     command
@@ -37,192 +45,218 @@ fn with_servers<'a>(alloc: Global, command: Command<'a>) -> Result<Command<'a>, 
         .arg(flag(alloc, "tcp", "Ask over TCP alone"))
 }
 
+/// The option of the form of queries.
+fn edns<'a>(alloc: Global) -> Arg<'a> {
+    value(
+        alloc,
+        "edns",
+        "SIZE",
+        "Queries with EDNS (RFC 6891) for datagrams of up to SIZE octets",
+    )
+    .num_args(0..=1)
+    .require_equals(true)
+    .default_missing_value("1232")
+    .value_parser(value_parser!(u16).range(512..=4_096))
+}
+
 /// With the options of how to ask.
 fn with_asking<'a>(alloc: Global, command: Command<'a>) -> Result<Command<'a>, AllocError> {
-    command
-        .arg(
-            value(alloc, "bind", "ADDRESS", "The local address to ask from")
-                .short('b')
-                .conflicts_with("tcp")?,
-        )?
+    let bind = value(alloc, "bind", "ADDRESS", "The local address to ask from").short('b');
+    with(command, bind.conflicts_with("tcp"))?
         .arg(flag(alloc, "norecurse", "Queries without RD"))?
-        .arg(
-            value(
-                alloc,
-                "edns",
-                "SIZE",
-                "Queries with EDNS (RFC 6891) for datagrams of up to SIZE octets",
-            )
-            .num_args(0..=1)
-            .require_equals(true)
-            .default_missing_value("1232")
-            .value_parser(value_parser!(u16).range(512..=4_096)),
-        )
+        .arg(edns(alloc))
+}
+
+/// The option of the families of addresses.
+fn families<'a>(alloc: Global) -> Arg<'a> {
+    value(
+        alloc,
+        "families",
+        "FAMILIES",
+        "The families of addresses, in their order",
+    )
+    .value_parser(["4", "6", "46", "64"].as_slice())
+    .default_value("46")
+}
+
+/// The option of the transports.
+fn transports<'a>(alloc: Global) -> Arg<'a> {
+    value(
+        alloc,
+        "transports",
+        "LIST",
+        "What can be sent, the preferred one first",
+    )
+    .short('t')
+    .value_delimiter(',')
+    .value_parser(["udp", "tcp", "tls", "sctp"].as_slice())
+    .default_value("udp,tcp,tls,sctp")
 }
 
 /// With the options of what can be sent.
 fn with_sender<'a>(alloc: Global, command: Command<'a>) -> Result<Command<'a>, AllocError> {
-    command
-        .arg(
-            value(
-                alloc,
-                "families",
-                "FAMILIES",
-                "The families of addresses, in their order",
-            )
-            .value_parser(["4", "6", "46", "64"].as_slice())
-            .default_value("46"),
-        )?
-        .arg(
-            value(
-                alloc,
-                "transports",
-                "LIST",
-                "What can be sent, the preferred one first",
-            )
-            .short('t')
-            .value_delimiter(',')
-            .value_parser(["udp", "tcp", "tls", "sctp"].as_slice())
-            .default_value("udp,tcp,tls,sctp"),
-        )
+    command.arg(families(alloc))?.arg(transports(alloc))
+}
+
+/// The option of how long a query is waited for.
+fn timeout<'a>(alloc: Global) -> Arg<'a> {
+    value(
+        alloc,
+        "timeout",
+        "SECONDS",
+        "How long each query is waited for, 1 if not given",
+    )
+    .value_parser(value_parser!(u8).range(1..=60))
+}
+
+/// The option of how often a question is sent.
+fn tries<'a>(alloc: Global) -> Arg<'a> {
+    value(
+        alloc,
+        "tries",
+        "N",
+        "How often each question is sent in all, 3 if not given",
+    )
+    .value_parser(value_parser!(u8).range(1..=15))
+}
+
+/// The option of how long one URI may take.
+fn total<'a>(alloc: Global) -> Arg<'a> {
+    value(
+        alloc,
+        "total",
+        "MS",
+        "How long one URI may take, in milliseconds",
+    )
+    .value_parser(value_parser!(u32).range(1..=600_000))
+    .default_value("10000")
 }
 
 /// With the options of how long and how often, and of the random words.
 fn with_limits<'a>(alloc: Global, command: Command<'a>) -> Result<Command<'a>, AllocError> {
+    let seed = value(alloc, "seed", "HEX", "The key of the random words and ids");
     command
-        .arg(value(
-            alloc,
-            "timeout",
-            "SECONDS",
-            "How long each query is waited for, 1 if not given",
-        )
-        .value_parser(value_parser!(u8).range(1..=60)))?
-        .arg(value(
-            alloc,
-            "tries",
-            "N",
-            "How often each question is sent in all, 3 if not given",
-        )
-        .value_parser(value_parser!(u8).range(1..=15)))?
-        .arg(
-            value(
-                alloc,
-                "total",
-                "MS",
-                "How long one URI may take, in milliseconds",
-            )
-            .value_parser(value_parser!(u32).range(1..=600_000))
-            .default_value("10000"),
-        )?
-        .arg(value(alloc, "seed", "HEX", "The key of the random words and ids"))
+        .arg(timeout(alloc))?
+        .arg(tries(alloc))?
+        .arg(total(alloc))?
+        .arg(seed)
+}
+
+/// An option of a check, with a number.
+fn bound<'a>(
+    alloc: Global,
+    name: &'a str,
+    word: &'a str,
+    help: &'a str,
+) -> Result<Arg<'a>, AllocError> {
+    value(alloc, name, word, help)
+        .value_parser(value_parser!(u32))
+        .requires_arg("check")
+}
+
+/// An option of a check, with the most milliseconds, and a letter.
+fn time_bound<'a>(
+    alloc: Global,
+    name: &'a str,
+    letter: char,
+    help: &'a str,
+) -> Result<Arg<'a>, AllocError> {
+    Ok(bound(alloc, name, "MS", help)?.short(letter))
+}
+
+/// The option of the target that is expected.
+fn expected<'a>(alloc: Global) -> Result<Arg<'a>, AllocError> {
+    value(
+        alloc,
+        "expect",
+        "TARGET",
+        "With --check: CRITICAL where this target is missing, as `udp 192.0.2.1 5060`",
+    )
+    .requires_arg("check")
+}
+
+/// With the bounds of a check.
+fn with_bounds<'a>(alloc: Global, command: Command<'a>) -> Result<Command<'a>, AllocError> {
+    let late = "With --check: WARNING where it takes longer, in milliseconds";
+    let too_late = "With --check: CRITICAL where it takes longer, in milliseconds";
+    let few = "With --check: WARNING where there are fewer targets";
+    let too_few = "With --check: CRITICAL where there are fewer targets";
+    let command = with(command, time_bound(alloc, "warning", 'w', late))?;
+    let command = with(command, time_bound(alloc, "critical", 'c', too_late))?;
+    let command = with(command, bound(alloc, "warning-targets", "N", few))?;
+    with(command, bound(alloc, "critical-targets", "N", too_few))
 }
 
 /// With the options of what a check holds targets to.
 fn with_check<'a>(alloc: Global, command: Command<'a>) -> Result<Command<'a>, AllocError> {
-    command
-        .arg(flag(alloc, "check", "One line for a monitoring system").conflicts_with("json")?)?
-        .arg(
-            value(
-                alloc,
-                "warning",
-                "MS",
-                "With --check: WARNING where it takes longer, in milliseconds",
-            )
-            .short('w')
-            .value_parser(value_parser!(u32))
-            .requires_arg("check")?,
-        )?
-        .arg(
-            value(
-                alloc,
-                "critical",
-                "MS",
-                "With --check: CRITICAL where it takes longer, in milliseconds",
-            )
-            .short('c')
-            .value_parser(value_parser!(u32))
-            .requires_arg("check")?,
-        )?
-        .arg(
-            value(
-                alloc,
-                "warning-targets",
-                "N",
-                "With --check: WARNING where there are fewer targets",
-            )
-            .value_parser(value_parser!(u32))
-            .requires_arg("check")?,
-        )?
-        .arg(
-            value(
-                alloc,
-                "critical-targets",
-                "N",
-                "With --check: CRITICAL where there are fewer targets",
-            )
-            .value_parser(value_parser!(u32))
-            .requires_arg("check")?,
-        )?
-        .arg(value(
-            alloc,
-            "expect",
-            "TARGET",
-            "With --check: CRITICAL where this target is missing, as `udp 192.0.2.1 5060`",
-        )
-        .requires_arg("check")?)
+    let check = flag(alloc, "check", "One line for a monitoring system");
+    let command = with(command, check.conflicts_with("json"))?;
+    with(with_bounds(alloc, command)?, expected(alloc))
+}
+
+/// The option of metrics.
+fn metrics<'a>(alloc: Global) -> Result<Arg<'a>, AllocError> {
+    flag(
+        alloc,
+        "metrics",
+        "Metrics of one URI in the text format of Prometheus",
+    )
+    .conflicts_with("json")?
+    .conflicts_with("check")
+}
+
+/// The option of what goes over the wire.
+fn trace<'a>(alloc: Global) -> Result<Arg<'a>, AllocError> {
+    flag(
+        alloc,
+        "trace",
+        "A line for each query in front of what it led to",
+    )
+    .conflicts_with("json")?
+    .conflicts_with("check")?
+    .conflicts_with("metrics")
 }
 
 /// With the options of what is printed.
 fn with_output<'a>(alloc: Global, command: Command<'a>) -> Result<Command<'a>, AllocError> {
-    command
-        .arg(flag(
-            alloc,
-            "short",
-            "IPv6 addresses in their short form (RFC 5952), as on a terminal",
-        ))?
-        .arg(flag(alloc, "json", "An object of JSON for each URI"))?
-        .arg(
-            flag(
-                alloc,
-                "metrics",
-                "Metrics of one URI in the text format of Prometheus",
-            )
-            .conflicts_with("json")?
-            .conflicts_with("check")?,
-        )?
-        .arg(
-            flag(
-                alloc,
-                "trace",
-                "A line for each query in front of what it led to",
-            )
-            .conflicts_with("json")?
-            .conflicts_with("check")?
-            .conflicts_with("metrics")?,
-        )?
-        .arg(flag(alloc, "stats", "How much was asked, on standard error"))
+    let short = "IPv6 addresses in their short form (RFC 5952), as on a terminal";
+    let command = command
+        .arg(flag(alloc, "short", short))?
+        .arg(flag(alloc, "json", "An object of JSON for each URI"))?;
+    let command = with(command, metrics(alloc))?;
+    let command = with(command, trace(alloc))?;
+    command.arg(flag(alloc, "stats", "How much was asked, on standard error"))
+}
+
+/// The texts.
+fn texts<'a>(alloc: Global) -> Arg<'a> {
+    Arg::new(alloc, "uri")
+        .value_name("URI")
+        .required(true)
+        .num_args(1..)
+        .help("SIP or SIPS URIs, or `Via: ..`; `-` for one on each line of standard input")
+}
+
+/// The command, without options.
+fn bare<'a>(alloc: Global) -> Result<Command<'a>, AllocError> {
+    Ok(
+        Command::new(alloc, "sipwhere")
+            .bin_name("sipwhere")?
+            .version("0.1.0")
+            .about("Where SIP requests are sent (RFC 3263), asked of DNS servers")
+            .after_help(
+                "Exit status: 0 targets for all; 1 no server answered for one; 2 a refusal;\n\
+             3 a bad URI; 4 usage; 5 a fault; the gravest of many",
+            ),
+    )
 }
 
 /// The command line that the program takes.
 pub fn command<'a>(alloc: Global) -> Result<Command<'a>, AllocError> {
-    let command = Command::new(alloc, "sipwhere")
-        .bin_name("sipwhere")?
-        .version("0.1.0")
-        .about("Where SIP requests are sent (RFC 3263), asked of DNS servers")
-        .after_help(
-            "Exit status: 0 targets for all; 1 no server answered for one; 2 a refusal;\n\
-             3 a bad URI; 4 usage; 5 a fault; the gravest of many",
-        );
-    let command = with_servers(alloc, command)?;
+    let command = with_servers(alloc, bare(alloc)?)?;
     let command = with_asking(alloc, command)?;
     let command = with_sender(alloc, command)?;
     let command = with_limits(alloc, command)?;
     let command = with_check(alloc, command)?;
-    with_output(alloc, command)?.arg(
-        Arg::new(alloc, "uri")
-            .value_name("URI")
-            .required(true)
-            .num_args(1..)
-            .help("SIP or SIPS URIs, or `Via: ..`; `-` for one on each line of standard input"),
-    )
+    with_output(alloc, command)?.arg(texts(alloc))
 }
