@@ -27,6 +27,7 @@ none form text took (line_outcome.Became (outcome.BadReply question refusal.Trun
 none form text took (line_outcome.Became (outcome.BadReply question (refusal.ServerFault rcode))) = refl
 none form text took (line_outcome.Became (outcome.BadReply question refusal.Memory)) = refl
 none form text took (line_outcome.Became outcome.Memory) = refl
+none form text took (line_outcome.NoSuchName name) = refl
 none form text took line_outcome.TimeOver = refl
 none form text took (line_outcome.Bad why) = refl
 none form text took line_outcome.NotText = refl

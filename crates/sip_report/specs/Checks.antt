@@ -5,7 +5,7 @@ use Rattle.sip_resolver.specs.declared.outcome.Outcome.{Outcome}
 use Rattle.sip_resolver.specs.declared.outcome.Outcome.TheVariants as outcome
 use Rattle.sip_selection.specs.declared.target.Target.{Target}
 use Rattle.sip_report.specs.Escapes.{shown}
-use Rattle.sip_report.specs.Lines.{lines_of, outcome_lines, target_words}
+use Rattle.sip_report.specs.Lines.{lines_of, outcome_lines, target_words, verbose_lines}
 use Rattle.sip_report.specs.declared.address.AddressForm.{AddressForm}
 use Rattle.sip_report.specs.declared.check_limits.CheckLimits.{CheckLimits}
 use Rattle.sip_report.specs.declared.line_outcome.LineOutcome.{LineOutcome}
@@ -32,6 +32,7 @@ check_status verdict (line_outcome.Became (outcome.NoAnswer question)) = 2
 check_status verdict (line_outcome.Became (outcome.NoServer question)) = 2
 check_status verdict (line_outcome.Became (outcome.BadReply question refusal)) = 2
 check_status verdict (line_outcome.Became outcome.Memory) = 3
+check_status verdict (line_outcome.NoSuchName name) = 2
 check_status verdict line_outcome.TimeOver = 2
 check_status verdict (line_outcome.Bad refusal) = 3
 check_status verdict line_outcome.NotText = 3
@@ -119,6 +120,8 @@ outcome_line form limits took verdict outcome.Memory =
 abbrev pub check_line : AddressForm → CheckLimits → ℕ → Verdict → LineOutcome → List ℕ
 check_line form limits took verdict (line_outcome.Became outcome) =
     outcome_line form limits took verdict outcome
+check_line form limits took verdict (line_outcome.NoSuchName name) =
+    verbose_lines form (codes "SIP CRITICAL - ") (line_outcome.NoSuchName name)
 check_line form limits took verdict line_outcome.TimeOver =
     lines_of form (codes "SIP CRITICAL - ") line_outcome.TimeOver
 check_line form limits took verdict (line_outcome.Bad refusal) =

@@ -84,6 +84,14 @@ with_refused text took word =
     object (member (codes "refused") (string word)
     (member (codes "status") (number (unsigned 2)) (last_members text took)))
 
+-- the object of a text whose request goes nowhere, since a name does not exist
+abbrev pub with_no_name : List ℕ → ℕ → List (List ℕ) → Data
+with_no_name text took name =
+    object (member (codes "name") (string (text_of name))
+    (member (codes "rcode") (number (unsigned 3))
+    (member (codes "refused") (string (codes "NoAddress"))
+    (member (codes "status") (number (unsigned 2)) (last_members text took)))))
+
 -- the object of a text that is no request, with the word for why
 abbrev pub with_bad : List ℕ → ℕ → List ℕ → Data
 with_bad text took word =
@@ -113,6 +121,7 @@ outcome_data form text took outcome.Memory = with_fault text took
 abbrev pub line_outcome_data : AddressForm → List ℕ → ℕ → LineOutcome → Data
 line_outcome_data form text took (line_outcome.Became outcome) =
     outcome_data form text took outcome
+line_outcome_data form text took (line_outcome.NoSuchName name) = with_no_name text took name
 line_outcome_data form text took line_outcome.TimeOver = with_gaveup text took total_data
 line_outcome_data form text took (line_outcome.Bad refusal) =
     with_bad text took (request_word refusal)

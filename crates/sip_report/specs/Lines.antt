@@ -105,11 +105,23 @@ outcome_lines form front outcome.Memory = words_line front (codes "fault ") (cod
 -- the lines of what became of a text
 abbrev pub lines_of : AddressForm → List ℕ → LineOutcome → List ℕ
 lines_of form front (line_outcome.Became outcome) = outcome_lines form front outcome
+lines_of form front (line_outcome.NoSuchName name) =
+    words_line front (codes "refused ") (codes "NoAddress")
 lines_of form front line_outcome.TimeOver = words_line front (codes "gaveup ") (codes "total")
 lines_of form front (line_outcome.Bad refusal) = words_line front (codes "bad ")
     (request_word refusal)
 lines_of form front line_outcome.NotText = words_line front (codes "bad ") (codes "NotText")
 lines_of form front line_outcome.Memory = words_line front (codes "fault ") (codes "memory")
+
+-- the same, with the name that does not exist, and the RCODE that says so (RFC 1035 4.1.1)
+abbrev pub verbose_lines : AddressForm → List ℕ → LineOutcome → List ℕ
+verbose_lines form front (line_outcome.Became outcome) = outcome_lines form front outcome
+verbose_lines form front (line_outcome.NoSuchName name) =
+    words_line front (codes "refused NoAddress rcode 3 ") (text_of name)
+verbose_lines form front line_outcome.TimeOver = lines_of form front line_outcome.TimeOver
+verbose_lines form front (line_outcome.Bad refusal) = lines_of form front (line_outcome.Bad refusal)
+verbose_lines form front line_outcome.NotText = lines_of form front line_outcome.NotText
+verbose_lines form front line_outcome.Memory = lines_of form front line_outcome.Memory
 
 -- ---- the status
 
@@ -131,6 +143,7 @@ status_of (line_outcome.Became (outcome.NoAnswer question)) = 1
 status_of (line_outcome.Became (outcome.NoServer question)) = 1
 status_of (line_outcome.Became (outcome.BadReply question refusal)) = 1
 status_of (line_outcome.Became outcome.Memory) = 5
+status_of (line_outcome.NoSuchName name) = 2
 status_of line_outcome.TimeOver = 1
 status_of (line_outcome.Bad refusal) = 3
 status_of line_outcome.NotText = 3

@@ -5,7 +5,7 @@ use Rattle.dns_transport.specs.declared.wire_try.WireTry.{WireTry}
 use Rattle.sip_report.specs.Escapes.{shown}
 use Rattle.sip_report.specs.Checks.{check_line, check_status}
 use Rattle.sip_report.specs.Jsons.{json_line}
-use Rattle.sip_report.specs.Lines.{lines_of, status_of}
+use Rattle.sip_report.specs.Lines.{lines_of, status_of, verbose_lines}
 use Rattle.sip_report.specs.Metrics.{metrics_of}
 use Rattle.sip_report.specs.Rules.{is_via}
 use Rattle.sip_report.specs.Traces.{try_lines}
@@ -22,10 +22,15 @@ abbrev pub front_of : Bool → List ℕ → List ℕ
 front_of true text = shown text ++ 32 ∷ []
 front_of false text = []
 
+-- the lines of a text: with the name that does not exist, where that is asked for
+abbrev pub lines_in : Bool → AddressForm → List ℕ → LineOutcome → List ℕ
+lines_in true form front line_outcome = verbose_lines form front line_outcome
+lines_in false form front line_outcome = lines_of form front line_outcome
+
 -- what is printed of a text, in a form of report
 abbrev pub report_as : Report → Style → List ℕ → ℕ → Verdict → LineOutcome → List ℕ
 report_as Lines style text took verdict line_outcome =
-    lines_of style.form (front_of style.several text) line_outcome
+    lines_in style.verbose style.form (front_of style.several text) line_outcome
 report_as Json style text took verdict line_outcome = json_line style.form text took line_outcome
 report_as Check style text took verdict line_outcome =
     check_line style.form style.limits took verdict line_outcome

@@ -7,7 +7,7 @@ ghost use Rattle.sip_report.specs.Lines.{target_words};
 use crate::address::AddressForm;
 use crate::check_limits::CheckLimits;
 use crate::line_outcome::LineOutcome;
-use crate::output::{lines_of, outcome_lines, target_words};
+use crate::output::{lines_of, outcome_lines, target_words, verbose_lines};
 use crate::shown_text::shown_text;
 use crate::verdict::{Shortfall, Verdict};
 use sip_resolver::Outcome;
@@ -39,7 +39,7 @@ pub fn check_status(verdict: Verdict, line_outcome: &LineOutcome) -> u8
         LineOutcome::Became(Outcome::Refused(_)) => 2,
         LineOutcome::Became(Outcome::NoAnswer(_)) | LineOutcome::Became(Outcome::NoServer(_)) => 2,
         LineOutcome::Became(Outcome::BadReply(_, _)) => 2,
-        LineOutcome::TimeOver => 2,
+        LineOutcome::NoSuchName(_) | LineOutcome::TimeOver => 2,
         LineOutcome::Became(Outcome::Memory) => 3,
         LineOutcome::Bad(_) | LineOutcome::NotText | LineOutcome::Memory => 3,
     }
@@ -277,6 +277,7 @@ pub fn check_line(
 {
     match line_outcome {
         LineOutcome::Became(outcome) => outcome_line(alloc, form, limits, took, verdict, outcome),
+        LineOutcome::NoSuchName(_) => verbose_lines(alloc, form, "SIP CRITICAL - ", line_outcome),
         LineOutcome::TimeOver => lines_of(alloc, form, "SIP CRITICAL - ", line_outcome),
         LineOutcome::Bad(_) => lines_of(alloc, form, "SIP UNKNOWN - ", line_outcome),
         LineOutcome::NotText => lines_of(alloc, form, "SIP UNKNOWN - ", line_outcome),

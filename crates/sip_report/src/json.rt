@@ -12,6 +12,7 @@ use crate::line_outcome::{
 use crate::output::{kind_word, reason_word, request_word, transport_word};
 use dns_answers::ReplyRefusal;
 use dns_message::Question;
+use dns_name::Name;
 use serde_json::{Value, json};
 use sip_resolver::Outcome;
 use sip_selection::Target;
@@ -20,6 +21,9 @@ use std::alloc::{AllocError, Global};
 /// The number of this format. It changes where a key goes, or means something else; a key that is
 /// added does not change it.
 const FORMAT: u8 = 1;
+
+/// The RCODE of a reply that says that a name does not exist (RFC 1035 4.1.1).
+const NAME_ERROR: u8 = 3;
 
 /// A target.
 fn target_value(alloc: Global, form: AddressForm, target: &Target) -> Result<Value, AllocError>
@@ -110,6 +114,17 @@ fn with_refused(alloc: Global, text: &str, took: u64, word: &str) -> Result<Valu
     })
 }
 
+/// An object of a refusal for a name that does not exist.
+fn with_no_name(alloc: Global, text: &str, took: u64, name: &Name) -> Result<Value, AllocError>
+    ensures { IfOk result (λ value. view value ≡ spec.with_no_name text.now took name.now) }
+{
+    let name = name.text()?;
+    json!(in alloc; {
+        "name": &name, "rcode": NAME_ERROR, "refused": "NoAddress", "status": REFUSED_STATUS,
+        "text": text, "time": took, "v": FORMAT
+    })
+}
+
 /// An object of a text that is no request.
 fn with_bad(alloc: Global, text: &str, took: u64, word: &str) -> Result<Value, AllocError>
     ensures { IfOk result (λ value. view value ≡ spec.with_bad text.now took word.now) }
@@ -175,6 +190,7 @@ fn line_outcome_value(
 {
     match line_outcome {
         LineOutcome::Became(outcome) => outcome_value(alloc, form, text, took, outcome),
+        LineOutcome::NoSuchName(name) => with_no_name(alloc, text, took, name),
         LineOutcome::TimeOver => with_gaveup(alloc, text, took, total_value(alloc)?),
         LineOutcome::Bad(refusal) => with_bad(alloc, text, took, request_word(*refusal)),
         LineOutcome::NotText => with_bad(alloc, text, took, "NotText"),

@@ -2,6 +2,7 @@
 ghost use Rattle.std.specs.Prelude.{◌≡◌, ◌≤◌};
 ghost use Rattle.sip_report.specs.Lines as spec;
 
+use dns_name::Name;
 use sip_resolver::Outcome;
 use sip_uri::UriRefusal;
 
@@ -25,6 +26,9 @@ pub const FAULT_STATUS: u8 = 5;
 pub enum LineOutcome {
     /// The text is a request, and this became of it.
     Became(Outcome),
+    /// The text is a request that goes nowhere, as no server has an address; and the name of its
+    /// host, which is this one, does not exist.
+    NoSuchName(Name),
     /// The text is a request, and its time was over.
     TimeOver,
     /// The text is no request, for this reason.
@@ -70,7 +74,7 @@ pub fn status_of(line_outcome: &LineOutcome) -> u8
         LineOutcome::Became(Outcome::NoServer(_)) => GAVEUP_STATUS,
         LineOutcome::Became(Outcome::BadReply(_, _)) => GAVEUP_STATUS,
         LineOutcome::TimeOver => GAVEUP_STATUS,
-        LineOutcome::Became(Outcome::Refused(_)) => REFUSED_STATUS,
+        LineOutcome::Became(Outcome::Refused(_)) | LineOutcome::NoSuchName(_) => REFUSED_STATUS,
         LineOutcome::Bad(_) | LineOutcome::NotText => BAD_STATUS,
         LineOutcome::Became(Outcome::Memory) | LineOutcome::Memory => FAULT_STATUS,
     }

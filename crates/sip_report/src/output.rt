@@ -1,13 +1,15 @@
 //! What the program prints.
-ghost use Rattle.std.specs.Prelude.{◌≡◌, IfOk};
+ghost use Rattle.std.specs.Prelude.{◌≡◌, IfOk, codes};
 ghost use Rattle.std.specs.List.{flat_map};
 ghost use Rattle.std.specs.String.{string_bytes};
+ghost use Rattle.dns_name.specs.Texts.{text_of};
 ghost use Rattle.sip_report.specs.Lines as spec;
 
 use crate::address::{AddressForm, address_words};
 use crate::line_outcome::LineOutcome;
 use dns_answers::ReplyRefusal;
 use dns_message::{Kind, Question};
+use dns_name::Name;
 use sip_resolver::Outcome;
 use sip_selection::{Reason, Target};
 use sip_uri::{Transport, UriRefusal};
@@ -180,10 +182,40 @@ pub fn lines_of(
 {
     match line_outcome {
         LineOutcome::Became(outcome) => outcome_lines(alloc, form, front, outcome),
+        LineOutcome::NoSuchName(_) => words_line(alloc, front, "refused ", "NoAddress"),
         LineOutcome::TimeOver => words_line(alloc, front, "gaveup ", "total"),
         LineOutcome::Bad(refusal) => words_line(alloc, front, "bad ", request_word(*refusal)),
         LineOutcome::NotText => words_line(alloc, front, "bad ", "NotText"),
         LineOutcome::Memory => words_line(alloc, front, "fault ", "memory"),
+    }
+}
+
+/// The line of a name that does not exist.
+fn no_name_line(alloc: Global, front: &str, name: &Name) -> Result<String, AllocError>
+    ensures { IfOk result (λ line. string_bytes line
+        ≡ spec.words_line front.now (codes "refused NoAddress rcode 3 ") (text_of name.now)) }
+{
+    words_line(alloc, front, "refused NoAddress rcode 3 ", &name.text()?)
+}
+
+/// The lines of what became of a text, each after the same front, with the name that does not
+/// exist.
+pub fn verbose_lines(
+    alloc: Global,
+    form: AddressForm,
+    front: &str,
+    line_outcome: &LineOutcome,
+) -> Result<String, AllocError>
+    ensures { IfOk result (λ lines. string_bytes lines
+        ≡ spec.verbose_lines form front.now line_outcome.now) }
+{
+    match line_outcome {
+        LineOutcome::Became(outcome) => outcome_lines(alloc, form, front, outcome),
+        LineOutcome::NoSuchName(name) => no_name_line(alloc, front, name),
+        LineOutcome::TimeOver => lines_of(alloc, form, front, line_outcome),
+        LineOutcome::Bad(_) => lines_of(alloc, form, front, line_outcome),
+        LineOutcome::NotText => lines_of(alloc, form, front, line_outcome),
+        LineOutcome::Memory => lines_of(alloc, form, front, line_outcome),
     }
 }
 

@@ -9,7 +9,7 @@ use crate::check_line::{check_line, check_status};
 use crate::json::json_line;
 use crate::line_outcome::{LineOutcome, status_of};
 use crate::metrics::metrics_of;
-use crate::output::lines_of;
+use crate::output::{lines_of, verbose_lines};
 use crate::rule::is_via;
 use crate::shown_text::shown_text;
 use crate::trace::trace_lines;
@@ -43,6 +43,8 @@ pub struct Style<'a> {
     pub several: bool,
     /// Whether the lines of what went over the wire come first.
     pub traced: bool,
+    /// Whether a line has the name that does not exist.
+    pub verbose: bool,
 }
 
 /// What stands in front of the lines of a text: the text as it is shown, where there are several.
@@ -55,6 +57,23 @@ fn front_of(alloc: Global, several: bool, text: &str) -> Result<String, AllocErr
         front.push_str(" ")?;
     }
     Ok(front)
+}
+
+/// The lines of what became of a text.
+fn lines_in(
+    alloc: Global,
+    style: Style<'_>,
+    text: &str,
+    line_outcome: &LineOutcome,
+) -> Result<String, AllocError>
+    ensures { IfOk result (λ lines. string_bytes lines ≡ spec.lines_in style.entry.verbose
+        style.entry.form (spec.front_of style.entry.several text.now) line_outcome.now) }
+{
+    let front = front_of(alloc, style.several, text)?;
+    if style.verbose {
+        return verbose_lines(alloc, style.form, &front, line_outcome);
+    }
+    lines_of(alloc, style.form, &front, line_outcome)
 }
 
 /// What is printed of a text, by what became of it after so many milliseconds.
@@ -70,10 +89,7 @@ pub fn report_of(
         string_bytes report ≡ spec.report_of style.entry text.now took verdict line_outcome.now) }
 {
     match style.report {
-        Report::Lines => {
-            let front = front_of(alloc, style.several, text)?;
-            lines_of(alloc, style.form, &front, line_outcome)
-        }
+        Report::Lines => lines_in(alloc, style, text, line_outcome),
         Report::Json => json_line(alloc, style.form, text, took, line_outcome),
         Report::Check => {
             check_line(alloc, style.form, style.limits, took, verdict, line_outcome)

@@ -14,7 +14,7 @@ use Rattle.sip_resolver.specs.declared.outcome.Outcome.TheVariants as outcomes
 use Rattle.sipwhere.specs.LineOutcomes.{IsLineOutcome}
 use Rattle.sipwhere.specs.OpenLines.{IsLineOutcomeOf}
 use Rattle.sip_report.specs.declared.line_outcome.LineOutcome.{LineOutcome}
-use Rattle.sip_report.specs.declared.line_outcome.LineOutcome.TheVariants.{Became, TimeOver, Bad, NotText, Memory}
+use Rattle.sip_report.specs.declared.line_outcome.LineOutcome.TheVariants.{Became, NoSuchName, TimeOver, Bad, NotText, Memory}
 use Rattle.sipwhere.specs.declared.line.Line.{Line}
 use Rattle.sipwhere.specs.declared.sender.Sender.{Sender}
 
@@ -108,6 +108,12 @@ module _ (gives : List ℕ → Type 0) (shows : ℕ → Type 0) where
         is = it.is;
         place = it.place;
         became = (it.became.0, it.became.1, outcome-later it.became.0 outcome it.became.2);
+      }
+      line_outcome-later line (NoSuchName name) it = record {
+        request = it.request;
+        is = it.is;
+        place = it.place;
+        became = (it.became.0, it.became.1, outcome-later it.became.0 without_address it.became.2, it.became.3);
       }
       line_outcome-later line TimeOver it = record { request = it.request; is = it.is; place = it.place; became = tt }
       line_outcome-later line (Bad refusal) it = it

@@ -18,7 +18,7 @@ use Rattle.sipwhere.specs.LineOutcomes.{AreAlike, EndsAs, IsLineOutcome, IsOfLin
 use Rattle.sipwhere.proofs.Later.{zip-set}
 use Rattle.sipwhere.specs.OpenLines.{AreMeant, IsLineOutcomeOf, IsMeant, IsOwn}
 use Rattle.sip_report.specs.declared.line_outcome.LineOutcome.{LineOutcome}
-use Rattle.sip_report.specs.declared.line_outcome.LineOutcome.TheVariants.{Became, TimeOver, Bad, NotText, Memory}
+use Rattle.sip_report.specs.declared.line_outcome.LineOutcome.TheVariants.{Became, NoSuchName, TimeOver, Bad, NotText, Memory}
 use Rattle.sipwhere.specs.declared.line.Line.{Line}
 use Rattle.sipwhere.specs.declared.sender.Sender.{Sender}
 
@@ -137,22 +137,34 @@ module _ (gives : List ℕ → Type 0) (shows : ℕ → Type 0) (seat : SeatView
   pub line_outcome-needless : (line : Line) (line_outcome : LineOutcome) → NeedsNoReply line.text.now line_outcome
       → IsLineOutcome gives shows seat sender line line_outcome
   line_outcome-needless line (Became outcome) it = absurd it
+  line_outcome-needless line (NoSuchName name) it = absurd it
   line_outcome-needless line TimeOver it = record { request = it.request; is = it.is; place = 0; became = tt }
   line_outcome-needless line (Bad refusal) it = it
   line_outcome-needless line NotText it = it
   line_outcome-needless line Memory it = record { request = it.request; is = it.is; place = 0; became = tt }
 
   pub line_outcome-ended : (lines : List Line) (line : Line) (ended : Sought) (outcome : Outcome) (line_outcome : LineOutcome)
-      → line ≡ get_or lines ended.number line → IsMeant sender lines ended → EndsAs line.text.now outcome line_outcome
+      → line ≡ get_or lines ended.number line → IsMeant sender lines ended → EndsAs gives line.text.now outcome line_outcome
       → IsOutcome gives shows seat ended outcome → IsLineOutcome gives shows seat sender line line_outcome
   line_outcome-ended lines line ended outcome (Became it) at meant ends is = record {
-    request = ends.1;
-    is = ends.2.is;
+    request = ends.request;
+    is = ends.only.is;
     place = ended.number;
     became = (
       ended,
-      meant-alike sender lines ended.number line at ends.1 ends.2 ended refl meant,
-      rw ends.0 is,
+      meant-alike sender lines ended.number line at ends.request ends.only ended refl meant,
+      rw ends.ends is,
+    );
+  }
+  line_outcome-ended lines line ended outcome (NoSuchName name) at meant ends is = record {
+    request = ends.request;
+    is = ends.only.is;
+    place = ended.number;
+    became = (
+      ended,
+      meant-alike sender lines ended.number line at ends.request ends.only ended refl meant,
+      subst (IsOutcome gives shows seat ended) ends.ends.0 is,
+      ends.ends.1,
     );
   }
   line_outcome-ended lines line ended outcome TimeOver at meant ends is = absurd ends
@@ -196,6 +208,6 @@ module _ (gives : List ℕ → Type 0) (shows : ℕ → Type 0) (seat : SeatView
       let line = get_or lines place d in
       let at : line ≡ get_or lines place line = at-itself lines place d in
       let here : line ≡ get_or lines ended.number line = subst (λ n. line ≡ get_or lines n line) number at in
-      let so : EndsAs line.text.now outcome line_outcome = subst (λ o. EndsAs line.text.now o line_outcome) same ends in
+      let so : EndsAs gives line.text.now outcome line_outcome = subst (λ o. EndsAs line.text.now o line_outcome) same ends in
       line_outcomes-set lines line_outcomes place line (Some line_outcome) inside at all
       (line_outcome-ended lines line ended outcome line_outcome here meant so is)

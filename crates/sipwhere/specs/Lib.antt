@@ -1,4 +1,5 @@
 pub mod LineInputs
 pub mod OpenLines
+pub mod Denials
 pub mod LineOutcomes
 pub mod Runs

@@ -10,14 +10,29 @@ use Rattle.sip_selection.specs.declared.request.Request.{Request}
 use Rattle.sip_uri.specs.declared.refusal.UriRefusal.{UriRefusal}
 use Rattle.sip_uri.specs.declared.refusal.UriRefusal.TheVariants as uri
 use Rattle.sip_report.specs.declared.line_outcome.LineOutcome.{LineOutcome}
-use Rattle.sip_report.specs.declared.line_outcome.LineOutcome.TheVariants.{Became, TimeOver, Bad, NotText, Memory}
+use Rattle.sip_report.specs.declared.line_outcome.LineOutcome.TheVariants.{Became, NoSuchName, TimeOver, Bad, NotText, Memory}
 use Rattle.sipwhere.specs.declared.line.Line.{Line}
 use Rattle.sipwhere.specs.declared.sender.Sender.{Sender}
 use Rattle.sip_resolver.specs.declared.outcome.Outcome.{Outcome}
+use Rattle.sip_resolver.specs.declared.outcome.Outcome.TheVariants as outcome
+use Rattle.sip_selection.specs.Requests.{target_of}
+use Rattle.sip_selection.specs.declared.reason.Reason.TheVariants as reason
+use Rattle.sip_uri.specs.declared.host.Host.TheVariants as host
+use Rattle.sipwhere.specs.Denials.{IsDenied}
 
 -- no number that is made of a request tells one of two requests from the other
 abbrev pub AreAlike : Sought → Sought → Type 0
 AreAlike sought other = (measure : Sought → ℕ) → measure sought ≡ measure other
+
+-- the outcome of a request that goes nowhere, as no server has an address
+abbrev pub without_address : Outcome
+without_address = outcome.Refused reason.NoAddress
+
+-- the host of a request is a name of which a reply said that it does not exist
+pub record IsMissing (gives : List ℕ → Type 0) (request : Request) (name : List (List ℕ)) : Type 0
+  where
+    pub host : target_of request ≡ host.Domain name
+    pub denied : IsDenied gives name
 
 -- What may become of a request, at a seat: it is the choice of RFC 3263 4 and 5 over answers that
 -- count, or the question whose answer is missing, as the resolver core says it. Nothing is said of
@@ -25,6 +40,9 @@ AreAlike sought other = (measure : Sought → ℕ) → measure sought ≡ measur
 abbrev pub MayBecome : (List ℕ → Type 0) → (ℕ → Type 0) → SeatView → Sought → LineOutcome → Type 0
 MayBecome gives shows seat asked (Became outcome) =
     (sought : Sought) × AreAlike sought asked × IsOutcome gives shows seat sought outcome
+MayBecome gives shows seat asked (NoSuchName name) =
+    (sought : Sought) × AreAlike sought asked × IsOutcome gives shows seat sought without_address
+    × IsMissing gives asked.request name
 MayBecome gives shows seat asked TimeOver = Unit {0}
 MayBecome gives shows seat asked (Bad refusal) = ⊥
 MayBecome gives shows seat asked NotText = ⊥
@@ -80,6 +98,7 @@ pub record IsRequest (text : List ℕ) : Type 0 where
 -- what became of a text of which no request was made: it is none, or memory was refused for it
 abbrev pub IsUnread : List ℕ → LineOutcome → Type 0
 IsUnread text (Became outcome) = ⊥
+IsUnread text (NoSuchName name) = ⊥
 IsUnread text TimeOver = ⊥
 IsUnread text (Bad refusal) = IsNoRequest text refusal
 IsUnread text NotText = IsNotText text
@@ -88,6 +107,7 @@ IsUnread text Memory = IsRequest text
 -- what became of a text without a reply: it is no request, its time was over, or memory was refused
 abbrev pub NeedsNoReply : List ℕ → LineOutcome → Type 0
 NeedsNoReply text (Became outcome) = ⊥
+NeedsNoReply text (NoSuchName name) = ⊥
 NeedsNoReply text TimeOver = IsRequest text
 NeedsNoReply text (Bad refusal) = IsNoRequest text refusal
 NeedsNoReply text NotText = IsNotText text
@@ -98,10 +118,29 @@ pub record IsOnly (text : List ℕ) (request : Request) : Type 0 where
   pub is : RequestText text request
   pub only : (other : Request) → RequestText text other → request ≡ other
 
+-- what becomes of a request by its outcome: where no server has an address, its host's name may be
+-- one that does not exist
+abbrev pub EndsSo : (List ℕ → Type 0) → Request → Outcome → LineOutcome → Type 0
+EndsSo gives request outcome (Became it) = it ≡ outcome
+EndsSo gives request outcome (NoSuchName name) =
+    (outcome ≡ without_address) × IsMissing gives request name
+EndsSo gives request outcome TimeOver = ⊥
+EndsSo gives request outcome (Bad refusal) = ⊥
+EndsSo gives request outcome NotText = ⊥
+EndsSo gives request outcome Memory = ⊥
+
+-- a text is a request that ended so
+pub record IsEnded (gives : List ℕ → Type 0) (text : List ℕ) (outcome : Outcome)
+    (line_outcome : LineOutcome) : Type 0 where
+  pub request : Request
+  pub only : IsOnly text request
+  pub ends : EndsSo gives request outcome line_outcome
+
 -- the request of a text ended so; or the text is no request, or memory was refused for it
-abbrev pub EndsAs : List ℕ → Outcome → LineOutcome → Type 0
-EndsAs text outcome (Became it) = (it ≡ outcome) × (request : Request) × IsOnly text request
-EndsAs text outcome TimeOver = ⊥
-EndsAs text outcome (Bad refusal) = IsNoRequest text refusal
-EndsAs text outcome NotText = IsNotText text
-EndsAs text outcome Memory = IsRequest text
+abbrev pub EndsAs : (List ℕ → Type 0) → List ℕ → Outcome → LineOutcome → Type 0
+EndsAs gives text outcome (Became it) = IsEnded gives text outcome (Became it)
+EndsAs gives text outcome (NoSuchName name) = IsEnded gives text outcome (NoSuchName name)
+EndsAs gives text outcome TimeOver = ⊥
+EndsAs gives text outcome (Bad refusal) = IsNoRequest text refusal
+EndsAs gives text outcome NotText = IsNotText text
+EndsAs gives text outcome Memory = IsRequest text

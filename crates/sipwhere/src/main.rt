@@ -7,6 +7,7 @@ ghost use Rattle.sip_report.specs.declared.report.Report.TheVariants.{Check};
 mod counting_book;
 mod line;
 mod line_input;
+mod noting_wire;
 mod open_lines;
 mod progress;
 mod run;

@@ -8,6 +8,7 @@ ghost use Rattle.sipwhere.specs.OpenLines.{HasTold, IsMeant, Stands, TellsFirst}
 ghost use Rattle.sipwhere.specs.Runs.{IsGravest, StaysSo};
 
 use crate::line::Line;
+use crate::noting_wire::NameNotes;
 use crate::sender::Sender;
 use crate::submitted_lines::{line_outcome_in_vain, line_outcome_of, submit};
 use crate::tell::{NOTHING_TOLD, Told, tell};
@@ -214,24 +215,6 @@ impl<'a, B: AnswerBook + Drop, W: MessageWire, C: Clock> OpenLines<'a, B, W, C> 
         }
     }
 
-    /// Takes what became of a request, unless the time of its line was over.
-    fn settle(&mut self, ended: Resolved<B>)
-        requires inside { ended.sought.number < length self.old.lines }
-        requires own { IsMeant self.old.sender self.old.lines ended.sought }
-        ensures same { (self.new.told ≡ self.old.told) × (self.new.lines ≡ self.old.lines)
-            × (self.new.sender ≡ self.old.sender) }
-        ensures stands { (seat : SeatView) → Stands W.gives C.shows seat self.old
-            → IsOutcome W.gives C.shows seat ended.sought ended.outcome
-            → Stands W.gives C.shows seat self.new }
-    {
-        let place = ended.number() as usize;
-        if self.line_outcomes[place].is_some() {
-            return;
-        }
-        let text = self.lines[place].text;
-        self.line_outcomes[place] = Some(line_outcome_of(self.alloc, text, ended.into_outcome()));
-    }
-
     /// Gives the line at a place up, whose time is over: its request is cancelled, and so has no
     /// room any more. Nothing is waited for at the wire that nobody else waits for.
     fn give_up(&mut self, wire: &mut W, place: usize)
@@ -289,7 +272,30 @@ impl<'a, B: AnswerBook + Drop, W: MessageWire, C: Clock> OpenLines<'a, B, W, C> 
     }
 }
 
-impl<'a, B: AnswerBook + Drop, W: MessageWire, C: Clock + Timer> OpenLines<'a, B, W, C> {
+impl<'a, B: AnswerBook + Drop, W: NameNotes, C: Clock + Timer> OpenLines<'a, B, W, C> {
+    /// Takes what became of a request, unless the time of its line was over.
+    fn settle(&mut self, wire: &W, ended: Resolved<B>)
+        requires inside { ended.sought.number < length self.old.lines }
+        requires own { IsMeant self.old.sender self.old.lines ended.sought }
+        ensures same { (self.new.told ≡ self.old.told) × (self.new.lines ≡ self.old.lines)
+            × (self.new.sender ≡ self.old.sender) }
+        ensures stands { (seat : SeatView) → Stands W.gives C.shows seat self.old
+            → IsOutcome W.gives C.shows seat ended.sought ended.outcome
+            → Stands W.gives C.shows seat self.new }
+    {
+        let place = ended.number() as usize;
+        if self.line_outcomes[place].is_some() {
+            return;
+        }
+        let text = self.lines[place].text;
+        self.line_outcomes[place] = Some(line_outcome_of(
+            self.alloc,
+            wire,
+            text,
+            ended.into_outcome(),
+        ));
+    }
+
     /// Goes on with the requests inside, until one comes out or something came over the wire.
     pub fn advance<R: Wait>(
         &mut self,
@@ -309,7 +315,7 @@ impl<'a, B: AnswerBook + Drop, W: MessageWire, C: Clock + Timer> OpenLines<'a, B
     {
         if let Some(ended) = poll_over(rt, &mut self.resolver, book, seat, wire, clock) {
             let place = ended.number() as usize;
-            self.settle(ended);
+            self.settle(wire, ended);
             self.note_time(place, clock.elapsed());
         }
     }

@@ -8,13 +8,14 @@ ghost use Rattle.sipwhere.specs.Runs.{AreRun, IsRun, IsRunBy, IsRunOf, StaysSo, 
 use crate::counting_book::CountingBook;
 use crate::line::{Line, lines_of, numbered};
 use crate::line_input::LineInput;
+use crate::noting_wire::{NameNotes, NotingWire};
 use crate::open_lines::OpenLines;
 use crate::progress::Progress;
 use crate::sender::Sender;
 use crate::stats::tell_stats;
 use crate::tell::{FAULT_TOLD, NOTHING_TOLD, Told};
 use answer_cache::{AnswerBook, ListCache};
-use dns_asker::{Clock, MessageWire};
+use dns_asker::Clock;
 use dns_transport::{RunClock, Timer, Tracer, WireOptions, open_wire};
 use sip_report::Style;
 use sip_resolver::random_key;
@@ -32,7 +33,7 @@ use std::time::{self, Duration};
 fn locate_side_by_side<
     R: Wait + Eprint,
     B: AnswerBook + Drop,
-    W: MessageWire + Tracer,
+    W: NameNotes + Tracer,
     C: Clock + Timer,
     O: Write,
 >(
@@ -82,7 +83,7 @@ fn locate_side_by_side<
 fn locate_in_turn<
     R: Wait + Eprint,
     B: AnswerBook + Drop,
-    W: MessageWire + Tracer,
+    W: NameNotes + Tracer,
     C: Clock + Timer,
     O: Write,
 >(
@@ -123,7 +124,7 @@ fn locate_in_turn<
 pub fn locate_lines<
     R: Wait + Eprint,
     B: AnswerBook + Drop,
-    W: MessageWire + Tracer,
+    W: NameNotes + Tracer,
     C: Clock + Timer,
     O: Write,
 >(
@@ -161,7 +162,7 @@ pub fn locate_lines<
 fn locate_input<
     R: Wait + Eprint,
     B: AnswerBook + Drop,
-    W: MessageWire + Tracer,
+    W: NameNotes + Tracer,
     C: Clock + Timer,
     I: Read + Drop,
     O: Write,
@@ -257,7 +258,7 @@ fn wire_options(options: &Options<'_>, plan: &Plan) -> WireOptions
 fn locate_texts<
     R: Wait + Eprint,
     B: AnswerBook + Drop,
-    W: MessageWire + Tracer,
+    W: NameNotes + Tracer,
     C: Clock + Timer,
     O: Write,
 >(
@@ -311,7 +312,7 @@ fn is_from_input(texts: &[&str]) -> bool
 fn locate_all<
     R: Wait + Eprint,
     B: AnswerBook + Drop,
-    W: MessageWire + Tracer,
+    W: NameNotes + Tracer,
     C: Clock + Timer,
     I: Read + Drop,
     O: Write,
@@ -360,7 +361,8 @@ fn run_over<R: Wait + Input + Print + Eprint + Net + time::Clock>(
     let sender = sender_of(options, plan, key);
     let servers = plan.servers.as_slice();
     let asks = wire_options(options, plan);
-    let mut wire = open_wire(rt, alloc, servers, options.local, asks, key)?;
+    let wire = open_wire(rt, alloc, servers, options.local, asks, key)?;
+    let mut wire = NotingWire::new(alloc, wire);
     let clock = RunClock::start(rt)?;
     let (book, seat) = ListCache::new(alloc);
     let (book, mut seat) = CountingBook::new(book, seat);
@@ -380,7 +382,7 @@ fn run_over<R: Wait + Input + Print + Eprint + Net + time::Clock>(
     );
     progress.wipe(rt);
     if options.stats {
-        tell_stats(rt, wire.counts(), seat.found(), clock.elapsed());
+        tell_stats(rt, wire.wire().counts(), seat.found(), clock.elapsed());
     }
     Ok(told.status)
 }

@@ -5,15 +5,17 @@ ghost use Rattle.answer_cache.specs.Seats.{SeatView};
 ghost use Rattle.sip_resolver.specs.Outcomes.{Sought};
 ghost use Rattle.sip_resolver.specs.Requests.{Stand, weight};
 ghost use Rattle.sipwhere.specs.LineOutcomes as spec;
-ghost use Rattle.sipwhere.specs.LineOutcomes.{EndsAs, IsOfLine, NeedsNoReply};
+ghost use Rattle.sipwhere.specs.LineOutcomes.{EndsAs, EndsSo, IsMissing, IsOfLine, NeedsNoReply, without_address};
 
 use crate::line::Line;
+use crate::noting_wire::NameNotes;
 use crate::sender::Sender;
 use answer_cache::AnswerBook;
+use dns_name::Name;
 use sip_report::LineOutcome;
 use sip_resolver::{Ids, Origin, Outcome, Resolver, draw_words};
-use sip_selection::{Request, read_request};
-use sip_uri::UriRefusal;
+use sip_selection::{Reason, Request, read_request};
+use sip_uri::{Host, UriRefusal};
 use std::alloc::Global;
 
 /// Whether a text has the character that stands for octets that are no UTF-8.
@@ -68,13 +70,49 @@ pub fn submit<B: AnswerBook, F: Origin, I: Ids + Drop>(
     }
 }
 
+/// The name of the host of a request, where the wire knows that it does not exist. `None` also where
+/// memory is refused.
+fn denied_host<W: NameNotes>(wire: &W, request: &Request) -> Option<Name>
+    ensures { IfSome result (IsMissing W.gives request.now) }
+{
+    match request.target() {
+        Host::Domain(name) if wire.is_denied(name) => name.try_clone().ok(),
+        _ => None,
+    }
+}
+
+/// What became of a text whose request has no address.
+fn without_address<W: NameNotes>(wire: &W, request: &Request) -> LineOutcome
+    ensures { EndsSo W.gives request.now without_address result }
+{
+    match denied_host(wire, request) {
+        Some(name) => LineOutcome::NoSuchName(name),
+        None => LineOutcome::Became(Outcome::Refused(Reason::NoAddress)),
+    }
+}
+
+/// What became of a text, by the outcome of its request.
+fn became<W: NameNotes>(wire: &W, request: &Request, outcome: Outcome) -> LineOutcome
+    ensures { EndsSo W.gives request.now outcome result }
+{
+    match outcome {
+        Outcome::Refused(Reason::NoAddress) => without_address(wire, request),
+        outcome => LineOutcome::Became(outcome),
+    }
+}
+
 /// What became of a text, by the outcome of its request. The text is read again, since the request
 /// is not kept.
-pub fn line_outcome_of(alloc: Global, text: &str, outcome: Outcome) -> LineOutcome
-    ensures { EndsAs text.now outcome result }
+pub fn line_outcome_of<W: NameNotes>(
+    alloc: Global,
+    wire: &W,
+    text: &str,
+    outcome: Outcome,
+) -> LineOutcome
+    ensures { EndsAs W.gives text.now outcome result }
 {
     match request_of(alloc, text) {
-        Ok(_) => LineOutcome::Became(outcome),
+        Ok(request) => became(wire, &request, outcome),
         Err(line_outcome) => line_outcome,
     }
 }

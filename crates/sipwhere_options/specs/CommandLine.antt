@@ -196,6 +196,7 @@ pub record AreOptions (matches : ArgMatches) (terminals : Terminals) (options : 
     pub short_given : IsFlag matches (codes "short") short
     pub form : options.form ≡ form_for short options.report terminals
     pub traced : IsFlag matches (codes "trace") options.traced
+    pub verbose : IsFlag matches (codes "verbose") options.verbose
     pub stats : IsFlag matches (codes "stats") options.stats
     pub progress : options.shows_progress ≡ shows_progress terminals
     pub texts : map (λ text. text.now) options.texts.items ≡ words_of matches (codes "uri")
@@ -207,6 +208,7 @@ pub record IsStyle (options : Options) (several : Bool) (style : Style) : Type 0
   pub form : style.form ≡ options.form
   pub front : style.several ≡ several
   pub traced : style.traced ≡ options.traced
+  pub verbose : style.verbose ≡ options.verbose
 
 -- why the words say no options
 abbrev pub IsFault : ArgMatches → OptionFault → Type 0

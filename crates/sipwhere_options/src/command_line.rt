@@ -225,7 +225,12 @@ fn with_output<'a>(alloc: Global, command: Command<'a>) -> Result<Command<'a>, A
         .arg(flag(alloc, "json", "An object of JSON for each URI"))?;
     let command = with(command, metrics(alloc))?;
     let command = with(command, trace(alloc))?;
-    command.arg(flag(alloc, "stats", "How much was asked, on standard error"))
+    let verbose = "Of a URI without an address also the name that does not exist";
+    command.arg(flag(alloc, "verbose", verbose).short('v'))?.arg(flag(
+        alloc,
+        "stats",
+        "How much was asked, on standard error",
+    ))
 }
 
 /// The texts.

@@ -59,6 +59,8 @@ pub struct Options<'a> {
     pub form: AddressForm,
     /// Whether the program prints each query that went out.
     pub traced: bool,
+    /// Whether a line has the name that does not exist.
+    pub verbose: bool,
     /// Whether the program reports at the end how much was asked.
     pub stats: bool,
     /// Whether the program reports how many texts are done.
@@ -127,6 +129,7 @@ impl<'a> Options<'a> {
             form: self.form,
             several,
             traced: self.traced,
+            verbose: self.verbose,
         }
     }
 }
@@ -432,6 +435,7 @@ pub fn read_options<'a>(
         limits: limits_of(matches),
         form: form_for(is_set(matches, "short"), report, terminals),
         traced: is_set(matches, "trace"),
+        verbose: is_set(matches, "verbose"),
         stats: is_set(matches, "stats"),
         shows_progress: shows_progress(terminals),
         texts: texts_in(alloc, matches)?,
