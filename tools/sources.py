@@ -1,5 +1,5 @@
-"""What the sources of the crates say, for `tools/make-docs` and `tools/check-docs`: public calls with the names of their
-clauses, definitions of specs/ with the comments over them, and the texts of both."""
+"""What the sources of the crates say, for `tools/make-docs` and `tools/check-docs`: public calls with their clauses,
+definitions of specs/ with the comments over them, and the texts of both."""
 import functools
 import glob
 import os
@@ -217,7 +217,7 @@ class Crate:
                 for key in named_in(call.text, imported(self.sources[call.path])):
                     yield key, call.title, False
         for text in self.sources.values():
-            for title, item, body in ghosts_of(text):
+            for title, item, body, _ in ghosts_of(text):
                 if title in self.exported and item not in UNSEEN:
                     for key in named_in(body, imported(text)):
                         yield key, title, item == "invariant"
@@ -299,11 +299,30 @@ def type_passage(crate, title):
 
 
 def ghosts_of(text):
-    """The ghost items of traits, and of impls: the trait or the type, the item and its text."""
+    """The ghost items of traits, and of impls: the trait or the type, the item, what it is, and its whole text."""
     for block in re.finditer(r"(?ms)^(?:impl|(?:pub )?trait)\b[^\n]*\{\n(.*?)^\}", text):
         _, owner, _ = owner_of(block[0].split("\n")[0])
         for item in re.finditer(r"(?ms)^    ghost (\w+)(?: =|:) (\{.*?\});$", block[1]):
-            yield owner, item[1], item[2]
+            yield owner, item[1], item[2], textwrap.dedent(item[0])
+
+
+def in_order(crate):
+    """The modules of a crate's specs/, each behind those that it uses."""
+    found = []
+
+    def visit(module):
+        if module in found or module in open_ones:
+            return
+        open_ones.append(module)
+        for other, used, _ in sorted(set(imported(crate.modules[module]).values()), key=str):
+            if other == crate.name and used in crate.modules:
+                visit(used)
+        found.append(module)
+
+    open_ones = []
+    for module in sorted(crate.modules):
+        visit(module)
+    return [it for it in found if crate.definitions[it]]
 
 
 def all_crates():
@@ -314,14 +333,14 @@ def all_crates():
 
 def closure(crates, others):
     """The definitions that contracts cite, of the public calls of these crates and of the others that are named for each,
-    and those that these rest on (but not those that what a type keeps rests on): all definitions, what cites each, and
-    through which one the rest are cited."""
+    and those that these rest on (but not those that what a type keeps rests on): all definitions; by its key what cites
+    each one, with its crate; and which of these definitions name it."""
     known = {it.key: it for crate in crates.values() for those in crate.definitions.values() for it in those}
     by, through, following = {}, {}, []
     for name, those in others.items():
         for key, title, is_kept in crates[name].cited(those):
             if key in known:
-                by.setdefault(key, []).append(title)
+                by.setdefault(key, []).append((name, title))
                 following += [] if is_kept else [key]
     followed = set()
     while following:
@@ -332,8 +351,7 @@ def closure(crates, others):
         for other in rests_on(crates, known[key]):
             if other in known:
                 following.append(other)
-                if other not in by:
-                    through.setdefault(other, known[key])
+                through.setdefault(other, []).append(known[key])
     return known, by, through
 
 
