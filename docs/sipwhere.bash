@@ -10,7 +10,7 @@ _sipwhere() {
         *)
             mapfile -t COMPREPLY < <(compgen -W '--server --resolver-file --tcp --bind --norecurse --edns --families
                 --transports --timeout --tries --total --seed --short --json --check --warning --critical
-                --warning-targets --critical-targets --expect --metrics --trace --stats --help --version' -- "$word")
+                --warning-targets --critical-targets --expect --metrics --trace --verbose --stats --help --version' -- "$word")
             ;;
     esac
 }

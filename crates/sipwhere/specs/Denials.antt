@@ -4,12 +4,14 @@ use Rattle.dns_message.specs.Messages.{Begins}
 use Rattle.dns_message.specs.declared.message.Message.{Message}
 use Rattle.dns_message.specs.declared.question.Asked.{Asked}
 
--- a message says that a name does not exist: the question is of that name, and the RCODE is 3
+-- A message says that a name does not exist: the question is of that name, the RCODE is 3, and no
+-- CNAME record leads to another name, of which the RCODE would speak (RFC 6604 3).
 pub record Denies (it : Message) (name : List (List ℕ)) : Type 0 where
   pub rcode : it.header.rcode ≡ 3
   pub asked : Asked
   pub only : it.questions ≡ asked ∷ []
   pub same : asked.name ≡ name
+  pub no_chain : it.answers ≡ []
 
 -- octets begin with a message that says so
 pub record IsDenial (octets : List ℕ) (name : List (List ℕ)) : Type 0 where

@@ -38,8 +38,8 @@ fn denied_in(message: &Message) -> Option<Name>
     if message.header.rcode != NAME_ERROR {
         return None;
     }
-    match message.questions.as_slice() {
-        [asked] => asked.name.try_clone().ok(),
+    match (message.questions.as_slice(), message.answers.as_slice()) {
+        ([asked], []) => asked.name.try_clone().ok(),
         _ => None,
     }
 }
