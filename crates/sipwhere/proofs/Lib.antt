@@ -1,3 +1,4 @@
+mod Denied
 mod Later
 mod Meant
 mod Results

@@ -1,5 +1,5 @@
 //! A wire that notes which names do not exist.
-ghost use Rattle.std.specs.Prelude.{◌≡◌, ℕ, IfSome, IsTrue, List};
+ghost use Rattle.std.specs.Prelude.{◌≡◌, ◌⊎◌, ◌++◌, ◌∷◌, [], IfSome, IsTrue, set};
 ghost use Rattle.std.specs.List.{Contains};
 ghost use Rattle.sipwhere.specs.Denials.{Denies, IsDenial, IsDenied};
 
@@ -57,11 +57,33 @@ fn denied_by(alloc: Global, octets: &[u8]) -> Option<Name>
     }
 }
 
+/// Adds a name, unless memory is refused.
+fn add(names: &mut Vec<Name>, name: Name)
+    ensures { (names.new.items ≡ names.old.items)
+        ⊎ (names.new.items ≡ names.old.items ++ name ∷ []) }
+{
+    let _ = names.push(name);
+}
+
+/// Puts a name in the place of the one that stands there, if one does.
+fn replace(names: &mut Vec<Name>, at: usize, name: Name)
+    ensures { names.new.items ≡ set names.old.items at name }
+{
+    if at < names.len() {
+        names[at] = name;
+    }
+}
+
 /// Whether a name is one of these.
 fn is_among(names: &[Name], name: &Name) -> bool
     ensures { IsTrue result → Contains names.now name.now }
 {
-    names.contains(name)
+    for one in names {
+        if one.eq(name) {
+            return true;
+        }
+    }
+    false
 }
 
 /// A wire that notes the names that its replies say do not exist.
@@ -107,13 +129,11 @@ impl<W: MessageWire> NotingWire<W> {
         requires { IsDenied W.gives name }
     {
         if self.denied.len() < NAME_LIMIT {
-            let _ = self.denied.push(name);
-            return;
+            add(&mut self.denied, name);
+        } else {
+            replace(&mut self.denied, self.next, name);
+            self.next = self.next.wrapping_add(1) % NAME_LIMIT;
         }
-        if let Some(place) = self.denied.get_mut(self.next) {
-            *place = name;
-        }
-        self.next = self.next.wrapping_add(1) % NAME_LIMIT;
     }
 
     /// Notes the name of which a reply says that it does not exist, if it does.
