@@ -1,0 +1,13 @@
+mod Repeats
+mod Octets
+mod HeaderPieces
+mod HeaderLists
+mod WordTexts
+mod StatusTexts
+mod NumberTexts
+mod ViaPieces
+mod ViaParams
+mod TokenTexts
+mod RequestTexts
+mod ReplyTexts
+mod FrameTexts

@@ -1,0 +1,54 @@
+//! An OPTIONS request of SIP that asks whether a server is there, and which octets are its reply.
+//!
+//! `OptionsRequest::octets` writes the request, and `OptionsRequest::reply_status` gives the status
+//! of a message exactly where it is a reply to it (RFC 3261 8.1.3.3, 17.1.3, 18.3). Of a stream
+//! `behind_empty_lines` and `frame` say where a message ends. Nothing here sends or receives, and
+//! memory is taken for the octets of the request alone.
+//!
+//! ```
+//! let request = OptionsRequest {
+//!     transport: Transport::Udp,
+//!     address: Address::V4([192, 0, 2, 1]),
+//!     port: 5070,
+//!     uri: "sip:b.example",
+//!     branch: 1,
+//!     from_tag: 2,
+//!     call_id: 3,
+//!     max_forwards: 70,
+//! };
+//! let octets = request.octets(alloc)?;
+//! let status = request.reply_status(b"SIP/2.0 200 OK\r\n\r\n");
+//! assert_eq!(rt; status, None);
+//! ```
+//!
+//! # Messages
+//!
+//! - A line ends with CR and LF. Neither stands anywhere else in a head, and a line that begins
+//!   with a space or a tab continues the header before it (RFC 3261 7.3.1).
+//! - A head in which a line is no header, as one without a colon, is none.
+//! - Names of headers and parameters are read in letters of any case, those of headers also in
+//!   their short forms, and so is the branch, as every token. A Call-ID counts as it stands.
+//! - Of several headers or values of Via the first counts. Several of Call-ID, CSeq or
+//!   Content-Length are refused.
+//! - Of a Via the branch alone counts: `SIP/2.0`, the transport and the host are not read.
+#![tactic(auto)]
+
+mod class;
+mod field;
+mod frames;
+mod header;
+mod lines;
+mod numbers;
+mod pieces;
+mod reply;
+mod request;
+mod tokens;
+mod transport;
+mod values;
+mod via;
+mod words;
+
+pub use frames::{FrameRefusal, behind_empty_lines, frame};
+pub use ip_text::Address;
+pub use request::OptionsRequest;
+pub use transport::Transport;
