@@ -25,29 +25,34 @@ abbrev pub PartEnds : List ℕ → Type 0
 PartEnds [] = ⊤
 PartEnds (octet ∷ text) = IsTrue (is_mark octet)
 
--- a text is the parameter `branch` with a value, in letters of any case and with white space
--- around each
-pub record IsBranch (branch text : List ℕ) : Type 0 where
-  pub first : List ℕ
+-- a text is a parameter named `branch`, in letters of any case, and what follows its `=`
+pub record IsNamedBranch (text value : List ℕ) : Type 0 where
+  pub front : List ℕ
   pub name : List ℕ
-  pub second : List ℕ
-  pub third : List ℕ
-  pub value : List ℕ
-  pub last : List ℕ
-  pub joined : text
-      ≡ first ++ (name ++ (second ++ 61 ∷ (third ++ (value ++ last))))
+  pub back : List ℕ
+  pub joined : text ≡ front ++ (name ++ (back ++ 61 ∷ value))
   pub is_name : IsWord (codes "branch") name
-  pub is_value : IsWord branch value
-  pub first_white : IsWhite first
-  pub second_white : IsWhite second
-  pub third_white : IsWhite third
-  pub last_white : IsWhite last
+  pub front_white : IsWhite front
+  pub back_white : IsWhite back
 
--- a text begins with parameters, each with `;` in front, one of which is this branch
+-- a text is a branch, in letters of any case, with white space around it
+pub record IsBranchValue (branch text : List ℕ) : Type 0 where
+  pub front : List ℕ
+  pub value : List ℕ
+  pub back : List ℕ
+  pub joined : text ≡ front ++ (value ++ back)
+  pub is_value : IsWord branch value
+  pub front_white : IsWhite front
+  pub back_white : IsWhite back
+
+-- a text begins with parameters, each with `;` in front, of which the first that is named `branch`
+-- has this value
 pub data HasBranch (branch : List ℕ) : List ℕ → Type 0 where
-  here : (text param rest : List ℕ) → IsBranch branch param → IsPart param → PartEnds rest
-      → text ≡ 59 ∷ param ++ rest → HasBranch branch text
-  later : (text param rest : List ℕ) → IsPart param → HasBranch branch rest
+  here : (text param rest value : List ℕ) → IsPart param → PartEnds rest
+      → IsNamedBranch param value → IsBranchValue branch value → text ≡ 59 ∷ param ++ rest
+      → HasBranch branch text
+  later : (text param rest : List ℕ) → IsPart param
+      → ((value : List ℕ) → IsNamedBranch param value → ⊥) → HasBranch branch rest
       → text ≡ 59 ∷ param ++ rest → HasBranch branch text
 
 -- the first Via of a value has this branch

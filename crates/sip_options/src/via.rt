@@ -1,10 +1,10 @@
 //! The branch of the first Via in a value (RFC 3261 17.1.3, 20.42, 25.1).
 ghost use Rattle.std.specs.Prelude.{◌≡◌, ◌↔◌, ◌++◌, ℕ, List, IsTrue, IfSome, IfNone};
-ghost use Rattle.sip_options.specs.Readers.Vias.{ends_part, BeginsPart, BeginsParam, BeginsBranch};
+ghost use Rattle.sip_options.specs.Readers.Vias.{ends_part, BeginsPart, BeginsParam};
 ghost use Rattle.sip_options.specs.Readers.Words.{BeginsWhiteWord};
 ghost use Rattle.sip_options.specs.Readers.Pieces.{quoted_piece, plain_piece, IsQuotedLength};
 ghost use Rattle.sip_options.specs.Texts.{Ends, IsOctet, IsWord, is_white as is_white_octet};
-ghost use Rattle.sip_options.specs.Vias.{IsBranch, HasBranch, FirstHasBranch, is_mark as is_mark_octet};
+ghost use Rattle.sip_options.specs.Vias.{IsNamedBranch, IsBranchValue, HasBranch, FirstHasBranch, is_mark as is_mark_octet};
 
 use crate::class::Class;
 use crate::pieces::{Piece, cut};
@@ -115,23 +115,20 @@ fn behind_white_word<'a>(text: &'a [u8], word: &[u8]) -> Option<&'a [u8]>
 
 /// What follows the `=` of the parameter `branch` in front.
 fn branch_value(text: &[u8]) -> Option<&[u8]>
-    ensures found { IfSome result (λ value. BeginsBranch text.now value.now) }
-    ensures none { IfNone result ((value : List ℕ) → BeginsBranch text.now value → ⊥) }
+    ensures found { IfSome result (λ value. IsNamedBranch text.now value.now) }
+    ensures none { IfNone result ((value : List ℕ) → IsNamedBranch text.now value → ⊥) }
 {
     behind_octet(behind_white_word(text, b"branch")?, b'=')
 }
 
-/// Whether a text is the parameter `branch` with this value.
-fn is_branch(text: &[u8], branch: &[u8]) -> bool
+/// Whether a text is a branch with white space around it.
+fn is_branch_value(text: &[u8], branch: &[u8]) -> bool
     requires { (front rest : List ℕ) → IsWord branch.now front
         → Ends (IsOctet is_white_octet) (front ++ rest) }
-    ensures { IsTrue result ↔ IsBranch branch.now text.now }
+    ensures { IsTrue result ↔ IsBranchValue branch.now text.now }
 {
-    match branch_value(text) {
-        Some(value) => match behind_white_word(value, branch) {
-            Some(rest) => rest.is_empty(),
-            None => false,
-        },
+    match behind_white_word(text, branch) {
+        Some(rest) => rest.is_empty(),
         None => false,
     }
 }
@@ -148,7 +145,7 @@ pub(crate) fn first_has_branch(value: &[u8], branch: &[u8]) -> bool
     }
 }
 
-/// Whether one of the parameters in front is this branch.
+/// Whether the first of the parameters in front that is named `branch` is this one.
 fn has_branch(params: &[u8], branch: &[u8]) -> bool
     requires { (front rest : List ℕ) → IsWord branch.now front
         → Ends (IsOctet is_white_octet) (front ++ rest) }
@@ -156,8 +153,8 @@ fn has_branch(params: &[u8], branch: &[u8]) -> bool
 {
     let mut rest = params;
     while let Some((param, behind)) = param_in_front(rest) {
-        if is_branch(param, branch) {
-            return true;
+        if let Some(value) = branch_value(param) {
+            return is_branch_value(value, branch);
         }
         rest = behind;
     }

@@ -1,6 +1,5 @@
 -- What the readers of Vias find.
-use Rattle.std.specs.Prelude.{◌≡◌, ℕ, Bool, true, List, [], ◌∷◌, ◌++◌, codes}
-use Rattle.sip_options.specs.Readers.Words.{BeginsWhiteWord}
+use Rattle.std.specs.Prelude.{◌≡◌, ℕ, Bool, true, List, [], ◌∷◌, ◌++◌}
 use Rattle.sip_options.specs.Vias.{IsPart, PartEnds, is_mark}
 
 -- a part ends in front of a text
@@ -18,7 +17,3 @@ pub record BeginsPart (text part rest : List ℕ) : Type 0 where
 abbrev pub BeginsParam : List ℕ → List ℕ → List ℕ → Type 0
 BeginsParam text param rest =
     (behind : List ℕ) × (text ≡ 59 ∷ behind) × BeginsPart behind param rest
-
--- the parameter `branch` and `=` are in front of a text, and then comes its value
-abbrev pub BeginsBranch : List ℕ → List ℕ → Type 0
-BeginsBranch text value = BeginsWhiteWord (codes "branch") text (61 ∷ value)

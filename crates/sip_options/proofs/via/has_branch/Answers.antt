@@ -1,15 +1,19 @@
-use Rattle.std.proofs.Common.{◌≡◌, true, false, refl, arith}
-use Rattle.std.proofs.lemmas.Bool.Decides.{nat_tests}
-use Rattle.sip_options.specs.Vias.{IsBranch}
-use Rattle.sip_options.proofs.ViaParams.{params_here, params_forth, params_back, params_none}
+use Rattle.std.proofs.Common.{◌≡◌, true, false}
+use Rattle.sip_options.proofs.ViaParams.{params_here, params_forth, params_back, params_value, params_none}
 use Rattle.sip_options.proofs.via.has_branch.Goals as goal
 
-pub returns-then-is_branch : goal.returns-then-is_branch
-returns-then-is_branch c =
-    let is : IsBranch c.args.branch.now c.in-Some.param.now = c.is_branch.ensures.0 c.if-is_branch.true in (
-      λ _. c.loop-param.invariant.forth
-          (params_here c.args.branch.now c.loop-param.rest.now c.in-Some.param.now c.in-Some.behind.now c.in-Some.ensures.found is),
-      λ _. refl,
+pub returns-in-Some-branch_value : goal.returns-in-Some-branch_value
+returns-in-Some-branch_value c =
+    let branch = c.args.branch.now in
+    let rest = c.loop-param.rest.now in
+    let param = c.in-Some.param.now in
+    let behind = c.in-Some.behind.now in
+    let value = c.in-Some-branch_value.value.now in
+    let begins = c.in-Some.ensures.found in
+    let named = c.in-Some-branch_value.ensures.found in (
+      λ yes. c.loop-param.invariant.forth
+          (params_here branch rest param behind begins value named (c.is_branch_value.ensures.0 yes)),
+      λ has. c.is_branch_value.ensures.1 (params_value branch rest param behind begins value named (c.loop-param.invariant.back has)),
     )
 
 pub loop-param-preserved : goal.loop-param-preserved
@@ -18,11 +22,11 @@ loop-param-preserved c =
     let rest = c.loop-param.rest.now in
     let param = c.in-Some.param.now in
     let behind = c.in-Some.behind.now in
+    let begins = c.in-Some.ensures.found in
+    let other = c.in_default-branch_value.ensures.none in
     record {
-      forth = λ has. c.loop-param.invariant.forth (params_forth branch rest param behind c.in-Some.ensures.found has);
-      back = λ has. params_back branch rest param behind c.in-Some.ensures.found
-          (λ is. let yes = c.is_branch.ensures.1 is in grind (arith, nat_tests, yes, c.if-is_branch.false))
-          (c.loop-param.invariant.back has);
+      forth = λ has. c.loop-param.invariant.forth (params_forth branch rest param behind begins other has);
+      back = λ has. params_back branch rest param behind begins other (c.loop-param.invariant.back has);
     }
 
 pub returns : goal.returns
