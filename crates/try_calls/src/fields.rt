@@ -27,7 +27,7 @@ fn push_times(all: &mut Vec<u8>, octets: &[u8], count: u32) -> Result<(), Fault>
 }
 
 /// Adds the octets of a field, as often as it counts.
-fn push_field(alloc: Global, all: &mut Vec<u8>, field: &str) -> Result<(), Fault> {
+pub(crate) fn push_field(alloc: Global, all: &mut Vec<u8>, field: &str) -> Result<(), Fault> {
     let (count, field) = counted(field);
     let octets = octets(alloc, field)?;
     push_times(all, &octets, count)

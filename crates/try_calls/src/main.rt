@@ -20,6 +20,7 @@ mod lists;
 mod locators;
 mod messages;
 mod names;
+mod options;
 mod orders;
 mod replies;
 mod request_lines;
@@ -45,6 +46,7 @@ fn tell<R: Wait>(rt: &R, output: &mut Output, crate_name: &str, call: &str, inpu
         "dns_zone" => zones::told(output, call, input),
         "ip_text" => addresses::told(output, call, input),
         "pending_list" => lists::told(output, call, input),
+        "sip_options" => options::told(output, call, input),
         "sip_selection" => selections::told(output, call, input),
         "sip_uri" => uris::told(output, call, input),
         "srv_choice" => orders::told(output, call, input),
