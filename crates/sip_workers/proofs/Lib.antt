@@ -1,5 +1,7 @@
 mod Collecting
+mod Crossing
 mod Joining
+mod Learning
 mod Moves
 mod NextPut
 mod Once

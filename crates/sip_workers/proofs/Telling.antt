@@ -3,7 +3,6 @@ use Rattle.std.proofs.Common.{◌≡◌, ℕ, zero, suc, ◌<◌, List, [], ◌�
 use Rattle.std.specs.List.{AllZip}
 use Rattle.answer_cache.specs.Seats.{SeatView}
 use Rattle.sip_selection.specs.Choice.{Resolution, need, refused, targets}
-use Rattle.sip_selection.specs.Known.{Given}
 use Rattle.sip_resolver.specs.Outcomes.{Counts, Sought}
 use Rattle.sip_resolver.specs.Outcomes.{IsChosen as WasChosen, IsOutcome as WasOutcome}
 use Rattle.sip_resolver.specs.Works.{Works}

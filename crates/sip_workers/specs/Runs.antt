@@ -1,6 +1,9 @@
 -- What a run of many workers is, and what it gives.
 use Rattle.std.specs.Prelude.{◌≡◌, ◌≢◌, ℕ, ◌+◌, ◌<◌, ◌≤◌, List, length, slice_index_or}
-use Rattle.std.specs.List.{AllZip}
+use Rattle.std.specs.List.{All, AllZip}
+use mathlib.Core.List.{IsPrefix}
+use Rattle.answer_log.specs.Histories.{IsHistory}
+use Rattle.answer_log.specs.declared.store.Store.{Store}
 use Rattle.answer_cache.specs.Shared.{CacheView, NoticeView}
 use Rattle.sip_workers.specs.Outcomes.{IsOutcome}
 use Rattle.sip_workers.specs.declared.job.Job.{Job}
@@ -53,3 +56,16 @@ module _ (gives : List ℕ → Type 0) (shows : ℕ → Type 0) (cache : CacheVi
   -- what became of each job, in their order
   abbrev pub AreMade : List Job → List (Outcome × NoticeView) → Type 0
   AreMade jobs made = AllZip IsMade jobs made
+
+-- ---- the history of it
+
+-- a history of this cache: its stores are sound, and of the cache's seats alone
+pub record IsHistoryOf (cache : CacheView) (history : List Store) : Type 0 where
+  pub sound : IsHistory history
+  pub seats : All (λ store. store.seat < cache.seats) history
+
+-- there is one history of this cache, and what each of these notices tells is its beginning
+pub record HaveOneHistory (cache : CacheView) (made : List (Outcome × NoticeView)) : Type 0 where
+  pub history : List Store
+  pub is : IsHistoryOf cache history
+  pub begin : All (λ it. IsPrefix it.1.seen history) made

@@ -39,6 +39,7 @@ mod drive;
 mod gate;
 mod gather_refusal;
 mod gathering;
+mod history;
 mod job;
 mod open_batch;
 mod outcome;

@@ -1,6 +1,6 @@
 //! What a worker makes of the batches that it takes: it takes until an end comes, or the queue says
 //! that its other ends are gone.
-ghost use Rattle.std.specs.Prelude.{OnOk, ◌≡◌, ◌++◌, false, [], IfOk, IsOkAnd, map};
+ghost use Rattle.std.specs.Prelude.{OnOk, ◌≡◌, ◌++◌, false, [], IfOk, IsOkAnd, IsSomeAnd, map};
 ghost use Rattle.std.specs.List.{All};
 ghost use Rattle.crossbeam_channel.specs.Claims.{IsSeatAt, view};
 ghost use Rattle.crossbeam_channel.specs.Ends.{sends_on};
@@ -36,12 +36,13 @@ pub(crate) struct Plan<'a, J: Dealt, C, G> {
 /// The reports of the jobs that a worker took.
 type Reports<'a> = Result<Vec<Report<'a>>, AllocError>;
 
-/// What a worker brings home.
+/// What a worker brings home: its seat, too, unless it could not be made.
 #[derive(Drop)]
 pub(crate) struct Part<'a, W> {
     pub(crate) right: Right,
     pub(crate) made: Reports<'a>,
     pub(crate) ended: bool,
+    pub(crate) seat: Option<Seat>,
     pub(crate) over: PhantomData<W>,
 }
 
@@ -93,6 +94,7 @@ fn work_off<'a, J: Dealt, R: Wait, W: Wire + Drop, C: Clock, G: Gate>(
     ensures made { IfOk result.made (λ all.
         AreTaken W.gives C.shows plan.now.cache.now plan.now.jobs.now
         (view result.right) all.items) }
+    ensures seat { IsSomeAnd result.seat (Belongs plan.now.cache.now) }
 {
     let mut made = Ok(Vec::new(plan.alloc));
     let mut ended = false;
@@ -110,6 +112,7 @@ fn work_off<'a, J: Dealt, R: Wait, W: Wire + Drop, C: Clock, G: Gate>(
         right,
         made,
         ended,
+        seat: Some(worker.into_seat()),
         over: PhantomData,
     }
 }
@@ -141,6 +144,7 @@ fn drain<'a, J: Dealt, R: Wait, W, C, G>(
         right,
         made: Err(error),
         ended,
+        seat: None,
         over: PhantomData,
     }
 }
@@ -162,6 +166,7 @@ pub(crate) fn work<'a, J: Dealt, R: Wait, W: Wire + Drop, C: Clock, G: Gate>(
     ensures made { IfOk result.made (λ all.
         AreTaken W.gives C.shows plan.now.cache.now plan.now.jobs.now
         (view result.right) all.items) }
+    ensures seat { OnOk result.made (IsSomeAnd result.seat (Belongs plan.now.cache.now)) }
 {
     match Worker::new(plan.alloc, seat, wire) {
         Ok(worker) => work_off(rt, plan, worker, right),

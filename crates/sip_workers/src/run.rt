@@ -1,24 +1,25 @@
 //! Many workers at once, each in a thread of its own, over one shared cache.
-ghost use Rattle.std.specs.Prelude.{⊤, ◌≡◌, ◌<◌, ◌≤◌, true, [], Decides, IsTrue, IfErr, IfOk, OnOk, length};
+ghost use Rattle.std.specs.Prelude.{⊤, ◌≡◌, ◌<◌, ◌≤◌, true, [], Decides, IsTrue, IfErr, IfOk, IsSomeAnd, OnOk, length};
 ghost use Rattle.std.specs.List.{All};
 ghost use Rattle.crossbeam_channel.specs.Claims.{IsSeatAt, view};
 ghost use Rattle.crossbeam_channel.specs.Ends.{sends_on};
 ghost use Rattle.answer_cache.specs.Shared.{Belongs};
 ghost use Rattle.sip_workers.specs.Deals.{AreSized, EachOnce, IsCut, IsReport};
 ghost use Rattle.sip_workers.specs.Rules.{all_parts, pass_view};
-ghost use Rattle.sip_workers.specs.Runs.{AreMade, MayRun, RefusesRun, Rises};
+ghost use Rattle.sip_workers.specs.Runs.{AreMade, HaveOneHistory, MayRun, RefusesRun, Rises};
 ghost use Rattle.sip_workers.specs.declared.refusal.RunRefusal.TheVariants.{Memory};
 
 use crate::batch::Batch;
 use crate::gate::Gate;
 use crate::gathering::gather;
+use crate::history::see_one_history;
 use crate::job::Job;
 use crate::part::Plan;
 use crate::putting::{put_all, put_ends};
 use crate::queue::{Dealt, Queue, Right};
 use crate::refusal::RunRefusal;
-use crate::report::{Report, results_of};
-use crate::threads::{join_all, join_rest, start_all};
+use crate::report::results_of;
+use crate::threads::{Home, join_all, join_rest, start_all};
 use answer_cache::{Notice, Seat, SharedCache};
 use dns_asker::{Clock, Wire};
 use sip_resolver::Outcome;
@@ -70,7 +71,7 @@ fn cut(alloc: Global, jobs: &[Job], size: usize) -> Result<Vec<Batch>, AllocErro
     Ok(batches)
 }
 
-/// The reports of the workers, and whether the queue failed nowhere: each batch and each end was
+/// What the workers brought home, and whether the queue failed nowhere: each batch and each end was
 /// put, and each worker took an end. Where a thread could not be started, those that run get an end
 /// each.
 fn deal_out<
@@ -88,7 +89,7 @@ fn deal_out<
     mut own: Right,
     seats: Vec<Seat>,
     wires: Vec<W>,
-) -> Result<(Vec<Report<'s>>, bool), RunRefusal>
+) -> Result<(Home<'s>, bool), RunRefusal>
     requires made_here { All (Belongs plan.now.cache.now) seats.items }
     requires alike { length wires.items ≡ length seats.items }
     requires some { 0 < length seats.items }
@@ -97,8 +98,10 @@ fn deal_out<
     requires batches { plan.now.batches.now ≡ J.batches }
     requires cut { IsCut plan.now.jobs.now (length plan.now.jobs.now) J.batches }
     ensures told { IfOk result (λ it.
-        All (IsReport W.gives C.shows plan.now.cache.now) it.0.items) }
-    ensures once { IfOk result (λ it. IsTrue it.1 → EachOnce plan.now.jobs.now it.0.items) }
+        All (IsReport W.gives C.shows plan.now.cache.now) it.0.reports.items) }
+    ensures once { IfOk result (λ it.
+        IsTrue it.1 → EachOnce plan.now.jobs.now it.0.reports.items) }
+    ensures seat { IfOk result (λ it. IsSomeAnd it.0.seat (Belongs plan.now.cache.now)) }
     ensures refused { IfErr result (RefusesRun ⊤) }
 {
     let (threads, started) = start_all(scope, rt, plan, &mut own, seats, wires)?;
@@ -109,28 +112,34 @@ fn deal_out<
     }
     let dealt = put_all(rt, plan.queue, &mut own, plan.batches);
     let ended = put_ends(rt, plan.queue, &mut own, threads.len());
-    let (reports, took) = join_all(rt, plan, &mut own, threads)?;
+    let (home, took) = join_all(rt, plan, &mut own, threads)?;
     plan.queue.tell_whole(&mut own);
-    Ok((reports, dealt & ended & took))
+    Ok((home, dealt & ended & took))
 }
 
 /// What became of each job, in order. Where the queue failed nowhere, each job has one result, and
 /// memory alone can be wanted.
 fn put_in_order<J: Dealt, W: Wire + Drop, C: Clock, G>(
     plan: &Plan<'_, J, C, G>,
-    reports: Vec<Report<'_>>,
+    home: Home<'_>,
     whole: bool,
 ) -> Result<Vec<(Outcome, Notice)>, RunRefusal>
     requires rises { Rises plan.now.jobs.now }
-    requires told { All (IsReport W.gives C.shows plan.now.cache.now) reports.items }
-    requires once { IsTrue whole → EachOnce plan.now.jobs.now reports.items }
+    requires told { All (IsReport W.gives C.shows plan.now.cache.now) home.reports.items }
+    requires once { IsTrue whole → EachOnce plan.now.jobs.now home.reports.items }
+    requires seat { IsSomeAnd home.seat (Belongs plan.now.cache.now) }
     ensures outcomes { IfOk result (λ made.
         AreMade W.gives C.shows plan.now.cache.now plan.now.jobs.now made.items) }
     ensures refused { IfErr result (RefusesRun ⊤) }
     ensures memory { IsTrue whole → IfErr result (λ refusal. refusal ≡ Memory) }
+    ensures one_history { IfOk result (λ made. HaveOneHistory plan.now.cache.now made.items) }
 {
+    let Home { reports, seat } = home;
     let results = results_of::<W, C>(plan.alloc, reports)?;
-    Ok(gather(plan.alloc, plan.jobs, results)?)
+    let made = gather(plan.alloc, plan.jobs, results)?;
+    let Some(seat) = seat else { unreachable!() };
+    see_one_history(plan.cache, seat, made.as_slice());
+    Ok(made)
 }
 
 /// Works on the jobs of this plan, each worker in a thread of its own.
@@ -157,6 +166,7 @@ fn run_plan<
     requires cut { IsCut plan.now.jobs.now (length plan.now.jobs.now) J.batches }
     ensures outcomes { IfOk result (λ made.
         AreMade W.gives C.shows plan.now.cache.now plan.now.jobs.now made.items) }
+    ensures one_history { IfOk result (λ made. HaveOneHistory plan.now.cache.now made.items) }
     ensures refused { IfErr result (RefusesRun ⊤) }
 {
     thread::scope(
@@ -171,12 +181,12 @@ fn run_plan<
                 × IsCut plan.now.jobs.now (length plan.now.jobs.now) J.batches }
             ensures outcomes { IfOk result (λ made. AreMade W.gives C.shows
                 plan.entry.now.cache.now plan.entry.now.jobs.now made.items) }
+            ensures one_history { IfOk result (λ made.
+                HaveOneHistory plan.entry.now.cache.now made.items) }
             ensures refused { IfErr result (RefusesRun ⊤) }
         {
-            let (reports, whole) = deal_out::<_, J, R, W, C, G>(
-                scope, rt, plan, own, seats, wires,
-            )?;
-            put_in_order::<J, W, C, G>(plan, reports, whole)
+            let (home, whole) = deal_out::<_, J, R, W, C, G>(scope, rt, plan, own, seats, wires)?;
+            put_in_order::<J, W, C, G>(plan, home, whole)
         },
     )
 }
@@ -207,6 +217,7 @@ fn run_batches<
     requires cut { IsCut jobs.now (length jobs.now) J.batches }
     ensures outcomes { IfOk result (λ made.
         AreMade W.gives C.shows cache.now jobs.now made.items) }
+    ensures one_history { IfOk result (λ made. HaveOneHistory cache.now made.items) }
     ensures refused { IfErr result (RefusesRun ⊤) }
 {
     let (queue, own) = Queue::<J>::new(alloc, seats.len())?;
@@ -226,8 +237,8 @@ fn run_batches<
 /// of its own. What one worker stores the others find, too.
 ///
 /// The jobs are cut into batches of this many, in order, and a worker that is free takes the next
-/// one. The result has what became of each job, in order, with its worker's notice taken then. The
-/// seats and the wires are given up in each case.
+/// one. The result has what became of each job, in order, with its worker's notice taken then. What
+/// the notices tell is of one history. The seats and the wires are given up in each case.
 ///
 /// `BadCount` exactly where there are no seats or not as many wires as seats, a batch is not of 1
 /// to 8 jobs, the numbers of the jobs do not rise strictly, or there are over 10,000 jobs;
@@ -257,6 +268,7 @@ pub fn run_workers<
         (MayRun (length seats.items) (length wires.items) jobs.items batch)) }
     ensures outcomes { IfOk result (λ made.
         AreMade W.gives C.shows cache.now jobs.items made.items) }
+    ensures one_history { IfOk result (λ made. HaveOneHistory cache.now made.items) }
 {
     if !may_run(seats.len(), wires.len(), jobs.as_slice(), batch) {
         return Err(RunRefusal::BadCount);

@@ -1,5 +1,5 @@
 //! The threads of a run's workers: they are started, and what they bring home is joined.
-ghost use Rattle.std.specs.Prelude.{◌≡◌, ◌+◌, ◌≤◌, ◌<◌, false, [], IsTrue, IfOk, IfSome, OnOk, length};
+ghost use Rattle.std.specs.Prelude.{◌≡◌, ◌+◌, ◌≤◌, ◌<◌, false, [], IsTrue, IfOk, IfSome, IsSomeAnd, OnOk, length};
 ghost use Rattle.std.specs.List.{All, sum_by};
 ghost use Rattle.crossbeam_channel.specs.Claims.{IsSeatAt, view};
 ghost use Rattle.crossbeam_channel.specs.Ends.{sends_on};
@@ -29,15 +29,24 @@ pub(crate) struct Promised<'a, J: Dealt, W: Wire, C: Clock> {
 }
 
 impl<'a, J: Dealt, W: Wire, C: Clock> Promise<Part<'a, W>> for Promised<'a, J, W, C> {
-    ghost use Rattle.std.specs.Prelude.{IfOk};
+    ghost use Rattle.std.specs.Prelude.{IfOk, IsSomeAnd, OnOk};
     ghost use Rattle.crossbeam_channel.specs.Claims.{IsSeatAt, view};
     ghost use Rattle.crossbeam_channel.specs.Ends.{sends_on};
+    ghost use Rattle.answer_cache.specs.Shared.{Belongs};
     ghost use Rattle.sip_workers.specs.Deals.{AreTaken, IsTaken};
 
     ghost kept_by = { λ it part. IsSeatAt (sends_on it.queue.now.sender) part.right
         × IsTaken (view part.right) part.ended
         × IfOk part.made (λ all.
-        AreTaken W.gives C.shows it.cache.now it.jobs.now (view part.right) all.items) };
+        AreTaken W.gives C.shows it.cache.now it.jobs.now (view part.right) all.items)
+        × OnOk part.made (IsSomeAnd part.seat (Belongs it.cache.now)) };
+}
+
+/// What the workers brought home: their reports, and the seat of the one joined last.
+#[derive(Drop)]
+pub(crate) struct Home<'a> {
+    pub(crate) reports: Vec<Report<'a>>,
+    pub(crate) seat: Option<Seat>,
 }
 
 /// The thread of a worker.
@@ -124,43 +133,45 @@ pub(crate) fn start_all<
     Ok((threads, true))
 }
 
-/// Joins a worker, adds what it made to the rest, and tells whether it took an end.
+/// Joins a worker, adds what it made to the rest, keeps its seat, and tells whether it took an end.
 fn join_one<'s, J: Dealt, R: Threads, W: Wire + Drop, C: Clock, G>(
     rt: &R,
     plan: &Plan<'s, J, C, G>,
     own: &mut Right,
     thread: Running<'s, J, W, C>,
-    all: &mut Vec<Report<'s>>,
+    home: &mut Home<'s>,
 ) -> Result<bool, AllocError>
     requires queue { IsSeatAt (sends_on plan.now.queue.now.sender) own.old }
     requires promised { IsPromise plan.now.queue.now thread.promise.queue.now plan.now.jobs.now
         thread.promise.jobs.now plan.now.cache.now thread.promise.cache.now }
     requires made { AreTaken W.gives C.shows plan.now.cache.now plan.now.jobs.now
-        (view own.old) all.old.items }
+        (view own.old) home.old.reports.items }
     ensures queue { IsSeatAt (sends_on plan.now.queue.now.sender) own.new }
     ensures stays { ((view own.new).deals ≡ (view own.old).deals)
         × ((view own.new).put ≡ (view own.old).put) }
     ensures part { (view own.new).parts ≡ (view own.old).parts + 1 }
     ensures made { OnOk result
         (AreTaken W.gives C.shows plan.now.cache.now plan.now.jobs.now
-        (view own.new) all.new.items) }
+        (view own.new) home.new.reports.items) }
+    ensures seat { OnOk result (IsSomeAnd home.new.seat (Belongs plan.now.cache.now)) }
     ensures ended { IfOk result (λ ended. IsTrue ended
         → sum_by end_of (view own.old).taken + 1 ≤ sum_by end_of (view own.new).taken) }
 {
     let part = thread.join(rt);
     plan.queue.take_in(own, part.right);
     let mut made = part.made?;
-    all.append(&mut made)?;
+    home.reports.append(&mut made)?;
+    home.seat = part.seat;
     Ok(part.ended)
 }
 
-/// The results of all workers, and whether each took an end.
+/// What all workers brought home, and whether each took an end.
 pub(crate) fn join_all<'s, J: Dealt, R: Threads, W: Wire + Drop, C: Clock, G>(
     rt: &R,
     plan: &Plan<'s, J, C, G>,
     own: &mut Right,
     mut threads: Vec<Running<'s, J, W, C>>,
-) -> Result<(Vec<Report<'s>>, bool), AllocError>
+) -> Result<(Home<'s>, bool), AllocError>
     requires queue { IsSeatAt (sends_on plan.now.queue.now.sender) own.old }
     requires none { (view own.old).taken ≡ [] }
     requires promised { All (λ thread.
@@ -172,16 +183,22 @@ pub(crate) fn join_all<'s, J: Dealt, R: Threads, W: Wire + Drop, C: Clock, G>(
     ensures parts { IfOk result (λ it.
         (view own.new).parts ≡ (view own.old).parts + length threads.entry.items) }
     ensures made { IfOk result (λ it.
-        AreTaken W.gives C.shows plan.now.cache.now plan.now.jobs.now (view own.new) it.0.items) }
+        AreTaken W.gives C.shows plan.now.cache.now plan.now.jobs.now
+        (view own.new) it.0.reports.items) }
+    ensures seat { IfOk result (λ it. 0 < length threads.entry.items
+        → IsSomeAnd it.0.seat (Belongs plan.now.cache.now)) }
     ensures ended { IfOk result (λ it. IsTrue it.1
         → length threads.entry.items ≤ sum_by end_of (view own.new).taken) }
 {
-    let mut all = Vec::new(plan.alloc);
+    let mut home = Home {
+        reports: Vec::new(plan.alloc),
+        seat: None,
+    };
     let mut ended = true;
     'threads: while let Some(thread) = threads.pop() {
-        ended &= join_one(rt, plan, own, thread, &mut all)?;
+        ended &= join_one(rt, plan, own, thread, &mut home)?;
     }
-    Ok((all, ended))
+    Ok((home, ended))
 }
 
 /// Waits for the threads, and drops what they made.

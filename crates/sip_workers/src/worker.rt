@@ -76,6 +76,14 @@ impl<W: Wire + Drop> Worker<W> {
         })
     }
 
+    /// Its seat, once it takes no more.
+    pub(crate) fn into_seat(self) -> Seat
+        ensures { result ≡ self }
+    {
+        let Worker { seat, .. } = self;
+        seat
+    }
+
     /// What became of these jobs, in their order.
     fn results<'a, C: Clock>(
         &self,

@@ -15,7 +15,7 @@ returns-clause-once g c = λ all.
     let known = view c.join_all.new.own in
     let threads = c.in_ok-threads.threads.items in
     let count = c.len-2.result in
-    let one = and_parts (c.put_all-dealt.result && c.put_ends-ended.result) c.in_ok-reports.took all in
+    let one = and_parts (c.put_all-dealt.result && c.put_ends-ended.result) c.in_ok-home.took all in
     let two = and_parts c.put_all-dealt.result c.put_ends-ended.result one.0 in
     let started : c.in_ok-threads.started ≡ true = search rules in
     let many = (c.in_ok-threads.ensures.all started).0 in
@@ -25,7 +25,7 @@ returns-clause-once g c = λ all.
     c.join_all.ensures.stays.1 ∙ c.put_ends-ended.ensures.all two.1
     ∙ ap (λ l. l ++ replicate count no_more) (c.put_all-dealt.ensures.all two.0) in
     let whole : flat_map (jobs_of jobs) batches ≡ jobs = c.requires.cut.whole ∙ take_all (length jobs) jobs (omega arith) in
-    let taken = c.in_ok-reports.ensures.ended one.1 in
+    let taken = c.in_ok-home.ensures.ended one.1 in
     let took : count ≤ sum_by end_of known.taken = omega (arith, same, taken) in
-    each-once jobs batches known.put known.taken c.tell_whole.ensures.whole.0 count (map job_in c.in_ok-reports.reports.items)
-    put some c.requires.cut.some whole took c.tell_whole.ensures.whole.1 c.in_ok-reports.ensures.made.made_of)
+    each-once jobs batches known.put known.taken c.tell_whole.ensures.whole.0 count (map job_in c.in_ok-home.home.reports.items)
+    put some c.requires.cut.some whole took c.tell_whole.ensures.whole.1 c.in_ok-home.ensures.made.made_of)

@@ -1,4 +1,5 @@
 use Rattle.std.proofs.Common.{◌≡◌, ap, rules}
+use Rattle.sip_workers.proofs.Learning.{made-here}
 use Rattle.sip_workers.proofs.Once.{gathered-made, only-memory}
 use Rattle.sip_workers.specs.Deals.{EachOnce}
 use Rattle.sip_workers.specs.Runs.{of_gather}
@@ -6,18 +7,30 @@ use Rattle.sip_workers.specs.declared.gather_refusal.GatherRefusal.TheVariants a
 use Rattle.sip_workers.specs.declared.refusal.RunRefusal.TheVariants as run
 use Rattle.sip_workers.proofs.run.put_in_order.Goals as goal
 
-pub returns-in_err-gather-clause-memory : goal.returns-in_err-gather-clause-memory
-returns-in_err-gather-clause-memory g c = λ whole.
-    (let refusal = c.in_err-gather.field-0.0 in
+pub returns-in_err-made-clause-memory : goal.returns-in_err-made-clause-memory
+returns-in_err-made-clause-memory g c = λ whole.
+    (let refusal = c.in_err-made.field-0.0 in
     let jobs = c.args.plan.now.jobs.now in
     let results = c.in_ok-results.results.items in
     let once : EachOnce jobs results = rw c.in_ok-results.ensures (c.requires.once whole) in
     let only : refusal ≡ gather.Memory =
-    only-memory jobs results c.requires.rises once refusal c.in_err-gather.ensures.made in
+    only-memory jobs results c.requires.rises once refusal c.in_err-made.ensures.made in
     let known : of_gather refusal ≡ run.Memory = ap of_gather only in
     search (known, rules))
 
 pub returns-clause-outcomes : goal.returns-clause-outcomes
 returns-clause-outcomes g c =
     gathered-made g.W.Wire.gives g.C.Clock.shows c.args.plan.now.cache.now c.in_ok-results.results.items
-    (rw c.in_ok-results.ensures c.requires.told) c.args.plan.now.jobs.now c.in_ok-gather.field-0.items c.in_ok-gather.ensures.made
+    (rw c.in_ok-results.ensures c.requires.told) c.args.plan.now.jobs.now c.in_ok-made.made.items c.in_ok-made.ensures.made
+
+pub see_one_history-requires-clause-told_here : goal.see_one_history-requires-clause-told_here
+see_one_history-requires-clause-told_here g c =
+    let gives = g.W.Wire.gives in
+    let shows = g.C.Clock.shows in
+    let cache = c.args.plan.now.cache.now in
+    let jobs = c.args.plan.now.jobs.now in
+    let made = c.in_ok-made.made.items in
+    rw c.as_slice.ensures.value
+    (made-here gives shows cache jobs made
+    (gathered-made gives shows cache c.in_ok-results.results.items (rw c.in_ok-results.ensures c.requires.told) jobs made
+    c.in_ok-made.ensures.made))

@@ -19,6 +19,7 @@ threads-preserved g c =
           plan.cache.now thread.promise.cache.now)
           left (c.in-Some.thread ∷ []) (rw c.in-Some.ensures.items at l.invariant.promised);
       made = c.in_ok-ended.ensures.made;
+      seat = λ _. c.in_ok-ended.ensures.seat;
       parts = omega (arith, fewer, l.invariant.parts, c.join_one.ensures.part);
       took = λ both.
           (let one = and_parts l.ended c.in_ok-ended.field-0 both in
