@@ -1,5 +1,6 @@
 mod Commands
 mod Counts
+mod Onward
 mod Parts
 mod Runs
 mod Talks

@@ -1,9 +1,12 @@
 -- The requests of a text, and what becomes of them.
 use Rattle.std.proofs.Common.{◌≡◌, ◌≢◌, ℕ, zero, suc, ◌+◌, ◌<◌, ◌≤◌, List, [], ◌∷◌, ◌++◌, length, drop, get_or, slice_index_or, inl, inr, refl, sym, ap, ◌∙◌, arith}
-use Rattle.std.specs.List.{AllZip, enumerate_from}
+use Rattle.std.specs.List.{All, AllZip, enumerate_from}
+use mathlib.Core.List.{IsPrefix}
+use Rattle.std.proofs.lemmas.List.Elements.{All-head, All-tail}
 use Rattle.std.proofs.lemmas.List.FromFn.{length-enumerate_from, get_or-enumerate_from}
 use Rattle.std.proofs.lemmas.List.{append_assoc, append-nil, drop_more, length-append}
 use Rattle.std.proofs.Math.Seq.{drop-length}
+use Rattle.answer_log.specs.declared.store.Store.{Store}
 use Rattle.answer_cache.specs.Shared.{CacheView, NoticeView}
 use Rattle.sip_workers.specs.declared.job.Job.{Job}
 use Rattle.sip_resolver.specs.declared.outcome.Outcome.{Outcome}
@@ -13,6 +16,7 @@ use Rattle.std.specs.Str.Lines.{lines}
 use Rattle.sip_workers.specs.Runs.{IsMade, MayRun, RefusesRun, Rises}
 use Rattle.siplocate.specs.Runs.{AreEntries, AreLineOutcomes, FitsSeats, HasRequests, HasTooMany, IsEntry, IsRequest, RefusesText, line_outcomes_of}
 use Rattle.siplocate.specs.Jobs.{IsRunOutput, faulted}
+use Rattle.siplocate.proofs.Onward.{outcome-on}
 use Rattle.siplocate.specs.Served.{Faults, IsCountOfWorkers, IsOverfull, of_run}
 use Rattle.siplocate.specs.declared.server.RunFault.{RunFault}
 use Rattle.siplocate.specs.declared.server.RunFault.TheVariants as fault
@@ -210,20 +214,28 @@ tells_fault workers text fault.Net unfit many = tt
 
 -- ---- what becomes of them
 
-module _ (gives : List ℕ → Type 0) (shows : ℕ → Type 0) (cache : CacheView) where
+-- by one history, of which what each notice tells is a beginning
+module _ (gives : List ℕ → Type 0) (shows : ℕ → Type 0) (cache : CacheView) (history : List Store) where
+  abbrev pub BeginsIt : Outcome × NoticeView → Type 0
+  BeginsIt made = IsPrefix made.1.seen history
+
   pub line_outcomes_are : (number : ℕ) (lines : List (List ℕ)) (entries : List Entry) (jobs : List Job) (made : List (Outcome × NoticeView))
-      → AreEntries number lines entries jobs → AllZip (IsMade gives shows cache) jobs made
-      → AreLineOutcomes gives shows cache number lines (line_outcomes_of entries made)
-  line_outcomes_are number [] [] [] made are all = tt
-  line_outcomes_are number [] [] (job ∷ jobs) made are all = elim are [ ]
-  line_outcomes_are number [] (one ∷ entries) jobs made are all = elim are [ ]
-  line_outcomes_are number (line ∷ lines) [] jobs made are all = elim are [ ]
-  line_outcomes_are number (line ∷ lines) (entry.Request ∷ entries) [] made are all = elim are [ ]
-  line_outcomes_are number (line ∷ lines) (entry.Request ∷ entries) (job ∷ jobs) [] are all = elim all [ ]
-  line_outcomes_are number (line ∷ lines) (entry.Request ∷ entries) (job ∷ jobs) (first ∷ made) are all =
-      (record { job = job; is = are.0; told = first.1; made = all.0 }, line_outcomes_are (number + 1) lines entries jobs made are.1 all.1)
-  line_outcomes_are number (line ∷ lines) (entry.Bad refusal ∷ entries) jobs made are all =
-      (are.0, line_outcomes_are (number + 1) lines entries jobs made are.1 all)
+      → AreEntries number lines entries jobs → AllZip (IsMade gives shows cache) jobs made → All BeginsIt made
+      → AreLineOutcomes gives shows history number lines (line_outcomes_of entries made)
+  line_outcomes_are number [] [] [] made are all begin = tt
+  line_outcomes_are number [] [] (job ∷ jobs) made are all begin = elim are [ ]
+  line_outcomes_are number [] (one ∷ entries) jobs made are all begin = elim are [ ]
+  line_outcomes_are number (line ∷ lines) [] jobs made are all begin = elim are [ ]
+  line_outcomes_are number (line ∷ lines) (entry.Request ∷ entries) [] made are all begin = elim are [ ]
+  line_outcomes_are number (line ∷ lines) (entry.Request ∷ entries) (job ∷ jobs) [] are all begin = elim all [ ]
+  line_outcomes_are number (line ∷ lines) (entry.Request ∷ entries) (job ∷ jobs) (first ∷ made) are all begin =
+      let on : IsPrefix first.1.seen history = All-head BeginsIt first made begin in
+      let told = outcome-on gives shows first.1.seen history on job first.0 all.0.0 in (
+        record { job = job; is = are.0; told = told },
+        line_outcomes_are (number + 1) lines entries jobs made are.1 all.1 (All-tail BeginsIt first made begin),
+      )
+  line_outcomes_are number (line ∷ lines) (entry.Bad refusal ∷ entries) jobs made are all begin =
+      (are.0, line_outcomes_are (number + 1) lines entries jobs made are.1 all begin)
 
 -- ---- lines and their numbers
 

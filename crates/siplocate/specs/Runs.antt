@@ -1,12 +1,14 @@
 -- Many requests at once: what stands in their lines, and what becomes of each.
 use Rattle.std.specs.Prelude.{◌≡◌, ◌≢◌, ◌+◌, ◌<◌, ◌⊎◌, ◌++◌, ⊤, ℕ, zero, suc, List, [], ◌∷◌, replicate}
 use Rattle.std.specs.Str.Lines.{lines}
+use Rattle.answer_log.specs.declared.store.Store.{Store}
 use Rattle.answer_cache.specs.Shared.{CacheView, NoticeView}
 use Rattle.sip_selection.specs.declared.caps.Families.TheVariants.{V4ThenV6}
 use Rattle.sip_selection.specs.declared.request.Request.{Request}
 use Rattle.sip_uri.specs.declared.refusal.UriRefusal.{UriRefusal}
 use Rattle.sip_uri.specs.declared.refusal.UriRefusal.TheVariants as uri
-use Rattle.sip_workers.specs.Runs.{IsMade}
+use Rattle.sip_workers.specs.Outcomes.{IsOutcome}
+use Rattle.sip_workers.specs.Runs.{IsHistoryOf}
 use Rattle.sip_workers.specs.declared.job.Job.{Job}
 use Rattle.sip_resolver.specs.Draws.{drawn}
 use Rattle.sip_resolver.specs.declared.outcome.Outcome.{Outcome}
@@ -88,14 +90,13 @@ line_outcomes_of (entry.Request ∷ entries) [] = []
 line_outcomes_of (entry.Request ∷ entries) (first ∷ made) = line_outcome.Became first.0 ∷
     line_outcomes_of entries made
 
--- over a wire, a clock and a cache
-module _ (gives : List ℕ → Type 0) (shows : ℕ → Type 0) (cache : CacheView) where
+-- over a wire, a clock and a history of stores
+module _ (gives : List ℕ → Type 0) (shows : ℕ → Type 0) (history : List Store) where
   -- the line of this number is a request, and this is its outcome
   pub record IsLocated (number : ℕ) (line : List ℕ) (outcome : Outcome) : Type 0 where
     pub job : Job
     pub is : IsJob number line job
-    pub told : NoticeView
-    pub made : IsMade gives shows cache job (outcome, told)
+    pub told : IsOutcome gives shows history job outcome
 
   -- what becomes of the line of this number
   abbrev pub IsLineOutcome : ℕ → List ℕ → LineOutcome → Type 0
@@ -110,11 +111,14 @@ module _ (gives : List ℕ → Type 0) (shows : ℕ → Type 0) (cache : CacheVi
       × AreLineOutcomes (number + 1) lines line_outcomes
   AreLineOutcomes number lines line_outcomes = ⊥
 
-  -- What is printed of the requests of a text, whose lines are numbered from 1, and the status.
-  -- Each line has a fate (`AreLineOutcomes`): an outcome as `run_workers` gives it (`IsLocated`),
-  -- or that it is no request (`IsNoRequest`).
-  pub record IsRun (text printed : List ℕ) (status : ℕ) : Type 0 where
-    pub line_outcomes : List LineOutcome
-    pub are : AreLineOutcomes 1 (lines text) line_outcomes
-    pub shown : printed ≡ shown_from 1 line_outcomes
-    pub status_is : status ≡ status_of_all line_outcomes
+-- What is printed of the requests of a text, whose lines are numbered from 1, and the status. There
+-- is one history of the cache. By that each line has a fate (`AreLineOutcomes`): an outcome as
+-- `run_workers` gives it (`IsLocated`), or that it is no request (`IsNoRequest`).
+pub record IsRun (gives : List ℕ → Type 0) (shows : ℕ → Type 0) (cache : CacheView)
+    (text printed : List ℕ) (status : ℕ) : Type 0 where
+  pub history : List Store
+  pub is : IsHistoryOf cache history
+  pub line_outcomes : List LineOutcome
+  pub are : AreLineOutcomes gives shows history 1 (lines text) line_outcomes
+  pub shown : printed ≡ shown_from 1 line_outcomes
+  pub status_is : status ≡ status_of_all line_outcomes

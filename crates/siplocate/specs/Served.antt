@@ -50,7 +50,8 @@ Faults workers requests Net = ⊤
 
 -- ---- what is printed
 
--- what is printed of requests, over a cache of their own and a network of which nothing is known
+-- what is printed of requests, over one history of a cache of their own and a network of which
+-- nothing is known
 pub record IsAsked (requests printed : List ℕ) (status : ℕ) : Type 0 where
   pub few : HasTooMany requests → ⊥
   pub cache : CacheView

@@ -9,11 +9,15 @@ use Rattle.siplocate.proofs.run.run_text.Goals as goal
 pub returns-clause-run : goal.returns-clause-run
 returns-clause-run g c =
     let requests = c.in_ok-entries.field-0 in
+    let one = c.in_ok-made.ensures.one_history in
     record {
+      history = one.history;
+      is = one.is;
       line_outcomes = c.in_ok-line_outcomes.line_outcomes.items;
       are = rw c.in_ok-line_outcomes.ensures
-          (line_outcomes_are g.W.Wire.gives g.C.Clock.shows c.args.cache.now 1 (lines c.args.text.now) requests.entries.items
-          requests.jobs.items c.in_ok-made.made.items c.in_ok-entries.ensures.entries c.in_ok-made.ensures.outcomes);
+          (line_outcomes_are g.W.Wire.gives g.C.Clock.shows c.args.cache.now one.history 1 (lines c.args.text.now)
+          requests.entries.items requests.jobs.items c.in_ok-made.made.items c.in_ok-entries.ensures.entries
+          c.in_ok-made.ensures.outcomes one.begin);
       shown = c.in_ok-lines.ensures ∙ ap (λ (line_outcomes : List LineOutcome). shown_from 1 line_outcomes) c.as_slice.ensures.value;
       status_is = c.status.ensures.status ∙ ap status_of_all c.as_slice-2.ensures.value;
     }
