@@ -11,7 +11,7 @@ use Rattle.sip_resolver.specs.Outcomes.{Counts, IsCached, IsChosen, IsLacking, I
 use Rattle.sip_resolver.specs.Works.{Works}
 use Rattle.sip_resolver.specs.declared.outcome.Outcome.{Outcome}
 use Rattle.sip_resolver.specs.declared.outcome.Outcome.TheVariants as outcomes
-use Rattle.sipwhere.specs.LineOutcomes.{IsLineOutcome}
+use Rattle.sipwhere.specs.LineOutcomes.{IsLineOutcome, without_address}
 use Rattle.sipwhere.specs.OpenLines.{IsLineOutcomeOf}
 use Rattle.sip_report.specs.declared.line_outcome.LineOutcome.{LineOutcome}
 use Rattle.sip_report.specs.declared.line_outcome.LineOutcome.TheVariants.{Became, NoSuchName, TimeOver, Bad, NotText, Memory}

@@ -201,13 +201,13 @@ module _ (gives : List ℕ → Type 0) (shows : ℕ → Type 0) (seat : SeatView
   pub line_outcomes-ended : (lines : List Line) (line_outcomes : List (Option LineOutcome)) (place : ℕ) (d : Line) (ended : Sought)
       (outcome got : Outcome)
       (line_outcome : LineOutcome) → place < length lines → place ≡ ended.number → got ≡ outcome → IsMeant sender lines ended
-      → EndsAs (get_or lines place d).text.now got line_outcome → IsOutcome gives shows seat ended outcome
+      → EndsAs gives (get_or lines place d).text.now got line_outcome → IsOutcome gives shows seat ended outcome
       → AllZip (IsLineOutcomeOf gives shows seat sender) lines line_outcomes
       → AllZip (IsLineOutcomeOf gives shows seat sender) lines (set line_outcomes place (Some line_outcome))
   line_outcomes-ended lines line_outcomes place d ended outcome got line_outcome inside number same meant ends is all =
       let line = get_or lines place d in
       let at : line ≡ get_or lines place line = at-itself lines place d in
       let here : line ≡ get_or lines ended.number line = subst (λ n. line ≡ get_or lines n line) number at in
-      let so : EndsAs gives line.text.now outcome line_outcome = subst (λ o. EndsAs line.text.now o line_outcome) same ends in
+      let so : EndsAs gives line.text.now outcome line_outcome = subst (λ o. EndsAs gives line.text.now o line_outcome) same ends in
       line_outcomes-set lines line_outcomes place line (Some line_outcome) inside at all
       (line_outcome-ended lines line ended outcome line_outcome here meant so is)

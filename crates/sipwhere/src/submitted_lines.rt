@@ -70,8 +70,8 @@ pub fn submit<B: AnswerBook, F: Origin, I: Ids + Drop>(
     }
 }
 
-/// The name of the host of a request, where the wire knows that it does not exist. `None` also where
-/// memory is refused.
+/// The name of the host of a request, where the wire knows that it does not exist. `None` also
+/// where memory is refused.
 fn denied_host<W: NameNotes>(wire: &W, request: &Request) -> Option<Name>
     ensures { IfSome result (IsMissing W.gives request.now) }
 {
