@@ -11,3 +11,4 @@ mod TokenTexts
 mod RequestTexts
 mod ReplyTexts
 mod FrameTexts
+mod OneRequest

@@ -126,7 +126,7 @@ pub record AllFit (branch call_id : ℕ) (text : List ℕ) : Type 0 where
   pub cseq : CSeqFits text
   pub body : BodyFits text
 
-fits_of : (branch call_id : ℕ) (message : List ℕ) (status : ℕ) → (is : IsReply branch call_id message status)
+pub fits_of : (branch call_id : ℕ) (message : List ℕ) (status : ℕ) → (is : IsReply branch call_id message status)
     → AllFit branch call_id is.text
 fits_of branch call_id message status is = record {
   via = (
@@ -139,7 +139,7 @@ fits_of branch call_id message status is = record {
   body = record { headers = is.headers; body = is.body; are = is.are; size = is.size; is_size = is.is_size; whole = is.whole };
 }
 
-fits_at : (branch call_id : ℕ) (a b : List ℕ) → a ≡ b → AllFit branch call_id a → AllFit branch call_id b
+pub fits_at : (branch call_id : ℕ) (a b : List ℕ) → a ≡ b → AllFit branch call_id a → AllFit branch call_id b
 fits_at branch call_id a b e fits = rw e at fits
 
 pub reply_fits : (branch call_id : ℕ) (message text : List ℕ) (status status' : ℕ) → StatusLine message status text

@@ -86,7 +86,7 @@ front_read (a ∷ b ∷ d ∷ f ∷ g ∷ more) status reason e =
             third_digit = digits.third_digit;
             is = sym value ∙ digits.is;
           })
-      | inr no' ↦ (let no : None ≡ Some (status, reason) = rw no' at e in absurd cc)
+      | inr no' ↦ (let no : ◌≡◌ {A = Option (ℕ × List ℕ)} None (Some (status, reason)) = rw no' at e in absurd cc)
     ]
 
 -- the status and what follows it, in what follows the version

@@ -37,6 +37,7 @@ mod class;
 mod field;
 mod frames;
 mod header;
+mod laws;
 mod lines;
 mod numbers;
 mod pieces;
@@ -50,5 +51,6 @@ mod words;
 
 pub use frames::{FrameRefusal, behind_empty_lines, frame};
 pub use ip_text::Address;
+pub use laws::law_reply_is_to_one_request;
 pub use request::OptionsRequest;
 pub use transport::Transport;
