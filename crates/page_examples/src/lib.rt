@@ -31,6 +31,8 @@ mod rolling_cache_page;
 #[cfg(test)]
 mod sip_locator_page;
 #[cfg(test)]
+mod sip_options_page;
+#[cfg(test)]
 mod sip_resolver_page;
 #[cfg(test)]
 mod sip_selection_page;

@@ -13,6 +13,7 @@ mod messages;
 mod names;
 mod orders;
 mod replies;
+mod requests;
 mod second_seats;
 mod selections;
 mod two_locators;

@@ -79,7 +79,7 @@ from_line request =
 abbrev pub to_line : List ℕ → List ℕ
 to_line uri = codes "To: <" ++ (uri ++ (codes ">" ++ crlf))
 
--- which call it is of
+-- what all requests of a call share; here it is this one alone
 abbrev pub call_id_line : ℕ → List ℕ
 call_id_line number = codes "Call-ID: " ++ (token number ++ crlf)
 

@@ -17,18 +17,20 @@
 //!     max_forwards: 70,
 //! };
 //! let octets = request.octets(alloc)?;
-//! let status = request.reply_status(b"SIP/2.0 200 OK\r\n\r\n");
-//! assert_eq!(rt; status, None);
+//! assert!(rt; octets.starts_with(b"OPTIONS sip:b.example SIP/2.0\r\n"));
+//! assert_eq!(rt; request.reply_status(&octets), None);
 //! ```
 //!
 //! # Messages
 //!
 //! - A line ends with CR and LF. Neither stands anywhere else in a head, and a line that begins
-//!   with a space or a tab continues the header before it (RFC 3261 7.3.1).
-//! - A head in which a line is no header, as one without a colon, is none.
-//! - Names of headers and parameters are read in letters of any case, those of headers also in
-//!   their short forms, and so is the branch, as every token. A Call-ID counts as it stands.
-//! - Of several headers or values of Via the first counts. Several of Call-ID, CSeq or
+//!   with a space or a tab continues the header before it (RFC 3261 7.3.1). Where a line is no
+//!   header, as one without a colon, there is no head.
+//! - The version of a status line, the names of headers and parameters and the branch, which is a
+//!   token, are read in letters of any case, and headers by their short names too; method and
+//!   Call-ID as they stand.
+//! - Of several headers or values of Via, and of several parameters `branch`, the first counts;
+//!   RFC 3261 8.1.3.3 advises against a reply with several values. Several of Call-ID, CSeq or
 //!   Content-Length are refused.
 //! - Of a Via the branch alone counts: `SIP/2.0`, the transport and the host are not read.
 #![tactic(auto)]
