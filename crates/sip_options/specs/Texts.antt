@@ -16,7 +16,7 @@ IsOctet class text = (octet : ℕ) × IsTrue (class octet) × (text ≡ octet �
 abbrev pub is_blank : ℕ → Bool
 is_blank octet = octet == 32 || octet == 9
 
--- an octet ends a line, or parts two
+-- an octet is CR or LF
 abbrev pub is_break : ℕ → Bool
 is_break octet = octet == 13 || octet == 10
 

@@ -32,7 +32,12 @@
 //! - Of several headers or values of Via, and of several parameters `branch`, the first counts;
 //!   RFC 3261 8.1.3.3 advises against a reply with several values. Several of Call-ID, CSeq or
 //!   Content-Length are refused.
-//! - Of a Via the branch alone counts: `SIP/2.0`, the transport and the host are not read.
+//! - Of a Via the branch alone counts: `SIP/2.0`, the transport and the host are not read (RFC 3261
+//!   18.1.2 would have the host and port compared).
+//!
+//! Wider than RFC 3261 25.1: a line break may stand in front of a header's colon, and any octet but
+//! CR and LF in a reason, in a quoted string, or in a header or parameter that is not read. A CR or
+//! LF may follow `\\` in a quoted string, where a line breaks.
 #![tactic(auto)]
 
 mod class;
