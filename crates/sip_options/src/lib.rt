@@ -35,9 +35,9 @@
 //! - Of a Via the branch alone counts: `SIP/2.0`, the transport and the host are not read (RFC 3261
 //!   18.1.2 would have the host and port compared).
 //!
-//! Wider than RFC 3261 25.1: a line break may stand in front of a header's colon, and any octet but
-//! CR and LF in a reason, in a quoted string, or in a header or parameter that is not read. A CR or
-//! LF may follow `\\` in a quoted string, where a line breaks.
+//! Wider than RFC 3261 25.1: a line break may stand in front of a header's colon, any octet behind
+//! a `\` in a quoted string, and any but CR and LF in a reason, in a quoted string, or in a header
+//! or parameter that is not read.
 #![tactic(auto)]
 
 mod class;
