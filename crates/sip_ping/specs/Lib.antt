@@ -1,0 +1,4 @@
+pub mod Flows
+pub mod Timers
+pub mod Datagrams
+pub mod Transactions
