@@ -1,2 +1,3 @@
 mod Steps
 mod Schedules
+mod Reading

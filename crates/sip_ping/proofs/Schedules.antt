@@ -1,8 +1,8 @@
 -- Requests are sent on schedule.
-use Rattle.std.proofs.Common.{◌≡◌, ℕ, zero, suc, ◌+◌, ◌≤◌, ◌<◌, min, List, [], ◌∷◌, length, sym, arith}
+use Rattle.std.proofs.Common.{◌≡◌, ℕ, zero, suc, ◌≤◌, List, length, sym, arith}
 use Rattle.sip_options.specs.declared.request.OptionsRequest.{OptionsRequest}
 use Rattle.sip_ping.specs.Flows.{Event}
-use Rattle.sip_ping.specs.Timers.{AreNotBefore, AreScheduled, next_wait, schedule, send_time, t1, t2, wait_after}
+use Rattle.sip_ping.specs.Timers.{AreScheduled, next_wait, send_time, t2, wait_after}
 use Rattle.sip_ping.specs.Datagrams.{Asks, Course, Ends, Pings, begins, looks, sends, waits, slows, passes, replied, silent, refused}
 use Rattle.sip_ping.specs.declared.answer.Answer.{Answer}
 

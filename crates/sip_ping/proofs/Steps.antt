@@ -8,7 +8,7 @@ use Rattle.sip_ping.specs.Datagrams.{IsFinal, IsHeard, IsOther, IsProvisional, b
 use Rattle.sip_ping.specs.Transactions.{AsksAt, EndsWith, FailsWith, GoesOn, IsShort}
 use Rattle.sip_ping.specs.declared.answer.Answer.{Answer}
 use Rattle.sip_ping.specs.declared.answer.Answer.TheVariants.{Replied, Silent, Refused}
-use Rattle.sip_ping.specs.declared.datagrams.Sending.{Sending}
+use Rattle.sip_ping.specs.declared.sending.Sending.{Sending}
 use Rattle.sip_ping.specs.declared.flow.Fault.{Fault}
 use Rattle.sip_ping.specs.declared.flow.Fault.TheVariants.{Closed}
 use Rattle.sip_ping.specs.declared.heard.Heard.{Heard}

@@ -81,15 +81,18 @@ pub data Asks {Flow : Type 0} (does : Flow → Event → Flow → Type 0) (reque
       → does before (sent (request_text request)) after
       → Asks does request deadline first (sent_now course) after
   waits : (course : Course) (most : ℕ) (before after : Flow)
-      → Asks does request deadline first course before → IsInTime deadline course.due course.time most
+      → Asks does request deadline first course before
+      → IsInTime deadline course.due course.time most
       → does before (nothing most) after
       → Asks does request deadline first course after
   slows : (course : Course) (most : ℕ) (octets : List ℕ) (before after : Flow)
-      → Asks does request deadline first course before → IsInTime deadline course.due course.time most
+      → Asks does request deadline first course before
+      → IsInTime deadline course.due course.time most
       → does before (came most octets) after → IsProvisional request octets
       → Asks does request deadline first (record course { wait = t2 }) after
   passes : (course : Course) (most : ℕ) (octets : List ℕ) (before after : Flow)
-      → Asks does request deadline first course before → IsInTime deadline course.due course.time most
+      → Asks does request deadline first course before
+      → IsInTime deadline course.due course.time most
       → does before (came most octets) after → IsOther request octets
       → Asks does request deadline first course after
 
@@ -99,7 +102,8 @@ pub data Ends {Flow : Type 0} (does : Flow → Event → Flow → Type 0) (reque
     (deadline : ℕ) (first : Flow) : List ℕ → Answer → Flow → Type 0 where
   replied : (course : Course) (most status time : ℕ) (octets : List ℕ)
       (before between after : Flow)
-      → Asks does request deadline first course before → IsInTime deadline course.due course.time most
+      → Asks does request deadline first course before
+      → IsInTime deadline course.due course.time most
       → does before (came most octets) between → IsFinal request octets status
       → does between (looked time) after
       → Ends does request deadline first course.sends

@@ -3,7 +3,7 @@ use Rattle.std.specs.Prelude.{ℕ, List, Option, Some, None}
 use Rattle.sip_ping.specs.Datagrams.{Asks, Course, Ends, IsInTime}
 use Rattle.sip_ping.specs.Flows.{Event, failed}
 use Rattle.sip_ping.specs.declared.answer.Answer.{Answer}
-use Rattle.sip_ping.specs.declared.datagrams.Sending.{Sending}
+use Rattle.sip_ping.specs.declared.sending.Sending.{Sending}
 use Rattle.sip_ping.specs.declared.flow.Fault.{Fault}
 use Rattle.sip_ping.specs.declared.timer.Timer.{Timer}
 

@@ -19,4 +19,6 @@ pub enum Answer {
     /// The port is closed, the connection failed or was cut before a final reply came, or the
     /// system refuses to send.
     Refused,
+    /// What came over the connection is no message, or one of more than 65,535 octets.
+    Unreadable,
 }

@@ -5,31 +5,13 @@ ghost use Rattle.sip_ping.specs.Datagrams.{Pings};
 ghost use Rattle.sip_ping.specs.Transactions.{AsksAt, FailsWith, GoesOn, IsShort};
 
 use crate::answer::{Answer, Reply};
-use crate::flow::{Fault, Flow, Received};
+use crate::flow::{Fault, Flow, Received, refused};
 use crate::heard::{Heard, judged};
+use crate::sending::Sending;
 use crate::timer::Timer;
 use sip_options::OptionsRequest;
 use std::alloc::{AllocError, Global};
 use std::sync::Wait;
-
-/// What is sent, and until when.
-#[derive(Clone, Copy)]
-struct Sending<'a> {
-    request: &'a OptionsRequest<'a>,
-    octets: &'a [u8],
-    deadline: u64,
-}
-
-/// What becomes of a request whose flow failed.
-fn refused(fault: Fault) -> Result<Option<Answer>, AllocError>
-    ensures closed { IfOk result (λ it. fault ≡ Fault.Closed) }
-    ensures answer { IfOk result (λ it. it ≡ Some Answer.Refused) }
-{
-    match fault {
-        Fault::Closed => Ok(Some(Answer::Refused)),
-        Fault::Memory => Err(AllocError),
-    }
-}
 
 /// Sends the request, where Timer E fires.
 fn send_due<F: Flow>(

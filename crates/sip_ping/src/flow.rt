@@ -1,15 +1,19 @@
 //! What stands between a request and the system.
-ghost use Rattle.std.specs.Prelude.{ℕ};
+ghost use Rattle.std.specs.Prelude.{◌≡◌, IfOk, Some};
 ghost use Rattle.sip_ping.specs.Flows.{Event, looked, dispatch, receipt};
 
-use std::alloc::Global;
+use crate::answer::Answer;
+use std::alloc::{AllocError, Global};
+use thiserror::Error;
 
 /// Why a flow failed.
-#[derive(Clone, Copy, Debug, PartialEq, Eq)]
+#[derive(Clone, Copy, Debug, PartialEq, Eq, Error)]
 pub enum Fault {
     /// Memory was refused.
+    #[error("memory was refused")]
     Memory,
     /// The port is closed, or the connection failed or was cut, or the system refuses it.
+    #[error("the port is closed, or the connection failed or was cut")]
     Closed,
 }
 
@@ -41,4 +45,15 @@ pub trait Flow {
     /// Waits until octets came, or so many milliseconds are over.
     fn receive(&mut self, alloc: Global, most: u64) -> Received
         ensures { does self.old (receipt most result) self.new };
+}
+
+/// What becomes of a request whose flow failed.
+pub(crate) fn refused(fault: Fault) -> Result<Option<Answer>, AllocError>
+    ensures closed { IfOk result (λ it. fault ≡ Fault.Closed) }
+    ensures answer { IfOk result (λ it. it ≡ Some Answer.Refused) }
+{
+    match fault {
+        Fault::Closed => Ok(Some(Answer::Refused)),
+        Fault::Memory => Err(AllocError),
+    }
 }

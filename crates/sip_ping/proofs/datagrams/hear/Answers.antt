@@ -26,9 +26,13 @@ returns-in-Octets g c = λ first time within asks.
     )
 
 pub returns-in-Nothing : goal.returns-in-Nothing
-returns-in-Nothing g c = λ first time within asks. (time, waited_on g.F.Flow.does c.args.sending.now first _ time c.args.most _ _ asks within (search rules))
+returns-in-Nothing g c = λ first time within asks. (
+  time,
+  waited_on g.F.Flow.does c.args.sending.now first _ time c.args.most _ _ asks within (search rules),
+)
 
 pub returns : goal.returns
 returns g c =
     closed_as c.refused.result c.in-Failed.fault _ c.refused.ensures.closed c.refused.ensures.answer
-    (λ is first time within asks. refused_at g.F.Flow.does c.args.sending.now first _ _ is (fails_at g.F.Flow.does c.args.sending.now first _ time c.in-Failed.fault _ _ asks (search rules)))
+    (λ is first time within asks. refused_at g.F.Flow.does c.args.sending.now first _ _ is
+    (fails_at g.F.Flow.does c.args.sending.now first _ time c.in-Failed.fault _ _ asks (search rules)))

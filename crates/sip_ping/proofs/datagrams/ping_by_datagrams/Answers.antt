@@ -1,5 +1,5 @@
 use Rattle.std.proofs.Common.{rules}
-use Rattle.sip_ping.specs.declared.datagrams.Sending.{Sending}
+use Rattle.sip_ping.specs.declared.sending.Sending.{Sending}
 use Rattle.sip_ping.proofs.Schedules.{pings}
 use Rattle.sip_ping.proofs.Steps.{begins_at, ended_at, goes_on}
 use Rattle.sip_ping.proofs.datagrams.ping_by_datagrams.Goals as goal

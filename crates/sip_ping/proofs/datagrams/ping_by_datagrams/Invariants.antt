@@ -1,4 +1,4 @@
-use Rattle.std.proofs.Common.{◌≡◌, ℕ, ◌<◌, ◌^◌}
+use Rattle.std.proofs.Common.{ℕ}
 use Rattle.sip_ping.specs.Transactions.{AsksAt}
 use Rattle.sip_ping.proofs.datagrams.ping_by_datagrams.Given as goal
 

@@ -1,4 +1,4 @@
-use Rattle.std.proofs.Common.{rules, arith}
+use Rattle.std.proofs.Common.{rules}
 use Rattle.sip_ping.proofs.Steps.{closed_as, looked_on, map_ok, refused_at, silent_at}
 use Rattle.sip_ping.proofs.datagrams.round.Goals as goal
 
