@@ -68,7 +68,7 @@ pub record IsInTime (deadline due time most : ℕ) : Type 0 where
 
 -- A flow goes from one state to another by what its calls do: it sends the request, and again each
 -- time that Timer E fires before the deadline, and waits in between. After a provisional reply
--- Timer E is set to T2 each time. What is no reply to the request changes nothing.
+-- Timer E is set to the longest wait each time. What is no reply to the request changes nothing.
 pub data Asks {Flow : Type 0} (does : Flow → Event → Flow → Type 0) (request : OptionsRequest)
     (deadline : ℕ) (first : Flow) : Course → Flow → Type 0 where
   begins : Asks does request deadline first start first

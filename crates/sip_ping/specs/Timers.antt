@@ -1,11 +1,11 @@
 -- When a request is sent again over UDP (RFC 3261 17.1.2.2), in milliseconds.
 use Rattle.std.specs.Prelude.{ℕ, zero, suc, ◌+◌, ◌≤◌, ◌<◌, min, List, [], ◌∷◌, length, ⊤}
 
--- T1 (RFC 3261 17.1.1.1)
+-- the first wait (RFC 3261 17.1.1.1)
 abbrev pub t1 : ℕ
 t1 = 500
 
--- T2 (RFC 3261 17.1.1.1)
+-- the longest wait (RFC 3261 17.1.1.1)
 abbrev pub t2 : ℕ
 t2 = 4000
 

@@ -2,11 +2,11 @@
 ghost use Rattle.std.specs.Prelude.{◌≡◌, ◌+◌, ◌<◌, ◌^◌};
 ghost use Rattle.sip_ping.specs.Timers.{next_wait, t1, t2};
 
-/// T1, in milliseconds (RFC 3261 17.1.1.1).
-const T1: u32 = 500;
+/// The first wait, in milliseconds (RFC 3261 17.1.1.1).
+const FIRST_WAIT: u32 = 500;
 
-/// T2, in milliseconds (RFC 3261 17.1.1.1).
-const T2: u32 = 4_000;
+/// The longest wait, in milliseconds (RFC 3261 17.1.1.1).
+const LONGEST_WAIT: u32 = 4_000;
 
 /// Timer E: when it fires, and what it is set to then, in milliseconds.
 #[derive(Clone, Copy, Debug)]
@@ -19,7 +19,11 @@ pub(crate) struct Timer {
 fn next_wait(wait: u32) -> u32
     ensures { result ≡ next_wait wait }
 {
-    if wait < T2 / 2 { wait + wait } else { T2 }
+    if wait < LONGEST_WAIT / 2 {
+        wait + wait
+    } else {
+        LONGEST_WAIT
+    }
 }
 
 impl Timer {
@@ -28,7 +32,10 @@ impl Timer {
         ensures due { result.due ≡ 0 }
         ensures wait { result.wait ≡ t1 }
     {
-        Timer { due: 0, wait: T1 }
+        Timer {
+            due: 0,
+            wait: FIRST_WAIT,
+        }
     }
 
     /// The request was sent at this time.
@@ -46,6 +53,6 @@ impl Timer {
         ensures due { self.new.due ≡ self.old.due }
         ensures wait { self.new.wait ≡ t2 }
     {
-        self.wait = T2;
+        self.wait = LONGEST_WAIT;
     }
 }
