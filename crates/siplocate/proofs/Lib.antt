@@ -3,7 +3,3 @@ mod Counts
 mod Onward
 mod Parts
 mod Runs
-mod Talks
-mod Resolutions
-mod Books
-mod Takings

@@ -10,11 +10,11 @@ use Rattle.siplocate.specs.declared.job.Job.TheVariants as job
 use Rattle.siplocate.specs.declared.job.JobOutput.{JobOutput}
 use Rattle.siplocate.specs.declared.job.JobOutput.TheVariants.{Text, Usage, NoInput, NoMemory, NoThread, NotGathered, NoNet}
 use Rattle.sip_selection.specs.Choice.{Resolution}
-use Rattle.siplocate.specs.Requests.{LocatesTo}
+use Rattle.siplocate_one.specs.Requests.{LocatesTo}
 use Rattle.siplocate.specs.Served.{IsCountOfWorkers, IsOverfull, IsServed}
 use Rattle.siplocate.specs.declared.server.RunFault.{RunFault}
 use Rattle.siplocate.specs.declared.server.RunFault.TheVariants as fault
-use Rattle.siplocate.specs.Words as words
+use Rattle.siplocate_one.specs.Words as words
 
 -- what is printed for the request in a text: what becomes of it, or else what is wrong
 pub record IsOneOutput (families : Families) (text printed : List ℕ) (status : ℕ) : Type 0 where

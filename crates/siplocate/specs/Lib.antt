@@ -4,10 +4,3 @@ pub mod Outcomes
 pub mod Runs
 pub mod Served
 pub mod Jobs
-pub mod Refusals
-pub mod Replies
-pub mod Requests
-pub mod Words
-pub mod Talks
-pub mod Takings
-pub mod Books

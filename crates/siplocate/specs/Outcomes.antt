@@ -6,7 +6,7 @@ use Rattle.sip_selection.specs.declared.target.Target.{Target}
 use Rattle.sip_resolver.specs.declared.outcome.Outcome.{Outcome}
 use Rattle.sip_resolver.specs.declared.outcome.Outcome.TheVariants as outcome
 use Rattle.sip_report.specs.Lines.{question_words, reason_word, request_word}
-use Rattle.siplocate.specs.Words.{refusal_word, target_line}
+use Rattle.siplocate_one.specs.Words.{refusal_word, target_line}
 use Rattle.siplocate.specs.declared.line_outcome.LineOutcome.{LineOutcome}
 use Rattle.siplocate.specs.declared.line_outcome.LineOutcome.TheVariants as line_outcome
 

@@ -16,7 +16,7 @@ use Rattle.sip_workers.specs.declared.refusal.RunRefusal.{RunRefusal}
 use Rattle.sip_workers.specs.declared.refusal.RunRefusal.TheVariants.{BadCount, NoThread, Memory, Gathering}
 use Rattle.siplocate.specs.Outcomes.{shown_from, status_of_all}
 use Rattle.sip_selection.specs.RequestLines.{RequestText}
-use Rattle.siplocate.specs.Talks.{own_caps}
+use Rattle.siplocate_one.specs.Talks.{own_caps}
 use Rattle.siplocate.specs.declared.line_outcome.LineOutcome.{LineOutcome}
 use Rattle.siplocate.specs.declared.line_outcome.LineOutcome.TheVariants as line_outcome
 use Rattle.siplocate.specs.declared.requests.Entry.{Entry}

@@ -5,9 +5,9 @@ ghost use Rattle.siplocate.specs.Jobs as spec;
 ghost use Rattle.siplocate.specs.Jobs.{IsReported};
 
 use crate::input::InputRefusal;
-use crate::one::one_text;
 use crate::server::run_output;
 use sip_selection::Families;
+use siplocate_one::one_text;
 use std::alloc::{AllocError, Global};
 use std::io::{self, Write};
 use std::net::Net;

@@ -4,15 +4,15 @@ ghost use Rattle.std.specs.List.{flat_map, list_all, list_any};
 ghost use Rattle.std.specs.String.{string_bytes};
 ghost use Rattle.siplocate.specs.Outcomes as spec;
 ghost use Rattle.siplocate.specs.Runs.{line_outcomes_of};
-ghost use Rattle.siplocate.specs.Words.{target_line};
+ghost use Rattle.siplocate_one.specs.Words.{target_line};
 
-use crate::output::{refusal_word, target_line};
 use crate::requests::Entry;
 use answer_cache::Notice;
 use sip_report::{question_words, reason_word, request_word};
 use sip_selection::Target;
 use sip_uri::UriRefusal;
 use sip_workers::Outcome;
+use siplocate_one::{refusal_word, target_line};
 use std::alloc::{AllocError, Global};
 
 /// What becomes of a line of the requests.

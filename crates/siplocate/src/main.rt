@@ -5,17 +5,12 @@
 ghost use Rattle.std.specs.Prelude.{◌≡◌, ◌≤◌, ◌↔◌, IfOk, IsErr};
 
 mod arguments;
-mod caller;
 mod input;
 mod job;
 mod line_outcome;
-mod one;
-mod output;
-mod reply;
 mod requests;
 mod run;
 mod server;
-mod talk;
 
 use arguments::{Command, arguments};
 use input::input_text;

@@ -7,10 +7,10 @@ ghost use Rattle.siplocate.specs.Runs.{AreEntries, HasTooMany, IsEntry, IsJob, I
 ghost use Rattle.sip_selection.specs.RequestLines.{RequestText};
 ghost use Rattle.sip_workers.specs.declared.refusal.RunRefusal.TheVariants.{BadCount, NoThread};
 
-use crate::caller::{own_caps, own_words};
 use sip_selection::{Families, Request, read_request};
 use sip_uri::UriRefusal;
 use sip_workers::{Job, RunRefusal};
+use siplocate_one::{own_caps, own_words};
 use std::alloc::Global;
 
 /// The most requests of a run.

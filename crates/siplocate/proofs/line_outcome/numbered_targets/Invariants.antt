@@ -3,7 +3,7 @@ use Rattle.std.specs.List.{flat_map}
 use Rattle.std.specs.String.{string_bytes}
 use Rattle.sip_selection.specs.declared.target.Target.{Target}
 use Rattle.siplocate.specs.Outcomes.{numbered}
-use Rattle.siplocate.specs.Words.{target_line}
+use Rattle.siplocate_one.specs.Words.{target_line}
 use Rattle.siplocate.proofs.line_outcome.numbered_targets.Given as goal
 
 abbrev pub invariant-targets : goal.invariant-targets

@@ -1,0 +1,4 @@
+mod Talks
+mod Resolutions
+mod Books
+mod Takings
