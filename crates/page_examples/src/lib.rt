@@ -39,6 +39,6 @@ mod sip_selection_page;
 #[cfg(test)]
 mod sip_uri_page;
 #[cfg(test)]
-mod sip_workers_page;
+mod sip_worker_page;
 #[cfg(test)]
 mod srv_choice_page;

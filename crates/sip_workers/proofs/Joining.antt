@@ -8,9 +8,9 @@ use Rattle.std.specs.List.{All, sum_by}
 use Rattle.answer_cache.specs.Shared.{CacheView}
 use Rattle.sip_workers.specs.Deals.{AreTaken, IsReport, IsTaken, end_of, jobs_of}
 use Rattle.sip_workers.specs.Gathers.{job_in}
-use Rattle.sip_workers.specs.Outcomes.{ResultView}
+use Rattle.sip_worker.specs.Outcomes.{ResultView}
 use Rattle.sip_workers.specs.Rules.{pass_view}
-use Rattle.sip_workers.specs.declared.job.Job.{Job}
+use Rattle.sip_worker.specs.declared.job.Job.{Job}
 use Rattle.sip_workers.specs.declared.queue.PassView.{PassView}
 
 -- who took in what another knows

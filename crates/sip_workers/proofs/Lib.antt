@@ -1,4 +1,3 @@
-mod Collecting
 mod Crossing
 mod Joining
 mod Learning
@@ -6,11 +5,7 @@ mod Moves
 mod NextPut
 mod Once
 mod Places
-mod SameCaps
 mod Sorting
-mod Standing
 mod Taking
-mod Telling
 mod Totals
-mod Weighing
 mod Whole

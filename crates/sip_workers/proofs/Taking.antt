@@ -6,9 +6,9 @@ use Rattle.std.specs.List.{All}
 use Rattle.answer_cache.specs.Shared.{CacheView}
 use Rattle.sip_workers.specs.Deals.{AreTaken, IsReport, jobs_of}
 use Rattle.sip_workers.specs.Gathers.{job_in}
-use Rattle.sip_workers.specs.Outcomes.{ResultView}
+use Rattle.sip_worker.specs.Outcomes.{ResultView}
 use Rattle.sip_workers.specs.declared.batch.Batch.{Batch}
-use Rattle.sip_workers.specs.declared.job.Job.{Job}
+use Rattle.sip_worker.specs.declared.job.Job.{Job}
 use Rattle.sip_workers.specs.declared.queue.PassView.{PassView}
 
 flat-more : (jobs : List Job) (taken : List Batch) (batch : Batch)

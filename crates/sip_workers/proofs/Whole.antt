@@ -12,7 +12,7 @@ use Rattle.std.specs.List.{All, sum_by}
 use Rattle.sip_workers.specs.Rules.{IsWhole}
 use Rattle.sip_workers.specs.Deals.{IsCut, IsInside, IsSome, end_of, jobs_of, no_more}
 use Rattle.sip_workers.specs.declared.batch.Batch.{Batch}
-use Rattle.sip_workers.specs.declared.job.Job.{Job}
+use Rattle.sip_worker.specs.declared.job.Job.{Job}
 
 -- ---- batches that are cut
 

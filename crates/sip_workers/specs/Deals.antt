@@ -3,10 +3,10 @@ use Rattle.std.specs.Prelude.{◌≡◌, ℕ, ◌+◌, ◌<◌, ◌≤◌, ◌==
 use Rattle.std.specs.List.{All, sum_by}
 use Rattle.answer_cache.specs.Shared.{CacheView}
 use Rattle.sip_workers.specs.Gathers.{job_in}
-use Rattle.sip_workers.specs.Outcomes.{IsOutcome, ResultView}
+use Rattle.sip_worker.specs.Outcomes.{IsOutcome, ResultView}
 use Rattle.sip_workers.specs.Rules.{pass_view}
 use Rattle.sip_workers.specs.declared.batch.Batch.{Batch}
-use Rattle.sip_workers.specs.declared.job.Job.{Job}
+use Rattle.sip_worker.specs.declared.job.Job.{Job}
 use Rattle.sip_workers.specs.declared.queue.PassView.{PassView}
 
 -- ---- batches

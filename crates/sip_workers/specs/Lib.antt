@@ -1,7 +1,3 @@
-pub mod Outcomes
-pub mod SameJobs
-pub mod Batches
-pub mod Drives
 pub mod Runs
 pub mod Gathers
 pub mod Slots

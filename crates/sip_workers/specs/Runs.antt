@@ -5,8 +5,8 @@ use mathlib.Core.List.{IsPrefix}
 use Rattle.answer_log.specs.Histories.{IsHistory}
 use Rattle.answer_log.specs.declared.store.Store.{Store}
 use Rattle.answer_cache.specs.Shared.{CacheView, NoticeView}
-use Rattle.sip_workers.specs.Outcomes.{IsOutcome}
-use Rattle.sip_workers.specs.declared.job.Job.{Job}
+use Rattle.sip_worker.specs.Outcomes.{IsOutcome}
+use Rattle.sip_worker.specs.declared.job.Job.{Job}
 use Rattle.sip_resolver.specs.declared.outcome.Outcome.{Outcome}
 use Rattle.sip_workers.specs.declared.refusal.RunRefusal.{RunRefusal}
 use Rattle.sip_workers.specs.declared.gather_refusal.GatherRefusal.{GatherRefusal}

@@ -10,13 +10,11 @@ ghost use Rattle.sip_workers.specs.Gathers.{job_in};
 ghost use Rattle.sip_workers.specs.Rules.{pass_view};
 
 use crate::batch::Batch;
-use crate::gate::Gate;
-use crate::job::Job;
 use crate::queue::{Dealt, Queue, Right};
 use crate::report::{Report, reports_of};
-use crate::worker::Worker;
 use answer_cache::{Seat, SharedCache};
 use dns_asker::{Clock, Wire};
+use sip_worker::{Gate, Job, Worker};
 use std::alloc::{AllocError, Global};
 use std::marker::PhantomData;
 use std::sync::Wait;

@@ -3,11 +3,10 @@ ghost use Rattle.std.specs.Prelude.{◌≡◌, IfOk};
 ghost use Rattle.std.specs.List.{All};
 ghost use Rattle.sip_workers.specs.Deals.{IsTold};
 
-use crate::job::Job;
-use crate::outcome::JobResult;
 use answer_cache::Notice;
 use dns_asker::{Clock, Wire};
 use sip_resolver::Outcome;
+use sip_worker::{Job, JobResult};
 use std::alloc::{AllocError, Global};
 use std::marker::Model;
 
@@ -20,7 +19,7 @@ pub(crate) struct Report<'a> {
 }
 
 impl<'a> Model for Report<'a> {
-    ghost use Rattle.sip_workers.specs.Outcomes.{ResultView};
+    ghost use Rattle.sip_worker.specs.Outcomes.{ResultView};
 
     ghost Value = { ResultView };
 

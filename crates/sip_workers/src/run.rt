@@ -10,10 +10,8 @@ ghost use Rattle.sip_workers.specs.Runs.{AreMade, HaveOneHistory, MayRun, Refuse
 ghost use Rattle.sip_workers.specs.declared.refusal.RunRefusal.TheVariants.{Memory};
 
 use crate::batch::Batch;
-use crate::gate::Gate;
 use crate::gathering::gather;
 use crate::history::see_one_history;
-use crate::job::Job;
 use crate::part::Plan;
 use crate::putting::{put_all, put_ends};
 use crate::queue::{Dealt, Queue, Right};
@@ -23,6 +21,7 @@ use crate::threads::{Home, join_all, join_rest, start_all};
 use answer_cache::{Notice, Seat, SharedCache};
 use dns_asker::{Clock, Wire};
 use sip_resolver::Outcome;
+use sip_worker::{Gate, Job};
 use std::alloc::{AllocError, Global};
 use std::marker::Brand;
 use std::sync::Wait;

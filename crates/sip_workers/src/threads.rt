@@ -7,13 +7,12 @@ ghost use Rattle.answer_cache.specs.Shared.{Belongs};
 ghost use Rattle.sip_workers.specs.Deals.{AreTaken, IsInside, IsPromise, end_of};
 ghost use Rattle.sip_workers.specs.Rules.{pass_view};
 
-use crate::gate::Gate;
-use crate::job::Job;
 use crate::part::{Part, Plan, work};
 use crate::queue::{Dealt, Queue, Right};
 use crate::report::Report;
 use answer_cache::{Seat, SharedCache};
 use dns_asker::{Clock, Wire};
+use sip_worker::{Gate, Job};
 use std::alloc::AllocError;
 use std::marker::PhantomData;
 use std::sync::Wait;

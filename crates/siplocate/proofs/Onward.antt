@@ -9,8 +9,8 @@ use Rattle.sip_selection.specs.Known.{Given}
 use Rattle.sip_resolver.specs.Outcomes.{IsLacking}
 use Rattle.sip_resolver.specs.declared.outcome.Outcome.{Outcome}
 use Rattle.sip_resolver.specs.declared.outcome.Outcome.TheVariants.{Targets, Refused, NoAnswer, NoServer, BadReply, Memory}
-use Rattle.sip_workers.specs.Outcomes.{Counts, IsChosen, IsOutcome}
-use Rattle.sip_workers.specs.declared.job.Job.{Job}
+use Rattle.sip_worker.specs.Outcomes.{Counts, IsChosen, IsOutcome}
+use Rattle.sip_worker.specs.declared.job.Job.{Job}
 
 through : (first middle last : List Store) → IsPrefix first middle → IsPrefix middle last → IsPrefix first last
 through first middle last front back =

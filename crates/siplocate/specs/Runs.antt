@@ -7,9 +7,9 @@ use Rattle.sip_selection.specs.declared.caps.Families.TheVariants.{V4ThenV6}
 use Rattle.sip_selection.specs.declared.request.Request.{Request}
 use Rattle.sip_uri.specs.declared.refusal.UriRefusal.{UriRefusal}
 use Rattle.sip_uri.specs.declared.refusal.UriRefusal.TheVariants as uri
-use Rattle.sip_workers.specs.Outcomes.{IsOutcome}
+use Rattle.sip_worker.specs.Outcomes.{IsOutcome}
 use Rattle.sip_workers.specs.Runs.{IsHistoryOf}
-use Rattle.sip_workers.specs.declared.job.Job.{Job}
+use Rattle.sip_worker.specs.declared.job.Job.{Job}
 use Rattle.sip_resolver.specs.Draws.{drawn}
 use Rattle.sip_resolver.specs.declared.outcome.Outcome.{Outcome}
 use Rattle.sip_workers.specs.declared.refusal.RunRefusal.{RunRefusal}

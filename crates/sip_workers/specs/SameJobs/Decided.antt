@@ -14,8 +14,8 @@ use Rattle.sip_selection.specs.declared.caps.Families.{Families}
 use Rattle.sip_selection.specs.declared.caps.Families.TheVariants.{V4, V6, V4ThenV6, V6ThenV4}
 use Rattle.sip_selection.specs.declared.request.Request.{Request}
 use Rattle.sip_selection.specs.declared.request.Request.TheVariants.{Uri, Via}
-use Rattle.sip_workers.specs.SameJobs.{same_caps, same_families, same_job, same_request}
-use Rattle.sip_workers.specs.declared.job.Job.{Job}
+use Rattle.sip_worker.specs.SameJobs.{same_caps, same_families, same_job, same_request}
+use Rattle.sip_worker.specs.declared.job.Job.{Job}
 
 transport_decides : (transport other : Transport)
     → Decides (same_transport transport other) (transport ≡ other)

@@ -3,7 +3,7 @@ use Rattle.std.proofs.lemmas.Bool.{ltb-true, ltb-false}
 use Rattle.std.proofs.lemmas.List.Sorted.{answers_always}
 use Rattle.std.specs.List.{IsAllAdjacentAnswer}
 use Rattle.sip_workers.specs.Runs.{Rises}
-use Rattle.sip_workers.specs.declared.job.Job.{Job}
+use Rattle.sip_worker.specs.declared.job.Job.{Job}
 use Rattle.try_states.proofs.gathered.rises.Goals as goal
 
 answer : (jobs : List Job) (r : Bool) → IsAllAdjacentAnswer (λ x y b. b ≡ nat_lt x.number y.number) jobs r

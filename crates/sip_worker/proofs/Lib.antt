@@ -1,0 +1,5 @@
+mod Collecting
+mod SameCaps
+mod Standing
+mod Telling
+mod Weighing

@@ -1,0 +1,36 @@
+use Rattle.std.proofs.Common.{arith}
+use Rattle.sip_worker.proofs.Telling.{outcome-for, told-one}
+use Rattle.sip_worker.proofs.Weighing.{taken-owned}
+use Rattle.sip_worker.proofs.open_batch.OpenBatch.take_next.Goals as goal
+
+pub index_mut-requires : goal.index_mut-requires
+index_mut-requires g c =
+    let it = taken-owned c.self.inside.jobs.now c.in-Some.ended c.self.inside.resolver c.poll_outcome.new.self
+    c.in-Some.ensures.taken c.self.invariant.own in
+    let inside = it.one.inside in
+    let many = c.self.invariant.as_many in
+    let place = c.number-place.ensures in
+    omega (arith, inside, many, place)
+
+pub number_at-requires : goal.number_at-requires
+number_at-requires g c =
+    let it = taken-owned c.self.inside.jobs.now c.in-Some.ended c.self.inside.resolver c.poll_outcome.new.self
+    c.in-Some.ensures.taken c.self.invariant.own in
+    let inside = it.one.inside in
+    let place = c.number-place.ensures in
+    omega (arith, inside, place)
+
+pub returns-clause-stands : goal.returns-clause-stands
+returns-clause-stands g c = λ seat before.
+    let stands = rw (← c.self.view_is) at before in
+    let jobs = c.self.inside.jobs.now in
+    let it = taken-owned jobs c.in-Some.ended c.self.inside.resolver c.poll_outcome.new.self
+    c.in-Some.ensures.taken c.self.invariant.own in
+    record {
+      requests = c.poll_outcome.ensures.stand seat stands.requests;
+      told = rw (c.number-place.ensures, c.into_outcome.ensures)
+          (told-one _ _ seat jobs c.self.inside.outcomes.items c.in-Some.ended.sought.number c.in-Some.ended.outcome it.one.inside
+          stands.told
+          (λ d. outcome-for _ _ seat c.in-Some.ended.sought c.in-Some.ended.sought.number _ c.in-Some.ended.outcome (it.one.is d)
+          (c.in-Some.ensures.outcome seat stands.requests)));
+    }

@@ -1,0 +1,4 @@
+pub mod Outcomes
+pub mod SameJobs
+pub mod Batches
+pub mod Drives

@@ -1,5 +1,0 @@
-use Rattle.sip_workers.proofs.Collecting.{Collected}
-use Rattle.sip_workers.proofs.worker.Worker.results.Given as goal
-
-abbrev pub invariant-outcomes : goal.invariant-outcomes
-invariant-outcomes g l = Collected g.W.Wire.gives g.C.Clock.shows l.fn.self l.jobs l.outcome-iterator.rest.items l.results.items
