@@ -11,7 +11,7 @@ use Rattle.ip_text.specs.declared.address.Address.TheVariants as address
 use Rattle.sip_uri.specs.declared.transport.Transport.{Transport}
 use Rattle.sip_uri.specs.declared.transport.Transport.TheVariants.{Tls}
 use Rattle.sip_uri.specs.Same.{same_transport}
-use Rattle.sip_selection.specs.Callers.{kinds_of, offers}
+use Rattle.sip_selection.specs.Callers.{kinds_of, offers, sized}
 use Rattle.sip_selection.specs.Choice.{targets, need, resolved, offered, is_tried, to_address, locate}
 use Rattle.sip_selection.specs.Known.{Given, find_answer}
 use Rattle.sip_selection.specs.Requests.{target_of, port_of, spoken_of, is_secure, meant_by, transport_of, default_transport}
@@ -43,9 +43,18 @@ module _ (request : Request) (caps : Caps) (words : List ℕ) (given : List Give
   offered-by meant transport true e is = let same : meant ≡ transport = cc in (same, subst (λ it. offers caps it ≡ true) same e)
   offered-by meant transport false e is = absurd cc
 
+  -- a transport is that of what is meant, or in place of it, and one of the caller's
+  record IsOffered (meant : Result Transport Reason) (transport : Transport) : Type 0 where
+    it : Transport
+    is : meant ≡ Ok it
+    size : sized caps.is_large it ≡ transport
+    offered : offers caps transport ≡ true
+
   offered-is : (meant : Result Transport Reason) (transport : Transport) → offered caps meant ≡ Ok transport
-      → (meant ≡ Ok transport) × (offers caps transport ≡ true)
-  offered-is (Ok meant) transport is = let k = offered-by meant transport (offers caps meant) refl is in (ap Ok k.0, k.1)
+      → IsOffered meant transport
+  offered-is (Ok it) transport is =
+      let k = offered-by (sized caps.is_large it) transport (offers caps (sized caps.is_large it)) refl is in
+      record { it = it; is = refl; size = k.0; offered = k.1 }
   offered-is (Err reason) transport is = absurd cc
 
   offered-over : AllOver request caps words given (λ transport. offers caps transport ≡ true)
@@ -53,8 +62,8 @@ module _ (request : Request) (caps : Caps) (words : List ℕ) (given : List Give
     by_rule = λ transport is. (and_parts (offers caps transport) _ is).0;
     own = All-filter (is_tried (is_secure request)) (λ transport. offers caps transport ≡ true) caps.transports
         (own_offered caps);
-    meant = λ transport is. (offered-is (transport_of request) transport is).1;
-    usually = λ transport is. (offered-is (Ok (default_transport (is_secure request))) transport is).1;
+    meant = λ transport is. (offered-is (transport_of request) transport is).offered;
+    usually = λ transport is. (offered-is (Ok (default_transport (is_secure request))) transport is).offered;
   }
 
   pub offered_all : (found : List Target) → locate request caps words given ≡ targets found
@@ -82,12 +91,22 @@ module _ (request : Request) (caps : Caps) (words : List ℕ) (given : List Give
     offered_default-tls : (transport : Transport) → meant_by (is_secure request) None ≡ Ok transport → transport ≡ Tls
     offered_default-tls transport is = secure_means_tls None transport (ap (λ b. meant_by b None) (sym secure) ∙ is)
 
+    sized-tls : (large : Bool) → sized large Tls ≡ Tls
+    sized-tls false = refl
+    sized-tls true = refl
+
+    tls-of : (meant : Result Transport Reason) (transport : Transport) → ((it : Transport) → meant ≡ Ok it → it ≡ Tls)
+        → offered caps meant ≡ Ok transport → transport ≡ Tls
+    tls-of meant transport means is =
+        let k = offered-is meant transport is in
+        sym k.size ∙ ap (sized caps.is_large) (means k.it k.is) ∙ sized-tls caps.is_large
+
     tls-over : AllOver request caps words given (λ transport. transport ≡ Tls)
     tls-over = record {
       by_rule = ruled-tls;
       own = filter-all (λ transport. transport ≡ Tls) (is_tried (is_secure request)) tried-tls caps.transports;
-      meant = λ transport is. meant-tls transport (offered-is (transport_of request) transport is).0;
-      usually = λ transport is. offered_default-tls transport (offered-is (Ok (default_transport (is_secure request))) transport is).0;
+      meant = λ transport is. tls-of (transport_of request) transport meant-tls is;
+      usually = λ transport is. tls-of (Ok (default_transport (is_secure request))) transport offered_default-tls is;
     }
 
     pub tls_all : (found : List Target) → locate request caps words given ≡ targets found → All (λ it. it.transport ≡ Tls) found

@@ -13,7 +13,7 @@ use Rattle.sip_uri.specs.declared.transport.Transport.{Transport}
 use Rattle.sip_uri.specs.declared.transport.Transport.TheVariants.{Tls}
 use Rattle.sip_selection.specs.declared.caps.Caps.{Caps}
 use Rattle.sip_uri.specs.Same.{same_transport}
-use Rattle.sip_selection.specs.Callers.{offers, kinds_of}
+use Rattle.sip_selection.specs.Callers.{offers, kinds_of, sized}
 use Rattle.sip_selection.specs.Known.{Given, Needing, after, made, answer_to, rules_in}
 use Rattle.sip_selection.specs.Requests.{target_of, port_of, spoken_of, is_secure, transport_of, default_transport, default_port}
 use Rattle.sip_selection.specs.Rules.{usable_services}
@@ -53,12 +53,17 @@ resolved (Ok it) = settled it
 resolved (Err question) = need question
 
 -- a transport, if it is one of the caller's
-abbrev pub offered : Caps → Result Transport Reason → Result Transport Reason
-offered caps (Ok transport) =
+abbrev pub if_offered : Caps → Transport → Result Transport Reason
+if_offered caps transport =
     if offers caps transport then Ok transport else Err TransportUnsupported
+
+-- the transport that a request means, or TCP in place of UDP where it is too large for that (RFC
+-- 3261 18.1.1), if it is one of the caller's
+abbrev pub offered : Caps → Result Transport Reason → Result Transport Reason
+offered caps (Ok transport) = if_offered caps (sized caps.is_large transport)
 offered caps (Err reason) = Err reason
 
--- the transport where none is named: TLS for SIPS, else UDP
+-- the transport where none is named: TLS for SIPS, else UDP, or TCP for a large request
 abbrev pub offered_default : Bool → Caps → Result Transport Reason
 offered_default secure caps = offered caps (Ok (default_transport secure))
 

@@ -1,12 +1,19 @@
 //! What the caller can do.
-ghost use Rattle.std.specs.Prelude.{◌≡◌, ◌↔◌, ◌<◌, ◌≤◌, length, IsSome, IfSome};
+ghost use Rattle.std.specs.Prelude.{◌≡◌, ◌↔◌, ◌<◌, ◌≤◌, ◌∷◌, [], Some, false, true, length, take, Decides, IsSome, IfSome};
 ghost use Rattle.std.specs.List.{list_any};
 ghost use Rattle.sip_uri.specs.Same.{same_transport};
 ghost use Rattle.sip_selection.specs.Callers.{AreOffered, are_distinct, held_in, holds, kinds_of, offers, slots_of};
+ghost use Rattle.sip_selection.specs.Callers.{IsTooLarge, sized, without_udp};
 
 use dns_message::Kind;
 use sip_uri::Transport;
 use std::marker::Model;
+
+/// How near to the path's MTU a request may not come over UDP, in octets.
+const WITHIN_MTU: usize = 200;
+
+/// The most octets of a request over UDP, where the path's MTU is not known.
+const UNKNOWN_MTU_LIMIT: usize = 1_300;
 
 /// The families of addresses that are asked for, in this order.
 #[derive(Clone, Copy, Debug, PartialEq, Eq)]
@@ -22,11 +29,12 @@ pub enum Families {
 }
 
 /// What the caller can do: 1 to 4 distinct transports, in order of preference, and its families of
-/// addresses.
+/// addresses; for any request, or for one that is too large for UDP.
 #[derive(Clone, Copy, Debug, PartialEq, Eq)]
 pub struct Caps {
     slots: [Option<Transport>; 4],
     families: Families,
+    is_large: bool,
 }
 
 impl Model for Caps {
@@ -35,14 +43,23 @@ impl Model for Caps {
 
     ghost Value = { CapsValue };
 
-    ghost view = { λ it. record { transports = held_in it.slots; families = it.families } };
+    ghost view = { λ it. record {
+      transports = held_in it.slots;
+      families = it.families;
+      is_large = it.is_large;
+    } };
 
     ghost invariant = { λ it. AreSlots it.slots };
 
-    ghost inverse = { λ it. record { slots = slots_of it.transports; families = it.families } };
+    ghost inverse = { λ it. record {
+      slots = slots_of it.transports;
+      families = it.families;
+      is_large = it.is_large;
+    } };
 
     ghost inverse_ok = { λ it are.
-        ap (λ slots. record { slots = slots; families = it.families }) are.packed };
+        ap (λ slots. record { slots = slots; families = it.families; is_large = it.is_large })
+        are.packed };
 }
 
 /// Whether a transport is among these.
@@ -95,19 +112,96 @@ fn slots_of(transports: &[Transport]) -> Option<[Option<Transport>; 4]>
     }
 }
 
+/// Whether a request of so many octets is too large for UDP, over a path of this MTU.
+fn is_too_large(octets: usize, mtu: Option<u16>) -> bool
+    ensures { Decides result (IsTooLarge octets mtu) }
+{
+    match mtu {
+        Some(mtu) => usize::from(mtu) <= octets.saturating_add(WITHIN_MTU),
+        None => octets > UNKNOWN_MTU_LIMIT,
+    }
+}
+
+/// The transport that a slot holds, unless that is UDP.
+fn other_than_udp(slot: Option<Transport>) -> Option<Transport>
+    ensures { held_in (result ∷ []) ≡ without_udp (held_in (slot ∷ [])) }
+{
+    match slot {
+        Some(Transport::Udp) => None,
+        _ => slot,
+    }
+}
+
+/// The transports that slots hold without UDP, and how many they are.
+fn others_than_udp(slots: &[Option<Transport>]) -> ([Transport; 4], usize)
+    requires { length slots.now ≡ 4 }
+    ensures four { length result.0 ≡ 4 }
+    ensures few { result.1 ≤ 4 }
+    ensures are { take result.1 result.0 ≡ without_udp (held_in slots.now) }
+{
+    let mut others = [Transport::Tcp; 4];
+    let mut count = 0;
+    'slots: for slot in slots {
+        match other_than_udp(*slot) {
+            None => {}
+            Some(transport) => {
+                others[count] = transport;
+                count += 1;
+            }
+        }
+    }
+    (others, count)
+}
+
 impl Caps {
     /// These transports and families, unless there are no transports, more than four, or one of
     /// them twice.
     pub fn new(transports: &[Transport], families: Families) -> Option<Caps>
         ensures made { IsSome result ↔ AreOffered transports.now }
-        ensures is { IfSome result
-            (λ caps. caps ≡ record { transports = transports.now; families = families }) }
+        ensures is { IfSome result (λ caps. caps ≡ record {
+          transports = transports.now;
+          families = families;
+          is_large = false;
+        }) }
     {
         if !are_distinct(transports) {
             return None;
         }
         let slots = slots_of(transports)?;
-        Some(Caps { slots, families })
+        Some(Caps {
+            slots,
+            families,
+            is_large: false,
+        })
+    }
+
+    /// What the caller can do for a request of so many octets over a path of this MTU, if it is
+    /// known (RFC 3261 18.1.1). One that is within 200 octets of the MTU, or larger than 1,300
+    /// octets where that is not known, does not go over UDP: it goes over TCP where it would go
+    /// over UDP. There is none where the caller has no other transport.
+    ///
+    /// Where a server has no TCP, such a request is to be tried over UDP after all: that is another
+    /// choice, by what the caller can do for any request. A response goes by its Via, whatever its
+    /// length.
+    pub fn for_length(&self, octets: usize, mtu: Option<u16>) -> Option<Caps>
+        ensures small { (IsTooLarge octets mtu → ⊥) → result ≡ Some self.now }
+        ensures made { IsTooLarge octets mtu
+            → (IsSome result ↔ AreOffered (without_udp self.now.transports)) }
+        ensures is { IsTooLarge octets mtu → IfSome result (λ caps. caps ≡ record {
+          transports = without_udp self.now.transports;
+          families = self.now.families;
+          is_large = true;
+        }) }
+    {
+        if !is_too_large(octets, mtu) {
+            return Some(*self);
+        }
+        let (others, count) = others_than_udp(self.slots());
+        let caps = Caps::new(&others[..count], self.families)?;
+        Some(Caps {
+            is_large: true,
+            ..caps
+        })
     }
 
     /// Whether a transport is among the caller's.
@@ -130,6 +224,16 @@ impl Caps {
         ensures { AreOffered self.now.transports }
     {
         let _slots = &self.slots;
+    }
+
+    /// The transport of a request that means this one: TCP in place of UDP, where it is too large.
+    pub(crate) fn sized(&self, transport: Transport) -> Transport
+        ensures { result ≡ sized self.now.is_large transport }
+    {
+        match transport {
+            Transport::Udp if self.is_large => Transport::Tcp,
+            _ => transport,
+        }
     }
 
     /// The slots of its transports, in order of preference.

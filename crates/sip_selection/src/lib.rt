@@ -53,6 +53,8 @@
 //! (`law_questions_are_few`) and 16,384 targets (`law_targets_are_few`); of a selection as it is,
 //! `Selection::law_answers_are_few` says both.
 //!
+//! A request that is too large for UDP (RFC 3261 18.1.1) goes by `Caps::for_length`.
+//!
 //! `read_request` reads the request of a line: a URI, or the top Via of a request.
 //!
 //! Each `give` goes on from where the choice stopped. It takes memory for the answer, for the

@@ -63,11 +63,12 @@ fn transport_of(request: &RequestView<'_>) -> Result<Transport, Reason>
     }
 }
 
-/// A transport, if it is one of the caller's.
+/// The transport that a request means, or TCP in place of UDP where it is too large for that, if it
+/// is one of the caller's.
 fn offered(caps: &Caps, transport: Result<Transport, Reason>) -> Result<Transport, Reason>
     ensures { result ≡ choice.offered caps.now transport }
 {
-    let transport = transport?;
+    let transport = caps.sized(transport?);
     if caps.offers(transport) {
         Ok(transport)
     } else {

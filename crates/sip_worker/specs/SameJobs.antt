@@ -1,6 +1,7 @@
 -- Equality of jobs: that of their parts.
 pub mod Decided
 use Rattle.std.specs.Prelude.{Bool, true, false, ◌&&◌, nat_eq}
+use Rattle.std.specs.Bool.{beq}
 use Rattle.std.specs.Cmp.Lexicographic.{pointwise}
 use Rattle.sip_uri.specs.Same.{same_transport, same_uri, same_via}
 use Rattle.sip_selection.specs.Callers.{CapsValue}
@@ -25,11 +26,12 @@ same_families V4ThenV6 V4ThenV6 = true
 same_families V6ThenV4 V6ThenV4 = true
 same_families families other = false
 
--- two callers can use the same: the transports, in the same order, and the families of addresses
+-- two callers can do the same: the transports, in the same order, and the families of addresses, for
+-- a request that is too large for UDP or for any other
 abbrev pub same_caps : CapsValue → CapsValue → Bool
 same_caps caps other =
     pointwise same_transport caps.transports other.transports
-    && same_families caps.families other.families
+    && same_families caps.families other.families && beq caps.is_large other.is_large
 
 -- two jobs are the same in each part: number, request, what the caller can use, and random words
 abbrev pub same_job : Job → Job → Bool

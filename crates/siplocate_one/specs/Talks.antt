@@ -1,5 +1,5 @@
 -- What the program asks for, and what replies build up.
-use Rattle.std.specs.Prelude.{ℕ, List, [], ◌∷◌, ◌++◌, is_none, Option, Some, None, option_and_then, replicate, if◌then◌else◌}
+use Rattle.std.specs.Prelude.{ℕ, false, List, [], ◌∷◌, ◌++◌, is_none, Option, Some, None, option_and_then, replicate, if◌then◌else◌}
 use Rattle.dns_answers.specs.Answers.{answer}
 use Rattle.dns_answers.specs.Replies.{reply_refusal}
 use Rattle.dns_message.specs.declared.message.Message.{Message}
@@ -14,7 +14,11 @@ use Rattle.sip_resolver.specs.Draws.{drawn}
 
 -- the transports of the program, in order of preference
 abbrev pub own_caps : Families → CapsValue
-own_caps families = record { transports = Udp ∷ Tcp ∷ Tls ∷ Sctp ∷ []; families = families }
+own_caps families = record {
+  transports = Udp ∷ Tcp ∷ Tls ∷ Sctp ∷ [];
+  families = families;
+  is_large = false;
+}
 
 -- the random words of the program: those of a key of zeros, by the number 1
 abbrev pub own_words : List ℕ

@@ -1,5 +1,5 @@
 //! The words after the program's name.
-ghost use Rattle.std.specs.Prelude.{◌≡◌, ◌⊎◌, ◌↔◌, List, Some, None, map, codes, not, option_map};
+ghost use Rattle.std.specs.Prelude.{◌≡◌, ◌⊎◌, ◌↔◌, List, Some, None, false, map, codes, not, option_map};
 ghost use Rattle.std.specs.Prelude.{IfErr, IfOk, IsTrue, OnOk};
 ghost use Rattle.std.specs.List.{AllZip, Any};
 ghost use Rattle.std.specs.Net.Grammar.{IsIpText};
@@ -265,8 +265,8 @@ fn transports_in(alloc: Global, matches: &ArgMatches<'_>) -> Result<Vec<Transpor
 
 /// What can be sent over these transports, to addresses of these families.
 fn caps_of(transports: &[Transport], families: Families) -> Result<Caps, OptionFault>
-    ensures made { IfOk result
-        (λ caps. caps ≡ record { transports = transports.now; families = families }) }
+    ensures made { IfOk result (λ caps. caps ≡ record {
+        transports = transports.now; families = families; is_large = false }) }
     ensures offered { OnOk result (AreOffered transports.now) }
     ensures refused { IfErr result
         (λ it. (it ≡ fault.Transports) × (AreOffered transports.now → ⊥)) }

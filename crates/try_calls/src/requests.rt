@@ -9,7 +9,7 @@ use crate::fields::{Part, parts};
 use crate::replies::push_question;
 use crate::shown::{push_address, push_debug_line};
 use dns_message::Question;
-use row_fields::{Fault, Output, number64, split_word, text};
+use row_fields::{Fault, Output, count, number16, number64, split_word, text};
 use sip_selection::{Caps, Families, Next, Reason, Request, RequestView, Target};
 use sip_uri::{Transport, read_uri, read_via, view_uri, view_via};
 use srv_choice::{WORD_COUNT, Words};
@@ -113,15 +113,30 @@ fn families(field: &str) -> Result<Families, Fault> {
     }
 }
 
-/// What a caller can do that has these transports and families, if there is such a caller.
+/// What a caller can do for a request of a length, with the path's MTU behind a slash where that is
+/// known.
+fn caps_for_length(caps: &Caps, field: &str) -> Result<Option<Caps>, Fault> {
+    match field.split_once('/') {
+        Some((octets, mtu)) => Ok(caps.for_length(count(octets)?, Some(number16(mtu)?))),
+        None => Ok(caps.for_length(count(field)?, None)),
+    }
+}
+
+/// What a caller can do that has these transports and families, if there is such a caller. Behind a
+/// slash stands the length of its request, where that is given.
 pub(crate) fn caps(
     alloc: Global,
     transport_field: &str,
     family_field: &str,
 ) -> Result<Option<Caps>, Fault> {
     let families = families(family_field)?;
-    let transports = transports(alloc, transport_field)?;
-    Ok(Caps::new(&transports, families))
+    let Some((transport_field, length)) = transport_field.split_once('/') else {
+        return Ok(Caps::new(&transports(alloc, transport_field)?, families));
+    };
+    match Caps::new(&transports(alloc, transport_field)?, families) {
+        Some(caps) => caps_for_length(&caps, length),
+        None => Ok(None),
+    }
 }
 
 /// These words from an index on; other words are 0.

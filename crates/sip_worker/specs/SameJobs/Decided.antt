@@ -2,8 +2,8 @@
 -- they stand here because the laws of `==` cite them.
 use Rattle.std.proofs.Common.{◌≡◌, Bool, true, false, ◌&&◌, refl, ap}
 use Rattle.std.specs.Prelude.{nat_eq}
-use Rattle.std.specs.Bool.{Decides}
-use Rattle.std.specs.Cmp.{unsigned_Decides}
+use Rattle.std.specs.Bool.{Decides, beq}
+use Rattle.std.specs.Cmp.{booleans_Decides, unsigned_Decides}
 use Rattle.std.specs.Cmp.Lexicographic.{pointwise, pointwise_decides, bytes_decides}
 use Rattle.sip_uri.specs.Same.{same_transport}
 use Rattle.sip_uri.specs.Same.Decided.{spoken_decides, uri_decides, via_decides}
@@ -60,12 +60,19 @@ both false s one two = (λ e. absurd cc, λ e. one.1 e.0)
 
 pub caps_decides : (caps other : CapsValue) → Decides (same_caps caps other) (caps ≡ other)
 caps_decides caps other =
-    let k = both (pointwise same_transport caps.transports other.transports)
+    let k = both (pointwise same_transport caps.transports other.transports
+    && same_families caps.families other.families) (beq caps.is_large other.is_large)
+    (both (pointwise same_transport caps.transports other.transports)
     (same_families caps.families other.families)
     (pointwise_decides transport_decides caps.transports other.transports)
-    (families_decides caps.families other.families) in (
-      λ e. let p = k.0 e in λ i. record { transports = p.0 i; families = p.1 i },
-      λ e. k.1 (ap (λ (c : CapsValue). c.transports) e, ap (λ (c : CapsValue). c.families) e),
+    (families_decides caps.families other.families))
+    (booleans_Decides caps.is_large other.is_large) in (
+      λ e. let p = k.0 e in
+      λ i. record { transports = p.0.0 i; families = p.0.1 i; is_large = p.1 i },
+      λ e. k.1 (
+        (ap (λ (c : CapsValue). c.transports) e, ap (λ (c : CapsValue). c.families) e),
+        ap (λ (c : CapsValue). c.is_large) e,
+      ),
     )
 
 pub job_decides : (job other : Job) → Decides (same_job job other) (job ≡ other)
