@@ -29,3 +29,6 @@ mod ViaLists
 mod ViaPieces
 mod ViaPlaces
 mod ViaTexts
+mod ViaValues
+mod ViaSaid
+mod ViaRouteTexts

@@ -21,7 +21,7 @@ host_seen (part.V4 octets) is = tt
 host_seen (part.V6 octets) is = tt
 host_seen (part.Domain text) is = hostname_read text.now is
 
-maddr_seen : (maddr : Option HostPart) → IfSome maddr IsHostPart → IfSome maddr IsHostView
+pub maddr_seen : (maddr : Option HostPart) → IfSome maddr IsHostPart → IfSome maddr IsHostView
 maddr_seen None is = tt
 maddr_seen (Some host) is = host_seen host is
 

@@ -53,7 +53,7 @@ not_in earlier name keys apart =
 
 -- ---- what parameters go on with
 
-blanks_no_mark : (text : List ℕ) → IsBlanks text → behind_mark 59 text ≡ None
+pub blanks_no_mark : (text : List ℕ) → IsBlanks text → behind_mark 59 text ≡ None
 blanks_no_mark text blank = rw append-nil at (no_mark 59 text [] blank tt tt)
 
 next_blank : (text : List ℕ) → IsBlanks text → next_param text ≡ None

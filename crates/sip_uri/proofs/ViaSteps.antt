@@ -111,10 +111,10 @@ quoted_again inner rest (pair x text low c d is) =
 
 -- ---- a value, and what follows it
 
-record ValueRead (text rest : List ℕ) : Type 0 where
-  value : List ℕ
-  is : IsValue value
-  joined : text ≡ value ++ rest
+pub record ValueRead (text rest : List ℕ) : Type 0 where
+  pub value : List ℕ
+  pub is : IsValue value
+  pub joined : text ≡ value ++ rest
 
 some_read : (value rest after : List ℕ) → some_value value rest ≡ Some after → (0 < length value) × (rest ≡ after)
 some_read [] rest after e = absurd cc
@@ -124,7 +124,7 @@ first_quote : (text : List ℕ) → eqb (slice_index text 0) 34 ≡ true → tex
 first_quote [] e = absurd (let no : false ≡ true = e in cc)
 first_quote (x ∷ text) e = let is : x ≡ 34 = grind (arith, nat_tests) in rw is refl
 
-value_read : (text rest : List ℕ) → behind_value text ≡ Some rest → ValueRead text rest
+pub value_read : (text rest : List ℕ) → behind_value text ≡ Some rest → ValueRead text rest
 unfolding behind_value
 value_read text rest e =
     elim (cases_Bool (eqb (slice_index text 0) 34)) [
@@ -157,7 +157,7 @@ some_again : (value rest : List ℕ) → 0 < length value → some_value value r
 some_again [] rest some = absurd (omega arith)
 some_again (x ∷ value) rest some = refl
 
-value_again : (value rest : List ℕ) → IsValue value → Ends is_value_octet rest → behind_value (value ++ rest) ≡ Some rest
+pub value_again : (value rest : List ℕ) → IsValue value → Ends is_value_octet rest → behind_value (value ++ rest) ≡ Some rest
 unfolding behind_value
 value_again value rest (word some all) ends =
     let k = row_again is_value_octet value rest all ends in
@@ -166,7 +166,7 @@ value_again value rest (quoted inner is e) ends =
     let whole : value ++ rest ≡ 34 ∷ (inner ++ 34 ∷ rest) = ap (λ (t : List ℕ). t ++ rest) e ∙ append_assoc (34 ∷ inner) (34 ∷ []) rest in
     rw whole (quoted_again inner rest is)
 
-value_starts : (value rest : List ℕ) → IsValue value → Ends is_blank (value ++ rest)
+pub value_starts : (value rest : List ℕ) → IsValue value → Ends is_blank (value ++ rest)
 value_starts value rest (word some all) = begins_apart is_value_octet is_blank (λ x e. grind (arith, nat_tests, e)) value rest some all
 value_starts value rest (quoted inner is e) = rw e refl
 
@@ -270,7 +270,7 @@ next_read text name after e keys are =
     (param text keys mark.front mark.behind
     (row is_token_octet rest) v.value after mark.front_blank mark.behind_blank is_name v.is are whole)
 
-valued_again : (value rest : List ℕ) → ValueText value → Follows rest → (behind_valued (value ++ rest) ≡ Some rest)
+pub valued_again : (value rest : List ℕ) → ValueText value → Follows rest → (behind_valued (value ++ rest) ≡ Some rest)
     × Ends is_token_octet (value ++ rest)
 unfolding behind_valued
 valued_again value rest (without e) f =

@@ -6,6 +6,7 @@ use Rattle.sip_uri.specs.Hosts.{HostText}
 use Rattle.sip_uri.specs.Views.{via_of}
 use Rattle.sip_uri.specs.Transports.{spoken_of}
 use Rattle.sip_uri.specs.Readers.Uris.{port_number}
+use Rattle.sip_uri.specs.Readers.ViaRoutes.{ParamsOf}
 use Rattle.sip_uri.specs.ViaClasses.{is_blank, is_in_port, row, behind_row}
 use Rattle.sip_uri.specs.Readers.Vias.{behind_mark}
 use Rattle.sip_uri.specs.Readers.ViaFronts.{behind_protocol, via_host, port_in, via_port, via_parts}
@@ -155,6 +156,14 @@ module _ (text : List ℕ) (parts : ViaParts) (rest : List ℕ) (read : via_part
 
 pub none_spelled : (text : List ℕ) (fault : UriRefusal) → via_parts text ≡ Err fault → (via : Via) → ViaText text via → ⊥
 none_spelled text fault e via is = fault_apart fault (via, is.params) (sym e ∙ via_again text via is)
+
+-- the Via that is read has the parameters that follow what its reader read
+pub via_and_params_read : (text : List ℕ) (via : Via) (rest : List ℕ) → length text ≤ 1024 → via_parts text ≡ Ok (via, rest)
+    → ViaParams rest → ParamsOf text via rest
+via_and_params_read text via rest short e params =
+    let is = via_read text via rest short e params in
+    let same = same_Ok (via, is.params) (via, rest) (sym (via_again text via is) ∙ e) in
+    record { is = is; are = ap (λ (p : Via × List ℕ). p.1) same }
 
 pub one_via : (text : List ℕ) (via via' : Via) → ViaText text via → ViaText text via' → via ≡ via'
 one_via text via via' is is' =

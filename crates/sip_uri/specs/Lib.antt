@@ -5,5 +5,6 @@ pub mod Same
 pub mod Transports
 pub mod Uris
 pub mod ViaClasses
+pub mod ViaRoutes
 pub mod Vias
 pub mod Views

@@ -9,4 +9,5 @@ pub mod Places
 pub mod Runs
 pub mod Uris
 pub mod ViaFronts
+pub mod ViaRoutes
 pub mod Vias

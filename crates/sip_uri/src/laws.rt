@@ -2,8 +2,10 @@
 ghost use Rattle.std.specs.Prelude.{◌≡◌, ◌↔◌, ℕ, List, IsTrue};
 ghost use Rattle.sip_uri.specs.Same.{same_host, same_uri, same_via};
 ghost use Rattle.sip_uri.specs.Uris.{UriText};
+ghost use Rattle.sip_uri.specs.ViaRoutes.{ViaRouteText, SameRoute};
 ghost use Rattle.sip_uri.specs.Vias.{ViaText};
 ghost use Rattle.sip_uri.specs.declared.host.Host.{Host};
+ghost use Rattle.sip_uri.specs.declared.route_params.RouteParams.{RouteParams};
 ghost use Rattle.sip_uri.specs.declared.uri.SipUri.{SipUri};
 ghost use Rattle.sip_uri.specs.declared.via.Via.{Via};
 
@@ -16,6 +18,12 @@ pub fn law_one_uri_of_a_text()
 /// A text spells at most one Via.
 pub fn law_one_via_of_a_text()
     ensures { (text : List ℕ) (via via' : Via) → ViaText text via → ViaText text via' → via ≡ via' }
+{}
+
+/// Of where a response goes the parameters of a Via say one thing.
+pub fn law_one_route_of_a_text()
+    ensures { (text : List ℕ) (via via' : Via) (route route' : RouteParams)
+        → ViaRouteText text via route → ViaRouteText text via' route' → SameRoute route route' }
 {}
 
 /// Hosts, URIs and Vias are the same, as `==` compares them, exactly where they are equal as

@@ -60,6 +60,7 @@ mod pairs;
 mod params;
 mod place;
 mod refusal;
+mod route_params;
 mod runs;
 mod transport;
 mod uri;
@@ -71,16 +72,21 @@ mod via_classes;
 mod via_params;
 mod via_parts;
 mod via_text;
+mod via_values;
 
 pub use host::Host;
 pub use host_part::{HostPart, name_of_hostname};
 pub use ip_text::{Address, address_from_text, address_text, decimal, law_written_address_is_read};
-pub use laws::{law_one_uri_of_a_text, law_one_via_of_a_text, law_same_exactly_where_equal};
+pub use laws::{
+    law_one_route_of_a_text, law_one_uri_of_a_text, law_one_via_of_a_text,
+    law_same_exactly_where_equal,
+};
 pub use refusal::UriRefusal;
+pub use route_params::{RouteParams, Rport};
 pub use transport::{Spoken, Transport};
 pub use uri::SipUri;
 pub use uri_parts::UriParts;
 pub use uri_text::{read_uri, view_uri};
 pub use via::Via;
 pub use via_parts::ViaParts;
-pub use via_text::{read_via, view_via};
+pub use via_text::{read_via, view_via, view_via_route};

@@ -35,7 +35,7 @@ fn behind_quoted(text: &[u8]) -> Option<&[u8]>
 
 /// What follows the value of a parameter.
 #[tactic(auto, unfolding(crate::specs::Readers::Vias::behind_value))]
-fn behind_value(text: &[u8]) -> Option<&[u8]>
+pub(crate) fn behind_value(text: &[u8]) -> Option<&[u8]>
     ensures { option_map (λ rest. rest.now) result ≡ spec.behind_value text.now }
 {
     match behind_front(text, b'"') {
@@ -49,7 +49,7 @@ fn behind_value(text: &[u8]) -> Option<&[u8]>
 
 /// What follows the value, where `=` stands in front.
 #[tactic(auto, unfolding(crate::specs::Readers::Vias::behind_valued))]
-fn behind_valued(text: &[u8]) -> Option<&[u8]>
+pub(crate) fn behind_valued(text: &[u8]) -> Option<&[u8]>
     ensures { option_map (λ rest. rest.now) result ≡ spec.behind_valued text.now }
 {
     match behind_mark(text, b'=') {

@@ -7,9 +7,9 @@ use Rattle.sip_uri.specs.declared.refusal.UriRefusal.TheVariants.{TooLong, BadVi
 use Rattle.sip_uri.specs.declared.via.Via.{Via}
 use Rattle.sip_uri.proofs.Faults.{IsOfOctets, IsLater, param_later, handed_on, handed_is, same_Err}
 use Rattle.sip_uri.proofs.UriViews.{host_seen}
-use Rattle.sip_uri.proofs.ViaTexts.{none_spelled, via_octets, via_read, bad_protocol, bad_protocol_again, protocol_there, spells_no_more}
-use Rattle.sip_uri.proofs.via_text.view_via.Goals as goal
-use Rattle.sip_uri.proofs.via_text.view_via.Goals.{In_err-parts, In_ok-parts}
+use Rattle.sip_uri.proofs.ViaTexts.{none_spelled, via_octets, via_and_params_read, bad_protocol, bad_protocol_again, protocol_there, spells_no_more}
+use Rattle.sip_uri.proofs.via_text.via_and_params.Goals as goal
+use Rattle.sip_uri.proofs.via_text.via_and_params.Goals.{In_err-parts, In_ok-parts}
 
 refused : (c : In_err-parts) → via_parts c.args.octets.now ≡ Err c.in_err-parts.field-0.0
 refused c = sym c.in_err-parts.ensures.value
@@ -73,7 +73,7 @@ returns-in_err-check_via_params-clause-protocol c =
 
 pub returns-clause-found : goal.returns-clause-found
 returns-clause-found c =
-    via_read c.args.octets.now (via_of c.in_ok-parts.parts) c.in_ok-parts.params.now c.if-octets-gt-TEXT_LIMIT.false
+    via_and_params_read c.args.octets.now (via_of c.in_ok-parts.parts) c.in_ok-parts.params.now c.if-octets-gt-TEXT_LIMIT.false
     (parsed (goal.at.returns-clause-found c).In_ok-parts) c.in_ok-check_via_params.ensures.ok
 
 pub returns-clause-seen : goal.returns-clause-seen
