@@ -5,7 +5,8 @@
 //! from the left is named. Escapes are checked and never undone; parameters and headers that say
 //! nothing of where a request goes are checked and dropped. Memory is taken for the names of hosts
 //! alone. `view_uri` and `view_via` do the same over octets and take no memory: what they give has
-//! a hostname as it stands in the text, and `to_uri`, `to_via` and `to_host` make names of it. What
+//! a hostname as it stands in the text, and `to_uri`, `to_via` and `to_host` make names of it.
+//! `view_via_route` says too what the parameters of a Via say of where a response goes. What
 //! `ip_text` has of addresses and numbers is exported here too.
 //!
 //! ```
@@ -41,7 +42,8 @@
 //! - An IPv4 address may follow `::` in one of IPv6, as RFC 4291 2.2 has it
 //!   (`[2001:db8::192.0.2.1]`).
 //! - Of the parameters that RFC 3261 knows, the values of `transport` and `maddr` of a URI alone
-//!   mean anything. Of others, and of all those of a Via, only the octets are checked (`ttl=999`).
+//!   mean anything. Of others, and of all those of a Via, only the octets are checked (`ttl=999`):
+//!   `view_via_route` takes a value of another kind as none.
 //! - The value of a Via's parameter is a quoted string, or octets from 33 to 126 other than `;`,
 //!   `,` and `"`, so that `received` may have brackets around an IPv6 address (RFC 5118 4.5).
 //! - A quoted string may hold any control character but CR and LF without a `\` in front.

@@ -1,0 +1,3 @@
+pub mod Multicast
+pub mod Routes
+pub mod Sources
