@@ -1,5 +1,5 @@
 -- Which questions are out.
-use Rattle.std.specs.Prelude.{◌≡◌, ◌≢◌, ℕ, List, Some}
+use Rattle.std.specs.Prelude.{◌≡◌, ◌≢◌, ℕ, List, Option, Some, None}
 use Rattle.std.specs.List.{All, AllPairs}
 use Rattle.dns_message.specs.declared.question.Question.{Question}
 use Rattle.dns_asker.specs.Events.{sent_octets}
@@ -20,6 +20,11 @@ pub record IsOctetsOf (octets : List ℕ) (id : ℕ) (tickets : List Ticket) : T
   pub ticket : Ticket
   pub there : ticket_of id tickets ≡ Some ticket
   pub are : octets ≡ sent_octets id ticket.sent.question
+
+-- how many times the question of a ticket was sent, and 0 where there is none
+abbrev pub sends_in : Option Ticket → ℕ
+sends_in None = 0
+sends_in (Some ticket) = ticket.sent.sends
 
 -- no two tickets are of one question
 abbrev pub AreApart : List Ticket → Type 0

@@ -4,7 +4,7 @@ ghost use Rattle.std.specs.List.{All};
 ghost use Rattle.std.specs.Option.{option_map};
 ghost use Rattle.dns_answers.specs.Replies.{reply_refusal};
 ghost use Rattle.dns_asker.specs.Events.{Asks, Dues, EndsBy, IsNoReply, MayWant, Means, closed, left_by};
-ghost use Rattle.dns_asker.specs.Out.{HasQuestion, IsOctetsOf, LacksQuestion};
+ghost use Rattle.dns_asker.specs.Out.{HasQuestion, IsOctetsOf, LacksQuestion, sends_in};
 ghost use Rattle.dns_asker.specs.Tickets.{IsAsking, ticket_of, usual};
 
 use crate::incoming::{Due, Ending, Incoming, Why};
@@ -112,6 +112,17 @@ impl Asker {
         match self.tickets.place_of(id) {
             Some(at) => Some(self.tickets.octets_at(at)),
             None => None,
+        }
+    }
+
+    /// How many times the question was sent that waits for its reply under this id. 0: none does.
+    #[must_use]
+    pub fn sends_of(&self, id: u16) -> u8
+        ensures { result ≡ sends_in (ticket_of id self.now.tickets) }
+    {
+        match self.tickets.place_of(id) {
+            Some(at) => self.tickets.sends_at(at),
+            None => 0,
         }
     }
 

@@ -62,6 +62,13 @@ impl Ticket {
         self.octets.as_slice()
     }
 
+    /// How many times it was sent.
+    pub(crate) fn sends(&self) -> u8
+        ensures { result ≡ self.now.sends }
+    {
+        self.sends
+    }
+
     /// Whether it may be sent once more, where a question is sent so many times at most.
     pub(crate) fn may_be_sent_again(&self, limit: u8) -> bool
         ensures { IsTrue result ↔ (self.now.sends < limit) }

@@ -132,6 +132,18 @@ impl Tickets {
         }
     }
 
+    /// How many times the question of the ticket at a place was sent.
+    pub(crate) fn sends_at(&self, at: PendingId) -> u8
+        requires { IsSome (entry_of at self.now.list.entries) }
+        ensures { (entry : Entry Sent) → entry_of at self.now.list.entries ≡ Some entry
+            → result ≡ entry.item.sends }
+    {
+        match self.list.get(at) {
+            Some(ticket) => ticket.sends(),
+            None => unreachable!(),
+        }
+    }
+
     /// Opens a ticket for a question that is sent now, and gives its place.
     pub(crate) fn open(
         &mut self,

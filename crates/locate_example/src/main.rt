@@ -49,7 +49,7 @@ fn resolve<R: Wait, B: AnswerBook + Drop, W: MessageWire, C: asker::Clock>(
     let Ok(mut resolver) = Resolver::<B, WireOrigin<W, C>, _>::new(alloc, LIMITS, ids) else {
         return None;
     };
-    let Ok(()) = resolver.submit(1, request, caps, draw_words(key, 1)) else {
+    let Ok(()) = resolver.submit(1, request, caps, draw_words(key, 1), None) else {
         return None;
     };
     let ended = next_outcome(rt, &mut resolver, book, seat, wire, clock)?;

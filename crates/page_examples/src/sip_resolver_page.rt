@@ -25,6 +25,7 @@ const REPLY: [u8; 43] = [
 fn resolver_of<B: AnswerBook, F: Origin>(
     alloc: Global,
     request: Request,
+    until: Option<Moment>,
 ) -> Option<Resolver<B, F, CountingIds>>
     ensures { (seat : SeatView) → IfSome result
         (λ made. Stand F.gives F.shows seat made.requests) }
@@ -39,7 +40,7 @@ fn resolver_of<B: AnswerBook, F: Origin>(
         return None;
     };
     resolver
-        .submit(1, request, caps, Words([0; WORD_COUNT]))
+        .submit(1, request, caps, Words([0; WORD_COUNT]), until)
         .ok()?;
     Some(resolver)
 }
@@ -113,7 +114,7 @@ fn sends_and_goes<B: AnswerBook, F: Origin>(
 /// The same of a request, over a book of its own.
 fn with_book(rt: &impl Wait, alloc: Global, request: Request) -> Option<[bool; 3]> {
     let now = Moment::new(100)?;
-    let mut resolver = resolver_of::<ListCache, Anything>(alloc, request)?;
+    let mut resolver = resolver_of::<ListCache, Anything>(alloc, request, Moment::new(105))?;
     let (book, mut seat) = ListCache::new(alloc);
     sends_and_goes(rt, &mut resolver, &book, &mut seat, now)
 }

@@ -106,19 +106,16 @@ without-awaits number it questions all =
 -- ---- a turn of those that wait
 
 -- who waits after a turn of one waited before
-module _ (number : ℕ) (it : WaitingView) (others : List WaitingView) (id : ℕ) where
-  abbrev is-other : WaitingView → Bool
-  is-other waiting = not (nat_eq (number_of_waiting waiting) number)
-
-  back-by : (is : Bool) → is-other it ≡ is → is_awaited (others ++ filter is-other (it ∷ [])) id ≡ true
+module _ (stays : WaitingView → Bool) (it : WaitingView) (others : List WaitingView) (id : ℕ) where
+  back-by : (is : Bool) → stays it ≡ is → is_awaited (others ++ filter stays (it ∷ [])) id ≡ true
       → is_awaited (it ∷ others) id ≡ true
   back-by true is waits = awaited-turned it others id (rw is at waits)
   back-by false is waits =
       let waits-too : is_awaited (others ++ []) id ≡ true = rw is at waits in
       awaited-behind it others id (rw (append-nil others) at waits-too)
 
-  awaited-back : is_awaited (others ++ filter is-other (it ∷ [])) id ≡ true → is_awaited (it ∷ others) id ≡ true
-  awaited-back waits = back-by (is-other it) refl waits
+  pub awaited-back : is_awaited (others ++ filter stays (it ∷ [])) id ≡ true → is_awaited (it ∷ others) id ≡ true
+  awaited-back waits = back-by (stays it) refl waits
 
 -- so many that waited were taken from the front, and put back but for those of the number
 pub record Turned (number : ℕ) (old now : RequestsView) (asked asks : QuestionsView) (count : ℕ) : Type 0 where
@@ -158,7 +155,7 @@ module _ (number : ℕ) (old now middle new : RequestsView) (asked asks then : Q
   one-fewer : (id : ℕ) → is_awaited new.waiting id ≡ true → is_awaited now.waiting id ≡ true
   one-fewer id waits =
       let waits-too : is_awaited (middle.waiting ++ last) id ≡ true = rw waiting-is at waits in
-      rw out.first (awaited-back number it middle.waiting id waits-too)
+      rw out.first (awaited-back test it middle.waiting id waits-too)
 
   questions-are : then ≡ questions_left old.waiting new.waiting asked
   questions-are =

@@ -1,9 +1,9 @@
 -- The least deadline of open questions.
-use Rattle.std.proofs.Common.{◌≡◌, ℕ, ◌<◌, ◌≤◌, List, [], ◌∷◌, ◌++◌, map, slice_get, Option, Some, None, refl, arith}
-use Rattle.std.specs.List.{All, Contains}
+use Rattle.std.proofs.Common.{◌≡◌, ℕ, ◌+◌, ◌<◌, ◌≤◌, List, [], ◌∷◌, ◌++◌, get_or, length, map, take, slice_get, Option, Some, None, refl, sym, ap, ◌∙◌, arith}
+use Rattle.std.specs.List.{All, Contains, filter_map}
 use Rattle.std.specs.Option.{IfSome, option_map}
-use Rattle.std.proofs.lemmas.List.Elements.{All-append, All-cons, All-contains, All-contains_itself, All-head, All-map, All-nil, All-tail, All-weaker, Contains-append_left, Contains-append_right}
-use Rattle.std.proofs.lemmas.List.{append-nil}
+use Rattle.std.proofs.lemmas.List.Elements.{All-append, All-cons, All-contains, All-contains_itself, All-head, All-map, All-nil, All-tail, All-weaker, Contains-append_left, Contains-append_right, filter_map-append}
+use Rattle.std.proofs.lemmas.List.{append-nil, take_more, take_all}
 use Rattle.dns_asker.specs.Tickets.{Asking, Ticket}
 use Rattle.sip_resolver.specs.Idle.{IsInWait}
 use Rattle.sip_resolver.specs.Questions.{IsLeast, QuestionsView, deadlines_of}
@@ -46,6 +46,10 @@ module _ (front back : List ℕ) where
   pub none-behind : (one : ℕ) → IsLeast front (Some one) → back ≡ [] → IsLeast (front ++ back) (Some one)
   none-behind one it none = rw (none, append-nil front) it
 
+pub none-at-front : (front back : List ℕ) → front ++ back ≡ [] → front ≡ []
+none-at-front [] back none = refl
+none-at-front (x ∷ front) back none = absurd cc
+
 -- ---- whether the least deadline is over
 
 overdue-in : (asking : Asking) (tickets : List Ticket) (now due : ℕ) → asking.tickets ≡ tickets
@@ -82,11 +86,11 @@ of-map least (x ∷ xs) all =
     (of-map least xs (All-tail (λ number. least ≤ number) x.deadline (map deadline xs) all))
 
 module _ (P : ℕ → Type 0) where
-  front-of : (xs ys : List ℕ) → All P (xs ++ ys) → All P xs
+  pub front-of : (xs ys : List ℕ) → All P (xs ++ ys) → All P xs
   front-of [] ys all = All-nil P
   front-of (x ∷ xs) ys all = All-cons P x xs (All-head P x (xs ++ ys) all) (front-of xs ys (All-tail P x (xs ++ ys) all))
 
-  back-of : (xs ys : List ℕ) → All P (xs ++ ys) → All P ys
+  pub back-of : (xs ys : List ℕ) → All P (xs ++ ys) → All P ys
   back-of [] ys all = all
   back-of (x ∷ xs) ys all = back-of xs ys (All-tail P x (xs ++ ys) all)
 
@@ -124,3 +128,26 @@ one-of it least there =
     (have-deadlines streams (tickets_of it)
     (All-weaker (Contains streams) (Contains (tickets_of it)) (Contains-append_right datagrams streams) streams
     (All-contains_itself streams)))) there
+
+-- ---- the least of what items have
+
+-- what one item has
+least-one : {X : Type 0} (f : X → Option ℕ) (x : X) (has : Option ℕ) → f x ≡ has → IsLeast (filter_map f (x ∷ [])) has
+least-one f x None is = rw is refl
+least-one f x (Some number) is =
+    rw is ((0, omega arith, refl), All-cons (λ it. number ≤ it) number [] (omega arith) (All-nil (λ it. number ≤ it)))
+
+module _ {X : Type 0} (f : X → Option ℕ) (items : List X) (place : ℕ) where
+  -- and those in front of it
+  pub least-too : (x : X) → place < length items → x ≡ get_or items place x → (least has both : Option ℕ) → has ≡ f x
+      → IsLeast (filter_map f (take place items)) least
+      → ((ones others : List ℕ) → IsLeast ones least → IsLeast others has → IsLeast (ones ++ others) both)
+      → IsLeast (filter_map f (take (place + 1) items)) both
+  least-too x within here least has both is so-far joined =
+      let more : take (place + 1) items ≡ take place items ++ x ∷ [] =
+      take_more items place x within ∙ ap (λ it. take place items ++ it ∷ []) (sym here) in
+      rw (more, filter_map-append f (take place items) (x ∷ []))
+      (joined (filter_map f (take place items)) (filter_map f (x ∷ [])) so-far (least-one f x has (sym is)))
+
+  pub least-all : (least : Option ℕ) → length items ≤ place → IsLeast (filter_map f (take place items)) least → IsLeast (filter_map f items) least
+  least-all least all it = rw (take_all place items all) at it

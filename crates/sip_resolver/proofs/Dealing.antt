@@ -9,12 +9,15 @@ use Rattle.dns_asker.specs.declared.schedule.Schedule.{Schedule}
 use Rattle.dns_message.specs.declared.question.Question.{Question}
 use Rattle.sip_resolver.proofs.Apart.{all-too}
 use Rattle.sip_resolver.proofs.Awaiting.{of-others, of-ticket, split-back, split-front}
-use Rattle.sip_resolver.proofs.Deadlines.{at-least, one-of}
+use Rattle.sip_resolver.proofs.Deadlines.{at-least, back-of, front-of, one-of}
 use Rattle.sip_resolver.proofs.Sending.{HaveSame, same-after, same-given, same-sent, scheduled-before}
-use Rattle.sip_resolver.specs.Dues.{AreAsBefore, AreDealtWith, IsDealtWith, IsOneDue, PollsAll, PollsMany, begun, further, given_up, sent_again, waits_on}
+use Rattle.sip_resolver.proofs.Letting.{IsLeftOrLate, left-or-late, none-before, not-late}
+use Rattle.sip_resolver.specs.Cancels.{questions_left}
+use Rattle.sip_resolver.specs.Dues.{AreAsBefore, AreDealtWith, IsDealtWith, IsLetGo, IsOneDue, PollsAll, PollsMany, begun, further, given_up, let_go, sent_again, waits_on}
+use Rattle.sip_resolver.specs.Expiries.{timeouts_of, untils_of}
 use Rattle.sip_resolver.specs.Idle.{IsInWait}
 use Rattle.sip_resolver.specs.Questions.{IsLeast, IsScheduled, QuestionsView, asked_over, asking_over, deadlines_of, schedule_of}
-use Rattle.sip_resolver.specs.Resolvers.{ResolverView}
+use Rattle.sip_resolver.specs.Resolvers.{Expires, ResolverView}
 use Rattle.sip_resolver.specs.Sends.{AreSpaced, GivesUp, GivesUpBoth, IsInVain, IsOverdue, SendsAfter, SendsOne, first, again as again-sent, tickets_of, with_over}
 use Rattle.sip_resolver.specs.Tasks.{WaitingView, over_of}
 use Rattle.sip_resolver.specs.declared.transmit.Over.{Over}
@@ -162,7 +165,7 @@ module _ (now asked : ℕ) where
 
 -- ---- where a question that was out is
 
-module _ (now asked : ℕ) (schedule : Schedule) (some : 1 ≤ schedule.wait) where
+module _ (now asked : ℕ) (schedule : Schedule) (some : 1 ≤ schedule.wait) (waits : List WaitingView) where
   abbrev sent-again : Ticket → Ticket
   sent-again ticket = again schedule (max now asked) ticket
 
@@ -170,6 +173,7 @@ module _ (now asked : ℕ) (schedule : Schedule) (some : 1 ≤ schedule.wait) wh
     stays : Contains new ticket → IsOnWay new ticket
     resent : ticket.deadline ≤ now → ticket.sent.sends < schedule.sends → Contains new (sent-again ticket) → IsOnWay new ticket
     gone : IsInVain schedule now ticket → IsOnWay new ticket
+    let-go : IsLetGo now waits ticket.sent.id → IsOnWay new ticket
 
   -- some are given up
   on-way-left : (old new : Asking) (many : List Ticket) → old.schedule ≡ schedule → GivesUp now old new
@@ -241,16 +245,19 @@ module _ (now asked : ℕ) (schedule : Schedule) (some : 1 ≤ schedule.wait) wh
   not-due : max now asked + schedule.wait ≤ now → ⊥
   not-due over = let late = le-max_left now asked in omega (arith, late, over, some)
 
-  kept-again : (new : List Ticket) (ticket : Ticket) → IsOnWay new (sent-again ticket) → Contains new (sent-again ticket)
-  kept-again new ticket (stays is) = is
-  kept-again new ticket (resent over more is) = absurd (not-due over)
-  kept-again new ticket (gone vain) = absurd (not-due vain.1)
+  kept-again : (new : List Ticket) (ticket : Ticket) → ticket.deadline ≤ now → ticket.sent.sends < schedule.sends
+      → IsOnWay new (sent-again ticket) → IsOnWay new ticket
+  kept-again new ticket over more (stays is) = resent over more is
+  kept-again new ticket over more (resent again-over again-more is) = absurd (not-due again-over)
+  kept-again new ticket over more (gone vain) = absurd (not-due vain.1)
+  kept-again new ticket over more (let-go late) = let-go late
 
   on-way-further : (middle new : List Ticket) → All (IsOnWay new) middle → (ticket : Ticket) → IsOnWay middle ticket → IsOnWay new ticket
   on-way-further middle new all ticket (stays is) = All-contains (IsOnWay new) middle ticket all is
   on-way-further middle new all ticket (resent over more is) =
-      resent over more (kept-again new ticket (All-contains (IsOnWay new) middle (sent-again ticket) all is))
+      kept-again new ticket over more (All-contains (IsOnWay new) middle (sent-again ticket) all is)
   on-way-further middle new all ticket (gone vain) = gone vain
+  on-way-further middle new all ticket (let-go late) = let-go late
 
   on-way-through : (old middle new : List Ticket) → All (IsOnWay middle) old → All (IsOnWay new) middle → All (IsOnWay new) old
   on-way-through old middle new front back = All-weaker (IsOnWay middle) (IsOnWay new) (on-way-further middle new back) old front
@@ -269,7 +276,7 @@ module _ (now asked : ℕ) (schedule : Schedule) (some : 1 ≤ schedule.wait) wh
 
   -- nothing is left to do
   dealt : (last : QuestionsView) → All (IsInWait now) (tickets_of last) → (ticket : Ticket) → IsOnWay (tickets_of last) ticket
-      → IsDealtWith schedule now asked last ticket
+      → IsDealtWith schedule now asked waits last ticket
   dealt last idle ticket (stays is) = waits_on (All-contains (IsInWait now) (tickets_of last) ticket idle is) is
   dealt last idle ticket (resent over more is) = sent_again over more is
   dealt last idle ticket (gone vain) =
@@ -277,14 +284,40 @@ module _ (now asked : ℕ) (schedule : Schedule) (some : 1 ≤ schedule.wait) wh
       (λ is.
       let wait : now < ticket.deadline = All-contains (IsInWait now) (tickets_of last) ticket idle is in
       let over = vain.1 in omega (arith, wait, over))
+  dealt last idle ticket (let-go late) = let_go late
+
+  -- some are let go
+  on-way-left-or-late : (old new : ResolverView) → ((id : ℕ) → IsLetGo now old.requests.waiting id → IsLetGo now waits id)
+      → (ticket : Ticket) → IsLeftOrLate now old.requests.waiting new.questions ticket → IsOnWay (tickets_of new.questions) ticket
+  on-way-left-or-late old new first-too ticket (inl is) = stays is
+  on-way-left-or-late old new first-too ticket (inr late) = let-go (first-too ticket.sent.id late)
+
+  on-way-expired : (old new : ResolverView) → Expires now old new
+      → ((id : ℕ) → IsLetGo now old.requests.waiting id → IsLetGo now waits id)
+      → All (IsOnWay (tickets_of new.questions)) (tickets_of old.questions)
+  on-way-expired old new it first-too =
+      All-weaker (IsLeftOrLate now old.requests.waiting new.questions) (IsOnWay (tickets_of new.questions))
+      (λ ticket. on-way-left-or-late old new first-too ticket) (tickets_of old.questions) (left-or-late now old new it)
 
   module _ (gives : List ℕ → Type 0) (shows : ℕ → Type 0) {I : Type 0} (draws : I → ℕ → I → Type 0) (first-one : ResolverView)
-      (have : HaveSchedule schedule first-one.questions) where
+      (have : HaveSchedule schedule first-one.questions)
+      (first-is : (id : ℕ) → IsLetGo now first-one.requests.waiting id → IsLetGo now waits id) where
+    have-expired : (old new : ResolverView) → Expires now old new → HaveSchedule schedule old.questions
+        → HaveSchedule schedule new.questions
+    have-expired old new it have = rw it.questions have
+
+    -- who is late after some polls was so at first
+    late-at-first : (last : ResolverView) → PollsMany gives shows draws now asked first-one last → (id : ℕ)
+        → IsLetGo now last.requests.waiting id → IsLetGo now first-one.requests.waiting id
+    late-at-first last begun id late = late
+    late-at-first last (further seat old new transmit along polls) id late = absurd (not-late now id last.requests polls.in_time late)
+
     have-along : (last : ResolverView) → PollsMany gives shows draws now asked first-one last → HaveSchedule schedule last.questions
     have-along last begun = have
     have-along last (further seat old new transmit along polls) =
-        have-after old.questions last.questions
-        (same-sent now asked last.requests.waiting old.questions last.questions (Some transmit) polls.sends) (have-along old along)
+        have-after polls.middle.questions last.questions
+        (same-sent now asked last.requests.waiting polls.middle.questions last.questions (Some transmit) polls.sends)
+        (have-expired old polls.middle polls.expires (have-along old along))
 
     on-way-along : (last : ResolverView) → PollsMany gives shows draws now asked first-one last
         → All (IsOnWay (tickets_of last.questions)) (tickets_of first-one.questions)
@@ -292,59 +325,78 @@ module _ (now asked : ℕ) (schedule : Schedule) (some : 1 ≤ schedule.wait) wh
     on-way-along last (further seat old new transmit along polls) =
         on-way-through (tickets_of first-one.questions) (tickets_of old.questions) (tickets_of last.questions)
         (on-way-along old along)
-        (on-way-after polls.sends.0 last.requests.waiting old.questions last.questions (have-along old along) polls.sends.1)
+        (on-way-through (tickets_of old.questions) (tickets_of polls.middle.questions) (tickets_of last.questions)
+        (on-way-expired old polls.middle polls.expires (λ id late. first-is id (late-at-first old along id late)))
+        (on-way-after polls.sends.0 last.requests.waiting polls.middle.questions last.questions
+        (have-expired old polls.middle polls.expires (have-along old along)) polls.sends.1))
 
     dealt-all : (last : ResolverView) → PollsAll gives shows draws now asked first-one last
-        → All (IsDealtWith schedule now asked last.questions) (tickets_of first-one.questions)
+        → All (IsDealtWith schedule now asked waits last.questions) (tickets_of first-one.questions)
     dealt-all last it =
         let idle = both (IsInWait now) last.questions it.none.idle.datagrams it.none.idle.streams in
-        All-weaker (IsOnWay (tickets_of last.questions)) (IsDealtWith schedule now asked last.questions) (dealt last.questions idle)
+        All-weaker (IsOnWay (tickets_of last.questions)) (IsDealtWith schedule now asked waits last.questions) (dealt last.questions idle)
         (tickets_of first-one.questions)
         (on-way-through (tickets_of first-one.questions) (tickets_of it.middle.questions) (tickets_of last.questions)
         (on-way-along it.middle it.many)
-        (on-way-given it.middle.questions last.questions (have-along it.middle it.many) it.none.sends))
+        (on-way-through (tickets_of it.middle.questions) (tickets_of it.none.middle.questions) (tickets_of last.questions)
+        (on-way-expired it.middle it.none.middle it.none.expires (λ id late. first-is id (late-at-first it.middle it.many id late)))
+        (on-way-given it.none.middle.questions last.questions
+        (have-expired it.middle it.none.middle it.none.expires (have-along it.middle it.many)) it.none.sends)))
 
 -- ---- by the schedule of the first
 
 module _ (now asked : ℕ) where
   module _ (gives : List ℕ → Type 0) (shows : ℕ → Type 0) {I : Type 0} (draws : I → ℕ → I → Type 0) where
+    scheduled-expired : (old new : ResolverView) → Expires now old new → IsScheduled new.questions → IsScheduled old.questions
+    scheduled-expired old new it scheduled =
+        let left : IsScheduled (questions_left old.requests.waiting new.requests.waiting old.questions) = rw it.questions at scheduled in
+        left
+
     scheduled-first : (first-one last : ResolverView) → PollsMany gives shows draws now asked first-one last
         → IsScheduled last.questions → IsScheduled first-one.questions
     scheduled-first first-one last begun it = it
     scheduled-first first-one last (further seat old new transmit along polls) it =
         scheduled-first first-one old along
-        (scheduled-before old.questions last.questions
-        (same-sent now asked last.requests.waiting old.questions last.questions (Some transmit) polls.sends) it)
+        (scheduled-expired old polls.middle polls.expires
+        (scheduled-before polls.middle.questions last.questions
+        (same-sent now asked last.requests.waiting polls.middle.questions last.questions (Some transmit) polls.sends) it))
 
     scheduled-all : (first-one last : ResolverView) → PollsAll gives shows draws now asked first-one last
         → IsScheduled first-one.questions
     scheduled-all first-one last it =
         scheduled-first first-one it.middle it.many
-        (scheduled-before it.middle.questions last.questions
-        (same-sent now asked last.requests.waiting it.middle.questions last.questions None it.none.sends) it.none.scheduled)
+        (scheduled-expired it.middle it.none.middle it.none.expires
+        (scheduled-before it.none.middle.questions last.questions
+        (same-sent now asked last.requests.waiting it.none.middle.questions last.questions None it.none.sends) it.none.scheduled))
 
     pub all-dealt : (first-one last : ResolverView) → PollsAll gives shows draws now asked first-one last
         → AreDealtWith now asked first-one last
     all-dealt first-one last it =
         let scheduled = scheduled-all first-one last it in
-        dealt-all now asked (schedule_of first-one.questions) scheduled.1.wait.0 gives shows draws first-one (refl, scheduled.0) last it
+        dealt-all now asked (schedule_of first-one.questions) scheduled.1.wait.0 first-one.requests.waiting gives shows draws first-one
+        (refl, scheduled.0) (λ id late. late) last it
 
     -- ---- with the least deadline
 
-    as-before : (schedule : Schedule) (last : QuestionsView) (least : ℕ) → now < least → (ticket : Ticket) → least ≤ ticket.deadline
-        → IsDealtWith schedule now asked last ticket → Contains (tickets_of last) ticket
-    as-before schedule last least early ticket late (waits_on wait is) = is
-    as-before schedule last least early ticket late (sent_again over more is) = absurd (omega (arith, early, late, over))
-    as-before schedule last least early ticket late (given_up vain not) =
+    as-before : (schedule : Schedule) (waiting : List WaitingView) (last : QuestionsView) (least : ℕ) → now < least → (ticket : Ticket)
+        → least ≤ ticket.deadline → (IsLetGo now waiting ticket.sent.id → ⊥) → IsDealtWith schedule now asked waiting last ticket
+        → Contains (tickets_of last) ticket
+    as-before schedule waiting last least early ticket late none (waits_on wait is) = is
+    as-before schedule waiting last least early ticket late none (sent_again over more is) = absurd (omega (arith, early, late, over))
+    as-before schedule waiting last least early ticket late none (given_up vain not) =
         absurd (let over = vain.1 in omega (arith, early, late, over))
+    as-before schedule waiting last least early ticket late none (let_go those) = absurd (none those)
 
     pub all-before : (least : ℕ) (first-one last : ResolverView) → PollsAll gives shows draws now asked first-one last
-        → IsLeast (deadlines_of first-one.questions) (Some least) → now < least → AreAsBefore first-one last
+        → IsLeast (timeouts_of first-one.requests first-one.questions) (Some least) → now < least → AreAsBefore first-one last
     all-before least first-one last it is early =
-        let late = at-least first-one.questions least is.1 in
+        let late = at-least first-one.questions least
+        (front-of (λ number. least ≤ number) (deadlines_of first-one.questions) (untils_of first-one.requests) is.1) in
+        let untils = back-of (λ number. least ≤ number) (deadlines_of first-one.questions) (untils_of first-one.requests) is.1 in
         let dealt-with = all-dealt first-one last it in
         λ k d small.
-        as-before (schedule_of first-one.questions) last.questions least early _ (late k d small) (dealt-with k d small)
+        as-before (schedule_of first-one.questions) first-one.requests.waiting last.questions least early _ (late k d small)
+        (none-before now least first-one.requests untils early _) (dealt-with k d small)
 
     not-left : (last : QuestionsView) → All (IsInWait now) (tickets_of last) → (ticket : Ticket) → ticket.deadline ≤ now
         → Contains (tickets_of last) ticket → ⊥

@@ -1,5 +1,5 @@
 -- How a request goes on.
-use Rattle.std.proofs.Common.{◌≡◌, ℕ, inl, Bool, false, List, refl, ◌∙◌}
+use Rattle.std.proofs.Common.{◌≡◌, ℕ, inl, Bool, false, List, Option, refl, ◌∙◌}
 use Rattle.std.proofs.lemmas.List.Elements.{All-push}
 use Rattle.std.specs.List.{All}
 use Rattle.dns_answers.specs.Values.{AnswerValue}
@@ -17,16 +17,16 @@ use Rattle.sip_resolver.specs.declared.outcome.Outcome.TheVariants.{Targets, Ref
 use Rattle.sip_resolver.specs.declared.task.Progress.{Progress}
 use Rattle.sip_resolver.specs.declared.task.Progress.TheVariants.{Asks, Ended}
 
-abbrev task_of : ℕ → Bool → SelectionValue → TaskView
-task_of number cut selection = record { number = number; selection = selection; cut = cut }
+abbrev task_of : ℕ → Bool → Option ℕ → SelectionValue → TaskView
+task_of number cut until selection = record { number = number; selection = selection; cut = cut; until = until }
 
 -- the request stays the same while answers are gained
-pub same-request : (number : ℕ) (cut : Bool) (last : List Store) (now : ℕ) (first : List Store) (old new : SelectionValue)
+pub same-request : (number : ℕ) (cut : Bool) (until : Option ℕ) (last : List Store) (now : ℕ) (first : List Store) (old new : SelectionValue)
     → Gains last now first old new
-    → sought_of (task_of number cut new) ≡ sought_of (task_of number cut old)
-same-request number cut last now first old new (nothing is) = rw is refl
-same-request number cut last now first old new (one history middle between found others) =
-    same-request number cut last now history middle new others ∙ (rw found.is refl)
+    → sought_of (task_of number cut until new) ≡ sought_of (task_of number cut until old)
+same-request number cut until last now first old new (nothing is) = rw is refl
+same-request number cut until last now first old new (one history middle between found others) =
+    same-request number cut until last now history middle new others ∙ (rw found.is refl)
 
 module _ (gives : List ℕ → Type 0) (shows : ℕ → Type 0) (seat : SeatView) where
   module _ (now : ℕ) (shown : shows now) where
@@ -74,19 +74,19 @@ module _ (gives : List ℕ → Type 0) (shows : ℕ → Type 0) (seat : SeatView
 
 module _ (gives : List ℕ → Type 0) (shows : ℕ → Type 0) (before after : SeatView) (now : ℕ) (shown : shows now)
     (on : GoesOn before after) (quiet : StoresNothing before after) (number : ℕ) (cut : Bool)
-    (old new : SelectionValue) where
-  of-step : IsCounted gives shows before (task_of number cut old) → Gains after.seen now before.seen old new
-      → IsCounted gives shows after (task_of number cut new)
+    (until : Option ℕ) (old new : SelectionValue) where
+  of-step : IsCounted gives shows before (task_of number cut until old) → Gains after.seen now before.seen old new
+      → IsCounted gives shows after (task_of number cut until new)
   of-step it gains =
       let works = works-quietly gives shows before after on quiet in
       gained gives shows after now shown before.seen old new gains
-      (counted-later gives shows before after works (task_of number cut old) it)
+      (counted-later gives shows before after works (task_of number cut until old) it)
 
   pub on-next : (resolution : Resolution) (progress : Progress) → IsNext old new before.seen after.seen now resolution
-      → Leaves resolution progress → IsCounted gives shows before (task_of number cut old)
-      → Progresses gives shows after (task_of number cut new) progress
+      → Leaves resolution progress → IsCounted gives shows before (task_of number cut until old)
+      → Progresses gives shows after (task_of number cut until new) progress
   on-next resolution progress it leaves counted =
       let leaves' : Leaves (now_of new) progress = rw (← it.is) leaves in
       let lacks : (question : Question) → now_of new ≡ need question → IsLacking shows after.seen question =
       λ question needs. lacked gives shows after now shown before.seen question (it.lacks question (it.is ∙ needs)) in
-      leads-to gives shows after (task_of number cut new) progress leaves' (of-step counted it.gains) lacks
+      leads-to gives shows after (task_of number cut until new) progress leaves' (of-step counted it.gains) lacks

@@ -65,9 +65,9 @@ module _ (h : Sought → ℕ) where
   step-kept : (old new : ResolverView) (event : Event) → Step old new event
       → weight h old.requests + sum_by h (filter_map submitted_by (event ∷ []))
       ≡ weight h new.requests + sum_by h (filter_map ended_by (event ∷ [])) + sum_by h (flat_map cancelled_by (event ∷ []))
-  step-kept old new (runs.submits sought) (runs.submitted number request caps words is) =
-      let more = sum_by-cons h (record { number = number; request = request; caps = caps; words = words }) [] in
-      let task : TaskView = record { number = number; selection = begun request caps words; cut = false } in
+  step-kept old new (runs.submits sought) (runs.submitted number request caps words until is) =
+      let more = sum_by-cons h (record { number = number; request = request; caps = caps; words = words; until = until }) [] in
+      let task : TaskView = record { number = number; selection = begun request caps words; cut = false; until = until } in
       let back = (ready-more old.requests task).weighs h in
       rw is omega (arith, more, back)
   step-kept old new (runs.takes out) (runs.taken ended it) =
@@ -117,7 +117,7 @@ awaited-by old new number left questions it =
 
 step-awaited : (old new : ResolverView) (event : Event) → Step old new event → AreAwaited old.requests old.questions
     → AreAwaited new.requests new.questions
-step-awaited old new (runs.submits sought) (runs.submitted number request caps words is) it = rw is it
+step-awaited old new (runs.submits sought) (runs.submitted number request caps words until is) it = rw is it
 step-awaited old new (runs.takes out) (runs.taken ended taken) it = rw taken.others it
 step-awaited old new (runs.cancels requests) (runs.cancelled number left questions) it =
     awaited-by old new number left questions (without-awaits number old.requests old.questions it)

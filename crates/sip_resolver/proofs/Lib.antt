@@ -13,9 +13,11 @@ pub mod Turns
 pub mod Sending
 pub mod Idling
 pub mod Awaiting
+pub mod Letting
 pub mod Dealing
 pub mod Circling
 pub mod Abandoned
 pub mod Cancelling
+pub mod Expiring
 mod Working
 mod Drives

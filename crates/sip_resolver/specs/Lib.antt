@@ -6,6 +6,7 @@ pub mod Sends
 pub mod Queues
 pub mod Requests
 pub mod Cancels
+pub mod Expiries
 pub mod Idle
 pub mod Settles
 pub mod Works

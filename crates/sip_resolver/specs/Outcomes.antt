@@ -1,6 +1,6 @@
 -- What becomes of a request, and what that rests on: what a book answered, and what octets that
 -- came in say.
-use Rattle.std.specs.Prelude.{⊤, ◌≡◌, ◌⊎◌, ℕ, List, Some, None}
+use Rattle.std.specs.Prelude.{⊤, ◌≡◌, ◌⊎◌, ℕ, List, Option, Some, None}
 use Rattle.std.specs.List.{All, Contains}
 use mathlib.Core.List.{IsPrefix}
 use Rattle.dns_answers.specs.Replies.{reply_refusal}
@@ -80,12 +80,14 @@ HasParts (NoServer question) = ⊤
 HasParts (BadReply question refusal) = ⊤
 HasParts Memory = ⊥
 
--- a request, as it was submitted
+-- a request, as it was submitted: its number, the request, for which caps and by which random
+-- words, and the moment by which it ends, if it has one
 pub record Sought : Type 0 where
   pub number : ℕ
   pub request : Request
   pub caps : Caps
   pub words : List ℕ
+  pub until : Option ℕ
 
 -- a request that ended
 pub record Ended : Type 0 where

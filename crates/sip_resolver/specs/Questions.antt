@@ -2,8 +2,8 @@
 use Rattle.std.specs.Prelude.{◌≡◌, ◌≢◌, ℕ, ◌≤◌, List, [], ◌++◌, map, Option, Some, None}
 use Rattle.std.specs.List.{All, AllPairs, Contains}
 use Rattle.dns_message.specs.declared.question.Question.{Question}
-use Rattle.dns_asker.specs.Events.{asked, closed}
-use Rattle.dns_asker.specs.Out.{IsOctetsOf, LacksQuestion}
+use Rattle.dns_asker.specs.Events.{asked, closed, sent_octets}
+use Rattle.dns_asker.specs.Out.{LacksQuestion}
 use Rattle.dns_asker.specs.Tickets.{Asking, IsSchedule, Ticket, ticket_of}
 use Rattle.dns_asker.specs.declared.incoming.Incoming.{Incoming}
 use Rattle.dns_asker.specs.declared.incoming.Incoming.TheVariants.{Ended, Ignored}
@@ -81,12 +81,20 @@ pub record AreBounded (it : QuestionsView) : Type 0 where
   pub few_streams : it.streams.limit ≤ 256
   pub scheduled : IsScheduled it
 
--- these octets are those of the question that is out under this id, over this
+-- A message to send is that of the question of the ticket of this id (RFC 1035 4.1.1), and says
+-- how often it was sent with this one: 1 at the first send.
+pub record IsMessageOf (transmit : Transmit) (id : ℕ) (tickets : List Ticket) : Type 0 where
+  pub ticket : Ticket
+  pub there : ticket_of id tickets ≡ Some ticket
+  pub are : transmit.octets.now ≡ sent_octets id ticket.sent.question
+  pub send : transmit.send ≡ ticket.sent.sends
+
+-- this message is that of the question that is out under this id, over what it goes
 abbrev pub IsSent : ℕ → QuestionsView → Option Transmit → Type 0
 IsSent id it None =
     (ticket_of id it.datagrams.tickets ≡ None) × (ticket_of id it.streams.tickets ≡ None)
 IsSent id it (Some transmit) =
-    IsOctetsOf transmit.octets.now id (asking_over transmit.over it).tickets
+    IsMessageOf transmit id (asking_over transmit.over it).tickets
 
 -- the deadlines of all questions that are out
 abbrev pub deadlines_of : QuestionsView → List ℕ

@@ -15,7 +15,9 @@ use Rattle.answer_cache.specs.Seats.{SeatView}
 use Rattle.sip_selection.specs.Selections.{begun}
 use Rattle.sip_selection.specs.declared.caps.Caps.{Caps}
 use Rattle.sip_selection.specs.declared.request.Request.{Request}
+use Rattle.sip_resolver.specs.Cancels.{questions_left}
 use Rattle.sip_resolver.specs.Ends.{EndsMore, IsByClosing, IsByReply}
+use Rattle.sip_resolver.specs.Expiries.{AreExpired, HaveTime}
 use Rattle.sip_resolver.specs.Idle.{AreAwaited, IsIdle}
 use Rattle.sip_resolver.specs.Outcomes.{Ended}
 use Rattle.sip_resolver.specs.Questions.{AreDistinct, IsScheduled, QuestionsView, asking_over, closed_over, none_out, schedule_of}
@@ -49,14 +51,15 @@ begun_of requests questions streams schedule = record {
 -- ---- a request is submitted
 
 -- a resolver with one more request inside, after all others that can go on
-abbrev pub with_request : ℕ → Request → Caps → List ℕ → ResolverView → ResolverView
-with_request number request caps words it = record it {
+abbrev pub with_request : ℕ → Request → Caps → List ℕ → Option ℕ → ResolverView → ResolverView
+with_request number request caps words until it = record it {
   requests = record it.requests {
     ready = it.requests.ready
         ++ record {
           number = number;
           selection = begun request caps words;
           cut = false;
+          until = until;
         } ∷ [];
   };
 }
@@ -137,19 +140,32 @@ pub record IsTaken (ended : Ended) (old new : ResolverView) : Type 0 where
 
 -- ---- what is sent
 
--- What a poll leaves. The same requests are inside, and what holds of them still holds. A request
--- ends by its choice, because a question was in vain, or because memory was refused. What is sent
--- are the octets of a question that is out, under an id of its own. Where nothing is sent, nothing
--- is left to do at this moment. What is due is due by the first moment; what is sent waits until at
--- least the whole wait of the schedule after the second one. All are sent by one schedule.
+-- The requests whose time is over have ended, the same requests are inside, and a question that no
+-- request waits for any more is closed.
+pub record Expires (now : ℕ) (old new : ResolverView) : Type 0 where
+  pub requests : AreExpired now old.requests new.requests
+  pub same : AreSame old.requests new.requests
+  pub questions : new.questions
+      ≡ questions_left old.requests.waiting new.requests.waiting old.questions
+  pub streams : new.streams ≡ old.streams
+
+-- What a poll leaves. First each request ends whose time is over. The same requests are inside, and
+-- what holds of them still holds. A request with time left ends by its choice, because a question
+-- was in vain, or because memory was refused. What is sent are the octets of a question that is
+-- out, under an id of its own. Where nothing is sent, nothing is left to do at this moment. What is
+-- due is due by the first moment; what is sent waits until at least the whole wait of the schedule
+-- after the second one. All are sent by one schedule.
 pub record Polls (gives : List ℕ → Type 0) (shows : ℕ → Type 0) {I : Type 0}
     (draws : I → ℕ → I → Type 0) (seat : SeatView) (now asked : ℕ) (old new : ResolverView)
     (result : Option Transmit) : Type 0 where
+  pub middle : ResolverView
+  pub expires : Expires now old middle
+  pub in_time : HaveTime now new.requests
   pub stand : Stand gives shows seat new.requests
   pub same : AreSame old.requests new.requests
-  pub ends : EndsMore (IsInTime (schedule_of old.questions) (tickets_of old.questions) now)
-      old.requests.ended new.requests.ended
-  pub sends : Sends now asked new.requests.waiting old.questions new.questions result
+  pub ends : EndsMore (IsInTime (schedule_of middle.questions) (tickets_of middle.questions) now)
+      middle.requests.ended new.requests.ended
+  pub sends : Sends now asked new.requests.waiting middle.questions new.questions result
   pub spaced : AreSpaced asked old.questions new.questions
   pub idle : IfNone result (IsIdle draws now new.requests new.questions)
   pub awaited : AreAwaited old.requests old.questions → AreAwaited new.requests new.questions

@@ -19,10 +19,15 @@ pub data Event : Type 0 where
 
 -- what an event leaves
 pub data Step (old new : ResolverView) : Event → Type 0 where
-  submitted : (number : ℕ) (request : Request) (caps : Caps) (words : List ℕ)
-      → new ≡ with_request number request caps words old
-      → Step old new
-      (submits (record { number = number; request = request; caps = caps; words = words }))
+  submitted : (number : ℕ) (request : Request) (caps : Caps) (words : List ℕ) (until : Option ℕ)
+      → new ≡ with_request number request caps words until old
+      → Step old new (submits (record {
+        number = number;
+        request = request;
+        caps = caps;
+        words = words;
+        until = until;
+      }))
   taken : (ended : Ended) → IsTaken ended old new → Step old new (takes ended)
   cancelled : (number : ℕ) → new.requests ≡ requests_without number old.requests
       → new.questions ≡ questions_left old.requests.waiting new.requests.waiting old.questions

@@ -3,12 +3,11 @@ use Rattle.std.specs.Prelude.{◌≡◌, ◌⊎◌, ⊤, ℕ, ◌+◌, ◌≤◌
 use Rattle.std.specs.List.{All, Contains}
 use Rattle.dns_message.specs.declared.question.Question.{Question}
 use Rattle.dns_asker.specs.Events.{IsResent}
-use Rattle.dns_asker.specs.Out.{IsOctetsOf}
 use Rattle.dns_asker.specs.Tickets.{Asking, Ticket}
 use Rattle.dns_asker.specs.declared.schedule.Schedule.{Schedule}
 use Rattle.sip_selection.specs.Choice.{need}
 use Rattle.sip_selection.specs.Selections.{now_of}
-use Rattle.sip_resolver.specs.Questions.{QuestionsView, asked_over, asking_over, schedule_of}
+use Rattle.sip_resolver.specs.Questions.{IsMessageOf, QuestionsView, asked_over, asking_over, schedule_of}
 use Rattle.sip_resolver.specs.Tasks.{TaskView, WaitingView, over_of}
 use Rattle.sip_resolver.specs.declared.outcome.Outcome.{Outcome}
 use Rattle.sip_resolver.specs.declared.outcome.Outcome.TheVariants.{Targets, Refused, NoAnswer, NoServer, BadReply, Memory}
@@ -99,14 +98,14 @@ pub record SendsAfter (now asked id : ℕ) (waiting : List WaitingView) (old new
   pub gives_up : GivesUpBoth now old middle
   pub sends : SendsOne now asked id waiting middle new
 
--- The octets are those of the one question that is sent. Where there are none, none is sent, and
+-- The message is that of the one question that is sent, and says how often it was sent. Where there are none, none is sent, and
 -- none is counted as sent.
 abbrev pub Sends : ℕ → ℕ → List WaitingView → QuestionsView → QuestionsView → Option Transmit
     → Type 0
 Sends now asked waiting old new None = GivesUpBoth now old new
 Sends now asked waiting old new (Some transmit) =
     (id : ℕ) × SendsAfter now asked id waiting old new
-    × IsOctetsOf transmit.octets.now id (asking_over transmit.over new).tickets
+    × IsMessageOf transmit id (asking_over transmit.over new).tickets
 
 -- Each question that is out was out before, and waits as long as it did; or it was sent, and its
 -- deadline is at least the whole wait of the schedule after the moment rounded up.

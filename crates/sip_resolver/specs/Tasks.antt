@@ -1,5 +1,5 @@
 -- What is so of a request on its way.
-use Rattle.std.specs.Prelude.{◌≡◌, ℕ, Bool, List, if◌then◌else◌}
+use Rattle.std.specs.Prelude.{◌≡◌, ℕ, Bool, List, Option, if◌then◌else◌}
 use Rattle.std.specs.List.{All}
 use Rattle.dns_message.specs.declared.question.Question.{Question}
 use Rattle.answer_cache.specs.Seats.{SeatView}
@@ -14,11 +14,13 @@ use Rattle.sip_resolver.specs.declared.task.Progress.{Progress}
 use Rattle.sip_resolver.specs.declared.task.Progress.TheVariants.{Asks, Ended}
 
 -- what contracts see of a request that is inside: its number, its choice over the answers that it
--- was given, and whether the reply in a datagram to its question was cut
+-- was given, whether the reply in a datagram to its question was cut, and the moment by which it
+-- ends, if it has one
 pub record TaskView : Type 0 where
   pub number : ℕ
   pub selection : SelectionValue
   pub cut : Bool
+  pub until : Option ℕ
 
 -- over what the question of a request goes: over a stream where the reply in a datagram was cut
 -- (RFC 2181 9)
@@ -37,6 +39,7 @@ sought_of task = record {
   request = task.selection.request;
   caps = task.selection.caps;
   words = task.selection.words;
+  until = task.until;
 }
 
 -- each answer that a request was given counts

@@ -1,6 +1,7 @@
 //! Laws of resolvers. A call of one does nothing; its contract states the law.
 ghost use Rattle.std.specs.Prelude.{◌<◌, ◌≤◌, ℕ, List, Some};
 ghost use Rattle.sip_resolver.specs.Dues.{AreAsBefore, AreDealtWith, IsOneDue, PollsAll};
+ghost use Rattle.sip_resolver.specs.Expiries.{timeouts_of};
 ghost use Rattle.sip_resolver.specs.Idle.{AreAwaited};
 ghost use Rattle.sip_resolver.specs.Questions.{IsLeast, deadlines_of};
 ghost use Rattle.sip_resolver.specs.Resolvers.{ResolverView};
@@ -26,16 +27,17 @@ pub fn law_requests_are_awaited()
 
 /// Where `poll_transmit` is called at a moment until it gives nothing, each question that was out
 /// is dealt with by its deadline. Before its deadline, it is as it was. From its deadline on, it is
-/// sent again, or given up where it was sent as often as the schedule says. So before the second
-/// that `next_timeout` named, nothing is sent again or given up. From that second on, a question
-/// whose deadline it was is sent again or given up.
+/// sent again, or given up where it was sent as often as the schedule says. Only a question that a
+/// request waited for whose time is over may be let go. So before the second that `next_timeout`
+/// named, nothing is sent again, given up or let go. From the least deadline of a question on, a
+/// question whose deadline it was is sent again, given up or let go.
 pub fn law_questions_are_dealt_with<F: Origin, I: Ids>()
     ensures dealt { (now asked : ℕ) (first last : ResolverView)
         → PollsAll F.gives F.shows I.draws now asked first last
         → AreDealtWith now asked first last }
     ensures before { (now asked least : ℕ) (first last : ResolverView)
         → PollsAll F.gives F.shows I.draws now asked first last
-        → IsLeast (deadlines_of first.questions) (Some least) → now < least
+        → IsLeast (timeouts_of first.requests first.questions) (Some least) → now < least
         → AreAsBefore first last }
     ensures due { (now asked least : ℕ) (first last : ResolverView)
         → PollsAll F.gives F.shows I.draws now asked first last

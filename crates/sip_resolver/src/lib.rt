@@ -11,7 +11,7 @@
 //!     return None;
 //! };
 //! resolver
-//!     .submit(1, request, caps, Words([0; WORD_COUNT]))
+//!     .submit(1, request, caps, Words([0; WORD_COUNT]), until)
 //!     .ok()?;
 //! // the octets of a query, which begin with its id
 //! let asked = rounded_up(now);
@@ -32,6 +32,11 @@
 //! nothing, and send what it gives; take what `poll_outcome` gives; wait for a datagram until the
 //! moment that `next_timeout` names, and hand it to `handle`.
 //!
+//! A request may have a moment by which it ends (`submit`): whatever replies come or don't, a
+//! `poll_transmit` from then on ends it, also where it is held. A loop that calls when
+//! `next_timeout` says so ends each request in time. What is sent says which send of its question
+//! it is (`Transmit::send`), by which a caller with several servers takes the next one.
+//!
 //! `cancel` takes a request out that is no longer wanted, by its number: no outcome comes of it.
 //!
 //! Where the caller can ask over streams (`Limits`), the question of a reply that was cut goes on
@@ -49,8 +54,9 @@
 //! their own.
 //!
 //! Read `specs/Outcomes.antt` first: what an outcome says. Then `specs/Resolvers.antt`: what a
-//! resolver holds, `specs/Works.antt`: what it does at a seat, and `specs/Cancels.antt`: what is
-//! left after a request was cancelled. `specs/Driven.antt` says what the loop over a wire gives,
+//! resolver holds, `specs/Works.antt`: what it does at a seat, `specs/Cancels.antt`: what is left
+//! after a request was cancelled, and `specs/Expiries.antt`: after the time of some was over.
+//! `specs/Driven.antt` says what the loop over a wire gives,
 //! and what it does at the wire.
 #![tactic(auto)]
 
@@ -58,6 +64,7 @@ mod asks;
 mod cancels;
 mod draw;
 mod drive;
+mod expiries;
 mod id_streams;
 mod ids;
 mod key;

@@ -235,12 +235,14 @@ impl Questions {
             return Some(Transmit {
                 octets,
                 over: Over::Datagram,
+                send: self.datagrams.sends_of(id),
             });
         }
         let octets = self.streams.octets_of(id)?;
         Some(Transmit {
             octets,
             over: Over::Stream,
+            send: self.streams.sends_of(id),
         })
     }
 

@@ -1,7 +1,8 @@
 //! A queue whose room is taken once.
-ghost use Rattle.std.specs.Prelude.{◌≡◌, ◌↔◌, ◌<◌, ◌≤◌, ℕ, [], ◌∷◌, ◌++◌, Some, IfOk, IsTrue, MatchOption, length, map, slice_get};
-ghost use Rattle.std.specs.List.{Contains};
+ghost use Rattle.std.specs.Prelude.{◌≡◌, ◌↔◌, ◌<◌, ◌≤◌, ℕ, List, [], ◌∷◌, ◌++◌, Option, Some, IfOk, IsTrue, MatchOption, length, map, slice_get};
+ghost use Rattle.std.specs.List.{Contains, filter_map};
 ghost use Rattle.sip_resolver.specs.Cancels.{others_by};
+ghost use Rattle.sip_resolver.specs.Questions.{IsLeast};
 
 use std::alloc::{AllocError, Global};
 use std::collections::VecDeque;
@@ -87,6 +88,48 @@ impl<T: Numbered> Queue<T> {
             }
         }
         false
+    }
+}
+
+/// What may have a moment by which it ends.
+pub(crate) trait Timed {
+    // The moment by which it ends, if it has one.
+    ghost until_of: { Self → Option ℕ };
+
+    /// The moment by which it ends, if it has one.
+    fn its_until(&self) -> Option<u64>
+        ensures { result ≡ until_of self.now };
+}
+
+impl<T: Timed> Queue<T> {
+    /// The first moment by which one of them ends.
+    pub(crate) fn next_until(&self) -> Option<u64>
+        ensures { IsLeast (filter_map T.until_of self.now.items) result }
+    {
+        let mut least = None;
+        'items: for at in 0..self.items.len() {
+            let item = &self.items[at];
+            least = least_of(least, item.its_until());
+        }
+        least
+    }
+}
+
+/// The least of two numbers, if there are any.
+pub(crate) fn least_of(one: Option<u64>, other: Option<u64>) -> Option<u64>
+    ensures { (ones others : List ℕ) → IsLeast ones one → IsLeast others other
+        → IsLeast (ones ++ others) result }
+{
+    let Some(first) = one else {
+        return other;
+    };
+    let Some(second) = other else {
+        return Some(first);
+    };
+    if first <= second {
+        Some(first)
+    } else {
+        Some(second)
     }
 }
 

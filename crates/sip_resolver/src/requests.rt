@@ -2,12 +2,14 @@
 ghost use Rattle.std.specs.Prelude.{◌≡◌, ◌↔◌, ◌<◌, ◌≤◌, [], ◌∷◌, ◌++◌, IfOk, IfSome, IsTrue, MatchOption, length, map};
 ghost use Rattle.std.specs.List.{All, Contains};
 ghost use Rattle.sip_resolver.specs.Cancels.{is_awaited, others_by};
+ghost use Rattle.sip_resolver.specs.Expiries.{untils_of};
 ghost use Rattle.sip_resolver.specs.Outcomes.{Ended};
+ghost use Rattle.sip_resolver.specs.Questions.{IsLeast};
 ghost use Rattle.sip_resolver.specs.Requests.{IsAwaitedBy, IsWithoutEnded, IsWithoutHeld, IsWithoutReady, IsWithoutWaiting, count_of, number_of_ended, numbers_of, requests_of};
 ghost use Rattle.sip_resolver.specs.Tasks.{sought_of};
 
 use crate::outcome::{Outcome, Resolved};
-use crate::queue::{Numbered, Queue};
+use crate::queue::{Numbered, Queue, Timed, least_of};
 use crate::task::Task;
 use std::alloc::{AllocError, Global};
 use std::marker::Model;
@@ -32,6 +34,14 @@ impl<B> Numbered for Waiting<B> {
 
     fn its_number(&self) -> u64 {
         self.task.number()
+    }
+}
+
+impl<B> Timed for Waiting<B> {
+    ghost until_of = { λ it. it.task.until };
+
+    fn its_until(&self) -> Option<u64> {
+        self.task.its_until()
     }
 }
 
@@ -134,6 +144,21 @@ impl<B> Requests<B> {
             }
         }
         None
+    }
+
+    /// The first moment by which a request ends that has not ended.
+    pub(crate) fn next_until(&self) -> Option<u64>
+        ensures { IsLeast (untils_of self.now) result }
+    {
+        let can_go_on = least_of(self.ready.next_until(), self.held.next_until());
+        least_of(can_go_on, self.waiting.next_until())
+    }
+
+    /// How many can go on.
+    pub(crate) fn ready_len(&self) -> usize
+        ensures { result ≡ length self.now.ready }
+    {
+        self.ready.len()
     }
 
     /// How many are held.

@@ -10,11 +10,12 @@ ghost use Rattle.dns_asker.specs.declared.incoming.Ending.TheVariants as endings
 ghost use Rattle.sip_locator.specs.Replies.{Answers};
 ghost use Rattle.sip_resolver.specs.Cancels.{questions_left, requests_with, requests_without};
 ghost use Rattle.sip_resolver.specs.Ends.{EndsMore, IsByChoice, IsByReply, IsMemory};
+ghost use Rattle.sip_resolver.specs.Expiries.{timeouts_of};
 ghost use Rattle.sip_resolver.specs.Idle.{AreAwaited, CannotAsk, IsIdle, IsOut};
 ghost use Rattle.sip_resolver.specs.Outcomes.{IsOutcome, Sought};
-ghost use Rattle.sip_resolver.specs.Questions.{IsLeast, deadlines_of, schedule_of};
+ghost use Rattle.sip_resolver.specs.Questions.{IsLeast, schedule_of};
 ghost use Rattle.sip_resolver.specs.Requests.{AreSame, IsAwaitedBy, IsBack, Stand, count_of, numbers_of, weight};
-ghost use Rattle.sip_resolver.specs.Resolvers.{Closes, HasRoomFor, Hears, IsCut, IsEnded, IsTaken, Polls, RefusesSubmit, begun_of, with_request};
+ghost use Rattle.sip_resolver.specs.Resolvers.{Closes, Expires, HasRoomFor, Hears, IsCut, IsEnded, IsTaken, Polls, RefusesSubmit, begun_of, with_request};
 ghost use Rattle.sip_resolver.specs.Sends.{GivesUpBoth, IsInTime, SendsAfter, SendsFirst, tickets_of};
 ghost use Rattle.sip_resolver.specs.Settles.{GetsAnswer, GoesByReply, SettlesAll};
 ghost use Rattle.sip_resolver.specs.Tasks.{IsCounted, sought_of};
@@ -22,10 +23,12 @@ ghost use Rattle.sip_resolver.specs.Works.{IsAtMostOne, Works};
 
 use crate::asks::wait_for_answer;
 use crate::cancels::remove_waiting;
+use crate::expiries::{expire_held, expire_ready, expire_waiting};
 use crate::ids::Ids;
 use crate::origin::Origin;
 use crate::outcome::Resolved;
 use crate::questions::Questions;
+use crate::queue::least_of;
 use crate::refusal::SubmitRefusal;
 use crate::requests::Requests;
 use crate::task::{Progress, Task};
@@ -152,15 +155,20 @@ impl<B: AnswerBook, F: Origin, I: Ids + Drop> Resolver<B, F, I> {
     }
 
     /// Takes a request in, under a number that its outcome will have.
+    ///
+    /// `until` is the moment by which it ends: a `poll_transmit` at that moment or later ends it,
+    /// whatever replies came, by the answers that it has, or with `NoAnswer` and the question whose
+    /// answer it needs next. `None`: it ends when its questions do.
     pub fn submit(
         &mut self,
         number: u64,
         request: Request,
         caps: Caps,
         words: Words,
+        until: Option<Moment>,
     ) -> Result<(), SubmitRefusal>
         ensures submitted { OnOk result
-            (self.new ≡ with_request number request caps words.0 self.old) }
+            (self.new ≡ with_request number request caps words.0 until self.old) }
         ensures room { OnOk result (HasRoomFor self.old number) }
         ensures refused { IfErr result (RefusesSubmit self.old number) }
         ensures stand { (seat : SeatView) → Stand F.gives F.shows seat self.old.requests
@@ -173,7 +181,7 @@ impl<B: AnswerBook, F: Origin, I: Ids + Drop> Resolver<B, F, I> {
         if self.requests.has(number) {
             return Err(SubmitRefusal::NumberTaken);
         }
-        let task = Task::new(self.alloc, number, request, caps, words)?;
+        let task = Task::new(self.alloc, number, request, caps, words, until)?;
         self.requests.add(task);
         Ok(())
     }
@@ -181,9 +189,10 @@ impl<B: AnswerBook, F: Origin, I: Ids + Drop> Resolver<B, F, I> {
     /// The octets to send next, if there are any now. The caller calls it again until it gives
     /// none.
     ///
-    /// Questions whose replies did not come in time are sent once more, or given up where they were
-    /// sent as often as the schedule says; then each request that can goes on, by what the book
-    /// has.
+    /// First each request ends whose moment (`submit`) has come by `now`. The question that it
+    /// waited for is closed, and not sent again, where no other request waits for it. Then questions whose
+    /// replies did not come in time are sent once more, or given up where they were sent as often
+    /// as the schedule says; then each request that can goes on, by what the book has.
     ///
     /// Moments are whole seconds, and most calls come between two of them. `now` is the time
     /// rounded down: what was due by then is due, and the book is read at it. `asked` is the time
@@ -206,6 +215,7 @@ impl<B: AnswerBook, F: Origin, I: Ids + Drop> Resolver<B, F, I> {
         ensures* polls { sem 𝓛 (Rests (the_row B.row F.row I.row) self.entry (λ ended.
             Polls F.gives F.shows I.draws (B.shown seat.new) now asked self.old ended result)) }
     {
+        self.expire(book, seat, now);
         let id = self.next_transmit(book, seat, now, asked);
         self.questions.law_stand_in_order();
         self.questions.transmit_of(id?)
@@ -332,14 +342,14 @@ impl<B: AnswerBook, F: Origin, I: Ids + Drop> Resolver<B, F, I> {
         self.requests.awaited_id(number)
     }
 
-    /// The second at which `poll_transmit` next has something to send or to give up, if nothing
-    /// else happens, counted as moments are: the least deadline of the questions that are out. None
-    /// where no question is out.
+    /// The second at which `poll_transmit` next has something to send, to give up or to end, if
+    /// nothing else happens, counted as moments are: the least of the deadlines of the questions
+    /// that are out and of the moments by which requests end. None where there is neither.
     #[must_use]
     pub fn next_timeout(&self) -> Option<u64>
-        ensures { IsLeast (deadlines_of self.now.questions) result }
+        ensures { IsLeast (timeouts_of self.now.requests self.now.questions) result }
     {
-        self.questions.next_due()
+        least_of(self.questions.next_due(), self.requests.next_until())
     }
 
     /// Whether the question of a reply that ends so and came over this goes over a stream next.
@@ -350,6 +360,24 @@ impl<B: AnswerBook, F: Origin, I: Ids + Drop> Resolver<B, F, I> {
             Over::Datagram => self.streams && is_cut(ending),
             Over::Stream => false,
         }
+    }
+
+    /// Ends the requests whose time is over, and closes the questions that none waits for any more.
+    fn expire(&mut self, book: &B, seat: &mut B::Seat, now: Moment)
+        requires made_here { B.belongs book.now seat.old }
+        requires shown { F.shows now }
+        requires stand { Stand F.gives F.shows (B.shown seat.old) self.old.requests }
+        ensures stays { B.belongs book.now seat.new }
+        ensures goes_on { GoesOn (B.shown seat.old) (B.shown seat.new) }
+        ensures stores_nothing { StoresNothing (B.shown seat.old) (B.shown seat.new) }
+        ensures stand { Stand F.gives F.shows (B.shown seat.new) self.new.requests }
+        ensures expires { Expires now self.old self.new }
+        ensures awaited { AreAwaited self.old.requests self.old.questions
+            → AreAwaited self.new.requests self.new.questions }
+    {
+        expire_waiting::<B, F>(&mut self.requests, &mut self.questions, now);
+        expire_ready::<B, F>(&mut self.requests, self.alloc, book, seat, now);
+        expire_held::<B, F>(&mut self.requests, self.alloc, book, seat, now);
     }
 
     /// The id of the question to send next.

@@ -7,11 +7,12 @@ ghost use Rattle.dns_message.specs.declared.question.Question.{Question as quest
 ghost use Rattle.sip_selection.specs.Choice.{IsNotRefused, need};
 ghost use Rattle.sip_selection.specs.Nexts.{next_of};
 ghost use Rattle.sip_selection.specs.Selections.{begun, given_too, now_of};
+ghost use Rattle.sip_resolver.specs.Expiries.{is_expired};
 ghost use Rattle.sip_resolver.specs.Tasks.{EndsByChoice, IsCounted, Leaves, Progresses, over_of, sought_of};
 
 use crate::origin::Origin;
 use crate::outcome::{Outcome, TargetList};
-use crate::queue::Numbered;
+use crate::queue::{Numbered, Timed};
 use crate::transmit::Over;
 use answer_cache::AnswerBook;
 use dns_answers::{Answer, Moment};
@@ -39,6 +40,8 @@ pub(crate) struct Task<B> {
     locator: Box<Locator<B>>,
     /// The reply to its question was cut, which came in a datagram.
     cut: bool,
+    /// The moment by which it ends, if it has one.
+    until: Option<Moment>,
 }
 
 impl<B> Model for Task<B> {
@@ -50,6 +53,7 @@ impl<B> Model for Task<B> {
       number = it.number;
       selection = it.locator.value;
       cut = it.cut;
+      until = it.until;
     } };
 }
 
@@ -72,6 +76,16 @@ impl<B> Task<B> {
         }
     }
 
+    /// Whether it is to end by this moment.
+    pub(crate) fn is_expired(&self, now: Moment) -> bool
+        ensures { result ≡ is_expired now self.now.until }
+    {
+        match self.until {
+            Some(until) => until <= now,
+            None => false,
+        }
+    }
+
     /// The reply to its question was cut, which came in a datagram.
     pub(crate) fn mark_cut(&mut self)
         ensures { self.new ≡ record self.old { cut = true } }
@@ -88,6 +102,17 @@ impl<B> Numbered for Task<B> {
     }
 }
 
+impl<B> Timed for Task<B> {
+    ghost until_of = { λ it. it.until };
+
+    fn its_until(&self) -> Option<u64> {
+        match self.until {
+            Some(until) => Some(until.get()),
+            None => None,
+        }
+    }
+}
+
 impl<B: AnswerBook> Task<B> {
     /// A request of which nothing is known yet.
     pub(crate) fn new(
@@ -96,9 +121,14 @@ impl<B: AnswerBook> Task<B> {
         request: Request,
         caps: Caps,
         words: Words,
+        until: Option<Moment>,
     ) -> Result<Task<B>, AllocError>
-        ensures { IfOk result (λ it. it
-            ≡ record { number = number; selection = begun request caps words.0; cut = false }) }
+        ensures { IfOk result (λ it. it ≡ record {
+          number = number;
+          selection = begun request caps words.0;
+          cut = false;
+          until = until;
+        }) }
     {
         let locator = Locator::new(alloc, request, caps, words)?;
         match Box::new(alloc, locator) {
@@ -106,6 +136,7 @@ impl<B: AnswerBook> Task<B> {
                 number,
                 locator,
                 cut: false,
+                until,
             }),
             Err(AllocFailed { .. }) => Err(AllocError),
         }

@@ -17,4 +17,6 @@ pub struct Transmit<'a> {
     pub octets: &'a [u8],
     /// What the message goes over.
     pub over: Over,
+    /// Which send of its question it is over this: 1 for the first.
+    pub send: u8,
 }

@@ -1,25 +1,46 @@
 -- Whose requests are inside a resolver.
-use Rattle.std.proofs.Common.{◌≡◌, ℕ, zero, suc, ◌+◌, ◌<◌, Bool, true, false, if◌then◌else◌, List, [], ◌∷◌, get_or, length, refl, sym, ap, subst, ◌∙◌, arith}
+use Rattle.std.proofs.Common.{◌≡◌, ℕ, zero, suc, ◌+◌, ◌<◌, ◌&&◌, Bool, true, false, Option, Some, None, if◌then◌else◌, List, [], ◌∷◌, get_or, length, refl, sym, ap, subst, ◌∙◌, arith}
 use Rattle.std.proofs.lemmas.List.Sums.{sum_by-cons, sum_by_push}
 use Rattle.std.specs.List.{sum_by}
+use Rattle.std.specs.Option.{is_none}
 use Rattle.sip_resolver.specs.Outcomes.{Ended, Sought}
 use Rattle.sip_resolver.specs.Requests.{RequestsView, weight}
 use Rattle.sip_resolver.specs.Resolvers.{IsTaken, ResolverView, with_request}
 use Rattle.sip_resolver.specs.Tasks.{TaskView, sought_of}
 use Rattle.sip_selection.specs.Selections.{begun}
 use Rattle.sip_worker.specs.Batches.{at_place, is_of, job_of, sought_at, strange, strange_from}
+use Rattle.sip_worker.specs.SameJobs.{same_job}
 use Rattle.sip_worker.specs.SameJobs.Decided.{job_decides}
 use Rattle.sip_worker.specs.declared.job.Job.{Job}
 
 -- ---- what is submitted of a job
 
 own-is : (place : ℕ) (job : Job) → is_of place job (sought_at place job) ≡ true
-own-is place job = (job_decides (at_place place job) (job_of (sought_at place job))).1 refl
+own-is place job =
+    let same : same_job (at_place place job) (job_of (sought_at place job)) ≡ true =
+    (job_decides (at_place place job) (job_of (sought_at place job))).1 refl in
+    rw same refl
+
+own-by : (place : ℕ) (job : Job) (sought : Sought) (same : Bool) (until : Option ℕ)
+    → same_job (at_place place job) (job_of sought) ≡ same → sought.until ≡ until → (same && is_none until) ≡ true
+    → sought ≡ sought_at place job
+own-by place job sought true None same until is =
+    let job-is = (job_decides (at_place place job) (job_of sought)).0 same in
+    let for-ever : sought ≡ record sought { until = None } =
+    λ i. record {
+      number = sought.number;
+      request = sought.request;
+      caps = sought.caps;
+      words = sought.words;
+      until = until i;
+    } in
+    for-ever ∙ sym (ap (λ (it : Job). sought_at it.number it) job-is)
+own-by place job sought true (Some moment) same until is = absurd cc
+own-by place job sought false until same until-is is = absurd cc
 
 is-own : (place : ℕ) (job : Job) (sought : Sought) → is_of place job sought ≡ true → sought ≡ sought_at place job
 is-own place job sought is =
-    let same = (job_decides (at_place place job) (job_of sought)).0 is in
-    sym (ap (λ (it : Job). sought_at it.number it) same)
+    own-by place job sought (same_job (at_place place job) (job_of sought)) sought.until refl refl is
 
 first-weighs : (b : Bool) (n : ℕ) → b ≡ true → (if b then 0 else n) ≡ 0
 first-weighs true n is = refl
@@ -97,10 +118,10 @@ owned jobs sought none =
 
 -- one request more
 pub weighs-more : (h : Sought → ℕ) (old new : ResolverView) (place : ℕ) (job : Job)
-    → new ≡ with_request place job.request job.caps job.words.0 old
+    → new ≡ with_request place job.request job.caps job.words.0 None old
     → weight h new.requests ≡ weight h old.requests + h (sought_at place job)
 weighs-more h old new place job is =
-    let task : TaskView = record { number = place; selection = begun job.request job.caps job.words.0; cut = false } in
+    let task : TaskView = record { number = place; selection = begun job.request job.caps job.words.0; cut = false; until = None } in
     let more = sum_by_push (λ (it : TaskView). h (sought_of it)) old.requests.ready task in
     rw is (omega (arith, more))
 

@@ -1,6 +1,7 @@
 -- A batch while its jobs are resolved. No public clause cites this module.
-use Rattle.std.specs.Prelude.{◌≡◌, ℕ, ◌+◌, ◌≤◌, Bool, if◌then◌else◌, List, [], ◌∷◌, length}
+use Rattle.std.specs.Prelude.{◌≡◌, ℕ, ◌+◌, ◌≤◌, ◌&&◌, Bool, None, if◌then◌else◌, List, [], ◌∷◌, length}
 use Rattle.std.specs.List.{AllZip}
+use Rattle.std.specs.Option.{is_none}
 use Rattle.answer_cache.specs.Seats.{SeatView}
 use Rattle.sip_resolver.specs.Outcomes.{Sought}
 use Rattle.sip_resolver.specs.Requests.{RequestsView, Stand, weight}
@@ -28,6 +29,7 @@ sought_at place job = record {
   request = job.request;
   caps = job.caps;
   words = job.words.0;
+  until = None;
 }
 
 -- the job of which this would be submitted
@@ -41,7 +43,8 @@ job_of sought = record {
 
 -- it is what is submitted of the job at this place
 abbrev pub is_of : ℕ → Job → Sought → Bool
-is_of place job sought = same_job (at_place place job) (job_of sought)
+is_of place job sought =
+    same_job (at_place place job) (job_of sought) && is_none sought.until
 
 -- 0 for what is submitted of one of these jobs, of which the first is at this place; else 1
 abbrev pub strange_from : ℕ → List Job → Sought → ℕ

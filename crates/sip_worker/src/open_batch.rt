@@ -71,7 +71,7 @@ fn submit<B: AnswerBook, F: Origin, I: Ids + Drop>(
         return false;
     };
     resolver
-        .submit(place as u64, request, job.caps, job.words)
+        .submit(place as u64, request, job.caps, job.words, None)
         .is_ok()
 }
 

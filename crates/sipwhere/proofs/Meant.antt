@@ -50,11 +50,11 @@ at-itself (x ∷ xs) (suc k) d = at-itself xs k d
 -- ---- what is submitted
 
 pub weighs-more : (h : Sought → ℕ) (old new : ResolverView) (number : ℕ) (request : Request) (caps : Caps) (words : List ℕ)
-    → new ≡ with_request number request caps words old
+    → new ≡ with_request number request caps words None old
     → weight h new.requests
-    ≡ weight h old.requests + h (record { number = number; request = request; caps = caps; words = words })
+    ≡ weight h old.requests + h (record { number = number; request = request; caps = caps; words = words; until = None })
 weighs-more h old new number request caps words is =
-    let task : TaskView = record { number = number; selection = begun request caps words; cut = false } in
+    let task : TaskView = record { number = number; selection = begun request caps words; cut = false; until = None } in
     let more = sum_by_push (λ (it : TaskView). h (sought_of it)) old.requests.ready task in
     rw is (omega (arith, more))
 
@@ -111,14 +111,14 @@ module _ (sender : Sender) (lines : List Line) where
   -- the one request of a line, under its place
   module _ (place : ℕ) (line : Line) (at : line ≡ get_or lines place line) (request : Request) (only : IsOnly line.text.now request) where
     abbrev one : Sought
-    one = record { number = place; request = request; caps = sender.caps; words = drawn sender.key line.number }
+    one = record { number = place; request = request; caps = sender.caps; words = drawn sender.key line.number; until = None }
 
     is-one : (it : Sought) → IsOwn sender lines it → it.number ≡ place → it ≡ one
     is-one it own number =
         let here = ap (λ n. get_or lines n line) number ∙ sym at in
         let of : IsOfLine sender line it = subst (λ l. IsOfLine sender l it) here (own.of line) in
         let same = sym (only.only it.request of.is) in
-        λ i. record { number = number i; request = same i; caps = of.caps i; words = of.words i }
+        λ i. record { number = number i; request = same i; caps = of.caps i; words = of.words i; until = of.until i }
 
     pub meant-alike : (it : Sought) → it.number ≡ place → IsMeant sender lines it → AreAlike it one
     meant-alike it number meant measure =

@@ -72,7 +72,8 @@ pub record IsLocated (gives : List ℕ → Type 0) (shows : ℕ → Type 0) (sea
   pub is : RequestText text request
   pub place : ℕ
   pub became : MayBecome gives shows seat
-      (record { number = place; request = request; caps = caps; words = words }) line_outcome
+      (record { number = place; request = request; caps = caps; words = words; until = None })
+      line_outcome
 
 -- what may become of a line: it is no request, or what becomes of its request
 abbrev pub IsLineOutcome : (List ℕ → Type 0) → (ℕ → Type 0) → SeatView → Sender → Line → LineOutcome
@@ -89,6 +90,7 @@ pub record IsOfLine (sender : Sender) (line : Line) (sought : Sought) : Type 0 w
   pub is : RequestText line.text.now sought.request
   pub caps : sought.caps ≡ sender.caps
   pub words : sought.words ≡ drawn sender.key line.number
+  pub until : sought.until ≡ None
 
 -- a text is a request
 pub record IsRequest (text : List ℕ) : Type 0 where

@@ -64,7 +64,7 @@ pub fn submit<B: AnswerBook, F: Origin, I: Ids + Drop>(
         Err(line_outcome) => return Some(line_outcome),
     };
     let words = draw_words(sender.key, line.number);
-    match resolver.submit(number, request, sender.caps, words) {
+    match resolver.submit(number, request, sender.caps, words, None) {
         Ok(()) => None,
         Err(_) => Some(LineOutcome::Memory),
     }

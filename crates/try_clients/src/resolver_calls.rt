@@ -30,8 +30,9 @@ pub(crate) fn submit<B: AnswerBook, F: Origin>(
         request,
         caps,
         words,
+        until,
     } = submitted;
-    match resolver.submit(number, request, caps, words) {
+    match resolver.submit(number, request, caps, words, until) {
         Ok(()) => output.push_line("taken"),
         Err(refusal) => push_debug_line(output, &refusal),
     }
@@ -75,6 +76,31 @@ pub(crate) fn poll_octets<B: AnswerBook, F: Origin>(
 {
     match resolver.poll_transmit(book, seat, now, asked) {
         Some(transmit) => push_sent_octets(output, transmit.octets, transmit.over),
+        None => output.push_line("nothing"),
+    }
+}
+
+/// Polls what is to be sent, and shows which send of its question it is.
+pub(crate) fn poll_send<B: AnswerBook, F: Origin>(
+    output: &mut Output,
+    resolver: &mut Resolver<B, F, LineIds>,
+    book: &B,
+    seat: &mut B::Seat,
+    now: Moment,
+    asked: Moment,
+)
+    requires made_here { B.belongs book.now seat.old }
+    requires shown { F.shows now }
+    requires stand { Stand F.gives F.shows (B.shown seat.old) resolver.old.requests }
+    ensures stays { B.belongs book.now seat.new }
+    ensures stand { Stand F.gives F.shows (B.shown seat.new) resolver.new.requests }
+{
+    match resolver.poll_transmit(book, seat, now, asked) {
+        Some(transmit) => {
+            output.push_number(u64::from(transmit.send));
+            output.push(" ");
+            push_sent(output, transmit.octets, transmit.over);
+        }
         None => output.push_line("nothing"),
     }
 }

@@ -62,6 +62,8 @@ pub(crate) struct Submitted {
     pub(crate) caps: Caps,
     /// Its random words.
     pub(crate) words: Words,
+    /// The moment by which it ends, if it has one.
+    pub(crate) until: Option<Moment>,
 }
 
 /// What happens to a resolver.
@@ -73,6 +75,8 @@ pub(crate) enum Step {
     Poll(Moment, Moment),
     /// The same, and the octets are shown.
     PollOctets(Moment, Moment),
+    /// The same, and which send of its question it is is shown.
+    PollSend(Moment, Moment),
     /// Octets come in.
     Hear(Moment, Over, Vec<u8>),
     /// Everything that is to be sent is answered by the zone.
@@ -235,7 +239,11 @@ fn request_of(alloc: Global, text: &str) -> Result<Request, Fault> {
 }
 
 /// The request of a line: its number, its transports, its families, its words and its text.
-fn submitted_of(alloc: Global, rest: &str) -> Result<Submitted, Fault> {
+fn submitted_of(
+    alloc: Global,
+    until: Option<Moment>,
+    rest: &str,
+) -> Result<Submitted, Fault> {
     let (number, rest) = split_word(rest);
     let (transports, rest) = split_word(rest);
     let (families, rest) = split_word(rest);
@@ -249,17 +257,25 @@ fn submitted_of(alloc: Global, rest: &str) -> Result<Submitted, Fault> {
             request,
             caps,
             words,
+            until,
         }),
         Err(fault) => Err(fault),
     }
 }
 
 /// The step of a request that is submitted.
-fn submit_step(alloc: Global, rest: &str) -> Result<Step, Fault> {
-    match submitted_of(alloc, rest) {
+fn submit_step(alloc: Global, until: Option<Moment>, rest: &str) -> Result<Step, Fault> {
+    match submitted_of(alloc, until, rest) {
         Ok(submitted) => Ok(Step::Submit(submitted)),
         Err(fault) => Err(fault),
     }
+}
+
+/// The step of a request that is submitted, behind the moment by which it ends.
+fn submit_until_step(alloc: Global, rest: &str) -> Result<Step, Fault> {
+    let (until, rest) = split_word(rest);
+    let until = moment_of(until)?;
+    submit_step(alloc, Some(until), rest)
 }
 
 /// The moments of a poll: the time rounded down, and rounded up where that is another moment.
@@ -272,13 +288,13 @@ fn moments_of(rest: &str) -> Result<(Moment, Moment), Fault> {
     Ok((now, moment_of(asked)?))
 }
 
-/// The step of a poll, where the octets may be shown.
-fn poll_step(rest: &str, are_octets: bool) -> Result<Step, Fault> {
+/// The step of a poll, by its word.
+fn poll_step(word: &str, rest: &str) -> Result<Step, Fault> {
     let (now, asked) = moments_of(rest)?;
-    Ok(if are_octets {
-        Step::PollOctets(now, asked)
-    } else {
-        Step::Poll(now, asked)
+    Ok(match word {
+        "poll_octets" => Step::PollOctets(now, asked),
+        "poll_send" => Step::PollSend(now, asked),
+        _ => Step::Poll(now, asked),
     })
 }
 
@@ -307,9 +323,9 @@ fn plain_step(word: &str) -> Result<Step, Fault> {
 fn step_of(alloc: Global, line: &str) -> Result<Step, Fault> {
     let (word, rest) = split_word(line);
     match word {
-        "submit" => submit_step(alloc, rest),
-        "poll" => poll_step(rest, false),
-        "poll_octets" => poll_step(rest, true),
+        "submit" => submit_step(alloc, None, rest),
+        "submit_until" => submit_until_step(alloc, rest),
+        "poll" | "poll_octets" | "poll_send" => poll_step(word, rest),
         "hear" => hear_step(alloc, rest),
         "serve" => Ok(Step::Serve(moment_of(rest)?)),
         "cancel" => Ok(Step::Cancel(number64(rest)?)),

@@ -6,7 +6,7 @@ ghost use Rattle.sip_resolver.specs.Requests.{Stand};
 use crate::clients;
 use crate::lookups::{moment_of, push_number_line, push_yes, zone_of};
 use crate::resolver_calls::{
-    cancel, close, hear, outcome, poll, poll_octets, push_awaited, serve, submit,
+    cancel, close, hear, outcome, poll, poll_octets, poll_send, push_awaited, serve, submit,
 };
 use crate::resolver_steps::{LineIds, Setting, Step, setting_of, steps_of, zone_text};
 use crate::schedules::is_in_range;
@@ -169,6 +169,7 @@ fn does<B: AnswerBook, F: Origin, R: Wait>(
         Step::Submit(submitted) => submit(output, resolver, submitted),
         Step::Poll(now, asked) => poll(output, resolver, book, seat, now, asked),
         Step::PollOctets(now, asked) => poll_octets(output, resolver, book, seat, now, asked),
+        Step::PollSend(now, asked) => poll_send(output, resolver, book, seat, now, asked),
         Step::Hear(now, over, octets) => {
             hear(rt, output, resolver, book, seat, now, over, &octets);
         }

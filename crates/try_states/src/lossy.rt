@@ -110,7 +110,7 @@ fn add<B: AnswerBook, F: Origin>(
         return None;
     };
     let caps = Caps::new(&[Udp], Families::V4)?;
-    let submitted = resolver.submit(number, Request::Uri(uri), caps, WORDS);
+    let submitted = resolver.submit(number, Request::Uri(uri), caps, WORDS, None);
     submitted.ok()
 }
 

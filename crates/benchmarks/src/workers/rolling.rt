@@ -145,7 +145,7 @@ fn submit(alloc: Global, resolver: &mut Core, number: u64) -> Option<()>
         caps,
         words,
     } = job_of(alloc, number)?;
-    resolver.submit(number, request, caps, words).ok()
+    resolver.submit(number, request, caps, words, None).ok()
 }
 
 /// Submits the requests of a batch, the first of which has this number.

@@ -1,6 +1,8 @@
 use Rattle.std.proofs.Common.{◌≡◌, None, inl, inr, refl, subst, rules}
+use Rattle.sip_resolver.specs.Expiries.{timeouts_of, untils_of}
 use Rattle.sip_resolver.specs.Questions.{IsLeast, deadlines_of}
 use Rattle.sip_resolver.specs.Driven.{begun}
+use Rattle.sip_resolver.proofs.Deadlines.{none-at-front}
 use Rattle.sip_resolver.proofs.Drives.{drives-through}
 use Rattle.sip_resolver.proofs.Standing.{works-not}
 use Rattle.sip_resolver.proofs.Working.{works-through}
@@ -13,7 +15,10 @@ returns-then-is_none-clause-none g c = λ _. (
   elim c.then-is_none.branch [
     | then-is_none-via-then-is_none w ↦
         let none : c.next_timeout.result ≡ None = search rules in
-        inl (subst (IsLeast (deadlines_of c.send_and_poll.new.resolver.questions)) none c.next_timeout.ensures)
+        let resolver = c.send_and_poll.new.resolver in
+        inl
+        (none-at-front (deadlines_of resolver.questions) (untils_of resolver.requests)
+        (subst (IsLeast (timeouts_of resolver.requests resolver.questions)) none c.next_timeout.ensures))
     | then-is_none-via-else-is_none+then-is_over w ↦ inr (search rules)
   ],
 )

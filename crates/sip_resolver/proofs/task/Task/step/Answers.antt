@@ -9,10 +9,10 @@ returns-clause-request g c =
     elim c.match-step.branch [
       | in-Ok w ↦
           let steps = rw (c.deref_mut-locator.ensures.value, w.in-Ok.is) at c.step.follows.holds-at-none in
-          rw (w.self-inside-is, ← c.self.view_is) (same-request c.self.inside.number c.self.inside.cut _ _ _ old new steps.gains)
+          rw (w.self-inside-is, ← c.self.view_is) (same-request c.self.inside.number c.self.inside.cut c.self.inside.until _ _ _ old new steps.gains)
       | in-Err w ↦
           let steps = rw (c.deref_mut-locator.ensures.value, w.in-Err.is) at c.step.follows.holds-at-none in
-          rw (w.self-inside-is, ← c.self.view_is) (same-request c.self.inside.number c.self.inside.cut _ _ _ old new steps.gains)
+          rw (w.self-inside-is, ← c.self.view_is) (same-request c.self.inside.number c.self.inside.cut c.self.inside.until _ _ _ old new steps.gains)
     ]
 
 pub returns-clause-progresses : goal.returns-clause-progresses
@@ -26,6 +26,6 @@ returns-clause-progresses g c =
           let steps = rw (c.deref_mut-locator.ensures.value, w.in-Ok.is) at c.step.follows.holds-at-none in
           rw (w.result-is, w.self-inside-is, ← c.self.view_is)
           (on-next _ _ before after _ c.requires.shown c.step.ensures.goes_on c.step.ensures.stores_nothing c.self.inside.number
-          c.self.inside.cut old new _ w.progress_of.result steps w.progress_of.ensures)
+          c.self.inside.cut c.self.inside.until old new _ w.progress_of.result steps w.progress_of.ensures)
       | in-Err w ↦ rw w.result-is (λ counted. tt)
     ]
