@@ -1,13 +1,13 @@
 -- Which questions are out.
-use Rattle.std.proofs.Common.{◌≡◌, ◌≢◌, nat_eq, ℕ, suc, ◌+◌, ◌<◌, ◌≤◌, Bool, true, false, List, [], ◌∷◌, ◌++◌, length, map, Some, None, refl, sym, ap, ◌∙◌, append_assoc, arith, rules}
+use Rattle.std.proofs.Common.{◌≡◌, ◌≢◌, nat_eq, ℕ, suc, ◌≤◌, Bool, true, false, List, [], ◌∷◌, ◌++◌, length, map, Some, None, refl, sym, ap, ◌∙◌, append_assoc, arith, rules}
 use Rattle.std.proofs.lemmas.List.{append-nil, length-append, map-append}
-use Rattle.std.proofs.lemmas.List.Elements.{All-map, All-nil, All-push, filter-append}
+use Rattle.std.proofs.lemmas.List.Elements.{All-map, All-push, filter-append}
 use Rattle.std.specs.Bool.{⊤}
 use Rattle.std.specs.List.{All, filter, find}
 use Rattle.pending_list.specs.Pending.{Pending}
 use Rattle.pending_list.specs.declared.entry.Entry.{Entry}
 use Rattle.dns_message.specs.declared.question.Question.{Question}
-use Rattle.dns_asker.proofs.Listing.{all-stay, first-counted, found-has, none-found, taken}
+use Rattle.dns_asker.proofs.Listing.{all-stay, found-has, none-found, taken}
 use Rattle.dns_asker.specs.Events.{closed, sent_octets}
 use Rattle.dns_asker.specs.Listed.{asking_of, is_of, ticket_in}
 use Rattle.dns_asker.specs.Out.{HasQuestion, IsOctetsOf, LacksQuestion}

@@ -1,12 +1,11 @@
 -- Requests that end because their time is over.
-use Rattle.std.proofs.Common.{◌≡◌, ℕ, ◌+◌, ◌<◌, ◌≤◌, Bool, true, false, not, List, [], ◌∷◌, ◌++◌, Option, Some, None, length, refl, sym, ap, ◌∙◌, subst, arith, rules}
-use Rattle.std.specs.List.{All, Contains, filter, filter_map, sum_by}
+use Rattle.std.proofs.Common.{◌≡◌, ℕ, ◌+◌, ◌<◌, ◌≤◌, Bool, true, false, not, List, [], ◌∷◌, ◌++◌, length, refl, sym, ap, ◌∙◌, subst, arith}
+use Rattle.std.specs.List.{All, filter, sum_by}
 use Rattle.std.proofs.lemmas.List.{append-nil, append_assoc}
-use Rattle.std.proofs.lemmas.List.Elements.{All-append, All-cons, All-contains, All-filter, All-head, All-nil, All-tail, filter-append, filter_passes}
+use Rattle.std.proofs.lemmas.List.Elements.{All-append, All-cons, All-filter, All-head, All-nil, All-tail, filter_passes}
 use Rattle.std.proofs.lemmas.List.Sums.{sum_by-append, sum_by-cons}
 use Rattle.answer_cache.specs.Seats.{GoesOn, SeatView, StoresNothing}
 use Rattle.sip_selection.specs.Choice.{need}
-use Rattle.sip_selection.specs.Selections.{now_of}
 use Rattle.sip_resolver.proofs.Abandoned.{questions-not, questions-through}
 use Rattle.sip_resolver.proofs.Cancelling.{all-left, awaited-back}
 use Rattle.sip_resolver.proofs.Circling.{Circled, circled-not, circled-on, circled-over}
@@ -19,7 +18,7 @@ use Rattle.sip_resolver.specs.Expiries.{AreExpired, EndsLate, HaveTime, IsLate, 
 use Rattle.sip_resolver.specs.Idle.{AreAwaited, IsIn}
 use Rattle.sip_resolver.specs.Outcomes.{Ended, IsOutcome, Sought}
 use Rattle.sip_resolver.specs.Questions.{QuestionsView}
-use Rattle.sip_resolver.specs.Requests.{AreSame, IsWithoutHeld, IsWithoutReady, IsWithoutWaiting, RequestsView, Stand, requests_of, weight}
+use Rattle.sip_resolver.specs.Requests.{AreSame, IsWithoutHeld, IsWithoutReady, IsWithoutWaiting, RequestsView, Stand, requests_of}
 use Rattle.sip_resolver.specs.Resolvers.{Expires, ResolverView}
 use Rattle.sip_resolver.specs.Tasks.{IsCounted, Lacks, TaskView, WaitingView, sought_of}
 use Rattle.sip_resolver.specs.declared.outcome.Outcome.{Outcome}

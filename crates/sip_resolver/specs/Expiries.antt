@@ -1,5 +1,5 @@
 -- Which requests end because their time is over, and what is left.
-use Rattle.std.specs.Prelude.{◌≡◌, ⊤, ℕ, nat_le, Bool, true, false, not, List, ◌++◌, Option, Some, None, map}
+use Rattle.std.specs.Prelude.{◌≡◌, ⊤, ℕ, nat_le, Bool, true, false, not, List, ◌++◌, Option, Some, None}
 use Rattle.std.specs.List.{All, filter, filter_map}
 use Rattle.sip_selection.specs.Choice.{need}
 use Rattle.sip_selection.specs.Selections.{now_of}

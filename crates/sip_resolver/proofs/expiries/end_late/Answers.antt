@@ -1,4 +1,4 @@
-use Rattle.std.proofs.Common.{◌≡◌, true, ap, refl, ◌∙◌}
+use Rattle.std.proofs.Common.{◌≡◌, true, ap, ◌∙◌}
 use Rattle.sip_resolver.proofs.Expiring.{choice-without-reply, late-one, unanswered-is, unanswered-without-reply}
 use Rattle.sip_resolver.proofs.Inside.{ended-too}
 use Rattle.sip_resolver.proofs.Standing.{stand-later, works-quietly}

@@ -1,4 +1,4 @@
-use Rattle.std.proofs.Common.{ap, sym, refl}
+use Rattle.std.proofs.Common.{ap, refl}
 use Rattle.sip_resolver.proofs.Circling.{circled-early, circled-not, circled-on}
 use Rattle.sip_resolver.proofs.Expiring.{others-ready, over-ready, turns-not, turns-too}
 use Rattle.sip_resolver.proofs.Inside.{ready-out}

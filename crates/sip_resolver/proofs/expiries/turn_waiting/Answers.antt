@@ -4,7 +4,6 @@ use Rattle.sip_resolver.proofs.Expiring.{unanswered-is}
 use Rattle.sip_resolver.proofs.Inside.{ended-too, waiting-too}
 use Rattle.sip_resolver.specs.Cancels.{is_awaited}
 use Rattle.sip_resolver.specs.Requests.{RequestsView}
-use Rattle.sip_resolver.specs.Tasks.{WaitingView}
 use Rattle.sip_resolver.proofs.expiries.turn_waiting.Goals as goal
 
 pub returns-then-not-is_expired-clause-stand : goal.returns-then-not-is_expired-clause-stand

@@ -26,7 +26,8 @@ returns g c =
           sends = sends-octets c.args.now c.args.asked c.in_ok-id.field-0 c.self.inside.requests.waiting c.expire.new.self.questions
               c.self.inside.questions c.transmit_of.result told.sends c.transmit_of.ensures;
           spaced = spaced-expired c.args.now c.args.asked c.args.self.now c.expire.new.self c.self.inside.questions
-              c.expire.ensures.expires (spaced c.args.now c.args.asked c.self.inside.requests.waiting c.expire.new.self.questions c.self.inside.questions
+              c.expire.ensures.expires (spaced c.args.now c.args.asked c.self.inside.requests.waiting c.expire.new.self.questions
+              c.self.inside.questions
               (Some c.in_ok-id.field-0) c.law_stand_in_order.ensures.scheduled told.sends);
           idle = sends-some c.args.now c.args.asked c.in_ok-id.field-0 c.self.inside.requests.waiting c.expire.new.self.questions
               c.self.inside.questions c.transmit_of.result told.sends c.transmit_of.ensures _;
@@ -62,7 +63,8 @@ returns-in_err-id g c =
           ends = told.ends;
           sends = told.sends;
           spaced = spaced-expired c.args.now c.args.asked c.args.self.now c.expire.new.self c.self.inside.questions
-              c.expire.ensures.expires (spaced c.args.now c.args.asked c.self.inside.requests.waiting c.expire.new.self.questions c.self.inside.questions None
+              c.expire.ensures.expires (spaced c.args.now c.args.asked c.self.inside.requests.waiting c.expire.new.self.questions
+              c.self.inside.questions None
               c.law_stand_in_order.ensures.scheduled told.sends);
           idle = told.idle;
           awaited = λ it. told.awaited (c.expire.ensures.awaited it);

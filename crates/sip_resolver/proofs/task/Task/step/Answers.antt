@@ -9,10 +9,12 @@ returns-clause-request g c =
     elim c.match-step.branch [
       | in-Ok w ↦
           let steps = rw (c.deref_mut-locator.ensures.value, w.in-Ok.is) at c.step.follows.holds-at-none in
-          rw (w.self-inside-is, ← c.self.view_is) (same-request c.self.inside.number c.self.inside.cut c.self.inside.until _ _ _ old new steps.gains)
+          rw (w.self-inside-is, ← c.self.view_is)
+          (same-request c.self.inside.number c.self.inside.cut c.self.inside.until _ _ _ old new steps.gains)
       | in-Err w ↦
           let steps = rw (c.deref_mut-locator.ensures.value, w.in-Err.is) at c.step.follows.holds-at-none in
-          rw (w.self-inside-is, ← c.self.view_is) (same-request c.self.inside.number c.self.inside.cut c.self.inside.until _ _ _ old new steps.gains)
+          rw (w.self-inside-is, ← c.self.view_is)
+          (same-request c.self.inside.number c.self.inside.cut c.self.inside.until _ _ _ old new steps.gains)
     ]
 
 pub returns-clause-progresses : goal.returns-clause-progresses
