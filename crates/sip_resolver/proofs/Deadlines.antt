@@ -149,5 +149,6 @@ module _ {X : Type 0} (f : X → Option ℕ) (items : List X) (place : ℕ) wher
       rw (more, filter_map-append f (take place items) (x ∷ []))
       (joined (filter_map f (take place items)) (filter_map f (x ∷ [])) so-far (least-one f x has (sym is)))
 
-  pub least-all : (least : Option ℕ) → length items ≤ place → IsLeast (filter_map f (take place items)) least → IsLeast (filter_map f items) least
+  pub least-all : (least : Option ℕ) → length items ≤ place → IsLeast (filter_map f (take place items)) least
+      → IsLeast (filter_map f items) least
   least-all least all it = rw (take_all place items all) at it

@@ -21,8 +21,8 @@ abbrev task_of : ℕ → Bool → Option ℕ → SelectionValue → TaskView
 task_of number cut until selection = record { number = number; selection = selection; cut = cut; until = until }
 
 -- the request stays the same while answers are gained
-pub same-request : (number : ℕ) (cut : Bool) (until : Option ℕ) (last : List Store) (now : ℕ) (first : List Store) (old new : SelectionValue)
-    → Gains last now first old new
+pub same-request : (number : ℕ) (cut : Bool) (until : Option ℕ) (last : List Store) (now : ℕ) (first : List Store)
+    (old new : SelectionValue) → Gains last now first old new
     → sought_of (task_of number cut until new) ≡ sought_of (task_of number cut until old)
 same-request number cut until last now first old new (nothing is) = rw is refl
 same-request number cut until last now first old new (one history middle between found others) =

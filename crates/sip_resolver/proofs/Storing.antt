@@ -1,5 +1,5 @@
 -- A store of what a reply had.
-use Rattle.std.proofs.Common.{◌≡◌, ℕ, inr, List, [], ◌∷◌, ◌++◌, Result, Ok, Err, sym, ◌∙◌}
+use Rattle.std.proofs.Common.{◌≡◌, ℕ, inl, inr, List, [], ◌∷◌, ◌++◌, Result, Ok, Err, sym, ◌∙◌}
 use Rattle.std.specs.Result.{IfErr, OnOk}
 use Rattle.std.proofs.lemmas.List.{append-nil}
 use Rattle.std.proofs.lemmas.List.Elements.{All-nil, All-push, Contains-push}
@@ -10,7 +10,14 @@ use Rattle.answer_cache.specs.Seats.{GoesOn, IsRefused, IsStored, SeatView, offe
 use Rattle.answer_cache.specs.declared.refusal.StoreRefusal.{StoreRefusal}
 use Rattle.sip_locator.specs.Replies.{Answers}
 use Rattle.sip_resolver.specs.Outcomes.{Counts, IsReplied}
-use Rattle.sip_resolver.specs.Works.{IsHeard, Works, offer_in}
+use Rattle.sip_resolver.specs.Works.{HandsBy, IsHeard, MayHand, Works, offer_in}
+use Rattle.sip_resolver.specs.Questions.{QuestionsView, asking_over}
+use Rattle.sip_resolver.specs.Resolvers.{HandsIn, answer, nothing}
+use Rattle.sip_resolver.specs.declared.transmit.Over.{Over}
+use Rattle.dns_asker.specs.Events.{Means}
+use Rattle.dns_asker.specs.declared.incoming.Ending.{Ending}
+use Rattle.dns_asker.specs.declared.incoming.Ending.TheVariants.{Answered, Faulty}
+use Rattle.dns_asker.specs.declared.incoming.Incoming.TheVariants as incoming
 
 module _ (gives : List ℕ → Type 0) (shows : ℕ → Type 0) (old new : SeatView) (on : GoesOn old new) (octets : List ℕ)
     (given : gives octets) (now : ℕ) (shown : shows now) (question : Question) (answer : AnswerValue)
@@ -50,6 +57,20 @@ module _ (gives : List ℕ → Type 0) (shows : ℕ → Type 0) (old new : SeatV
   works-store (Ok _) stored refused = works-stored stored
   works-store (Err refusal) stored refused = works-refused refusal refused
 
+  -- the answer was handed in
+  pub hands-store : (result : Result Unit StoreRefusal) → OnOk result (IsStored old new (offer_of question answer now))
+      → IfErr result (IsRefused old new (offer_of question answer now)) → MayHand question answer now old new
+  hands-store (Ok _) stored refused = inr (offered, inr stored.own)
+  hands-store (Err refusal) stored refused = inr (offered, inl refused.0)
+
   -- what was stored counts
   pub counts : Counts gives shows new (record { question = question; answer = answer })
   counts = inr (replied, record { now = now; stands = rw offered (Contains-push old.offered (offer_of question answer now)) })
+
+-- what octets that mean the end of a wait hand in
+pub hands-in : (over : Over) (octets : List ℕ) (now : ℕ) (questions : QuestionsView) (old new : SeatView) (id : ℕ) (question : Question)
+    (ending : Ending) → Means (asking_over over questions) octets (incoming.Ended id question ending)
+    → HandsBy question ending now old new → HandsIn over octets now questions old new
+hands-in over octets now questions old new id question (Answered found) means (inl quiet) = nothing quiet
+hands-in over octets now questions old new id question (Answered found) means (inr hands) = answer id question found means hands
+hands-in over octets now questions old new id question (Faulty refusal) means quiet = nothing quiet

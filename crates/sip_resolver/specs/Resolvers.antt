@@ -4,6 +4,7 @@ use Rattle.std.specs.List.{Contains}
 use Rattle.dns_message.specs.Messages.{Begins}
 use Rattle.dns_message.specs.declared.message.Message.{Message}
 use Rattle.dns_message.specs.declared.question.Question.{Question}
+use Rattle.dns_answers.specs.Values.{AnswerValue}
 use Rattle.dns_answers.specs.declared.refusal.ReplyRefusal.TheVariants as refusals
 use Rattle.dns_asker.specs.Events.{EndsBy, Means}
 use Rattle.dns_asker.specs.Out.{HasQuestion}
@@ -11,7 +12,7 @@ use Rattle.dns_asker.specs.declared.incoming.Ending.{Ending}
 use Rattle.dns_asker.specs.declared.incoming.Ending.TheVariants as endings
 use Rattle.dns_asker.specs.declared.incoming.Incoming.TheVariants as incoming
 use Rattle.dns_asker.specs.declared.schedule.Schedule.{Schedule}
-use Rattle.answer_cache.specs.Seats.{SeatView}
+use Rattle.answer_cache.specs.Seats.{SeatView, StoresNothing}
 use Rattle.sip_selection.specs.Selections.{begun}
 use Rattle.sip_selection.specs.declared.caps.Caps.{Caps}
 use Rattle.sip_selection.specs.declared.request.Request.{Request}
@@ -25,6 +26,7 @@ use Rattle.sip_resolver.specs.Requests.{AreSame, RequestsView, Stand, count_of, 
 use Rattle.sip_resolver.specs.Sends.{AreSpaced, IsInTime, Sends, tickets_of}
 use Rattle.sip_resolver.specs.Settles.{GoesByReply, GoesOverStream, NeedsOther, SettlesAll}
 use Rattle.sip_resolver.specs.Tasks.{TaskView}
+use Rattle.sip_resolver.specs.Works.{Hands}
 use Rattle.sip_resolver.specs.declared.outcome.Outcome.{Outcome}
 use Rattle.sip_resolver.specs.declared.resolver.Heard.{Heard}
 use Rattle.sip_resolver.specs.declared.resolver.Heard.TheVariants.{Reply, Cut, Ignored}
@@ -117,6 +119,17 @@ Hears old new over octets Cut =
     × IsCut old over ending
 Hears old new over octets (Ignored why) =
     Means (asking_over over old.questions) octets (incoming.Ignored why) × (new ≡ old)
+
+-- What octets that came in over datagrams or a stream hand to the book at a moment: nothing, or the
+-- answer that they have to a question that is out over it, under the id of the message. The book
+-- stores that or nothing.
+pub data HandsIn (over : Over) (octets : List ℕ) (now : ℕ) (questions : QuestionsView)
+    (old new : SeatView) : Type 0 where
+  nothing : StoresNothing old new → HandsIn over octets now questions old new
+  answer : (id : ℕ) (question : Question) (found : AnswerValue)
+      → Means (asking_over over questions) octets
+      (incoming.Ended id question (endings.Answered found))
+      → Hands question found now old new → HandsIn over octets now questions old new
 
 -- The question that is out under an id is closed, as no server takes it, and no request waits for
 -- it any more: each that needs it ends for that, or for want of memory, and each other one goes on.

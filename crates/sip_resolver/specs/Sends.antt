@@ -98,8 +98,8 @@ pub record SendsAfter (now asked id : ℕ) (waiting : List WaitingView) (old new
   pub gives_up : GivesUpBoth now old middle
   pub sends : SendsOne now asked id waiting middle new
 
--- The message is that of the one question that is sent, and says how often it was sent. Where there are none, none is sent, and
--- none is counted as sent.
+-- The message is that of the one question that is sent, and says how often it was sent. Where there
+-- is none, none is sent, and none is counted as sent.
 abbrev pub Sends : ℕ → ℕ → List WaitingView → QuestionsView → QuestionsView → Option Transmit
     → Type 0
 Sends now asked waiting old new None = GivesUpBoth now old new

@@ -15,11 +15,11 @@ ghost use Rattle.sip_resolver.specs.Idle.{AreAwaited, CannotAsk, IsIdle, IsOut};
 ghost use Rattle.sip_resolver.specs.Outcomes.{IsOutcome, Sought};
 ghost use Rattle.sip_resolver.specs.Questions.{IsLeast, schedule_of};
 ghost use Rattle.sip_resolver.specs.Requests.{AreSame, IsAwaitedBy, IsBack, Stand, count_of, numbers_of, weight};
-ghost use Rattle.sip_resolver.specs.Resolvers.{Closes, Expires, HasRoomFor, Hears, IsCut, IsEnded, IsTaken, Polls, RefusesSubmit, begun_of, with_request};
+ghost use Rattle.sip_resolver.specs.Resolvers.{Closes, Expires, HandsIn, HasRoomFor, Hears, IsCut, IsEnded, IsTaken, Polls, RefusesSubmit, begun_of, with_request};
 ghost use Rattle.sip_resolver.specs.Sends.{GivesUpBoth, IsInTime, SendsAfter, SendsFirst, tickets_of};
 ghost use Rattle.sip_resolver.specs.Settles.{GetsAnswer, GoesByReply, SettlesAll};
 ghost use Rattle.sip_resolver.specs.Tasks.{IsCounted, sought_of};
-ghost use Rattle.sip_resolver.specs.Works.{IsAtMostOne, Works};
+ghost use Rattle.sip_resolver.specs.Works.{HandsBy, IsAtMostOne, MayHand, Works};
 
 use crate::asks::wait_for_answer;
 use crate::cancels::remove_waiting;
@@ -190,9 +190,10 @@ impl<B: AnswerBook, F: Origin, I: Ids + Drop> Resolver<B, F, I> {
     /// none.
     ///
     /// First each request ends whose moment (`submit`) has come by `now`. The question that it
-    /// waited for is closed, and not sent again, where no other request waits for it. Then questions whose
-    /// replies did not come in time are sent once more, or given up where they were sent as often
-    /// as the schedule says; then each request that can goes on, by what the book has.
+    /// waited for is closed, and not sent again, where no other request waits for it. Then
+    /// questions whose replies did not come in time are sent once more, or given up where they were
+    /// sent as often as the schedule says; then each request that can goes on, by what the book
+    /// has.
     ///
     /// Moments are whole seconds, and most calls come between two of them. `now` is the time
     /// rounded down: what was due by then is due, and the book is read at it. `asked` is the time
@@ -241,6 +242,8 @@ impl<B: AnswerBook, F: Origin, I: Ids + Drop> Resolver<B, F, I> {
         ensures works { Works F.gives F.shows (B.shown seat.old) (B.shown seat.new) }
         ensures stand { Stand F.gives F.shows (B.shown seat.new) self.new.requests }
         ensures once { IsAtMostOne (B.shown seat.old) (B.shown seat.new) }
+        ensures hands { HandsIn over octets.now now self.old.questions
+            (B.shown seat.old) (B.shown seat.new) }
         ensures same { AreSame self.old.requests self.new.requests }
         ensures awaited { AreAwaited self.old.requests self.old.questions
             → AreAwaited self.new.requests self.new.questions }
@@ -550,6 +553,7 @@ impl<B: AnswerBook, F: Origin, I: Ids + Drop> Resolver<B, F, I> {
         ensures works { Works F.gives F.shows (B.shown seat.old) (B.shown seat.new) }
         ensures stand { Stand F.gives F.shows (B.shown seat.new) self.new.requests }
         ensures once { IsAtMostOne (B.shown seat.old) (B.shown seat.new) }
+        ensures hands { HandsBy question.now ending now (B.shown seat.old) (B.shown seat.new) }
         ensures asking { self.new.questions ≡ self.old.questions }
         ensures same { AreSame self.old.requests self.new.requests }
         ensures settles { SettlesAll id (GoesByReply question.now ending)
@@ -589,6 +593,7 @@ impl<B: AnswerBook, F: Origin, I: Ids + Drop> Resolver<B, F, I> {
         ensures works { Works F.gives F.shows (B.shown seat.old) (B.shown seat.new) }
         ensures stand { Stand F.gives F.shows (B.shown seat.new) self.new.requests }
         ensures once { IsAtMostOne (B.shown seat.old) (B.shown seat.new) }
+        ensures hands { MayHand question.now answer now (B.shown seat.old) (B.shown seat.new) }
         ensures asking { self.new.questions ≡ self.old.questions }
         ensures same { AreSame self.old.requests self.new.requests }
         ensures settles { SettlesAll id (GetsAnswer question.now answer) IsMemory

@@ -1,5 +1,5 @@
 use Rattle.sip_resolver.proofs.Settling.{settles-as}
-use Rattle.sip_resolver.proofs.Standing.{works-not}
+use Rattle.sip_resolver.proofs.Standing.{nothing-not, works-not}
 use Rattle.sip_resolver.specs.Outcomes.{IsFaulty}
 use Rattle.sip_resolver.proofs.resolver.Resolver.hear.Goals as goal
 
@@ -18,6 +18,12 @@ returns-in-Faulty-clause-stand g c =
       ends = ends.1;
     } in
     c.settle_all.ensures.stand (g.B.AnswerBook.shown c.args.seat.now) faulty (rw (← c.self.view_is) at c.requires.stand)
+
+pub returns-in-Faulty-clause-hands : goal.returns-in-Faulty-clause-hands
+returns-in-Faulty-clause-hands g c = rw c.in-Faulty.is (nothing-not (g.B.AnswerBook.shown c.args.seat.now))
+
+pub returns-in-Answered-clause-hands : goal.returns-in-Answered-clause-hands
+returns-in-Answered-clause-hands g c = rw c.in-Answered.is c.take.ensures.hands
 
 pub returns-in-Faulty-clause-settles : goal.returns-in-Faulty-clause-settles
 returns-in-Faulty-clause-settles g c =

@@ -1,10 +1,10 @@
-use Rattle.std.proofs.Common.{◌≡◌}
+use Rattle.std.proofs.Common.{◌≡◌, inl}
 use Rattle.std.specs.Arc.{arc_value}
 use Rattle.dns_answers.specs.Records.{kind_of}
 use Rattle.sip_resolver.proofs.Settling.{settles-as}
 use Rattle.sip_locator.specs.Replies.{Answers}
-use Rattle.sip_resolver.proofs.Standing.{stand-later, works-not}
-use Rattle.sip_resolver.proofs.Storing.{counts, works-store}
+use Rattle.sip_resolver.proofs.Standing.{nothing-not, stand-later, works-not}
+use Rattle.sip_resolver.proofs.Storing.{counts, hands-store, works-store}
 use Rattle.sip_resolver.proofs.resolver.Resolver.take.Goals as goal
 
 pub returns-in_default-clause-works : goal.returns-in_default-clause-works
@@ -39,6 +39,20 @@ returns-clause-stand g c =
     c.args.question.now answer answers store.offered in
     let stand = rw (← c.self.view_is) at c.requires.stand in
     c.settle_all-2.ensures.stand after known (stand-later _ _ before after works c.self.inside.requests stand)
+
+pub returns-in_default-clause-hands : goal.returns-in_default-clause-hands
+returns-in_default-clause-hands g c = inl (nothing-not (g.B.AnswerBook.shown c.args.seat.now))
+
+pub returns-clause-hands : goal.returns-clause-hands
+returns-clause-hands g c =
+    let before = g.B.AnswerBook.shown c.args.seat.now in
+    let after = g.B.AnswerBook.shown c.store-kept.new.seat in
+    let store = c.store-kept.ensures in
+    let answer = arc_value c.in-Ok.answer in
+    let answers : Answers c.args.question.now c.args.octets.now answer = rw c.in-Ok.ensures.ok c.requires.answers in
+    rw (← c.in-Ok.ensures.ok)
+    (hands-store g.F.Origin.gives g.F.Origin.shows before after store.goes_on c.args.octets.now c.requires.given _ c.requires.shown
+    c.args.question.now answer answers store.offered c.store-kept.result store.stored store.refused)
 
 pub returns-in_default-clause-settles : goal.returns-in_default-clause-settles
 returns-in_default-clause-settles g c =
