@@ -86,6 +86,10 @@ fn seen(output: &mut Output, asker: &Asker, word: &str, rest: &str) -> Result<()
         "is_open" => push_yes(output, asker.is_open(number16(rest)?)),
         "is_full" => push_yes(output, asker.is_full()),
         "id_of" => return push_id(output, asker, rest),
+        "sends_of" => {
+            let sends = asker.sends_of(number16(rest)?);
+            push_number_line(output, Some(u64::from(sends)));
+        }
         "octets_of" => push_open_octets(output, asker.octets_of(number16(rest)?)),
         _ => return Err(Fault::Form),
     }
