@@ -19,5 +19,6 @@ pub mod Circling
 pub mod Abandoned
 pub mod Cancelling
 pub mod Expiring
+pub mod InTime
 mod Working
 mod Drives

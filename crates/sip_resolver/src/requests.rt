@@ -1,8 +1,8 @@
 //! The requests inside a resolver, by how far they are.
-ghost use Rattle.std.specs.Prelude.{◌≡◌, ◌↔◌, ◌<◌, ◌≤◌, [], ◌∷◌, ◌++◌, IfOk, IfSome, IsTrue, MatchOption, length, map};
+ghost use Rattle.std.specs.Prelude.{◌≡◌, ◌↔◌, ◌<◌, ◌≤◌, [], ◌∷◌, ◌++◌, IfOk, IfSome, IsFalse, IsTrue, MatchOption, length, map};
 ghost use Rattle.std.specs.List.{All, Contains};
 ghost use Rattle.sip_resolver.specs.Cancels.{is_awaited, others_by};
-ghost use Rattle.sip_resolver.specs.Expiries.{untils_of};
+ghost use Rattle.sip_resolver.specs.Expiries.{HaveTime, untils_of};
 ghost use Rattle.sip_resolver.specs.Outcomes.{Ended};
 ghost use Rattle.sip_resolver.specs.Questions.{IsLeast};
 ghost use Rattle.sip_resolver.specs.Requests.{IsAwaitedBy, IsWithoutEnded, IsWithoutHeld, IsWithoutReady, IsWithoutWaiting, count_of, number_of_ended, numbers_of, requests_of};
@@ -11,6 +11,7 @@ ghost use Rattle.sip_resolver.specs.Tasks.{sought_of};
 use crate::outcome::{Outcome, Resolved};
 use crate::queue::{Numbered, Queue, Timed, least_of};
 use crate::task::Task;
+use dns_answers::Moment;
 use std::alloc::{AllocError, Global};
 use std::marker::Model;
 
@@ -152,6 +153,16 @@ impl<B> Requests<B> {
     {
         let can_go_on = least_of(self.ready.next_until(), self.held.next_until());
         least_of(can_go_on, self.waiting.next_until())
+    }
+
+    /// Whether the time of one that has not ended is over.
+    pub(crate) fn has_late(&self, now: Moment) -> bool
+        ensures { IsFalse result → HaveTime now self.now }
+    {
+        match self.next_until() {
+            None => false,
+            Some(until) => until <= now.get(),
+        }
     }
 
     /// How many can go on.

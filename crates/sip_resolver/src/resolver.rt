@@ -365,8 +365,26 @@ impl<B: AnswerBook, F: Origin, I: Ids + Drop> Resolver<B, F, I> {
         }
     }
 
-    /// Ends the requests whose time is over, and closes the questions that none waits for any more.
+    /// Ends each request whose time is over.
     fn expire(&mut self, book: &B, seat: &mut B::Seat, now: Moment)
+        requires made_here { B.belongs book.now seat.old }
+        requires shown { F.shows now }
+        requires stand { Stand F.gives F.shows (B.shown seat.old) self.old.requests }
+        ensures stays { B.belongs book.now seat.new }
+        ensures goes_on { GoesOn (B.shown seat.old) (B.shown seat.new) }
+        ensures stores_nothing { StoresNothing (B.shown seat.old) (B.shown seat.new) }
+        ensures stand { Stand F.gives F.shows (B.shown seat.new) self.new.requests }
+        ensures expires { Expires now self.old self.new }
+        ensures awaited { AreAwaited self.old.requests self.old.questions
+            → AreAwaited self.new.requests self.new.questions }
+    {
+        if self.requests.has_late(now) {
+            self.expire_late(book, seat, now);
+        }
+    }
+
+    /// Ends the requests whose time is over, and closes the questions that none waits for any more.
+    fn expire_late(&mut self, book: &B, seat: &mut B::Seat, now: Moment)
         requires made_here { B.belongs book.now seat.old }
         requires shown { F.shows now }
         requires stand { Stand F.gives F.shows (B.shown seat.old) self.old.requests }
