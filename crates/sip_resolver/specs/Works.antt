@@ -33,7 +33,8 @@ pub record Works (gives : List ℕ → Type 0) (shows : ℕ → Type 0) (old new
 abbrev pub Hands : Question → AnswerValue → ℕ → SeatView → SeatView → Type 0
 Hands question answer now old new =
     (new.offered ≡ old.offered ++ offer_of question answer now ∷ [])
-    × ((new.own ≡ old.own) ⊎ (new.own ≡ old.own ++ store_of old (offer_of question answer now) ∷ []))
+    × ((new.own ≡ old.own)
+    ⊎ (new.own ≡ old.own ++ store_of old (offer_of question answer now) ∷ []))
 
 -- this answer is handed to the book, or nothing is for want of memory
 abbrev pub MayHand : Question → AnswerValue → ℕ → SeatView → SeatView → Type 0
