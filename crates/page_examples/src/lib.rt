@@ -35,6 +35,8 @@ mod sip_options_page;
 #[cfg(test)]
 mod sip_resolver_page;
 #[cfg(test)]
+mod sip_response_page;
+#[cfg(test)]
 mod sip_selection_page;
 #[cfg(test)]
 mod sip_uri_page;

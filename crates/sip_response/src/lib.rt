@@ -15,7 +15,7 @@
 //! assert_eq!(rt; params.received, Some(source.address));
 //! assert_eq!(rt; params.rport, Rport::Port(9988));
 //! let route = response_route(&parts, &params, Transport::Udp);
-//! assert!(rt; matches!(route.first, Step::Received { symmetric: true, .. }));
+//! assert!(rt; matches!(route.first, Step::Received { .. }));
 //! assert!(rt; matches!(route.second, Some(Step::SentBy)));
 //! ```
 //!

@@ -26,6 +26,7 @@ mod replies;
 mod request_lines;
 mod requests;
 mod rolling;
+mod routes;
 mod selections;
 mod shown;
 mod uris;
@@ -47,6 +48,7 @@ fn tell<R: Wait>(rt: &R, output: &mut Output, crate_name: &str, call: &str, inpu
         "ip_text" => addresses::told(output, call, input),
         "pending_list" => lists::told(output, call, input),
         "sip_options" => options::told(output, call, input),
+        "sip_response" => routes::told(output, call, input),
         "sip_selection" => selections::told(output, call, input),
         "sip_uri" => uris::told(output, call, input),
         "srv_choice" => orders::told(output, call, input),

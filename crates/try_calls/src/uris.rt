@@ -1,4 +1,5 @@
 //! Calls of `sip_uri`.
+use crate::routes::via_route;
 use crate::shown::{push_address, push_debug_line, push_name};
 use row_fields::{Fault, Output, only_line, split_word, text};
 use sip_uri::{
@@ -24,6 +25,7 @@ fn told_of_text(output: &mut Output, call: &str, text: &str) -> Result<(), Fault
     match call {
         "read_uri" => uri(output, text),
         "read_via" => via(output, text),
+        "view_via_route" => via_route(output, text),
         _ => Err(Fault::Call),
     }
 }
@@ -38,7 +40,7 @@ pub(crate) fn push_host(output: &mut Output, host: &Host) {
 }
 
 /// The word of a transport that a text names.
-fn transport_word(transport: Spoken) -> &'static str {
+pub(crate) fn transport_word(transport: Spoken) -> &'static str {
     match transport {
         Spoken::Known(Transport::Udp) => "UDP",
         Spoken::Known(Transport::Tcp) => "TCP",
@@ -49,7 +51,7 @@ fn transport_word(transport: Spoken) -> &'static str {
 }
 
 /// Writes a port, where one is written.
-fn push_port(output: &mut Output, port: Option<u16>) {
+pub(crate) fn push_port(output: &mut Output, port: Option<u16>) {
     if let Some(port) = port {
         output.push(" port ");
         output.push_number(u64::from(port));
