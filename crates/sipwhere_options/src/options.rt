@@ -266,7 +266,10 @@ fn transports_in(alloc: Global, matches: &ArgMatches<'_>) -> Result<Vec<Transpor
 /// What can be sent over these transports, to addresses of these families.
 fn caps_of(transports: &[Transport], families: Families) -> Result<Caps, OptionFault>
     ensures made { IfOk result (λ caps. caps ≡ record {
-        transports = transports.now; families = families; is_large = false }) }
+      transports = transports.now;
+      families = families;
+      is_large = false;
+    }) }
     ensures offered { OnOk result (AreOffered transports.now) }
     ensures refused { IfErr result
         (λ it. (it ≡ fault.Transports) × (AreOffered transports.now → ⊥)) }

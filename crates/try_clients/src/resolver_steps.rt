@@ -239,11 +239,7 @@ fn request_of(alloc: Global, text: &str) -> Result<Request, Fault> {
 }
 
 /// The request of a line: its number, its transports, its families, its words and its text.
-fn submitted_of(
-    alloc: Global,
-    until: Option<Moment>,
-    rest: &str,
-) -> Result<Submitted, Fault> {
+fn submitted_of(alloc: Global, until: Option<Moment>, rest: &str) -> Result<Submitted, Fault> {
     let (number, rest) = split_word(rest);
     let (transports, rest) = split_word(rest);
     let (families, rest) = split_word(rest);

@@ -68,7 +68,7 @@ caps_decides caps other =
     (families_decides caps.families other.families))
     (booleans_Decides caps.is_large other.is_large) in (
       λ e. let p = k.0 e in
-      λ i. record { transports = p.0.0 i; families = p.0.1 i; is_large = p.1 i },
+          λ i. record { transports = p.0.0 i; families = p.0.1 i; is_large = p.1 i },
       λ e. k.1 (
         (ap (λ (c : CapsValue). c.transports) e, ap (λ (c : CapsValue). c.families) e),
         ap (λ (c : CapsValue). c.is_large) e,

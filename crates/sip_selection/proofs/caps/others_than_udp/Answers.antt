@@ -14,17 +14,17 @@ slots-preserved c =
     let next = others-next c.args.slots.now c.slots.slot-index c.other_than_udp.result c.slots.others c.slots.count
     inside c.other_than_udp.ensures so-far.are in
     elim c.match-other_than_udp.branch [
-      in-Some w ↦ let room : c.slots.count < length c.slots.others = omega (arith, few, four, all, inside) in
-      let here = rw w.in-Some.is at next in
-      rw (w.others-is, w.count-is) (record {
-        four = length-set c.slots.others c.slots.count w.in-Some.transport ∙ four;
-        few = omega (arith, few);
-        are = take_more_set c.slots.others c.slots.count w.in-Some.transport room ∙ here;
-      })
+      | in-Some w ↦ let room : c.slots.count < length c.slots.others = omega (arith, few, four, all, inside) in
+          let here = rw w.in-Some.is at next in
+          rw (w.others-is, w.count-is) (record {
+            four = length-set c.slots.others c.slots.count w.in-Some.transport ∙ four;
+            few = omega (arith, few);
+            are = take_more_set c.slots.others c.slots.count w.in-Some.transport room ∙ here;
+          })
       | in-None w ↦ let here = append-nil (take c.slots.count c.slots.others) in
-      rw (w.others-is, w.count-is) (record {
-        four = four;
-        few = omega (arith, few);
-        are = sym here ∙ rw w.in-None.is at next;
-      })
+          rw (w.others-is, w.count-is) (record {
+            four = four;
+            few = omega (arith, few);
+            are = sym here ∙ rw w.in-None.is at next;
+          })
     ]
