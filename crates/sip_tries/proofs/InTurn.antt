@@ -91,7 +91,8 @@ pub in-turn-there : (targets : List Target) (tries : List TargetTry) (one : Targ
     → AreTriedUntilThere targets (tries ++ one ∷ [])
 in-turn-there targets tries one index d inside turn none at there =
     let last : List Event = event_of one.found ∷ [] in
-    let events : events_of (tries ++ one ∷ []) ≡ events_of tries ++ last = map-append (λ (it : TargetTry). event_of it.found) tries (one ∷ []) in
+    let events : events_of (tries ++ one ∷ []) ≡ events_of tries ++ last =
+    map-append (λ (it : TargetTry). event_of it.found) tries (one ∷ []) in
     let all = failed-before tries last none in
     let one_there = responded-first (event_of one.found) [] there in
     let sizes : length tries ≡ index =

@@ -26,8 +26,8 @@ same_families V4ThenV6 V4ThenV6 = true
 same_families V6ThenV4 V6ThenV4 = true
 same_families families other = false
 
--- two callers can do the same: the transports, in the same order, and the families of addresses, for
--- a request that is too large for UDP or for any other
+-- two callers can do the same: the transports, in the same order, and the families of addresses;
+-- and both for requests that are too large for UDP, or for any
 abbrev pub same_caps : CapsValue → CapsValue → Bool
 same_caps caps other =
     pointwise same_transport caps.transports other.transports

@@ -10,5 +10,6 @@ alike transport other = search rules
 
 pub returns : goal.returns
 returns c =
-    caps-same _ _ _ c.args.caps.now c.args.other.now c.eq.result c.eq.ensures (λ i transport other. alike transport other i) (search rules) (search rules)
+    caps-same _ _ _ c.args.caps.now c.args.other.now c.eq.result c.eq.ensures
+    (λ i transport other. alike transport other i) (search rules) (search rules)
     c.law_transports_are_few.ensures c.law_transports_are_few-2.ensures

@@ -9,4 +9,5 @@ returns-in-None g c = λ no. have-time c.args.now c.args.self.now None (rw c.in-
 pub returns-in-Some : goal.returns-in-Some
 returns-in-Some g c = λ no.
     have-time c.args.now c.args.self.now (Some c.in-Some.until) (rw c.in-Some.is at c.next_until.ensures)
-    (λ until is. let same : c.in-Some.until ≡ until = cc in subst (λ it. c.args.now < it) same (leb-false c.in-Some.until c.args.now (rw c.get.ensures.seconds at no)))
+    (λ until is. let same : c.in-Some.until ≡ until = cc in
+    subst (λ it. c.args.now < it) same (leb-false c.in-Some.until c.args.now (rw c.get.ensures.seconds at no)))
