@@ -203,7 +203,8 @@ fn by_datagram<'a>(params: &RouteParams<'a>, port: u16) -> ResponseRoute<'a>
 }
 
 /// Where the response to a request goes: by what its top Via says, with the parameters that
-/// `with_source` gave, and the transport that it came over.
+/// `with_source` gave, and the transport that it came over. The one that the Via names is not
+/// looked at.
 pub fn response_route<'a>(
     parts: &ViaParts<'_>,
     params: &RouteParams<'a>,
