@@ -5,14 +5,14 @@ use Rattle.ip_text.specs.declared.address.Address.{Address}
 use Rattle.ip_text.specs.declared.address.Address.TheVariants.{V4, V6}
 use Rattle.sip_response.specs.Multicast.{multicast_ttl}
 use Rattle.sip_response.specs.Routes.{is_reliable, sent_port, rport_port, endpoint, steps, OverConnection, again, straight, ByDatagram, maddr, maddr_name, rport, received, sent_by, IsRoute, connection, datagram}
-use Rattle.sip_response.specs.Sources.{address_of, IsReceived, other, asked, same}
+use Rattle.sip_response.specs.Sources.{address_of, rport_of, IsReceived, other, asked, same}
 use Rattle.sip_response.specs.declared.endpoint.Endpoint.{Endpoint}
 use Rattle.sip_response.specs.declared.route.ResponseRoute.{ResponseRoute}
 use Rattle.sip_response.specs.declared.route.Step.TheVariants.{Connection, Opened, Maddr, MaddrName, Received, SentBy}
 use Rattle.sip_uri.specs.declared.host_part.HostPart.{HostPart}
 use Rattle.sip_uri.specs.declared.host_part.HostPart.TheVariants as part
 use Rattle.sip_uri.specs.declared.route_params.RouteParams.{RouteParams}
-use Rattle.sip_uri.specs.declared.route_params.Rport.TheVariants.{Absent, Port}
+use Rattle.sip_uri.specs.declared.route_params.Rport.TheVariants.{Absent, Empty}
 use Rattle.sip_uri.specs.declared.transport.Transport.{Transport}
 
 -- ---- over a connection
@@ -90,6 +90,14 @@ module _ (over : Transport) (written : Option ℕ) (params : RouteParams) (route
       let found = none_received host source.address params.received e is in
       by_datagram route_is ∙ rw (none, found) refl
 
-  pub to_source : (source : Endpoint) → params.received ≡ Some source.address → params.rport ≡ Port source.port → params.maddr ≡ None
-      → IsRoute over written params route → route.first ≡ Received source true
-  to_source source found port none route_is = ap (λ (r : ResponseRoute). r.first) (by_datagram route_is) ∙ rw (none, found, port) refl
+  source_received : (host : HostPart) (source : Address) (found : Option Address) → IsReceived host Empty source found → found ≡ Some source
+  source_received host source found (other apart') = refl
+  source_received host source found (asked empty) = refl
+  source_received host source found (same f valued) = absurd (valued refl)
+
+  pub to_source : (host : HostPart) (source : Endpoint) → IsReceived host Empty source.address params.received
+      → params.rport ≡ rport_of Empty source.port → params.maddr ≡ None → IsRoute over written params route
+      → route.first ≡ Received source true
+  to_source host source is port none route_is =
+      let found = source_received host source.address params.received is in
+      ap (λ (r : ResponseRoute). r.first) (by_datagram route_is) ∙ rw (none, found, port) refl
