@@ -27,8 +27,8 @@ pub fn law_own_address_leads_to_sent_by()
         → IsRoute over written params route → route ≡ steps SentBy None None }
 {}
 
-/// A datagram whose Via has `rport` without a value, and no `maddr`, is answered at once to where it
-/// came from.
+/// A datagram whose Via has `rport` without a value, and no `maddr`, is answered at once to where
+/// it came from.
 pub fn law_rport_leads_to_the_source()
     ensures { (over : Transport) (written : Option ℕ) (params : RouteParams)
         (route : ResponseRoute) (host : HostPart) (source : Endpoint)
