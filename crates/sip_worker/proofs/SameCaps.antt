@@ -1,5 +1,5 @@
 -- What the slots of two senders tell of their transports.
-use Rattle.std.proofs.Common.{◌≡◌, ◌≤◌, Bool, ◌&&◌, List, [], ◌∷◌, length, refl, ap, ◌∙◌, arith}
+use Rattle.std.proofs.Common.{◌≡◌, ◌≤◌, Bool, true, false, ◌&&◌, List, [], ◌∷◌, length, refl, ap, ◌∙◌, arith}
 use Rattle.std.specs.Cmp.Lexicographic.{pointwise}
 use Rattle.std.specs.Bool.{beq}
 use Rattle.std.specs.Option.{option_eq}
@@ -41,12 +41,17 @@ module _ (E : Transport → Transport → Bool) where
   by-slots (a ∷ b ∷ c ∷ d ∷ []) (e ∷ f ∷ g ∷ []) few many = refl
   by-slots (a ∷ b ∷ c ∷ d ∷ []) (e ∷ f ∷ g ∷ h ∷ []) few many = refl
 
+and-right : (a b c : Bool) → (a && (b && c)) ≡ (a && b && c)
+and-right true b c = refl
+and-right false b c = refl
+
 pub caps-same : (E : Transport → Transport → Bool) (families large : Bool) (caps other : CapsValue) (result : Bool)
-    → result ≡ (pointwise (option_eq E) (slots_of caps.transports) (slots_of other.transports) && families && large)
+    → result ≡ (pointwise (option_eq E) (slots_of caps.transports) (slots_of other.transports) && (families && large))
     → E ≡ same_transport → families ≡ same_families caps.families other.families → large ≡ beq caps.is_large other.is_large
     → AreOffered caps.transports → AreOffered other.transports → result ≡ same_caps caps other
 caps-same E families large caps other result is one two three few many =
-    is ∙ ap (λ b. b && families && large) (by-slots E caps.transports other.transports few.few many.few)
+    is ∙ and-right (pointwise (option_eq E) (slots_of caps.transports) (slots_of other.transports)) families large
+    ∙ ap (λ b. b && families && large) (by-slots E caps.transports other.transports few.few many.few)
     ∙ ap (λ (e : Transport → Transport → Bool). pointwise e caps.transports other.transports && families && large) one
     ∙ ap (λ b. pointwise same_transport caps.transports other.transports && b && large) two
     ∙ ap (λ b. pointwise same_transport caps.transports other.transports && same_families caps.families other.families && b) three
