@@ -1,5 +1,5 @@
 -- One line for a monitoring system, as the plugins of Nagios print it.
-use Rattle.std.specs.Prelude.{ℕ, List, [], ◌∷◌, ◌++◌, length, codes, Option, Some, None, option_map}
+use Rattle.std.specs.Prelude.{ℕ, List, [], ◌∷◌, ◌++◌, length, codes, Option, Some, None, option_map, if◌then◌else◌}
 use Rattle.std.specs.Fmt.{decimal}
 use Rattle.sip_resolver.specs.declared.outcome.Outcome.{Outcome}
 use Rattle.sip_resolver.specs.declared.outcome.Outcome.TheVariants as outcome
@@ -10,6 +10,10 @@ use Rattle.sip_report.specs.declared.address.AddressForm.{AddressForm}
 use Rattle.sip_report.specs.declared.check_limits.CheckLimits.{CheckLimits}
 use Rattle.sip_report.specs.declared.line_outcome.LineOutcome.{LineOutcome}
 use Rattle.sip_report.specs.declared.line_outcome.LineOutcome.TheVariants as line_outcome
+use Rattle.sip_tries.specs.Turns.{first_time, succeeded}
+use Rattle.sip_tries.specs.declared.tries.Extent.{Extent}
+use Rattle.sip_tries.specs.declared.tries.Extent.TheVariants.{UntilThere, All as EachOne}
+use Rattle.sip_tries.specs.declared.tries.Tries.{Tries}
 use Rattle.sip_report.specs.declared.verdict.Shortfall.{Shortfall}
 use Rattle.sip_report.specs.declared.verdict.Shortfall.TheVariants.{Missing, TooFew, TooLate}
 use Rattle.sip_report.specs.declared.verdict.Verdict.{Verdict}
@@ -32,6 +36,8 @@ check_status verdict (line_outcome.Became (outcome.NoAnswer question)) = 2
 check_status verdict (line_outcome.Became (outcome.NoServer question)) = 2
 check_status verdict (line_outcome.Became (outcome.BadReply question refusal)) = 2
 check_status verdict (line_outcome.Became outcome.Memory) = 3
+check_status verdict (line_outcome.Tried tries) =
+    if succeeded tries.extent tries.tries.items then verdict_status verdict else 2
 check_status verdict (line_outcome.NoSuchName name) = 2
 check_status verdict line_outcome.TimeOver = 2
 check_status verdict (line_outcome.Bad refusal) = 3
@@ -91,13 +97,39 @@ performance limits took count =
     value_words (codes " | time=") took (codes "ms;")
     ++ bounds_words limits.warning.time limits.critical.time []
     ++ value_words (codes " targets=") count (codes ";")
-    ++ bounds_words limits.warning.targets limits.critical.targets (codes ":") ++ codes "\n"
+    ++ bounds_words limits.warning.targets limits.critical.targets (codes ":")
 
 -- the line of targets
 abbrev pub targets_line : AddressForm → CheckLimits → ℕ → Verdict → List Target → List ℕ
 targets_line form limits took verdict targets =
     verdict_words (option_map (λ word. word.now) limits.expected) verdict
-    ++ targets_words form targets ++ performance limits took (length targets)
+    ++ targets_words form targets ++ performance limits took (length targets) ++ codes "\n"
+
+-- ---- the line of targets that were tried
+
+-- the verdict on targets of which one is there, or all are, where each is tried
+abbrev pub missing_servers : Extent → List ℕ
+missing_servers UntilThere = codes "SIP CRITICAL - no server answered, "
+missing_servers EachOne = codes "SIP CRITICAL - a server is missing, "
+
+-- what stands in front of them: that no server, or not each, is there, or else the verdict on them
+abbrev pub tries_words : Option (List ℕ) → Verdict → Tries → List ℕ
+tries_words expected verdict tries =
+    if succeeded tries.extent tries.tries.items then verdict_words expected verdict
+    else missing_servers tries.extent
+
+-- the milliseconds until the final reply was there of the first server that is there
+abbrev pub rtt_words : Option ℕ → List ℕ
+rtt_words None = []
+rtt_words (Some after) = value_words (codes " rtt=") after (codes "ms")
+
+-- the line of targets that were tried
+abbrev pub tries_line : AddressForm → CheckLimits → ℕ → Verdict → Tries → List ℕ
+tries_line form limits took verdict tries =
+    tries_words (option_map (λ word. word.now) limits.expected) verdict tries
+    ++ targets_words form tries.targets.items
+    ++ performance limits took (length tries.targets.items)
+    ++ rtt_words (first_time tries.tries.items) ++ codes "\n"
 
 -- ---- the line of any text
 
@@ -120,6 +152,8 @@ outcome_line form limits took verdict outcome.Memory =
 abbrev pub check_line : AddressForm → CheckLimits → ℕ → Verdict → LineOutcome → List ℕ
 check_line form limits took verdict (line_outcome.Became outcome) =
     outcome_line form limits took verdict outcome
+check_line form limits took verdict (line_outcome.Tried tries) =
+    tries_line form limits took verdict tries
 check_line form limits took verdict (line_outcome.NoSuchName name) =
     verbose_lines form (codes "SIP CRITICAL - ") (line_outcome.NoSuchName name)
 check_line form limits took verdict line_outcome.TimeOver =

@@ -8,11 +8,16 @@ use Rattle.dns_message.specs.declared.question.Question.{Question}
 use Rattle.serde_json.specs.Data.{Data, Members, array, member, no_members, number, object, string, unsigned}
 use Rattle.serde_json.specs.View.{items_of}
 use Rattle.serde_json.specs.Written.{compact_text}
+use Rattle.sip_ping.specs.declared.answer.Answer.TheVariants.{Replied, Silent, Refused, Unreadable}
+use Rattle.sip_tries.specs.declared.found.Found.{Found}
+use Rattle.sip_tries.specs.declared.found.Found.TheVariants.{Asked, Untried}
+use Rattle.sip_tries.specs.declared.found.TargetTry.{TargetTry}
+use Rattle.sip_tries.specs.declared.tries.Tries.{Tries}
 use Rattle.sip_resolver.specs.declared.outcome.Outcome.{Outcome}
 use Rattle.sip_resolver.specs.declared.outcome.Outcome.TheVariants as outcome
 use Rattle.sip_selection.specs.declared.target.Target.{Target}
 use Rattle.sip_report.specs.Addresses.{address_words}
-use Rattle.sip_report.specs.Lines.{kind_word, reason_word, request_word, transport_word}
+use Rattle.sip_report.specs.Lines.{found_words, kind_word, reason_word, request_word, status_of_tries, transport_word}
 use Rattle.sip_report.specs.declared.address.AddressForm.{AddressForm}
 use Rattle.sip_report.specs.declared.line_outcome.LineOutcome.{LineOutcome}
 use Rattle.sip_report.specs.declared.line_outcome.LineOutcome.TheVariants as line_outcome
@@ -29,6 +34,40 @@ target_data form target =
 -- targets as an array of objects
 abbrev pub targets_data : AddressForm → List Target → Data
 targets_data form targets = array (items_of (map (target_data form) targets))
+
+-- a target that replied: the status of the final reply, and the milliseconds until it was there
+abbrev pub replied_data : AddressForm → Target → ℕ → ℕ → Data
+replied_data form target status after =
+    object (member (codes "address") (string (address_words form target.address))
+    (member (codes "port") (number (unsigned target.port))
+    (member (codes "rtt") (number (unsigned after))
+    (member (codes "status") (number (unsigned status))
+    (member (codes "transport") (string (transport_word target.transport)) no_members)))))
+
+-- a target without a final reply: with the word for why
+abbrev pub unreplied_data : AddressForm → Target → List ℕ → Data
+unreplied_data form target why =
+    object (member (codes "address") (string (address_words form target.address))
+    (member (codes "port") (number (unsigned target.port))
+    (member (codes "transport") (string (transport_word target.transport))
+    (member (codes "why") (string why) no_members))))
+
+-- what was found at a target
+abbrev pub found_data : AddressForm → Target → Found → Data
+found_data form target (Asked (Replied reply)) = replied_data form target reply.status reply.after
+found_data form target (Asked Silent) = unreplied_data form target (found_words (Asked Silent))
+found_data form target (Asked Refused) = unreplied_data form target (found_words (Asked Refused))
+found_data form target (Asked Unreadable) =
+    unreplied_data form target (found_words (Asked Unreadable))
+found_data form target Untried = unreplied_data form target (found_words Untried)
+
+-- a target that was tried
+abbrev pub try_data : AddressForm → TargetTry → Data
+try_data form it = found_data form it.target it.found
+
+-- targets that were tried, as an array of objects
+abbrev pub tries_data : AddressForm → List TargetTry → Data
+tries_data form tries = array (items_of (map (try_data form) tries))
 
 -- a question, and the RCODE of the reply to it (RFC 1035 4.1.1)
 abbrev pub rcode_data : Question → ℕ → Data
@@ -67,6 +106,16 @@ abbrev pub with_targets : List ℕ → ℕ → Data → Data
 with_targets text took targets =
     object (member (codes "status") (number (unsigned 0))
     (member (codes "targets") targets (last_members text took)))
+
+-- the object of a text whose targets were tried
+abbrev pub with_tries : List ℕ → ℕ → ℕ → Data → Data → Data
+with_tries text took status targets tries =
+    object (member (codes "status") (number (unsigned status))
+    (member (codes "targets") targets
+    (member (codes "text") (string text)
+    (member (codes "time") (number (unsigned took))
+    (member (codes "tries") tries
+    (member (codes "v") (number (unsigned 1)) no_members))))))
 
 -- the object of a text whose request gave up
 abbrev pub with_gaveup : List ℕ → ℕ → Data → Data
@@ -121,6 +170,9 @@ outcome_data form text took outcome.Memory = with_fault text took
 abbrev pub line_outcome_data : AddressForm → List ℕ → ℕ → LineOutcome → Data
 line_outcome_data form text took (line_outcome.Became outcome) =
     outcome_data form text took outcome
+line_outcome_data form text took (line_outcome.Tried tries) =
+    with_tries text took (status_of_tries tries) (targets_data form tries.targets.items)
+    (tries_data form tries.tries.items)
 line_outcome_data form text took (line_outcome.NoSuchName name) = with_no_name text took name
 line_outcome_data form text took line_outcome.TimeOver = with_gaveup text took total_data
 line_outcome_data form text took (line_outcome.Bad refusal) =

@@ -15,6 +15,12 @@ use Rattle.sip_uri.specs.declared.refusal.UriRefusal.TheVariants as uri
 use Rattle.sip_selection.specs.declared.reason.Reason.{Reason}
 use Rattle.sip_selection.specs.declared.reason.Reason.TheVariants.{TransportUnsupported, TransportNotSecure, NotOffered, NoAddress}
 use Rattle.sip_selection.specs.declared.target.Target.{Target}
+use Rattle.sip_ping.specs.declared.answer.Answer.TheVariants.{Replied, Silent, Refused, Unreadable}
+use Rattle.sip_tries.specs.Turns.{succeeded}
+use Rattle.sip_tries.specs.declared.found.Found.{Found}
+use Rattle.sip_tries.specs.declared.found.Found.TheVariants.{Asked, Untried}
+use Rattle.sip_tries.specs.declared.found.TargetTry.{TargetTry}
+use Rattle.sip_tries.specs.declared.tries.Tries.{Tries}
 use Rattle.sip_resolver.specs.declared.outcome.Outcome.{Outcome}
 use Rattle.sip_resolver.specs.declared.outcome.Outcome.TheVariants as outcome
 use Rattle.sip_report.specs.Addresses.{address_words}
@@ -78,6 +84,21 @@ target_words form target =
 abbrev pub target_line : AddressForm → List ℕ → Target → List ℕ
 target_line form front target = front ++ target_words form target ++ 10 ∷ []
 
+-- what was found at a target: the status of the final reply, and the milliseconds until it was
+-- there; or why there is none
+abbrev pub found_words : Found → List ℕ
+found_words (Asked (Replied reply)) =
+    decimal reply.status ++ (32 ∷ decimal reply.after) ++ codes " ms"
+found_words (Asked Silent) = codes "silent"
+found_words (Asked Refused) = codes "refused"
+found_words (Asked Unreadable) = codes "unreadable"
+found_words Untried = codes "untried"
+
+-- the line of a target that was tried
+abbrev pub try_line : AddressForm → List ℕ → TargetTry → List ℕ
+try_line form front it =
+    front ++ target_words form it.target ++ (32 ∷ found_words it.found) ++ 10 ∷ []
+
 -- the words of a question: its kind and its name
 abbrev pub question_words : Question → List ℕ
 question_words question = kind_word question.kind ++ 32 ∷ text_of question.name
@@ -105,6 +126,8 @@ outcome_lines form front outcome.Memory = words_line front (codes "fault ") (cod
 -- the lines of what became of a text
 abbrev pub lines_of : AddressForm → List ℕ → LineOutcome → List ℕ
 lines_of form front (line_outcome.Became outcome) = outcome_lines form front outcome
+lines_of form front (line_outcome.Tried tries) =
+    flat_map (try_line form front) tries.tries.items
 lines_of form front (line_outcome.NoSuchName name) =
     words_line front (codes "refused ") (codes "NoAddress")
 lines_of form front line_outcome.TimeOver = words_line front (codes "gaveup ") (codes "total")
@@ -116,6 +139,8 @@ lines_of form front line_outcome.Memory = words_line front (codes "fault ") (cod
 -- the same, with the name that does not exist, and the RCODE that says so (RFC 1035 4.1.1)
 abbrev pub verbose_lines : AddressForm → List ℕ → LineOutcome → List ℕ
 verbose_lines form front (line_outcome.Became outcome) = outcome_lines form front outcome
+verbose_lines form front (line_outcome.Tried tries) =
+    lines_of form front (line_outcome.Tried tries)
 verbose_lines form front (line_outcome.NoSuchName name) =
     words_line front (codes "refused NoAddress rcode 3 ") (text_of name)
 verbose_lines form front line_outcome.TimeOver = lines_of form front line_outcome.TimeOver
@@ -134,6 +159,10 @@ gravity status = if status == 1 then 2 else (if status == 2 then 1 else status)
 abbrev pub graver_of : ℕ → ℕ → ℕ
 graver_of status other = if nat_lt (gravity status) (gravity other) then other else status
 
+-- the status of a text whose targets were tried: 1 where they are not as they should be
+abbrev pub status_of_tries : Tries → ℕ
+status_of_tries tries = if succeeded tries.extent tries.tries.items then 0 else 1
+
 -- the exit status of a text: 0 with targets, 1 without an answer, 2 where the request goes nowhere,
 -- 3 where it is no request, 5 where memory was refused
 abbrev pub status_of : LineOutcome → ℕ
@@ -143,6 +172,7 @@ status_of (line_outcome.Became (outcome.NoAnswer question)) = 1
 status_of (line_outcome.Became (outcome.NoServer question)) = 1
 status_of (line_outcome.Became (outcome.BadReply question refusal)) = 1
 status_of (line_outcome.Became outcome.Memory) = 5
+status_of (line_outcome.Tried tries) = status_of_tries tries
 status_of (line_outcome.NoSuchName name) = 2
 status_of line_outcome.TimeOver = 1
 status_of (line_outcome.Bad refusal) = 3

@@ -47,6 +47,7 @@ count_of (line_outcome.Became (outcome.NoAnswer question)) = 0
 count_of (line_outcome.Became (outcome.NoServer question)) = 0
 count_of (line_outcome.Became (outcome.BadReply question refusal)) = 0
 count_of (line_outcome.Became outcome.Memory) = 0
+count_of (line_outcome.Tried tries) = length tries.targets.items
 count_of (line_outcome.NoSuchName name) = 0
 count_of line_outcome.TimeOver = 0
 count_of (line_outcome.Bad refusal) = 0

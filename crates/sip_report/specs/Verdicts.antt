@@ -77,6 +77,7 @@ verdict_of limits took (line_outcome.Became (outcome.NoAnswer question)) = Well
 verdict_of limits took (line_outcome.Became (outcome.NoServer question)) = Well
 verdict_of limits took (line_outcome.Became (outcome.BadReply question refusal)) = Well
 verdict_of limits took (line_outcome.Became outcome.Memory) = Well
+verdict_of limits took (line_outcome.Tried tries) = verdict_on limits took tries.targets.items
 verdict_of limits took (line_outcome.NoSuchName name) = Well
 verdict_of limits took line_outcome.TimeOver = Well
 verdict_of limits took (line_outcome.Bad refusal) = Well

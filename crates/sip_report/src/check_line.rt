@@ -1,6 +1,7 @@
 //! One line for a monitoring system, as the plugins of Nagios print it.
 ghost use Rattle.std.specs.Prelude.{◌≡◌, ◌≤◌, ◌++◌, IfOk, OnOk, option_map};
 ghost use Rattle.std.specs.String.{string_bytes};
+ghost use Rattle.sip_report.specs.declared.line_outcome.LineOutcome.TheVariants.{Tried};
 ghost use Rattle.sip_report.specs.Checks as spec;
 ghost use Rattle.sip_report.specs.Lines.{target_words};
 
@@ -12,6 +13,7 @@ use crate::shown_text::shown_text;
 use crate::verdict::{Shortfall, Verdict};
 use sip_resolver::Outcome;
 use sip_selection::Target;
+use sip_tries::{Extent, Tries};
 use std::alloc::{AllocError, Global};
 
 /// The status of a check that could not be made: what a plugin calls UNKNOWN.
@@ -29,6 +31,18 @@ fn verdict_status(verdict: Verdict) -> u8
     }
 }
 
+/// The status of a check of targets that were tried.
+fn tries_status(verdict: Verdict, tries: &Tries) -> u8
+    ensures status { result ≡ spec.check_status verdict (Tried tries.now) }
+    ensures range { result ≤ 3 }
+{
+    if tries.succeeded() {
+        verdict_status(verdict)
+    } else {
+        2
+    }
+}
+
 /// The status of a check: 0 OK, 1 WARNING, 2 CRITICAL or 3 UNKNOWN.
 pub fn check_status(verdict: Verdict, line_outcome: &LineOutcome) -> u8
     ensures status { result ≡ spec.check_status verdict line_outcome.now }
@@ -39,6 +53,7 @@ pub fn check_status(verdict: Verdict, line_outcome: &LineOutcome) -> u8
         LineOutcome::Became(Outcome::Refused(_)) => 2,
         LineOutcome::Became(Outcome::NoAnswer(_)) | LineOutcome::Became(Outcome::NoServer(_)) => 2,
         LineOutcome::Became(Outcome::BadReply(_, _)) => 2,
+        LineOutcome::Tried(tries) => tries_status(verdict, tries),
         LineOutcome::NoSuchName(_) | LineOutcome::TimeOver => 2,
         LineOutcome::Became(Outcome::Memory) => 3,
         LineOutcome::Bad(_) | LineOutcome::NotText | LineOutcome::Memory => 3,
@@ -216,8 +231,7 @@ fn push_performance(
     push_value(alloc, text, " | time=", took, "ms;")?;
     push_bounds(alloc, text, warning.time, critical.time, "")?;
     push_value(alloc, text, " targets=", count as u64, ";")?;
-    push_bounds(alloc, text, warning.targets, critical.targets, ":")?;
-    text.push_str("\n")
+    push_bounds(alloc, text, warning.targets, critical.targets, ":")
 }
 
 /// The line of targets: the verdict on them, how many they are, the first one, and the performance
@@ -236,6 +250,59 @@ fn targets_line(
     let mut line = verdict_words(alloc, limits.expected, verdict)?;
     line.push_str(&targets_words(alloc, form, targets)?)?;
     push_performance(alloc, &mut line, limits, took, targets.len())?;
+    line.push_str("\n")?;
+    Ok(line)
+}
+
+/// What stands in front of targets that were tried: that no server, or not each, is there, or else
+/// the verdict on them.
+fn tries_words(
+    alloc: Global,
+    expected: Option<&str>,
+    verdict: Verdict,
+    tries: &Tries,
+) -> Result<String, AllocError>
+    ensures { IfOk result (λ words. string_bytes words
+        ≡ spec.tries_words (option_map (λ word. word.now) expected.entry) verdict tries.now) }
+{
+    if tries.succeeded() {
+        return verdict_words(alloc, expected, verdict);
+    }
+    match tries.extent {
+        Extent::UntilThere => String::from_str(alloc, "SIP CRITICAL - no server answered, "),
+        Extent::All => String::from_str(alloc, "SIP CRITICAL - a server is missing, "),
+    }
+}
+
+/// Adds the milliseconds until the final reply was there, where one was.
+fn push_rtt(alloc: Global, text: &mut String, time: Option<u64>) -> Result<(), AllocError>
+    ensures { OnOk result (string_bytes text.new
+        ≡ string_bytes text.old ++ spec.rtt_words time) }
+{
+    match time {
+        None => Ok(()),
+        Some(after) => push_value(alloc, text, " rtt=", after, "ms"),
+    }
+}
+
+/// The line of targets that were tried.
+fn tries_line(
+    alloc: Global,
+    form: AddressForm,
+    limits: CheckLimits<'_>,
+    took: u64,
+    verdict: Verdict,
+    tries: &Tries,
+) -> Result<String, AllocError>
+    ensures { IfOk result (λ line.
+        string_bytes line ≡ spec.tries_line form limits.entry took verdict tries.now) }
+{
+    let targets = tries.targets.as_slice();
+    let mut line = tries_words(alloc, limits.expected, verdict, tries)?;
+    line.push_str(&targets_words(alloc, form, targets)?)?;
+    push_performance(alloc, &mut line, limits, took, targets.len())?;
+    push_rtt(alloc, &mut line, tries.first_time())?;
+    line.push_str("\n")?;
     Ok(line)
 }
 
@@ -277,6 +344,7 @@ pub fn check_line(
 {
     match line_outcome {
         LineOutcome::Became(outcome) => outcome_line(alloc, form, limits, took, verdict, outcome),
+        LineOutcome::Tried(tries) => tries_line(alloc, form, limits, took, verdict, tries),
         LineOutcome::NoSuchName(_) => verbose_lines(alloc, form, "SIP CRITICAL - ", line_outcome),
         LineOutcome::TimeOver => lines_of(alloc, form, "SIP CRITICAL - ", line_outcome),
         LineOutcome::Bad(_) => lines_of(alloc, form, "SIP UNKNOWN - ", line_outcome),

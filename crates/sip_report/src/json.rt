@@ -3,19 +3,23 @@
 ghost use Rattle.std.specs.Prelude.{◌≡◌, ◌++◌, ◌∷◌, [], IfOk};
 ghost use Rattle.std.specs.String.{string_bytes};
 ghost use Rattle.serde_json.specs.View.{view};
+ghost use Rattle.sip_report.specs.declared.line_outcome.LineOutcome.TheVariants.{Tried};
 ghost use Rattle.sip_report.specs.Jsons as spec;
 
 use crate::address::{AddressForm, address_words};
 use crate::line_outcome::{
     BAD_STATUS, FAULT_STATUS, GAVEUP_STATUS, LineOutcome, REFUSED_STATUS, TARGETS_STATUS,
+    status_of_tries,
 };
 use crate::output::{kind_word, reason_word, request_word, transport_word};
 use dns_answers::ReplyRefusal;
 use dns_message::Question;
 use dns_name::Name;
 use serde_json::{Value, json};
+use sip_ping::{Answer, Reply};
 use sip_resolver::Outcome;
 use sip_selection::Target;
+use sip_tries::{Found, TargetTry, Tries};
 use std::alloc::{AllocError, Global};
 
 /// The number of this format. It changes where a key goes, or means something else; a key that is
@@ -41,6 +45,66 @@ fn targets_value(alloc: Global, form: AddressForm, targets: &[Target]) -> Result
     let mut items = Vec::new(alloc);
     'targets: for target in targets {
         items.push(target_value(alloc, form, target)?)?;
+    }
+    Ok(Value::Array(items))
+}
+
+/// A target that replied.
+fn replied_value(
+    alloc: Global,
+    form: AddressForm,
+    target: &Target,
+    reply: Reply,
+) -> Result<Value, AllocError>
+    ensures { IfOk result (λ value.
+        view value ≡ spec.replied_data form target.now reply.status reply.after) }
+{
+    let address = address_words(alloc, form, target.address)?;
+    let transport = transport_word(target.transport);
+    json!(in alloc; {
+        "address": &address, "port": target.port, "rtt": reply.after, "status": reply.status,
+        "transport": transport
+    })
+}
+
+/// A target without a final reply.
+fn unreplied_value(
+    alloc: Global,
+    form: AddressForm,
+    target: &Target,
+    why: &str,
+) -> Result<Value, AllocError>
+    ensures { IfOk result (λ value. view value ≡ spec.unreplied_data form target.now why.now) }
+{
+    let address = address_words(alloc, form, target.address)?;
+    let transport = transport_word(target.transport);
+    json!(in alloc; {
+        "address": &address, "port": target.port, "transport": transport, "why": why
+    })
+}
+
+/// A target that was tried.
+fn try_value(alloc: Global, form: AddressForm, it: &TargetTry) -> Result<Value, AllocError>
+    ensures { IfOk result (λ value. view value ≡ spec.try_data form it.now) }
+{
+    match it.found {
+        Found::Asked(Answer::Replied(reply)) => replied_value(alloc, form, &it.target, reply),
+        Found::Asked(Answer::Silent) => unreplied_value(alloc, form, &it.target, "silent"),
+        Found::Asked(Answer::Refused) => unreplied_value(alloc, form, &it.target, "refused"),
+        Found::Asked(Answer::Unreadable) => {
+            unreplied_value(alloc, form, &it.target, "unreadable")
+        }
+        Found::Untried => unreplied_value(alloc, form, &it.target, "untried"),
+    }
+}
+
+/// Targets that were tried, in their order.
+fn tries_value(alloc: Global, form: AddressForm, tries: &[TargetTry]) -> Result<Value, AllocError>
+    ensures { IfOk result (λ value. view value ≡ spec.tries_data form tries.now) }
+{
+    let mut items = Vec::new(alloc);
+    'tries: for it in tries {
+        items.push(try_value(alloc, form, it)?)?;
     }
     Ok(Value::Array(items))
 }
@@ -87,6 +151,40 @@ fn with_targets(alloc: Global, text: &str, took: u64, targets: Value) -> Result<
     json!(in alloc; {
         "status": TARGETS_STATUS, "targets": targets, "text": text, "time": took, "v": FORMAT
     })
+}
+
+/// An object of targets that were tried.
+fn with_tries(
+    alloc: Global,
+    text: &str,
+    took: u64,
+    status: u8,
+    targets: Value,
+    tries: Value,
+) -> Result<Value, AllocError>
+    ensures { IfOk result (λ value. view value
+        ≡ spec.with_tries text.now took status (view targets) (view tries)) }
+{
+    json!(in alloc; {
+        "status": status, "targets": targets, "text": text, "time": took, "tries": tries,
+        "v": FORMAT
+    })
+}
+
+/// The object of targets that were tried.
+fn tried_value(
+    alloc: Global,
+    form: AddressForm,
+    text: &str,
+    took: u64,
+    tries: &Tries,
+) -> Result<Value, AllocError>
+    ensures { IfOk result (λ value. view value
+        ≡ spec.line_outcome_data form text.now took (Tried tries.now)) }
+{
+    let targets = targets_value(alloc, form, tries.targets.as_slice())?;
+    let tried = tries_value(alloc, form, tries.tries.as_slice())?;
+    with_tries(alloc, text, took, status_of_tries(tries), targets, tried)
 }
 
 /// An object of a question without an answer.
@@ -190,6 +288,7 @@ fn line_outcome_value(
 {
     match line_outcome {
         LineOutcome::Became(outcome) => outcome_value(alloc, form, text, took, outcome),
+        LineOutcome::Tried(tries) => tried_value(alloc, form, text, took, tries),
         LineOutcome::NoSuchName(name) => with_no_name(alloc, text, took, name),
         LineOutcome::TimeOver => with_gaveup(alloc, text, took, total_value(alloc)?),
         LineOutcome::Bad(refusal) => with_bad(alloc, text, took, request_word(*refusal)),

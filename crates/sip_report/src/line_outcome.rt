@@ -4,12 +4,14 @@ ghost use Rattle.sip_report.specs.Lines as spec;
 
 use dns_name::Name;
 use sip_resolver::Outcome;
+use sip_tries::Tries;
 use sip_uri::UriRefusal;
 
 /// The status of a text that has targets.
 pub const TARGETS_STATUS: u8 = 0;
 
-/// The status of a text for which a question has no answer, or whose time was over.
+/// The status of a text for which a question has no answer, whose time was over, or of whose
+/// targets none is there.
 pub const GAVEUP_STATUS: u8 = 1;
 
 /// The status of a text whose request goes nowhere.
@@ -26,6 +28,8 @@ pub const FAULT_STATUS: u8 = 5;
 pub enum LineOutcome {
     /// The text is a request, and this became of it.
     Became(Outcome),
+    /// The text is a request, and its targets were tried.
+    Tried(Tries),
     /// The text is a request that goes nowhere, as no server has an address; and the name of its
     /// host, which is this one, does not exist.
     NoSuchName(Name),
@@ -63,6 +67,18 @@ pub fn graver_of(status: u8, other: u8) -> u8
     }
 }
 
+/// The status of a text whose targets were tried.
+pub(crate) fn status_of_tries(tries: &Tries) -> u8
+    ensures status { result ≡ spec.status_of_tries tries.now }
+    ensures range { result ≤ 5 }
+{
+    if tries.succeeded() {
+        TARGETS_STATUS
+    } else {
+        GAVEUP_STATUS
+    }
+}
+
 /// The exit status of a text, by what became of it.
 pub fn status_of(line_outcome: &LineOutcome) -> u8
     ensures status { result ≡ spec.status_of line_outcome.now }
@@ -74,6 +90,7 @@ pub fn status_of(line_outcome: &LineOutcome) -> u8
         LineOutcome::Became(Outcome::NoServer(_)) => GAVEUP_STATUS,
         LineOutcome::Became(Outcome::BadReply(_, _)) => GAVEUP_STATUS,
         LineOutcome::TimeOver => GAVEUP_STATUS,
+        LineOutcome::Tried(tries) => status_of_tries(tries),
         LineOutcome::Became(Outcome::Refused(_)) | LineOutcome::NoSuchName(_) => REFUSED_STATUS,
         LineOutcome::Bad(_) | LineOutcome::NotText => BAD_STATUS,
         LineOutcome::Became(Outcome::Memory) | LineOutcome::Memory => FAULT_STATUS,

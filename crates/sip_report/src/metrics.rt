@@ -105,6 +105,7 @@ fn count_of(line_outcome: &LineOutcome) -> usize
 {
     match line_outcome {
         LineOutcome::Became(Outcome::Targets(list)) => list.as_slice().len(),
+        LineOutcome::Tried(tries) => tries.targets.as_slice().len(),
         _ => 0,
     }
 }

@@ -3,6 +3,8 @@ ghost use Rattle.std.specs.Prelude.{◌≡◌, IfOk, codes};
 ghost use Rattle.std.specs.List.{flat_map};
 ghost use Rattle.std.specs.String.{string_bytes};
 ghost use Rattle.dns_name.specs.Texts.{text_of};
+ghost use Rattle.sip_ping.specs.declared.answer.Answer.TheVariants.{Replied};
+ghost use Rattle.sip_tries.specs.declared.found.Found.TheVariants.{Asked};
 ghost use Rattle.sip_report.specs.Lines as spec;
 
 use crate::address::{AddressForm, address_words};
@@ -10,8 +12,10 @@ use crate::line_outcome::LineOutcome;
 use dns_answers::ReplyRefusal;
 use dns_message::{Kind, Question};
 use dns_name::Name;
+use sip_ping::{Answer, Reply};
 use sip_resolver::Outcome;
 use sip_selection::{Reason, Target};
+use sip_tries::{Found, TargetTry};
 use sip_uri::{Transport, UriRefusal};
 use std::alloc::{AllocError, Global};
 
@@ -129,6 +133,76 @@ fn target_lines(
     Ok(lines)
 }
 
+/// A final reply in words: its status, and the milliseconds until it was there.
+fn reply_words(alloc: Global, reply: Reply) -> Result<String, AllocError>
+    ensures { IfOk result (λ words.
+        string_bytes words ≡ spec.found_words (Asked (Replied reply))) }
+{
+    let status = reply.status;
+    let after = reply.after;
+    let mut words = format!(in alloc; "{status}")?;
+    words.push_str(&format!(in alloc; " {after} ms")?)?;
+    Ok(words)
+}
+
+/// What an answer says in words.
+fn answer_words(alloc: Global, answer: Answer) -> Result<String, AllocError>
+    ensures { IfOk result (λ words. string_bytes words ≡ spec.found_words (Asked answer)) }
+{
+    match answer {
+        Answer::Replied(reply) => reply_words(alloc, reply),
+        Answer::Silent => String::from_str(alloc, "silent"),
+        Answer::Refused => String::from_str(alloc, "refused"),
+        Answer::Unreadable => String::from_str(alloc, "unreadable"),
+    }
+}
+
+/// What was found at a target.
+fn found_words(alloc: Global, found: Found) -> Result<String, AllocError>
+    ensures { IfOk result (λ words. string_bytes words ≡ spec.found_words found) }
+{
+    match found {
+        Found::Asked(answer) => answer_words(alloc, answer),
+        Found::Untried => String::from_str(alloc, "untried"),
+    }
+}
+
+/// The line of a target that was tried.
+fn try_line(
+    alloc: Global,
+    form: AddressForm,
+    front: &str,
+    it: &TargetTry,
+) -> Result<String, AllocError>
+    ensures { IfOk result (λ line. string_bytes line ≡ spec.try_line form front.now it.now) }
+{
+    let target = target_words(alloc, form, &it.target)?;
+    let found = found_words(alloc, it.found)?;
+    let mut line = String::from_str(alloc, front)?;
+    line.push_str(&target)?;
+    line.push_str(" ")?;
+    line.push_str(&found)?;
+    line.push_str("\n")?;
+    Ok(line)
+}
+
+/// The lines of targets that were tried.
+fn try_lines(
+    alloc: Global,
+    form: AddressForm,
+    front: &str,
+    tries: &[TargetTry],
+) -> Result<String, AllocError>
+    ensures { IfOk result (λ lines.
+        string_bytes lines ≡ flat_map (spec.try_line form front.now) tries.now) }
+{
+    let mut lines = String::new(alloc);
+    'tries: for it in tries {
+        lines.push_str(&try_line(alloc, form, front, it)?)?;
+    }
+    Ok(lines)
+}
+
 /// A question in words: its kind and its name.
 pub fn question_words(alloc: Global, question: &Question) -> Result<String, AllocError>
     ensures { IfOk result (λ words. string_bytes words ≡ spec.question_words question.now) }
@@ -182,6 +256,7 @@ pub fn lines_of(
 {
     match line_outcome {
         LineOutcome::Became(outcome) => outcome_lines(alloc, form, front, outcome),
+        LineOutcome::Tried(tries) => try_lines(alloc, form, front, tries.tries.as_slice()),
         LineOutcome::NoSuchName(_) => words_line(alloc, front, "refused ", "NoAddress"),
         LineOutcome::TimeOver => words_line(alloc, front, "gaveup ", "total"),
         LineOutcome::Bad(refusal) => words_line(alloc, front, "bad ", request_word(*refusal)),
@@ -211,6 +286,7 @@ pub fn verbose_lines(
 {
     match line_outcome {
         LineOutcome::Became(outcome) => outcome_lines(alloc, form, front, outcome),
+        LineOutcome::Tried(_) => lines_of(alloc, form, front, line_outcome),
         LineOutcome::NoSuchName(name) => no_name_line(alloc, front, name),
         LineOutcome::TimeOver => lines_of(alloc, form, front, line_outcome),
         LineOutcome::Bad(_) => lines_of(alloc, form, front, line_outcome),

@@ -156,6 +156,7 @@ pub fn verdict_of(
         LineOutcome::Became(Outcome::Targets(list)) => {
             verdict_on(alloc, limits, took, list.as_slice())
         }
+        LineOutcome::Tried(tries) => { verdict_on(alloc, limits, took, tries.targets.as_slice()) }
         _ => Ok(Verdict::Well),
     }
 }

@@ -14,7 +14,7 @@ use Rattle.sip_resolver.specs.declared.outcome.Outcome.TheVariants as outcomes
 use Rattle.sipwhere.specs.LineOutcomes.{IsLineOutcome, without_address}
 use Rattle.sipwhere.specs.OpenLines.{IsLineOutcomeOf}
 use Rattle.sip_report.specs.declared.line_outcome.LineOutcome.{LineOutcome}
-use Rattle.sip_report.specs.declared.line_outcome.LineOutcome.TheVariants.{Became, NoSuchName, TimeOver, Bad, NotText, Memory}
+use Rattle.sip_report.specs.declared.line_outcome.LineOutcome.TheVariants.{Became, Tried, NoSuchName, TimeOver, Bad, NotText, Memory}
 use Rattle.sipwhere.specs.declared.line.Line.{Line}
 use Rattle.sipwhere.specs.declared.sender.Sender.{Sender}
 
@@ -108,17 +108,34 @@ module _ (gives : List ℕ → Type 0) (shows : ℕ → Type 0) where
         is = it.is;
         place = it.place;
         became = (it.became.0, it.became.1, outcome-later it.became.0 outcome it.became.2);
+        tried = it.tried;
       }
+      line_outcome-later line (Tried tries) it =
+          let list = it.became.1 in
+          record {
+            request = it.request;
+            is = it.is;
+            place = it.place;
+            became = (
+              it.became.0,
+              list,
+              it.became.2,
+              outcome-later it.became.0 (outcomes.Targets list) it.became.3,
+              it.became.4,
+            );
+            tried = it.tried;
+          }
       line_outcome-later line (NoSuchName name) it = record {
         request = it.request;
         is = it.is;
         place = it.place;
         became = (it.became.0, it.became.1, outcome-later it.became.0 without_address it.became.2, it.became.3);
+        tried = tt;
       }
-      line_outcome-later line TimeOver it = record { request = it.request; is = it.is; place = it.place; became = tt }
+      line_outcome-later line TimeOver it = record { request = it.request; is = it.is; place = it.place; became = tt; tried = tt }
       line_outcome-later line (Bad refusal) it = it
       line_outcome-later line NotText it = it
-      line_outcome-later line Memory it = record { request = it.request; is = it.is; place = it.place; became = tt }
+      line_outcome-later line Memory it = record { request = it.request; is = it.is; place = it.place; became = tt; tried = tt }
 
       line_outcome-of-later : (line : Line) (line_outcome : Option LineOutcome) → IsLineOutcomeOf gives shows old sender line line_outcome
           → IsLineOutcomeOf gives shows new sender line line_outcome

@@ -18,7 +18,7 @@ use Rattle.sipwhere.specs.LineOutcomes.{AreAlike, EndsAs, IsLineOutcome, IsOfLin
 use Rattle.sipwhere.proofs.Later.{zip-set}
 use Rattle.sipwhere.specs.OpenLines.{AreMeant, IsLineOutcomeOf, IsMeant, IsOwn}
 use Rattle.sip_report.specs.declared.line_outcome.LineOutcome.{LineOutcome}
-use Rattle.sip_report.specs.declared.line_outcome.LineOutcome.TheVariants.{Became, NoSuchName, TimeOver, Bad, NotText, Memory}
+use Rattle.sip_report.specs.declared.line_outcome.LineOutcome.TheVariants.{Became, Tried, NoSuchName, TimeOver, Bad, NotText, Memory}
 use Rattle.sipwhere.specs.declared.line.Line.{Line}
 use Rattle.sipwhere.specs.declared.sender.Sender.{Sender}
 
@@ -137,14 +137,15 @@ module _ (gives : List ℕ → Type 0) (shows : ℕ → Type 0) (seat : SeatView
   pub line_outcome-needless : (line : Line) (line_outcome : LineOutcome) → NeedsNoReply line.text.now line_outcome
       → IsLineOutcome gives shows seat sender line line_outcome
   line_outcome-needless line (Became outcome) it = absurd it
+  line_outcome-needless line (Tried tries) it = absurd it
   line_outcome-needless line (NoSuchName name) it = absurd it
-  line_outcome-needless line TimeOver it = record { request = it.request; is = it.is; place = 0; became = tt }
+  line_outcome-needless line TimeOver it = record { request = it.request; is = it.is; place = 0; became = tt; tried = tt }
   line_outcome-needless line (Bad refusal) it = it
   line_outcome-needless line NotText it = it
-  line_outcome-needless line Memory it = record { request = it.request; is = it.is; place = 0; became = tt }
+  line_outcome-needless line Memory it = record { request = it.request; is = it.is; place = 0; became = tt; tried = tt }
 
   pub line_outcome-ended : (lines : List Line) (line : Line) (ended : Sought) (outcome : Outcome) (line_outcome : LineOutcome)
-      → line ≡ get_or lines ended.number line → IsMeant sender lines ended → EndsAs gives line.text.now outcome line_outcome
+      → line ≡ get_or lines ended.number line → IsMeant sender lines ended → EndsAs gives sender.extent line.text.now outcome line_outcome
       → IsOutcome gives shows seat ended outcome → IsLineOutcome gives shows seat sender line line_outcome
   line_outcome-ended lines line ended outcome (Became it) at meant ends is = record {
     request = ends.request;
@@ -153,8 +154,22 @@ module _ (gives : List ℕ → Type 0) (shows : ℕ → Type 0) (seat : SeatView
     became = (
       ended,
       meant-alike sender lines ended.number line at ends.request ends.only ended refl meant,
-      rw ends.ends is,
+      rw ends.ends.0 is,
     );
+    tried = ends.ends.1;
+  }
+  line_outcome-ended lines line ended outcome (Tried tries) at meant ends is = record {
+    request = ends.request;
+    is = ends.only.is;
+    place = ended.number;
+    became = (
+      ended,
+      ends.ends.targets,
+      meant-alike sender lines ended.number line at ends.request ends.only ended refl meant,
+      subst (IsOutcome gives shows seat ended) ends.ends.has is,
+      ends.ends.so,
+    );
+    tried = ends.ends.extent_is;
   }
   line_outcome-ended lines line ended outcome (NoSuchName name) at meant ends is = record {
     request = ends.request;
@@ -166,12 +181,13 @@ module _ (gives : List ℕ → Type 0) (shows : ℕ → Type 0) (seat : SeatView
       subst (IsOutcome gives shows seat ended) ends.ends.0 is,
       ends.ends.1,
     );
+    tried = tt;
   }
   line_outcome-ended lines line ended outcome TimeOver at meant ends is = absurd ends
   line_outcome-ended lines line ended outcome (Bad refusal) at meant ends is = ends
   line_outcome-ended lines line ended outcome NotText at meant ends is = ends
   line_outcome-ended lines line ended outcome Memory at meant ends is =
-      record { request = ends.request; is = ends.is; place = 0; became = tt }
+      record { request = ends.request; is = ends.is; place = 0; became = tt; tried = tt }
 
   -- what became of the line at a place is kept
   pub line_outcomes-set : (lines : List Line) (line_outcomes : List (Option LineOutcome)) (place : ℕ) (line : Line)
@@ -201,13 +217,14 @@ module _ (gives : List ℕ → Type 0) (shows : ℕ → Type 0) (seat : SeatView
   pub line_outcomes-ended : (lines : List Line) (line_outcomes : List (Option LineOutcome)) (place : ℕ) (d : Line) (ended : Sought)
       (outcome got : Outcome)
       (line_outcome : LineOutcome) → place < length lines → place ≡ ended.number → got ≡ outcome → IsMeant sender lines ended
-      → EndsAs gives (get_or lines place d).text.now got line_outcome → IsOutcome gives shows seat ended outcome
+      → EndsAs gives sender.extent (get_or lines place d).text.now got line_outcome → IsOutcome gives shows seat ended outcome
       → AllZip (IsLineOutcomeOf gives shows seat sender) lines line_outcomes
       → AllZip (IsLineOutcomeOf gives shows seat sender) lines (set line_outcomes place (Some line_outcome))
   line_outcomes-ended lines line_outcomes place d ended outcome got line_outcome inside number same meant ends is all =
       let line = get_or lines place d in
       let at : line ≡ get_or lines place line = at-itself lines place d in
       let here : line ≡ get_or lines ended.number line = subst (λ n. line ≡ get_or lines n line) number at in
-      let so : EndsAs gives line.text.now outcome line_outcome = subst (λ o. EndsAs gives line.text.now o line_outcome) same ends in
+      let so : EndsAs gives sender.extent line.text.now outcome line_outcome =
+      subst (λ o. EndsAs gives sender.extent line.text.now o line_outcome) same ends in
       line_outcomes-set lines line_outcomes place line (Some line_outcome) inside at all
       (line_outcome-ended lines line ended outcome line_outcome here meant so is)

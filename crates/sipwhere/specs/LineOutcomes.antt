@@ -1,5 +1,5 @@
 -- What becomes of a text.
-use Rattle.std.specs.Prelude.{◌≡◌, ◌≢◌, ℕ, List, Some, None}
+use Rattle.std.specs.Prelude.{◌≡◌, ◌≢◌, ℕ, List, Option, Some, None}
 use Rattle.std.specs.Str.Pattern.{FindsChar}
 use Rattle.answer_cache.specs.Seats.{SeatView}
 use Rattle.sip_resolver.specs.Draws.{drawn}
@@ -10,7 +10,7 @@ use Rattle.sip_selection.specs.declared.request.Request.{Request}
 use Rattle.sip_uri.specs.declared.refusal.UriRefusal.{UriRefusal}
 use Rattle.sip_uri.specs.declared.refusal.UriRefusal.TheVariants as uri
 use Rattle.sip_report.specs.declared.line_outcome.LineOutcome.{LineOutcome}
-use Rattle.sip_report.specs.declared.line_outcome.LineOutcome.TheVariants.{Became, NoSuchName, TimeOver, Bad, NotText, Memory}
+use Rattle.sip_report.specs.declared.line_outcome.LineOutcome.TheVariants.{Became, Tried, NoSuchName, TimeOver, Bad, NotText, Memory}
 use Rattle.sipwhere.specs.declared.line.Line.{Line}
 use Rattle.sipwhere.specs.declared.sender.Sender.{Sender}
 use Rattle.sip_resolver.specs.declared.outcome.Outcome.{Outcome}
@@ -18,6 +18,12 @@ use Rattle.sip_resolver.specs.declared.outcome.Outcome.TheVariants as outcome
 use Rattle.sip_selection.specs.Requests.{target_of}
 use Rattle.sip_selection.specs.declared.reason.Reason.TheVariants as reason
 use Rattle.sip_uri.specs.declared.host.Host.TheVariants as host
+use Rattle.sip_selection.specs.declared.request.Request.TheVariants.{Uri, Via}
+use Rattle.sip_selection.specs.declared.target.Target.{Target}
+use Rattle.sip_tries.specs.Turns.{AreTried}
+use Rattle.sip_tries.specs.declared.tries.Extent.{Extent}
+use Rattle.sip_tries.specs.declared.tries.Tries.{Tries}
+use Rattle.sipwhere_options.specs.declared.pinging.Pinging.{Pinging}
 use Rattle.sipwhere.specs.Denials.{IsDenied}
 
 -- no number that is made of a request tells one of two requests from the other
@@ -34,12 +40,51 @@ pub record IsMissing (gives : List ℕ → Type 0) (request : Request) (name : L
     pub host : target_of request ≡ host.Domain name
     pub denied : IsDenied gives name
 
+-- ---- targets that are tried
+
+-- how far targets are tried, by how they are pinged
+abbrev pub extent_of : Option Pinging → Option Extent
+extent_of None = None
+extent_of (Some pinging) = Some pinging.extent
+
+-- how far the targets of a request are tried: those of a response are not
+abbrev pub extent_for : Option Extent → Request → Option Extent
+extent_for extent (Uri uri) = extent
+extent_for extent (Via via) = None
+
+-- targets were tried so far, in their order (RFC 3263 4.3)
+pub record AreTriedSo (targets : List Target) (tries : Tries) : Type 0 where
+  pub same : tries.targets.items ≡ targets
+  pub tried : AreTried tries.extent targets tries.tries.items
+
+-- an outcome stands as it is: targets where they are not to be tried
+abbrev pub Stays : Option Extent → Outcome → Type 0
+Stays extent (outcome.Targets list) = extent ≡ None
+Stays extent (outcome.Refused reason) = Unit {0}
+Stays extent (outcome.NoAnswer question) = Unit {0}
+Stays extent (outcome.NoServer question) = Unit {0}
+Stays extent (outcome.BadReply question refusal) = Unit {0}
+Stays extent outcome.Memory = Unit {0}
+
+-- targets are tried exactly where they are to be, and so far
+abbrev pub IsTriedBy : Option Extent → LineOutcome → Type 0
+IsTriedBy extent (Became outcome) = Stays extent outcome
+IsTriedBy extent (Tried tries) = extent ≡ Some tries.extent
+IsTriedBy extent (NoSuchName name) = Unit {0}
+IsTriedBy extent TimeOver = Unit {0}
+IsTriedBy extent (Bad refusal) = Unit {0}
+IsTriedBy extent NotText = Unit {0}
+IsTriedBy extent Memory = Unit {0}
+
 -- What may become of a request, at a seat: it is the choice of RFC 3263 4 and 5 over answers that
 -- count, or the question whose answer is missing, as the resolver core says it. Nothing is said of
 -- time and memory.
 abbrev pub MayBecome : (List ℕ → Type 0) → (ℕ → Type 0) → SeatView → Sought → LineOutcome → Type 0
 MayBecome gives shows seat asked (Became outcome) =
     (sought : Sought) × AreAlike sought asked × IsOutcome gives shows seat sought outcome
+MayBecome gives shows seat asked (Tried tries) =
+    (sought : Sought) × (list : List Target) × AreAlike sought asked
+    × IsOutcome gives shows seat sought (outcome.Targets list) × AreTriedSo list tries
 MayBecome gives shows seat asked (NoSuchName name) =
     (sought : Sought) × AreAlike sought asked × IsOutcome gives shows seat sought without_address
     × IsMissing gives asked.request name
@@ -67,13 +112,14 @@ pub record IsNotText (text : List ℕ) : Type 0 where
 -- A text is a request, of which this may become, under whatever number a resolver had it. Its words
 -- are those of its own number.
 pub record IsLocated (gives : List ℕ → Type 0) (shows : ℕ → Type 0) (seat : SeatView) (caps : Caps)
-    (words text : List ℕ) (line_outcome : LineOutcome) : Type 0 where
+    (extent : Option Extent) (words text : List ℕ) (line_outcome : LineOutcome) : Type 0 where
   pub request : Request
   pub is : RequestText text request
   pub place : ℕ
   pub became : MayBecome gives shows seat
       (record { number = place; request = request; caps = caps; words = words; until = None })
       line_outcome
+  pub tried : IsTriedBy (extent_for extent request) line_outcome
 
 -- what may become of a line: it is no request, or what becomes of its request
 abbrev pub IsLineOutcome : (List ℕ → Type 0) → (ℕ → Type 0) → SeatView → Sender → Line → LineOutcome
@@ -81,7 +127,8 @@ abbrev pub IsLineOutcome : (List ℕ → Type 0) → (ℕ → Type 0) → SeatVi
 IsLineOutcome gives shows seat sender line (Bad refusal) = IsNoRequest line.text.now refusal
 IsLineOutcome gives shows seat sender line NotText = IsNotText line.text.now
 IsLineOutcome gives shows seat sender line line_outcome =
-    IsLocated gives shows seat sender.caps (drawn sender.key line.number) line.text.now line_outcome
+    IsLocated gives shows seat sender.caps sender.extent (drawn sender.key line.number)
+    line.text.now line_outcome
 
 -- ---- where a fate comes from
 
@@ -100,6 +147,7 @@ pub record IsRequest (text : List ℕ) : Type 0 where
 -- what became of a text of which no request was made: it is none, or memory was refused for it
 abbrev pub IsUnread : List ℕ → LineOutcome → Type 0
 IsUnread text (Became outcome) = ⊥
+IsUnread text (Tried tries) = ⊥
 IsUnread text (NoSuchName name) = ⊥
 IsUnread text TimeOver = ⊥
 IsUnread text (Bad refusal) = IsNoRequest text refusal
@@ -109,6 +157,7 @@ IsUnread text Memory = IsRequest text
 -- what became of a text without a reply: it is no request, its time was over, or memory was refused
 abbrev pub NeedsNoReply : List ℕ → LineOutcome → Type 0
 NeedsNoReply text (Became outcome) = ⊥
+NeedsNoReply text (Tried tries) = ⊥
 NeedsNoReply text (NoSuchName name) = ⊥
 NeedsNoReply text TimeOver = IsRequest text
 NeedsNoReply text (Bad refusal) = IsNoRequest text refusal
@@ -120,29 +169,56 @@ pub record IsOnly (text : List ℕ) (request : Request) : Type 0 where
   pub is : RequestText text request
   pub only : (other : Request) → RequestText text other → request ≡ other
 
--- what becomes of a request by its outcome: where no server has an address, its host's name may be
--- one that does not exist
-abbrev pub EndsSo : (List ℕ → Type 0) → Request → Outcome → LineOutcome → Type 0
-EndsSo gives request outcome (Became it) = it ≡ outcome
-EndsSo gives request outcome (NoSuchName name) =
+-- what becomes of targets that are tried so far, where memory was not refused
+abbrev pub IsTriedOf : Extent → List Target → LineOutcome → Type 0
+IsTriedOf extent targets (Tried tries) = (tries.extent ≡ extent) × AreTriedSo targets tries
+IsTriedOf extent targets Memory = Unit {0}
+IsTriedOf extent targets (Became it) = ⊥
+IsTriedOf extent targets (NoSuchName name) = ⊥
+IsTriedOf extent targets TimeOver = ⊥
+IsTriedOf extent targets (Bad refusal) = ⊥
+IsTriedOf extent targets NotText = ⊥
+
+-- what becomes of targets: they are tried where they are to be
+abbrev pub HasTargets : Option Extent → List Target → LineOutcome → Type 0
+HasTargets None targets line_outcome = line_outcome ≡ Became (outcome.Targets targets)
+HasTargets (Some extent) targets line_outcome = IsTriedOf extent targets line_outcome
+
+-- the outcome of a request has targets, and they were tried
+pub record IsTriedOutcome (extent : Option Extent) (it : Outcome) (tries : Tries) : Type 0 where
+  pub targets : List Target
+  pub has : it ≡ outcome.Targets targets
+  pub so : AreTriedSo targets tries
+  pub extent_is : extent ≡ Some tries.extent
+
+-- what becomes of a request by its outcome: its targets are tried where they are to be; where no
+-- server has an address, its host's name may be one that does not exist
+abbrev pub EndsSo : (List ℕ → Type 0) → Option Extent → Request → Outcome → LineOutcome → Type 0
+EndsSo gives extent request outcome (Became it) =
+    (it ≡ outcome) × Stays (extent_for extent request) it
+EndsSo gives extent request outcome (Tried tries) =
+    IsTriedOutcome (extent_for extent request) outcome tries
+EndsSo gives extent request outcome (NoSuchName name) =
     (outcome ≡ without_address) × IsMissing gives request name
-EndsSo gives request outcome TimeOver = ⊥
-EndsSo gives request outcome (Bad refusal) = ⊥
-EndsSo gives request outcome NotText = ⊥
-EndsSo gives request outcome Memory = ⊥
+EndsSo gives extent request outcome TimeOver = ⊥
+EndsSo gives extent request outcome (Bad refusal) = ⊥
+EndsSo gives extent request outcome NotText = ⊥
+EndsSo gives extent request outcome Memory = Unit {0}
 
 -- a text is a request that ended so
-pub record IsEnded (gives : List ℕ → Type 0) (text : List ℕ) (outcome : Outcome)
-    (line_outcome : LineOutcome) : Type 0 where
+pub record IsEnded (gives : List ℕ → Type 0) (extent : Option Extent) (text : List ℕ)
+    (outcome : Outcome) (line_outcome : LineOutcome) : Type 0 where
   pub request : Request
   pub only : IsOnly text request
-  pub ends : EndsSo gives request outcome line_outcome
+  pub ends : EndsSo gives extent request outcome line_outcome
 
 -- the request of a text ended so; or the text is no request, or memory was refused for it
-abbrev pub EndsAs : (List ℕ → Type 0) → List ℕ → Outcome → LineOutcome → Type 0
-EndsAs gives text outcome (Became it) = IsEnded gives text outcome (Became it)
-EndsAs gives text outcome (NoSuchName name) = IsEnded gives text outcome (NoSuchName name)
-EndsAs gives text outcome TimeOver = ⊥
-EndsAs gives text outcome (Bad refusal) = IsNoRequest text refusal
-EndsAs gives text outcome NotText = IsNotText text
-EndsAs gives text outcome Memory = IsRequest text
+abbrev pub EndsAs : (List ℕ → Type 0) → Option Extent → List ℕ → Outcome → LineOutcome → Type 0
+EndsAs gives extent text outcome (Became it) = IsEnded gives extent text outcome (Became it)
+EndsAs gives extent text outcome (Tried tries) = IsEnded gives extent text outcome (Tried tries)
+EndsAs gives extent text outcome (NoSuchName name) =
+    IsEnded gives extent text outcome (NoSuchName name)
+EndsAs gives extent text outcome TimeOver = ⊥
+EndsAs gives extent text outcome (Bad refusal) = IsNoRequest text refusal
+EndsAs gives extent text outcome NotText = IsNotText text
+EndsAs gives extent text outcome Memory = IsRequest text

@@ -20,6 +20,7 @@ use sip_report::{LineOutcome, Style};
 use sip_resolver::{
     Limits, RandomIds, Resolved, Resolver, WireOrigin, cancel_over, poll_over, random_ids,
 };
+use sip_tries::Pinger;
 use std::alloc::{AllocError, Global};
 use std::io::Write;
 use std::marker::Model;
@@ -273,8 +274,9 @@ impl<'a, B: AnswerBook + Drop, W: MessageWire, C: Clock> OpenLines<'a, B, W, C> 
 }
 
 impl<'a, B: AnswerBook + Drop, W: NameNotes, C: Clock + Timer> OpenLines<'a, B, W, C> {
-    /// Takes what became of a request, unless the time of its line was over.
-    fn settle(&mut self, wire: &W, ended: Resolved<B>)
+    /// Takes what became of a request, unless the time of its line was over. Its targets are tried
+    /// then, where they are to be.
+    fn settle<P: Pinger>(&mut self, wire: &W, pinger: &mut P, ended: Resolved<B>)
         requires inside { ended.sought.number < length self.old.lines }
         requires own { IsMeant self.old.sender self.old.lines ended.sought }
         ensures same { (self.new.told ≡ self.old.told) × (self.new.lines ≡ self.old.lines)
@@ -291,19 +293,23 @@ impl<'a, B: AnswerBook + Drop, W: NameNotes, C: Clock + Timer> OpenLines<'a, B, 
         self.line_outcomes[place] = Some(line_outcome_of(
             self.alloc,
             wire,
+            pinger,
+            self.sender.extent,
             text,
             ended.into_outcome(),
         ));
     }
 
-    /// Goes on with the requests inside, until one comes out or something came over the wire.
-    pub fn advance<R: Wait>(
+    /// Goes on with the requests inside, until one comes out or something came over the wire. The
+    /// targets of one that came out are tried, where they are to be.
+    pub fn advance<R: Wait, P: Pinger>(
         &mut self,
         rt: &R,
         book: &B,
         seat: &mut B::Seat,
         wire: &mut W,
         clock: &C,
+        pinger: &mut P,
     )
         requires made_here { B.belongs book.now seat.old }
         requires stands { Stands W.gives C.shows (B.shown seat.old) self.old }
@@ -315,8 +321,8 @@ impl<'a, B: AnswerBook + Drop, W: NameNotes, C: Clock + Timer> OpenLines<'a, B, 
     {
         if let Some(ended) = poll_over(rt, &mut self.resolver, book, seat, wire, clock) {
             let place = ended.number() as usize;
-            self.settle(wire, ended);
             self.note_time(place, clock.elapsed());
+            self.settle(wire, pinger, ended);
         }
     }
 }

@@ -3,6 +3,7 @@ ghost use Rattle.std.specs.Prelude.{◌≡◌, ◌⊎◌, ◌↔◌, ◌*◌, �
 ghost use Rattle.std.specs.Duration.{as_nanos};
 ghost use Rattle.sipwhere.specs.LineInputs.{AreInputTexts};
 ghost use Rattle.sipwhere_options.specs.Timings.{AreReplyTimes};
+ghost use Rattle.sipwhere.specs.LineOutcomes.{extent_of};
 ghost use Rattle.sipwhere.specs.Runs.{AreRun, IsRun, IsRunBy, IsRunOf, StaysSo, from_input};
 
 use crate::counting_book::CountingBook;
@@ -19,7 +20,8 @@ use dns_asker::Clock;
 use dns_transport::{RunClock, Timer, Tracer, WireOptions, open_wire};
 use sip_report::Style;
 use sip_resolver::random_key;
-use sipwhere_options::{Options, Plan, RunFault, read_plan, reply_times_of};
+use sip_tries::{Extent, PingForm, Pinger, ServerPinger, random_pings};
+use sipwhere_options::{Options, Pinging, Plan, RunFault, read_plan, reply_times_of};
 use std::alloc::Global;
 use std::io::{self, Read, Write};
 use std::net::Net;
@@ -35,6 +37,7 @@ fn locate_side_by_side<
     B: AnswerBook + Drop,
     W: NameNotes + Tracer,
     C: Clock + Timer,
+    P: Pinger,
     O: Write,
 >(
     rt: &R,
@@ -46,6 +49,7 @@ fn locate_side_by_side<
     seat: &mut B::Seat,
     wire: &mut W,
     clock: &C,
+    pinger: &mut P,
     progress: &mut Progress,
     output: &mut O,
 ) -> Told
@@ -73,18 +77,20 @@ fn locate_side_by_side<
         if open.is_done(told) {
             return told;
         }
-        open.advance(rt, book, seat, wire, clock);
+        open.advance(rt, book, seat, wire, clock, pinger);
     }
     unreachable!()
 }
 
-/// Locates lines one after the other, so that what went over the wire for each is with it, and
-/// prints what became of each, until the output takes no more.
+/// Locates lines one after the other, so that what went over the wire for each is with it, and no
+/// line waits while the targets of another one are tried; and prints what became of each, until the
+/// output takes no more.
 fn locate_in_turn<
     R: Wait + Eprint,
     B: AnswerBook + Drop,
     W: NameNotes + Tracer,
     C: Clock + Timer,
+    P: Pinger,
     O: Write,
 >(
     rt: &R,
@@ -96,6 +102,7 @@ fn locate_in_turn<
     seat: &mut B::Seat,
     wire: &mut W,
     clock: &C,
+    pinger: &mut P,
     progress: &mut Progress,
     output: &mut O,
 ) -> Told
@@ -111,7 +118,7 @@ fn locate_in_turn<
     'lines: for line in lines {
         let part = [*line];
         told = told.and(locate_side_by_side(
-            rt, alloc, sender, style, &part, book, seat, wire, clock, progress, output,
+            rt, alloc, sender, style, &part, book, seat, wire, clock, pinger, progress, output,
         ));
         if told.is_closed {
             break;
@@ -126,6 +133,7 @@ pub fn locate_lines<
     B: AnswerBook + Drop,
     W: NameNotes + Tracer,
     C: Clock + Timer,
+    P: Pinger,
     O: Write,
 >(
     rt: &R,
@@ -137,6 +145,7 @@ pub fn locate_lines<
     seat: &mut B::Seat,
     wire: &mut W,
     clock: &C,
+    pinger: &mut P,
     progress: &mut Progress,
     output: &mut O,
 ) -> Told
@@ -148,13 +157,13 @@ pub fn locate_lines<
     ensures range { result.status ≤ 5 }
     ensures closed { IsTrue result.is_closed → result.status ≡ 5 }
 {
-    if style.traced {
+    if style.traced || sender.extent.is_some() {
         return locate_in_turn(
-            rt, alloc, sender, style, lines, book, seat, wire, clock, progress, output,
+            rt, alloc, sender, style, lines, book, seat, wire, clock, pinger, progress, output,
         );
     }
     locate_side_by_side(
-        rt, alloc, sender, style, lines, book, seat, wire, clock, progress, output,
+        rt, alloc, sender, style, lines, book, seat, wire, clock, pinger, progress, output,
     )
 }
 
@@ -164,6 +173,7 @@ fn locate_input<
     B: AnswerBook + Drop,
     W: NameNotes + Tracer,
     C: Clock + Timer,
+    P: Pinger,
     I: Read + Drop,
     O: Write,
 >(
@@ -175,6 +185,7 @@ fn locate_input<
     seat: &mut B::Seat,
     wire: &mut W,
     clock: &C,
+    pinger: &mut P,
     progress: &mut Progress,
     input: I,
     output: &mut O,
@@ -204,7 +215,7 @@ fn locate_input<
         let lines = lines.as_slice();
         first = first.saturating_add(lines.len() as u64);
         told = told.and(locate_lines(
-            rt, alloc, sender, style, lines, book, seat, wire, clock, progress, output,
+            rt, alloc, sender, style, lines, book, seat, wire, clock, pinger, progress, output,
         ));
         if told.is_closed {
             return told;
@@ -220,18 +231,41 @@ fn total_of(options: &Options<'_>) -> Duration
     Duration::from_millis(u64::from(options.total))
 }
 
+/// How far the targets of URIs are tried, if they are.
+fn extent_of(pinging: Option<Pinging>) -> Option<Extent>
+    ensures { result ≡ extent_of pinging }
+{
+    match pinging {
+        Some(pinging) => Some(pinging.extent),
+        None => None,
+    }
+}
+
+/// How servers are asked, where they are; else it makes no difference.
+fn form_of(pinging: Option<Pinging>) -> PingForm {
+    match pinging {
+        Some(pinging) => pinging.form,
+        None => PingForm {
+            max_forwards: 0,
+            wait: 1,
+        },
+    }
+}
+
 /// The sender of the requests.
 fn sender_of(options: &Options<'_>, plan: &Plan, key: [u8; 32]) -> Sender
     ensures caps { result.caps ≡ options.now.caps }
     ensures key { result.key ≡ key }
     ensures schedule { result.schedule ≡ plan.now.schedule }
     ensures total { as_nanos result.total ≡ options.now.total * 1000000 }
+    ensures extent { result.extent ≡ extent_of options.now.pinging }
 {
     Sender {
         caps: options.caps,
         key,
         schedule: plan.schedule,
         total: total_of(options),
+        extent: extent_of(options.pinging),
     }
 }
 
@@ -260,6 +294,7 @@ fn locate_texts<
     B: AnswerBook + Drop,
     W: NameNotes + Tracer,
     C: Clock + Timer,
+    P: Pinger,
     O: Write,
 >(
     rt: &R,
@@ -271,6 +306,7 @@ fn locate_texts<
     seat: &mut B::Seat,
     wire: &mut W,
     clock: &C,
+    pinger: &mut P,
     progress: &mut Progress,
     output: &mut O,
 ) -> Told
@@ -293,6 +329,7 @@ fn locate_texts<
         seat,
         wire,
         clock,
+        pinger,
         progress,
         output,
     )
@@ -314,6 +351,7 @@ fn locate_all<
     B: AnswerBook + Drop,
     W: NameNotes + Tracer,
     C: Clock + Timer,
+    P: Pinger,
     I: Read + Drop,
     O: Write,
 >(
@@ -325,6 +363,7 @@ fn locate_all<
     seat: &mut B::Seat,
     wire: &mut W,
     clock: &C,
+    pinger: &mut P,
     progress: &mut Progress,
     input: I,
     output: &mut O,
@@ -339,12 +378,12 @@ fn locate_all<
     if is_from_input(texts) {
         let style = options.style(true);
         return locate_input(
-            rt, alloc, sender, style, book, seat, wire, clock, progress, input, output,
+            rt, alloc, sender, style, book, seat, wire, clock, pinger, progress, input, output,
         );
     }
     let style = options.style(texts.len() > 1);
     locate_texts(
-        rt, alloc, sender, style, texts, book, seat, wire, clock, progress, output,
+        rt, alloc, sender, style, texts, book, seat, wire, clock, pinger, progress, output,
     )
 }
 
@@ -366,6 +405,7 @@ fn run_over<R: Wait + Input + Print + Eprint + Net + time::Clock>(
     let clock = RunClock::start(rt)?;
     let (book, seat) = ListCache::new(alloc);
     let (book, mut seat) = CountingBook::new(book, seat);
+    let mut pinger = ServerPinger::new(rt, random_pings(key), form_of(options.pinging));
     let mut progress = Progress::new(options.shows_progress);
     let told = locate_all(
         rt,
@@ -376,6 +416,7 @@ fn run_over<R: Wait + Input + Print + Eprint + Net + time::Clock>(
         &mut seat,
         &mut wire,
         &clock,
+        &mut pinger,
         &mut progress,
         rt.reader(),
         &mut io::writer(rt),

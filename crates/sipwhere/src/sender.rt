@@ -1,10 +1,11 @@
 //! The sender of requests: what it can do.
 use dns_asker::Schedule;
 use sip_selection::Caps;
+use sip_tries::Extent;
 use std::time::Duration;
 
-/// What can be sent, the key of the random words and ids, how often each question is sent, and how
-/// long one text may take.
+/// What can be sent, the key of the random words and ids, how often each question is sent, how long
+/// one text may take, and whether targets are tried.
 #[derive(Clone, Copy, Debug)]
 pub struct Sender {
     /// The transports and families of addresses.
@@ -15,4 +16,6 @@ pub struct Sender {
     pub schedule: Schedule,
     /// After how long the time of a text is over.
     pub total: Duration,
+    /// How far the targets of URIs are tried, if they are.
+    pub extent: Option<Extent>,
 }

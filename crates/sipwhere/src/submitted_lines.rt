@@ -1,9 +1,11 @@
 //! What becomes of a text, from what becomes of its request.
-ghost use Rattle.std.specs.Prelude.{◌≡◌, ℕ, IfErr, IfOk, IfSome, IsFalse, IsTrue, None};
+ghost use Rattle.std.specs.Prelude.{◌≡◌, ℕ, IfErr, IfOk, IfSome, IsFalse, IsTrue, None, Option};
 ghost use Rattle.std.specs.Str.Pattern.{FindsChar};
 ghost use Rattle.answer_cache.specs.Seats.{SeatView};
 ghost use Rattle.sip_resolver.specs.Outcomes.{Sought};
 ghost use Rattle.sip_resolver.specs.Requests.{Stand, weight};
+ghost use Rattle.sip_resolver.specs.declared.outcome.Outcome.TheVariants.{Refused};
+ghost use Rattle.sip_tries.specs.declared.tries.Extent.{Extent};
 ghost use Rattle.sipwhere.specs.LineOutcomes as spec;
 ghost use Rattle.sipwhere.specs.LineOutcomes.{EndsAs, EndsSo, IsMissing, IsOfLine, NeedsNoReply, without_address};
 
@@ -13,8 +15,9 @@ use crate::sender::Sender;
 use answer_cache::AnswerBook;
 use dns_name::Name;
 use sip_report::LineOutcome;
-use sip_resolver::{Ids, Origin, Outcome, Resolver, draw_words};
+use sip_resolver::{Ids, Origin, Outcome, Resolver, TargetList, draw_words};
 use sip_selection::{Reason, Request, read_request};
+use sip_tries::{Extent, Pinger, try_targets};
 use sip_uri::{Host, UriRefusal};
 use std::alloc::Global;
 
@@ -83,7 +86,8 @@ fn denied_host<W: NameNotes>(wire: &W, request: &Request) -> Option<Name>
 
 /// What became of a text whose request has no address.
 fn without_address<W: NameNotes>(wire: &W, request: &Request) -> LineOutcome
-    ensures { EndsSo W.gives request.now without_address result }
+    ensures { (extent : Option Extent)
+        → EndsSo W.gives extent request.now without_address result }
 {
     match denied_host(wire, request) {
         Some(name) => LineOutcome::NoSuchName(name),
@@ -91,28 +95,91 @@ fn without_address<W: NameNotes>(wire: &W, request: &Request) -> LineOutcome
     }
 }
 
+/// What became of a text whose request goes nowhere.
+fn refused<W: NameNotes>(wire: &W, request: &Request, reason: Reason) -> LineOutcome
+    ensures { (extent : Option Extent)
+        → EndsSo W.gives extent request.now (Refused reason) result }
+{
+    match reason {
+        Reason::NoAddress => without_address(wire, request),
+        _ => LineOutcome::Became(Outcome::Refused(reason)),
+    }
+}
+
+/// How far the targets of a request are tried, if they are: those of a response are not.
+fn extent_for(extent: Option<Extent>, request: &Request) -> Option<Extent>
+    ensures { result ≡ spec.extent_for extent request.now }
+{
+    match request {
+        Request::Uri(_) => extent,
+        Request::Via(_) => None,
+    }
+}
+
+/// What became of a text whose targets are tried.
+fn tried<P: Pinger>(
+    alloc: Global,
+    pinger: &mut P,
+    extent: Extent,
+    targets: TargetList,
+) -> LineOutcome
+    ensures { spec.IsTriedOf extent targets result }
+{
+    match try_targets(alloc, pinger, extent, targets.into_vec()) {
+        Ok(tries) => LineOutcome::Tried(tries),
+        Err(_) => LineOutcome::Memory,
+    }
+}
+
+/// What became of a text whose request has targets.
+fn with_targets<P: Pinger>(
+    alloc: Global,
+    pinger: &mut P,
+    extent: Option<Extent>,
+    targets: TargetList,
+) -> LineOutcome
+    ensures { spec.HasTargets extent targets result }
+{
+    match extent {
+        Some(extent) => tried(alloc, pinger, extent, targets),
+        None => LineOutcome::Became(Outcome::Targets(targets)),
+    }
+}
+
 /// What became of a text, by the outcome of its request.
-fn became<W: NameNotes>(wire: &W, request: &Request, outcome: Outcome) -> LineOutcome
-    ensures { EndsSo W.gives request.now outcome result }
+fn became<W: NameNotes, P: Pinger>(
+    alloc: Global,
+    wire: &W,
+    pinger: &mut P,
+    extent: Option<Extent>,
+    request: &Request,
+    outcome: Outcome,
+) -> LineOutcome
+    ensures { EndsSo W.gives extent request.now outcome result }
 {
     match outcome {
-        Outcome::Refused(Reason::NoAddress) => without_address(wire, request),
+        Outcome::Refused(reason) => refused(wire, request, reason),
+        Outcome::Targets(targets) => {
+            with_targets(alloc, pinger, extent_for(extent, request), targets)
+        }
         outcome => LineOutcome::Became(outcome),
     }
 }
 
 /// What became of a text, by the outcome of its request. The text is read again, since the request
 /// is not kept.
-pub fn line_outcome_of<W: NameNotes>(
+pub fn line_outcome_of<W: NameNotes, P: Pinger>(
     alloc: Global,
     wire: &W,
+    pinger: &mut P,
+    extent: Option<Extent>,
     text: &str,
     outcome: Outcome,
 ) -> LineOutcome
-    ensures { EndsAs W.gives text.now outcome result }
+    ensures { EndsAs W.gives extent text.now outcome result }
 {
     match request_of(alloc, text) {
-        Ok(request) => became(wire, &request, outcome),
+        Ok(request) => became(alloc, wire, pinger, extent, &request, outcome),
         Err(line_outcome) => line_outcome,
     }
 }

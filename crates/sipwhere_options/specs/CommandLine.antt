@@ -1,11 +1,10 @@
 -- What the words of the command line say: the options of a run.
-use Rattle.std.specs.Prelude.{◌≡◌, ◌≢◌, ◌⊎◌, ◌^◌, ◌<◌, ◌≤◌, ◌++◌, ℕ, Bool, true, false, not}
+use Rattle.std.specs.Prelude.{◌≡◌, ◌≢◌, ◌⊎◌, ◌≤◌, ◌++◌, ℕ, Bool, true, false, not}
 use Rattle.std.specs.Prelude.{List, [], ◌∷◌, length, drop, map, replicate, codes, if◌then◌else◌, ⊤}
 use Rattle.std.specs.Prelude.{Option, Some, None, option_map, Ok}
 use Rattle.std.specs.List.{AllZip, Any}
 use Rattle.std.specs.Option.{option_map_or}
 use Rattle.std.specs.Str.{bytes_eq}
-use Rattle.std.specs.Str.Parse.{IsNumeral, digits_value, without_leading_plus}
 use Rattle.std.specs.Net.Grammar.{IsIpText}
 use Rattle.clap.specs.Matches.{found_of, first_value, matched_of, one_text, raw_values}
 use Rattle.clap.specs.declared.parser.matches.ArgMatches.{ArgMatches}
@@ -15,6 +14,8 @@ use Rattle.sip_uri.specs.declared.transport.Transport.TheVariants.{Udp, Tcp, Tls
 use Rattle.sip_selection.specs.Callers.{AreOffered}
 use Rattle.sip_selection.specs.declared.caps.Families.{Families}
 use Rattle.sip_selection.specs.declared.caps.Families.TheVariants.{V4, V6, V4ThenV6, V6ThenV4}
+use Rattle.sipwhere_options.specs.Flags.{IsFlag, NumberText, SpellsNothing}
+use Rattle.sipwhere_options.specs.Pings.{IsPinging}
 use Rattle.sipwhere_options.specs.Servers.{ServerText}
 use Rattle.sipwhere_options.specs.Terminals.{form_for, shows_progress}
 use Rattle.sipwhere_options.specs.declared.options.OptionFault.{OptionFault}
@@ -36,12 +37,6 @@ words_of matches name = option_map_or raw_values (matched_of (found_of matches) 
 -- the first word of an option
 abbrev pub word_of : ArgMatches → List ℕ → Option (List ℕ)
 word_of matches name = first_value (found_of matches) name
-
--- an option without a word of its own: whether it is given
-pub record IsFlag (matches : ArgMatches) (name : List ℕ) (given : Bool) : Type 0 where
-  pub absent : one_text (found_of matches) name ≡ None → given ≡ false
-  pub set : one_text (found_of matches) name ≡ Some (codes "true") → given ≡ true
-  pub unset : one_text (found_of matches) name ≡ Some (codes "false") → given ≡ false
 
 -- ---- what a word says
 
@@ -76,12 +71,6 @@ pub record SeedText (text key : List ℕ) : Type 0 where
   pub most : length text ≤ 64
   pub digits : decode_sized (in_front_of_zeros text) 32 ≡ Ok key
 
--- a number of so many bits in decimal digits, behind which nothing stands
-pub record NumberText (bits : ℕ) (text : List ℕ) (number : ℕ) : Type 0 where
-  pub digits : IsNumeral 10 (without_leading_plus text)
-  pub value : number ≡ digits_value 10 (without_leading_plus text)
-  pub fits : number < 2 ^ bits
-
 -- an option that may be absent, by what its word has to spell
 abbrev pub Says : {T : Type 0} → (List ℕ → T → Type 0) → Option (List ℕ) → Option T → Type 0
 Says Spells None None = ⊤
@@ -94,10 +83,6 @@ abbrev pub MaySay : {T : Type 0} → (List ℕ → T → Type 0) → Option (Lis
 MaySay {T} Spells None it = it ≡ None
 MaySay {T} Spells (Some word) (Some it) = Spells word it
 MaySay {T} Spells (Some word) None = (it : T) → Spells word it → ⊥
-
--- a word spells nothing
-abbrev pub SpellsNothing : {T : Type 0} → (List ℕ → T → Type 0) → List ℕ → Type 0
-SpellsNothing {T} Spells word = (it : T) → Spells word it → ⊥
 
 -- the word of an option spells nothing
 abbrev pub SaysNothing : {T : Type 0} → (List ℕ → T → Type 0) → Option (List ℕ) → Type 0
@@ -198,6 +183,7 @@ pub record AreOptions (matches : ArgMatches) (terminals : Terminals) (options : 
     pub traced : IsFlag matches (codes "trace") options.traced
     pub verbose : IsFlag matches (codes "verbose") options.verbose
     pub stats : IsFlag matches (codes "stats") options.stats
+    pub pinging : IsPinging matches options.pinging
     pub progress : options.shows_progress ≡ shows_progress terminals
     pub texts : map (λ text. text.now) options.texts.items ≡ words_of matches (codes "uri")
 

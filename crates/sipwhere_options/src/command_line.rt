@@ -233,6 +233,38 @@ fn with_output<'a>(alloc: Global, command: Command<'a>) -> Result<Command<'a>, A
     ))
 }
 
+/// The option of which servers are pinged.
+fn ping<'a>(alloc: Global) -> Result<Arg<'a>, AllocError> {
+    flag(
+        alloc,
+        "ping",
+        "Ask the targets of each URI by OPTIONS whether they are there, until one is",
+    )
+    .conflicts_with("metrics")
+}
+
+/// The option of how long a ping is waited for.
+fn wait<'a>(alloc: Global) -> Result<Arg<'a>, AllocError> {
+    value(
+        alloc,
+        "wait",
+        "MS",
+        "With --ping: how long each target may take, in milliseconds, 4000 if not given",
+    )
+    .value_parser(value_parser!(u32).range(1..=600_000))
+    .requires_arg("ping")
+}
+
+/// With the options of pings.
+fn with_pings<'a>(alloc: Global, command: Command<'a>) -> Result<Command<'a>, AllocError> {
+    let all = "With --ping: each target";
+    let hop = "With --ping: requests with Max-Forwards 0, which no server sends on";
+    let command = with(command, ping(alloc))?;
+    let command = with(command, flag(alloc, "all", all).requires_arg("ping"))?;
+    let command = with(command, flag(alloc, "hop", hop).requires_arg("ping"))?;
+    with(command, wait(alloc))
+}
+
 /// The texts.
 fn texts<'a>(alloc: Global) -> Arg<'a> {
     Arg::new(alloc, "uri")
@@ -263,5 +295,6 @@ pub fn command<'a>(alloc: Global) -> Result<Command<'a>, AllocError> {
     let command = with_sender(alloc, command)?;
     let command = with_limits(alloc, command)?;
     let command = with_check(alloc, command)?;
+    let command = with_pings(alloc, command)?;
     with_output(alloc, command)?.arg(texts(alloc))
 }

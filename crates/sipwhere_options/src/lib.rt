@@ -11,6 +11,7 @@
 
 mod command_line;
 mod options;
+mod pinging;
 mod plan;
 mod run_fault;
 mod seed;
@@ -20,6 +21,7 @@ mod timing;
 
 pub use command_line::command;
 pub use options::{OptionFault, Options, Timing, read_options};
+pub use pinging::Pinging;
 pub use plan::{Plan, read_plan, resolver_path};
 pub use run_fault::RunFault;
 pub use terminals::Terminals;

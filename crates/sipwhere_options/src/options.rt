@@ -6,9 +6,11 @@ ghost use Rattle.std.specs.Net.Grammar.{IsIpText};
 ghost use Rattle.clap.specs.Matches.{found_of, one_text};
 ghost use Rattle.sip_selection.specs.Callers.{AreOffered};
 ghost use Rattle.sipwhere_options.specs.CommandLine as spec;
+ghost use Rattle.sipwhere_options.specs.Flags.{IsFlag, NumberText, SpellsNothing};
 ghost use Rattle.sipwhere_options.specs.Servers.{ServerText};
 ghost use Rattle.sipwhere_options.specs.declared.options.OptionFault.TheVariants as fault;
 
+use crate::pinging::{Pinging, pinging_of};
 use crate::seed::key_from_text;
 use crate::server_text::{local_from_text, server_from_text};
 use crate::terminals::{Terminals, form_for, shows_progress};
@@ -63,6 +65,8 @@ pub struct Options<'a> {
     pub verbose: bool,
     /// Whether the program reports at the end how much was asked.
     pub stats: bool,
+    /// How the targets of URIs are pinged, if they are.
+    pub pinging: Option<Pinging>,
     /// Whether the program reports how many texts are done.
     pub shows_progress: bool,
     /// The texts, or `-` for the lines of the standard input.
@@ -135,8 +139,8 @@ impl<'a> Options<'a> {
 }
 
 /// Whether an option without a word of its own is given.
-fn is_set(matches: &ArgMatches<'_>, name: &str) -> bool
-    ensures { spec.IsFlag matches.now name.now result }
+pub(crate) fn is_set(matches: &ArgMatches<'_>, name: &str) -> bool
+    ensures { IsFlag matches.now name.now result }
 {
     matches.get_flag(name)
 }
@@ -146,7 +150,7 @@ fn servers_of(alloc: Global, words: &[&str]) -> Result<Vec<SocketAddr>, OptionFa
     ensures read { IfOk result (λ servers.
         AllZip (λ word server. ServerText word.now server) words.now servers.items) }
     ensures refused { IfErr result (λ it. (it ≡ fault.Memory) ⊎ ((it ≡ fault.Server)
-        × Any (λ word. spec.SpellsNothing ServerText word.now) words.now)) }
+        × Any (λ word. SpellsNothing ServerText word.now) words.now)) }
 {
     let mut servers = Vec::new(alloc);
     'words: for word in words {
@@ -184,8 +188,8 @@ fn local_of(word: Option<&str>) -> Result<Option<IpAddr>, OptionFault>
 
 /// The form in which queries go out.
 fn query_form_of(matches: &ArgMatches<'_>) -> QueryForm
-    ensures recursion { spec.IsFlag matches.now (codes "norecurse") (not result.recursion) }
-    ensures edns { spec.MaySay (spec.NumberText 16)
+    ensures recursion { IsFlag matches.now (codes "norecurse") (not result.recursion) }
+    ensures edns { spec.MaySay (NumberText 16)
         (one_text (found_of matches.now) (codes "edns")) result.edns }
 {
     QueryForm {
@@ -440,6 +444,7 @@ pub fn read_options<'a>(
         traced: is_set(matches, "trace"),
         verbose: is_set(matches, "verbose"),
         stats: is_set(matches, "stats"),
+        pinging: pinging_of(matches),
         shows_progress: shows_progress(terminals),
         texts: texts_in(alloc, matches)?,
     })

@@ -1,6 +1,7 @@
 //! Keys in words.
 ghost use Rattle.std.specs.Prelude.{IfNone, IfSome};
-ghost use Rattle.sipwhere_options.specs.CommandLine.{SeedText, SpellsNothing};
+ghost use Rattle.sipwhere_options.specs.CommandLine.{SeedText};
+ghost use Rattle.sipwhere_options.specs.Flags.{SpellsNothing};
 
 /// The octets of a key.
 pub const KEY_LENGTH: usize = 32;

@@ -1,7 +1,7 @@
 //! Name servers and local addresses in words.
 ghost use Rattle.std.specs.Prelude.{IfNone, IfSome};
 ghost use Rattle.std.specs.Net.Grammar.{IsIpText};
-ghost use Rattle.sipwhere_options.specs.CommandLine.{SpellsNothing};
+ghost use Rattle.sipwhere_options.specs.Flags.{SpellsNothing};
 ghost use Rattle.sipwhere_options.specs.Servers.{ServerText};
 
 use std::net::{IpAddr, SocketAddr};

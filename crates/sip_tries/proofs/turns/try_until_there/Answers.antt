@@ -1,6 +1,5 @@
-use Rattle.std.proofs.Common.{◌≡◌, length, sym, subst, ◌∙◌, arith}
+use Rattle.std.proofs.Common.{sym, ◌∙◌, arith}
 use Rattle.std.proofs.lemmas.List.{take_all}
-use Rattle.sip_tries.specs.Turns.{AreAsked, AreTriedUntilThere}
 use Rattle.sip_tries.proofs.InTurn.{asked-more, in-turn-all, in-turn-there, none-more, turn-more}
 use Rattle.sip_tries.proofs.turns.try_until_there.Goals as goal
 

@@ -2,7 +2,8 @@ use Rattle.std.proofs.Common.{◌≡◌, ◌⊎◌, inl, inr, ℕ, List, Bor, ma
 use Rattle.std.specs.Prelude.{codes}
 use Rattle.std.specs.List.{AllZip, Any}
 use Rattle.clap.specs.declared.parser.matches.ArgMatches.{ArgMatches}
-use Rattle.sipwhere_options.specs.CommandLine.{IsFault, SpellsNothing, words_of}
+use Rattle.sipwhere_options.specs.CommandLine.{IsFault, words_of}
+use Rattle.sipwhere_options.specs.Flags.{SpellsNothing}
 use Rattle.sipwhere_options.specs.Servers.{ServerText}
 use Rattle.sipwhere_options.specs.declared.options.OptionFault.{OptionFault}
 use Rattle.sipwhere_options.specs.declared.options.OptionFault.TheVariants as fault

@@ -1,5 +1,5 @@
 use Rattle.std.proofs.Common.{inr, refl, arith}
-use Rattle.sipwhere_options.specs.CommandLine.{SpellsNothing}
+use Rattle.sipwhere_options.specs.Flags.{SpellsNothing}
 use Rattle.sipwhere_options.specs.Servers.{ServerText}
 use Rattle.sipwhere_options.proofs.Words.{one_more, some_at}
 use Rattle.sipwhere_options.proofs.options.servers_of.Goals as goal

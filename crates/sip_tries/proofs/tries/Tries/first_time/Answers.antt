@@ -1,6 +1,4 @@
-use Rattle.std.proofs.Common.{◌≡◌, arith}
-use Rattle.std.specs.Option.{option_or}
-use Rattle.sip_tries.specs.Turns.{first_time, time_of}
+use Rattle.std.proofs.Common.{arith}
 use Rattle.sip_tries.proofs.InTurn.{first-at}
 use Rattle.sip_tries.proofs.tries.Tries.first_time.Goals as goal
 

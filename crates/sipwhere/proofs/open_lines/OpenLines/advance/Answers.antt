@@ -5,21 +5,20 @@ use Rattle.sipwhere.proofs.open_lines.OpenLines.advance.Goals as goal
 pub settle-requires : goal.settle-requires
 settle-requires g c =
     let own = meant-one c.self.inside.sender c.self.inside.lines.now _ _ _ c.in-Some.ensures.once c.self.invariant.own in
-    record {
+    rw c.note_time.ensures (record {
       inside = meant-inside c.self.inside.sender c.self.inside.lines.now c.in-Some.ended.sought own;
       own = own;
-    }
+    })
 
 pub returns-in-Some-clause-stands : goal.returns-in-Some-clause-stands
 returns-in-Some-clause-stands g c =
     let before = rw (← c.self.view_is) at c.requires.stands in
     let lines = c.self.inside.lines.now in
-    rw c.note_time.ensures
-    (c.settle.ensures.stands _ (record {
+    c.settle.ensures.stands _ (rw c.note_time.ensures (record {
       requests = c.in-Some.ensures.stand;
       line_outcomes = line_outcomes-later _ _ _ _ c.in-Some.ensures.works c.self.inside.sender lines c.self.inside.line_outcomes.items
           before.line_outcomes;
-    }) c.in-Some.ensures.outcome)
+    })) c.in-Some.ensures.outcome
 
 pub returns-in_default-clause-stands : goal.returns-in_default-clause-stands
 returns-in_default-clause-stands g c =
