@@ -11,7 +11,7 @@ use Rattle.clap.specs.declared.parser.matches.ArgMatches.{ArgMatches}
 use Rattle.hex.specs.Hex.{decode_sized}
 use Rattle.sip_uri.specs.declared.transport.Transport.{Transport}
 use Rattle.sip_uri.specs.declared.transport.Transport.TheVariants.{Udp, Tcp, Tls, Sctp}
-use Rattle.sip_selection.specs.Callers.{AreOffered}
+use Rattle.sip_selection.specs.Callers.{AreOffered, CapsValue, IsTooLarge, without_udp}
 use Rattle.sip_selection.specs.declared.caps.Families.{Families}
 use Rattle.sip_selection.specs.declared.caps.Families.TheVariants.{V4, V6, V4ThenV6, V6ThenV4}
 use Rattle.sipwhere_options.specs.Flags.{IsFlag, NumberText, SpellsNothing}
@@ -114,6 +114,47 @@ pub record AreNotOffered (words : List (List ℕ)) : Type 0 where
   pub spelled : AllZip IsTransport words transports
   pub refused : AreOffered transports → ⊥
 
+-- what can be sent of any request, by the words of transports and families
+pub record AreNamed (matches : ArgMatches) (caps : CapsValue) : Type 0 where
+  pub transports : AreTransports (words_of matches (codes "transports")) caps.transports
+  pub families : families_or_both (word_of matches (codes "families")) ≡ Some caps.families
+  pub any : caps.is_large ≡ false
+
+-- What can be sent of requests of a length, where it is given: without UDP where they are too large
+-- for it (RFC 3261 18.1.1), and else the same. The path's MTU is not known.
+abbrev pub IsSized : Option ℕ → CapsValue → CapsValue → Type 0
+IsSized None caps sized = sized ≡ caps
+IsSized (Some octets) caps sized =
+    ((IsTooLarge octets None → ⊥) → sized ≡ caps)
+    × (IsTooLarge octets None → sized
+    ≡ record caps { transports = without_udp caps.transports; is_large = true })
+
+-- requests of a length are too large for UDP, and there is no other transport
+abbrev pub HasNoTransport : Option ℕ → CapsValue → Type 0
+HasNoTransport None caps = ⊥
+HasNoTransport (Some octets) caps =
+    IsTooLarge octets None × (AreOffered (without_udp caps.transports) → ⊥)
+
+-- the length of requests, as a number of 32 bits, where words say it
+abbrev pub IsLength : ArgMatches → Option ℕ → Type 0
+IsLength matches octets = MaySay (NumberText 32) (one_text (found_of matches) (codes "length")) octets
+
+-- what can be sent
+pub record AreCaps (matches : ArgMatches) (caps : CapsValue) : Type 0 where
+  pub named : CapsValue
+  pub are_named : AreNamed matches named
+  pub octets : Option ℕ
+  pub given : IsLength matches octets
+  pub sized : IsSized octets named caps
+
+-- nothing can be sent, since requests are too large
+pub record AreTooLarge (matches : ArgMatches) : Type 0 where
+  pub named : CapsValue
+  pub are_named : AreNamed matches named
+  pub octets : Option ℕ
+  pub given : IsLength matches octets
+  pub none : HasNoTransport octets named
+
 -- ---- the options of a run
 
 -- what is printed of a text: one line for a monitoring system, metrics, an object of JSON, or lines
@@ -168,9 +209,7 @@ pub record AreOptions (matches : ArgMatches) (terminals : Terminals) (options : 
     pub recursion : IsFlag matches (codes "norecurse") (not options.query_form.recursion)
     pub edns : MaySay (NumberText 16) (one_text (found_of matches) (codes "edns"))
         options.query_form.edns
-    pub transports : AreTransports (words_of matches (codes "transports")) options.caps.transports
-    pub families : families_or_both (word_of matches (codes "families"))
-        ≡ Some options.caps.families
+    pub caps : AreCaps matches options.caps
     pub timing : AreTimings matches options.timing
     pub total : IsTotal (one_text (found_of matches) (codes "total")) options.total
     pub seed : Says SeedText (word_of matches (codes "seed")) options.seed
@@ -204,6 +243,7 @@ IsFault matches fault.Families = families_or_both (word_of matches (codes "famil
 IsFault matches fault.Transports =
     Any IsNoTransport (words_of matches (codes "transports"))
     ⊎ AreNotOffered (words_of matches (codes "transports"))
+IsFault matches fault.Length = AreTooLarge matches
 IsFault matches fault.Seed = SaysNothing SeedText (word_of matches (codes "seed"))
 IsFault matches fault.OneText = (IsReport matches Check ⊎ IsReport matches Metrics)
     × (IsOneText (words_of matches (codes "uri")) → ⊥)

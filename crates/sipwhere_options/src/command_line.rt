@@ -93,9 +93,23 @@ fn transports<'a>(alloc: Global) -> Arg<'a> {
     .default_value("udp,tcp,tls,sctp")
 }
 
+/// The option of the length of requests.
+fn length<'a>(alloc: Global) -> Arg<'a> {
+    value(
+        alloc,
+        "length",
+        "OCTETS",
+        "The length of the requests: a large one does not go over UDP",
+    )
+    .value_parser(value_parser!(u32))
+}
+
 /// With the options of what can be sent.
 fn with_sender<'a>(alloc: Global, command: Command<'a>) -> Result<Command<'a>, AllocError> {
-    command.arg(families(alloc))?.arg(transports(alloc))
+    command
+        .arg(families(alloc))?
+        .arg(transports(alloc))?
+        .arg(length(alloc))
 }
 
 /// The option of how long a query is waited for.

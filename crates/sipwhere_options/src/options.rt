@@ -1,6 +1,6 @@
 //! The words after the program's name.
 ghost use Rattle.std.specs.Prelude.{◌≡◌, ◌⊎◌, ◌↔◌, List, Some, None, false, map, codes, not, option_map};
-ghost use Rattle.std.specs.Prelude.{IfErr, IfOk, IsTrue, OnOk};
+ghost use Rattle.std.specs.Prelude.{IfErr, IfOk, IfSome, IsTrue, OnOk};
 ghost use Rattle.std.specs.List.{AllZip, Any};
 ghost use Rattle.std.specs.Net.Grammar.{IsIpText};
 ghost use Rattle.clap.specs.Matches.{found_of, one_text};
@@ -91,6 +91,9 @@ pub enum OptionFault {
     /// A transport is named twice.
     #[error("transports are different ones of udp, tcp, tls and sctp")]
     Transports,
+    /// UDP is the one transport, and requests are too large for it.
+    #[error("requests of this length need another transport than udp")]
+    Length,
     /// A seed that is no key.
     #[error("a seed has 1 to 64 hexadecimal digits")]
     Seed,
@@ -284,18 +287,37 @@ fn caps_of(transports: &[Transport], families: Families) -> Result<Caps, OptionF
     }
 }
 
-/// What can be sent.
-fn caps_in(alloc: Global, matches: &ArgMatches<'_>) -> Result<Caps, OptionFault>
-    ensures read { IfOk result (λ caps.
-        spec.AreTransports (spec.words_of matches.now (codes "transports")) caps.transports) }
-    ensures families { IfOk result (λ caps.
-        spec.families_or_both (spec.word_of matches.now (codes "families"))
-        ≡ Some caps.families) }
+/// What can be sent of any request.
+fn named_caps(alloc: Global, matches: &ArgMatches<'_>) -> Result<Caps, OptionFault>
+    ensures read { IfOk result (spec.AreNamed matches.now) }
     ensures refused { IfErr result (spec.IsFault matches.now) }
 {
     let transports = transports_in(alloc, matches)?;
     let families = families_or_both(matches.get_str("families"))?;
     caps_of(transports.as_slice(), families)
+}
+
+/// What can be sent of requests of a length, where it is given.
+fn caps_for(caps: &Caps, length: Option<u32>) -> Option<Caps>
+    ensures sized { IfSome result (spec.IsSized length caps.now) }
+    ensures none { result ≡ None → spec.HasNoTransport length caps.now }
+{
+    match length {
+        None => Some(*caps),
+        Some(octets) => caps.for_length(octets as usize, None),
+    }
+}
+
+/// What can be sent.
+fn caps_in(alloc: Global, matches: &ArgMatches<'_>) -> Result<Caps, OptionFault>
+    ensures read { IfOk result (spec.AreCaps matches.now) }
+    ensures refused { IfErr result (spec.IsFault matches.now) }
+{
+    let named = named_caps(alloc, matches)?;
+    match caps_for(&named, matches.get_one::<u32>("length")) {
+        Some(caps) => Ok(caps),
+        None => Err(OptionFault::Length),
+    }
 }
 
 /// How long each query is waited for, and how often each question is sent, where words say so.
