@@ -137,7 +137,8 @@ HasNoTransport (Some octets) caps =
 
 -- the length of requests, as a number of 32 bits, where words say it
 abbrev pub IsLength : ArgMatches → Option ℕ → Type 0
-IsLength matches octets = MaySay (NumberText 32) (one_text (found_of matches) (codes "length")) octets
+IsLength matches octets =
+    MaySay (NumberText 32) (one_text (found_of matches) (codes "length")) octets
 
 -- what can be sent
 pub record AreCaps (matches : ArgMatches) (caps : CapsValue) : Type 0 where
