@@ -11,10 +11,11 @@ use Rattle.dns_message.specs.declared.naptr.NaptrRecord.{NaptrRecord}
 use Rattle.dns_message.specs.declared.question.Question.{Question}
 use Rattle.dns_message.specs.declared.srv.SrvRecord.{SrvRecord}
 use Rattle.sip_uri.specs.declared.transport.Transport.{Transport}
-use Rattle.srv_choice.specs.Outcomes.{order_from, is_root, denies, listing}
+use Rattle.srv_choice.specs.Outcomes.{is_root, denies, fixed_listing, listing}
 use Rattle.srv_choice.specs.declared.outcome.SrvOutcome.{SrvOutcome}
 use Rattle.srv_choice.specs.declared.outcome.SrvOutcome.TheVariants.{Absent, Denied, Listed}
-use Rattle.sip_selection.specs.Known.{Given, Needing, made, joined, find_answer, answer_to, addresses_in, servers_in, rules_in}
+use Rattle.sip_selection.specs.Known.{Given, Needing, made, joined, find_answer, answer_to, servers_in, rules_in}
+use Rattle.sip_selection.specs.FixedOrders.{addresses_by, order_by}
 use Rattle.sip_selection.specs.Services.{kind_targets, targets_of, server_targets, index_targets, Offer, listed, is_listed, is_denied, offer_of, offer_by, offer_named, offer_along, offers_along, next_word, target_at}
 use Rattle.sip_selection.specs.declared.target.Target.{Target}
 use Rattle.sip_selection.specs.declared.service.Service.{Service}
@@ -64,9 +65,15 @@ are_some (first ∷ others) = true
 abbrev pub has_servers : List Given → Service → Bool
 has_servers given service = are_some (servers_of given service.name)
 
-nothing_listed : (servers : List SrvRecord) (words : List ℕ) (word : ℕ) → order_from servers words word ≡ Absent → are_some servers ≡ false
-nothing_listed [] words word = λ is. refl
-nothing_listed (first ∷ others) words word = by (denies (first ∷ others))
+nothing_listed : (fixed : Bool) (servers : List SrvRecord) (words : List ℕ) (word : ℕ) → order_by fixed servers words word ≡ Absent
+    → are_some servers ≡ false
+nothing_listed fixed [] words word = λ is. refl
+nothing_listed true (first ∷ others) words word = by (denies (first ∷ others))
+  where
+    by : (b : Bool) → (if b then Denied else fixed_listing (first ∷ others) word) ≡ Absent → true ≡ false
+    by true is = absurd cc
+    by false is = absurd cc
+nothing_listed false (first ∷ others) words word = by (denies (first ∷ others))
   where
     by : (b : Bool) → (if b then Denied else listing (first ∷ others) words word) ≡ Absent → true ≡ false
     by true is = absurd cc
@@ -74,7 +81,7 @@ nothing_listed (first ∷ others) words word = by (denies (first ∷ others))
 
 -- ---- the questions that are needed, R of all that can be
 
-module _ (R : Question → Type 0) (given more : List Given) (kinds : List Kind) where
+module _ (R : Question → Type 0) (given more : List Given) (kinds : List Kind) (fixed : Bool) where
   abbrev pub all : List Given
   all = given ++ more
 
@@ -97,30 +104,30 @@ module _ (R : Question → Type 0) (given more : List Given) (kinds : List Kind)
   ServiceAsks (Some name) = R (srv_question name) × All AsksOf (servers_at (answer_to all (srv_question name)))
 
   kind-asks : (transport : Transport) (port : ℕ) (name : List (List ℕ)) (asked : Kind) → R (record { name = name; kind = asked })
-      → Meets (All AnyTarget) R (kind_targets given kinds transport port name asked)
+      → Meets (All AnyTarget) R (kind_targets given kinds fixed transport port name asked)
   kind-asks transport port name asked is =
       let question : Question = record { name = name; kind = asked } in
-      made-meets R (All AnyTarget) (λ (answer : AnswerValue). map (target_at transport port) (addresses_in answer.records))
+      made-meets R (All AnyTarget) (λ (answer : AnswerValue). map (target_at transport port) (addresses_by fixed answer.records))
       (answer_to given question)
       (meets-more R (λ answer. answer_to all question ≡ Ok answer)
-      (λ answer. All AnyTarget (map (target_at transport port) (addresses_in answer.records))) (answer_to given question)
+      (λ answer. All AnyTarget (map (target_at transport port) (addresses_by fixed answer.records))) (answer_to given question)
       (λ answer found. λ i d lt. tt) (answer-asks question is))
 
   pub targets-ask : (transport : Transport) (port : ℕ) (name : List (List ℕ)) → Asks name
-      → Meets (All AnyTarget) R (targets_of given kinds transport port name)
+      → Meets (All AnyTarget) R (targets_of given kinds fixed transport port name)
   targets-ask transport port name each =
-      joined-meets R AnyTarget (kind_targets given kinds transport port name) kinds
+      joined-meets R AnyTarget (kind_targets given kinds fixed transport port name) kinds
       (All-weaker (λ asked. R (record { name = name; kind = asked }))
-      (λ asked. Meets (All AnyTarget) R (kind_targets given kinds transport port name asked))
+      (λ asked. Meets (All AnyTarget) R (kind_targets given kinds fixed transport port name asked))
       (kind-asks transport port name) kinds each)
 
   server-by : (transport : Transport) (server : SrvRecord) (root : Bool) → is_root server.target ≡ root → AsksOf server
-      → Meets (All AnyTarget) R (server_targets given kinds transport server)
+      → Meets (All AnyTarget) R (server_targets given kinds fixed transport server)
   server-by transport server true e asks = rw e (All-nil AnyTarget)
   server-by transport server false e asks = rw e (targets-ask transport server.port server.target asks)
 
   index-by : (transport : Transport) (server : Option SrvRecord) → IfSome server AsksOf
-      → Meets (All AnyTarget) R (option_map_or (server_targets given kinds transport) server (Ok []))
+      → Meets (All AnyTarget) R (option_map_or (server_targets given kinds fixed transport) server (Ok []))
   index-by transport None asks = All-nil AnyTarget
   index-by transport (Some server) asks = server-by transport server (is_root server.target) refl asks
 
@@ -129,32 +136,32 @@ module _ (R : Question → Type 0) (given more : List Given) (kinds : List Kind)
   IsTold servers offer = is_listed offer ≡ false → is_denied offer ≡ false → are_some servers ≡ false
 
   outcome-asks : (transport : Transport) (servers : List SrvRecord) (words : List ℕ) (word : ℕ) (outcome : SrvOutcome)
-      → order_from servers words word ≡ outcome → All AsksOf servers
-      → Meets (IsTold servers) R (offer_of given kinds transport servers outcome)
-  outcome-asks transport servers words word Absent e asks = λ _ _. nothing_listed servers words word e
+      → order_by fixed servers words word ≡ outcome → All AsksOf servers
+      → Meets (IsTold servers) R (offer_of given kinds fixed transport servers outcome)
+  outcome-asks transport servers words word Absent e asks = λ _ _. nothing_listed fixed servers words word e
   outcome-asks transport servers words word Denied e asks = λ _ is. absurd cc
   outcome-asks transport servers words word (Listed indexes next) e asks =
-      made-meets R (IsTold servers) (λ targets. listed targets next) (joined (index_targets given kinds transport servers) indexes)
+      made-meets R (IsTold servers) (λ targets. listed targets next) (joined (index_targets given kinds fixed transport servers) indexes)
       (meets-more R (All AnyTarget) (λ targets. IsTold servers (listed targets next))
-      (joined (index_targets given kinds transport servers) indexes) (λ targets _. λ is _. absurd cc)
-      (joined-meets R AnyTarget (index_targets given kinds transport servers) indexes
-      (All-weaker AnyIndex (λ index. Meets (All AnyTarget) R (index_targets given kinds transport servers index))
+      (joined (index_targets given kinds fixed transport servers) indexes) (λ targets _. λ is _. absurd cc)
+      (joined-meets R AnyTarget (index_targets given kinds fixed transport servers) indexes
+      (All-weaker AnyIndex (λ index. Meets (All AnyTarget) R (index_targets given kinds fixed transport servers index))
       (λ index _. index-by transport (slice_get servers index) (picked AsksOf servers index asks)) indexes (λ i d lt. tt))))
 
   named-asks : (words : List ℕ) (transport : Transport) (word : ℕ) (name : Option (List (List ℕ))) → ServiceAsks name
-      → Meets (IsTold (servers_of all name)) R (offer_named given kinds words transport word name)
+      → Meets (IsTold (servers_of all name)) R (offer_named given kinds fixed words transport word name)
   named-asks words transport word None asks = λ _ _. refl
   named-asks words transport word (Some name) asks =
       let question : Question = srv_question name in
       let Told : Offer → Type 0 = IsTold (servers_at (answer_to all question)) in
-      after-meets R Told (offer_by given kinds words transport word) (answer_to given question)
+      after-meets R Told (offer_by given kinds fixed words transport word) (answer_to given question)
       (meets-more R (λ answer. answer_to all question ≡ Ok answer)
-      (λ answer. Meets Told R (offer_by given kinds words transport word answer)) (answer_to given question)
+      (λ answer. Meets Told R (offer_by given kinds fixed words transport word answer)) (answer_to given question)
       (λ answer is.
       let same : servers_at (answer_to all question) ≡ servers_in answer.records = ap servers_at is in
       let each : All AsksOf (servers_in answer.records) = subst (All AsksOf) same asks.1 in
-      subst (λ servers. Meets (IsTold servers) R (offer_by given kinds words transport word answer)) (sym same)
-      (outcome-asks transport (servers_in answer.records) words word (order_from (servers_in answer.records) words word) refl each))
+      subst (λ servers. Meets (IsTold servers) R (offer_by given kinds fixed words transport word answer)) (sym same)
+      (outcome-asks transport (servers_in answer.records) words word (order_by fixed (servers_in answer.records) words word) refl each))
       (answer-asks question asks.0))
 
   abbrev pub AreTold : List Service → List Offer → Type 0
@@ -173,19 +180,19 @@ module _ (R : Question → Type 0) (given more : List Given) (kinds : List Kind)
       ap (λ b. b || list_any (has_servers all) services) first ∙ rest
 
   pub offers-ask : (words : List ℕ) (services : List Service) (word : ℕ) → All (λ service. ServiceAsks service.name) services
-      → Meets (AreTold services) R (offers_along given kinds words services word)
+      → Meets (AreTold services) R (offers_along given kinds fixed words services word)
   offers-ask words [] word asks = λ _ _. refl
   offers-ask words (service ∷ services) word asks =
       after-meets R (AreTold (service ∷ services)) (λ offer. made (λ others. offer ∷ others)
-      (offers_along given kinds words services (next_word word offer))) (offer_along given kinds words service word)
+      (offers_along given kinds fixed words services (next_word word offer))) (offer_along given kinds fixed words service word)
       (meets-more R (IsTold (servers_of all service.name))
       (λ offer. Meets (AreTold (service ∷ services)) R
-      (made (λ others. offer ∷ others) (offers_along given kinds words services (next_word word offer))))
-      (offer_along given kinds words service word)
+      (made (λ others. offer ∷ others) (offers_along given kinds fixed words services (next_word word offer))))
+      (offer_along given kinds fixed words service word)
       (λ offer is. made-meets R (AreTold (service ∷ services)) (λ others. offer ∷ others)
-      (offers_along given kinds words services (next_word word offer))
+      (offers_along given kinds fixed words services (next_word word offer))
       (meets-more R (AreTold services) (λ others. AreTold (service ∷ services) (offer ∷ others))
-      (offers_along given kinds words services (next_word word offer))
+      (offers_along given kinds fixed words services (next_word word offer))
       (λ others are. both-told service services offer others is are)
       (offers-ask words services (next_word word offer) (All-tail (λ service. ServiceAsks service.name) service services asks))))
       (named-asks words service.transport word service.name (All-head (λ service. ServiceAsks service.name) service services asks)))

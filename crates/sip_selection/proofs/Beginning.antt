@@ -1,5 +1,5 @@
 -- A choice to which no answer was given: where its transport is known, it goes on.
-use Rattle.std.proofs.Common.{ℕ, List, [], ◌∷◌, Option, Some, None, Ok}
+use Rattle.std.proofs.Common.{ℕ, List, [], ◌∷◌, Option, Some, None, Ok, Bool}
 use Rattle.std.specs.Prelude.{Result, Err}
 use Rattle.std.specs.Result.{OnErr}
 use Rattle.sip_uri.specs.declared.transport.Transport.{Transport}
@@ -19,22 +19,22 @@ pub err-each : {T E P Q : Type 0} → (P → Q) → (result : Result T E) → On
 err-each each (Ok value) is = tt
 err-each each (Err error) is = each is
 
-kinds-asked : (families : Families) (name : List (List ℕ)) (port : ℕ) (transport : Transport)
-    → IsNotRefused (resolved (made Ok (targets_of [] (kinds_of families) transport port name)))
-kinds-asked V4 name port transport = tt
-kinds-asked V6 name port transport = tt
-kinds-asked V4ThenV6 name port transport = tt
-kinds-asked V6ThenV4 name port transport = tt
+kinds-asked : (families : Families) (fixed : Bool) (name : List (List ℕ)) (port : ℕ) (transport : Transport)
+    → IsNotRefused (resolved (made Ok (targets_of [] (kinds_of families) fixed transport port name)))
+kinds-asked V4 fixed name port transport = tt
+kinds-asked V6 fixed name port transport = tt
+kinds-asked V4ThenV6 fixed name port transport = tt
+kinds-asked V6ThenV4 fixed name port transport = tt
 
 pub name-asked : (caps : CapsValue) (name : List (List ℕ)) (port : ℕ) (transport : Transport)
     → IsNotRefused (resolved (to_name caps [] name port transport))
-name-asked caps name port transport = kinds-asked caps.families name port transport
+name-asked caps name port transport = kinds-asked caps.families caps.is_fixed name port transport
 
 named_service-named : (caps : CapsValue) (words : List ℕ) (name : List (List ℕ)) (transport : Transport)
     (named_service : Option (List (List ℕ)))
     → IsNotRefused (resolved (after (by_offers caps [] name (Ok transport))
     (after (λ offer. made (λ others. offer ∷ others) (Ok []))
-    (offer_named [] (kinds_of caps.families) words transport 0 named_service))))
+    (offer_named [] (kinds_of caps.families) caps.is_fixed words transport 0 named_service))))
 named_service-named caps words name transport None = name-asked caps name (default_port transport) transport
 named_service-named caps words name transport (Some named_service) = tt
 

@@ -77,7 +77,7 @@ module _ (caps : Caps) (words : List ℕ) (name : List (List ℕ)) (all : List G
   pub along-left : (services : List Service)
       → made (in_front found) (along caps words all name fallback services)
       ≡ position_left caps words name all services fallback start found
-  along-left services = along-each (offers_along all (kinds_of caps.families) words services 0)
+  along-left services = along-each (offers_along all (kinds_of caps.families) caps.is_fixed words services 0)
 
 -- what is made of a value that needs an answer needs the same one
 pub made-asks : {X Y : Type 0} (f : X → Y) (n : Needing X) (question : Question) → made f n ≡ Err question → n ≡ Err question
@@ -148,7 +148,7 @@ module _ (caps : Caps) (words : List ℕ) (name : List (List ℕ)) (all : List G
     position-asks : (services : List Service) → position_left caps words name all services fallback position found ≡ Err question
         → position_left caps words name all services fallback position other ≡ Err question
     position-asks services is =
-        ended-each (offers_along all (kinds_of caps.families) words (drop position.service services) position.word) is
+        ended-each (offers_along all (kinds_of caps.families) caps.is_fixed words (drop position.service services) position.word) is
 
   servers-each : (services : List Service) (fallback : Result Transport Reason) (position : Position) (found other : List Target)
       (n : Needing (List Target))

@@ -21,14 +21,16 @@ use Rattle.ip_text.specs.declared.address.Address.{Address}
 use Rattle.ip_text.specs.declared.address.Address.TheVariants as address
 use Rattle.sip_uri.specs.declared.transport.Spoken.{Spoken}
 use Rattle.sip_uri.specs.declared.transport.Transport.{Transport}
-use Rattle.srv_choice.specs.Outcomes.{order_from, is_root}
+use Rattle.srv_choice.specs.Outcomes.{is_root}
 use Rattle.srv_choice.specs.declared.outcome.SrvOutcome.{SrvOutcome}
 use Rattle.srv_choice.specs.declared.outcome.SrvOutcome.TheVariants.{Absent, Denied, Listed}
 use Rattle.sip_selection.specs.Callers.{kinds_of}
 use Rattle.sip_selection.specs.Choice.{targets, Settled, offered, offered_default, own_services, is_tried, to_name, to_domain, by_offers, along, by_services, by_rules, by_naptr, to_address, to_port, to_service, discovered, to_host, locate}
-use Rattle.sip_selection.specs.Known.{Given, Needing, made, joined, find_answer, answer_to, addresses_in, servers_in, rules_in}
+use Rattle.sip_selection.specs.Known.{Given, Needing, made, joined, find_answer, answer_to, servers_in, rules_in}
 use Rattle.sip_selection.specs.Requests.{target_of, port_of, spoken_of, is_secure, transport_of, default_port}
 use Rattle.sip_selection.specs.Rules.{ServiceRule, service_rule_of, first_in_order, by_preference, service_of, usable_services}
+use Rattle.record_order.specs.RecordOrder.{rule_order}
+use Rattle.sip_selection.specs.FixedOrders.{addresses_by, order_by, ordered}
 use Rattle.sip_selection.specs.Services.{service_at, kind_targets, targets_of, server_targets, index_targets, Offer, listed, offered_targets, is_listed, is_denied, offer_of, offer_by, offer_named, offer_along, offers_along, next_word, target_at}
 use Rattle.sip_selection.specs.declared.caps.Caps.{Caps}
 use Rattle.sip_selection.specs.declared.caps.Families.{Families}
@@ -37,6 +39,7 @@ use Rattle.sip_selection.specs.declared.reason.Reason.{Reason}
 use Rattle.sip_selection.specs.declared.request.Request.{Request}
 use Rattle.sip_selection.specs.declared.target.Target.{Target}
 use Rattle.sip_selection.specs.declared.service.Service.{Service}
+use Rattle.sip_selection.proofs.FixedOrders.{Counts, addresses-few, all-count}
 use Rattle.sip_selection.proofs.Meeting.{Meets, meets-more, made-meets, after-meets, found-meets}
 use Rattle.sip_selection.proofs.Outcomes.{Settles, Resolves, meets-resolves}
 
@@ -70,12 +73,6 @@ filter-few test (x ∷ xs) = by (test x) (filter-few test xs)
 
 -- ---- answers
 
-addresses-few : (records : Records) → length (addresses_in records) ≤ count_of records
-addresses-few (records.V4 octets) = omega (arith, length-map octets address.V4)
-addresses-few (records.V6 octets) = omega (arith, length-map octets address.V6)
-addresses-few (records.Srv servers) = omega arith
-addresses-few (records.Naptr rules) = omega arith
-
 pub servers-few : (records : Records) → length (servers_in records) ≤ count_of records
 servers-few (records.V4 octets) = omega arith
 servers-few (records.V6 octets) = omega arith
@@ -97,10 +94,6 @@ found-small (it ∷ others) small question answer = by (same_question it.questio
     by true le rest is = let same : it.answer ≡ answer = cc in subst (λ (answer : AnswerValue). count_of answer.records ≤ 32) same le
     by false le rest is = rest is
 
-abbrev Counts : Type 0
-Counts = (records : List SrvRecord) (words : List ℕ) (from : ℕ) (indexes : List ℕ) (next : ℕ)
-    → order_from records words from ≡ Listed indexes next → length indexes ≡ length records
-
 module _ (given : List Given) (small : All IsSmall given) where
   pub answer-small : (question : Question) → Meets (λ answer. count_of answer.records ≤ 32) Any-question (answer_to given question)
   answer-small question =
@@ -108,37 +101,37 @@ module _ (given : List Given) (small : All IsSmall given) where
       (answer_to given question)
       (found-small given small question) (found-meets Any-question (find_answer given question) question (λ none. tt))
 
-  module _ (kinds : List Kind) (two : length kinds ≤ 2) where
+  module _ (kinds : List Kind) (fixed : Bool) (two : length kinds ≤ 2) where
     kind-few : (transport : Transport) (port : ℕ) (name : List (List ℕ)) (asked : Kind)
-        → Meets (AtMost 32) Any-question (kind_targets given kinds transport port name asked)
+        → Meets (AtMost 32) Any-question (kind_targets given kinds fixed transport port name asked)
     kind-few transport port name asked =
         let question : Question = record { name = name; kind = asked } in
-        made-meets Any-question (AtMost 32) (λ (answer : AnswerValue). map (target_at transport port) (addresses_in answer.records))
+        made-meets Any-question (AtMost 32) (λ (answer : AnswerValue). map (target_at transport port) (addresses_by fixed answer.records))
         (answer_to given question)
         (meets-more Any-question (λ answer. count_of answer.records ≤ 32)
-        (λ answer. AtMost 32 (map (target_at transport port) (addresses_in answer.records))) (answer_to given question)
+        (λ answer. AtMost 32 (map (target_at transport port) (addresses_by fixed answer.records))) (answer_to given question)
         (λ answer le. omega (
           arith,
           le,
-          addresses-few answer.records,
-          length-map (addresses_in answer.records)
+          addresses-few fixed answer.records,
+          length-map (addresses_by fixed answer.records)
               (target_at transport port),
         )) (answer-small question))
 
     targets-few : (transport : Transport) (port : ℕ) (name : List (List ℕ))
-        → Meets (AtMost 64) Any-question (targets_of given kinds transport port name)
+        → Meets (AtMost 64) Any-question (targets_of given kinds fixed transport port name)
     targets-few transport port name =
-        meets-more Any-question (AtMost (length kinds * 32)) (AtMost 64) (targets_of given kinds transport port name)
+        meets-more Any-question (AtMost (length kinds * 32)) (AtMost 64) (targets_of given kinds fixed transport port name)
         (λ found le. omega (arith, le, two))
-        (joined-few 32 (kind_targets given kinds transport port name) (kind-few transport port name) kinds)
+        (joined-few 32 (kind_targets given kinds fixed transport port name) (kind-few transport port name) kinds)
 
     server-by : (transport : Transport) (server : SrvRecord) (root : Bool) → is_root server.target ≡ root
-        → Meets (AtMost 64) Any-question (server_targets given kinds transport server)
+        → Meets (AtMost 64) Any-question (server_targets given kinds fixed transport server)
     server-by transport server true e = rw e (omega arith)
     server-by transport server false e = rw e (targets-few transport server.port server.target)
 
     index-by : (transport : Transport) (server : Option SrvRecord)
-        → Meets (AtMost 64) Any-question (option_map_or (server_targets given kinds transport) server (Ok []))
+        → Meets (AtMost 64) Any-question (option_map_or (server_targets given kinds fixed transport) server (Ok []))
     index-by transport None = omega arith
     index-by transport (Some server) = server-by transport server (is_root server.target) refl
 
@@ -147,26 +140,26 @@ module _ (given : List Given) (small : All IsSmall given) where
 
     module _ (count : Counts) (words : List ℕ) where
       outcome-few : (transport : Transport) (servers : List SrvRecord) (word : ℕ) (outcome : SrvOutcome)
-          → order_from servers words word ≡ outcome → length servers ≤ 32
-          → Meets OfFew Any-question (offer_of given kinds transport servers outcome)
+          → order_by fixed servers words word ≡ outcome → length servers ≤ 32
+          → Meets OfFew Any-question (offer_of given kinds fixed transport servers outcome)
       outcome-few transport servers word Absent e le = omega arith
       outcome-few transport servers word Denied e le = omega arith
       outcome-few transport servers word (Listed indexes next) e le =
-          made-meets Any-question OfFew (λ targets. listed targets next) (joined (index_targets given kinds transport servers) indexes)
+          made-meets Any-question OfFew (λ targets. listed targets next) (joined (index_targets given kinds fixed transport servers) indexes)
           (meets-more Any-question (AtMost (length indexes * 64)) (AtMost 2048)
-          (joined (index_targets given kinds transport servers) indexes)
-          (λ found le'. omega (arith, le, le', count servers words word indexes next e))
-          (joined-few 64 (index_targets given kinds transport servers) (λ index. index-by transport (slice_get servers index)) indexes))
+          (joined (index_targets given kinds fixed transport servers) indexes)
+          (λ found le'. omega (arith, le, le', all-count count fixed servers words word indexes next e))
+          (joined-few 64 (index_targets given kinds fixed transport servers) (λ index. index-by transport (slice_get servers index)) indexes))
 
       named-few : (transport : Transport) (word : ℕ) (name : Option (List (List ℕ)))
-          → Meets OfFew Any-question (offer_named given kinds words transport word name)
+          → Meets OfFew Any-question (offer_named given kinds fixed words transport word name)
       named-few transport word None = omega arith
       named-few transport word (Some name) =
           let question : Question = record { name = name; kind = kind.Srv } in
-          after-meets Any-question OfFew (offer_by given kinds words transport word) (answer_to given question)
+          after-meets Any-question OfFew (offer_by given kinds fixed words transport word) (answer_to given question)
           (meets-more Any-question (λ answer. count_of answer.records ≤ 32)
-          (λ answer. Meets OfFew Any-question (offer_by given kinds words transport word answer)) (answer_to given question)
-          (λ answer le. outcome-few transport (servers_in answer.records) word (order_from (servers_in answer.records) words word) refl
+          (λ answer. Meets OfFew Any-question (offer_by given kinds fixed words transport word answer)) (answer_to given question)
+          (λ answer le. outcome-few transport (servers_in answer.records) word (order_by fixed (servers_in answer.records) words word) refl
           (omega (arith, le, servers-few answer.records)))
           (answer-small question))
 
@@ -174,19 +167,19 @@ module _ (given : List Given) (small : All IsSmall given) where
       OfMany count offers = length (flat_map offered_targets offers) ≤ count * 2048
 
       offers-few : (services : List Service) (word : ℕ) → Meets (OfMany (length services)) Any-question
-          (offers_along given kinds words services word)
+          (offers_along given kinds fixed words services word)
       offers-few [] word = omega arith
       offers-few (service ∷ services) word =
           after-meets Any-question (OfMany (length (service ∷ services)))
-          (λ offer. made (λ others. offer ∷ others) (offers_along given kinds words services (next_word word offer)))
-          (offer_along given kinds words service word)
+          (λ offer. made (λ others. offer ∷ others) (offers_along given kinds fixed words services (next_word word offer)))
+          (offer_along given kinds fixed words service word)
           (meets-more Any-question OfFew (λ offer. Meets (OfMany (length (service ∷ services))) Any-question
-          (made (λ others. offer ∷ others) (offers_along given kinds words services (next_word word offer))))
-          (offer_along given kinds words service word)
+          (made (λ others. offer ∷ others) (offers_along given kinds fixed words services (next_word word offer))))
+          (offer_along given kinds fixed words service word)
           (λ offer is. made-meets Any-question (OfMany (length (service ∷ services))) (λ others. offer ∷ others)
-          (offers_along given kinds words services (next_word word offer))
+          (offers_along given kinds fixed words services (next_word word offer))
           (meets-more Any-question (OfMany (length services)) (λ others. OfMany (length (service ∷ services)) (offer ∷ others))
-          (offers_along given kinds words services (next_word word offer))
+          (offers_along given kinds fixed words services (next_word word offer))
           (λ others is'. grind (arith, is, is', length-append (offered_targets offer) (flat_map offered_targets others)))
           (offers-few services (next_word word offer))))
           (named-few service.transport word service.name))
@@ -195,7 +188,8 @@ module _ (given : List Given) (small : All IsSmall given) where
 
 pub usable_services-few : (secure : Bool) (caps : Caps) (rules : List NaptrRecord) → length (usable_services secure caps rules) ≤ 8
 usable_services-few secure caps rules =
-    let service_rule : List ServiceRule = by_preference (first_in_order (filter_map (service_rule_of secure caps) rules)) in
+    let used : List NaptrRecord = ordered caps.is_fixed rule_order rules in
+    let service_rule : List ServiceRule = by_preference (first_in_order (filter_map (service_rule_of secure caps) used)) in
     omega (arith, length-map (take 8 service_rule) service_of, length-take 8 service_rule)
 
 pub kinds-few : (families : Families) → length (kinds_of families) ≤ 2
@@ -214,9 +208,10 @@ module _ (request : Request) (caps : Caps) (words : List ℕ) (given : List Give
   name-few : (name : List (List ℕ)) (port : ℕ) (transport : Transport) → Few (to_name caps given name port transport)
   name-few name port transport =
       let kinds : List Kind = kinds_of caps.families in
-      made-meets Any-question (Settles (AtMost 16384)) Ok (targets_of given kinds transport port name)
-      (meets-more Any-question (AtMost 64) (AtMost 16384) (targets_of given kinds transport port name) (λ found le. omega (arith, le))
-      (targets-few given small kinds (kinds-few caps.families) transport port name))
+      let fixed : Bool = caps.is_fixed in
+      made-meets Any-question (Settles (AtMost 16384)) Ok (targets_of given kinds fixed transport port name)
+      (meets-more Any-question (AtMost 64) (AtMost 16384) (targets_of given kinds fixed transport port name) (λ found le. omega (arith, le))
+      (targets-few given small kinds fixed (kinds-few caps.families) transport port name))
 
   domain-few : (name : List (List ℕ)) (fallback : Result Transport Reason) → Few (to_domain caps given name fallback)
   domain-few name (Ok transport) = name-few name (default_port transport) transport
@@ -233,13 +228,14 @@ module _ (request : Request) (caps : Caps) (words : List ℕ) (given : List Give
       → Few (along caps words given name fallback services)
   along-few name fallback services eight =
       let kinds : List Kind = kinds_of caps.families in
+      let fixed : Bool = caps.is_fixed in
       after-meets Any-question (Settles (AtMost 16384)) (by_offers caps given name fallback)
-      (offers_along given kinds words services 0)
+      (offers_along given kinds fixed words services 0)
       (meets-more Any-question (λ offers. length (flat_map offered_targets offers) ≤ length services * 2048)
-      (λ offers. Few (by_offers caps given name fallback offers)) (offers_along given kinds words services 0)
+      (λ offers. Few (by_offers caps given name fallback offers)) (offers_along given kinds fixed words services 0)
       (λ offers le. offers-by name fallback offers (list_any is_listed offers) (list_any is_denied offers) refl refl
       (omega (arith, le, eight)))
-      (offers-few given small kinds (kinds-few caps.families) count words services 0))
+      (offers-few given small kinds fixed (kinds-few caps.families) count words services 0))
 
   by_services-few : (name : List (List ℕ)) (services : List Service) → length services ≤ 8
       → Few (by_services (is_secure request) caps words given name services)

@@ -25,7 +25,7 @@ module _ (caps : Caps) (words : List ℕ) (given more : List Given) where
 
   name-grows : (name : List (List ℕ)) (port : ℕ) (transport : Transport)
       → Grows (to_name caps given name port transport) (to_name caps all name port transport)
-  name-grows name port transport = made-grows Ok _ _ (targets-grow given more (kinds_of caps.families) transport port name)
+  name-grows name port transport = made-grows Ok _ _ (targets-grow given more (kinds_of caps.families) caps.is_fixed transport port name)
 
   domain-grows : (name : List (List ℕ)) (fallback : Result Transport Reason)
       → Grows (to_domain caps given name fallback) (to_domain caps all name fallback)
@@ -42,7 +42,7 @@ module _ (caps : Caps) (words : List ℕ) (given more : List Given) where
   along-grows : (name : List (List ℕ)) (fallback : Result Transport Reason) (services : List Service)
       → Grows (along caps words given name fallback services) (along caps words all name fallback services)
   along-grows name fallback services =
-      after-grows _ _ _ _ (offers-grow given more (kinds_of caps.families) words services 0)
+      after-grows _ _ _ _ (offers-grow given more (kinds_of caps.families) caps.is_fixed words services 0)
       (λ offers. offers-by name fallback offers (list_any is_listed offers) (list_any is_denied offers) refl refl)
 
   port-grows : (name : List (List ℕ)) (port : ℕ) (transport : Result Transport Reason)

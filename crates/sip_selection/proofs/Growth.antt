@@ -8,10 +8,11 @@ use Rattle.dns_message.specs.declared.kind.Kind.TheVariants as kind
 use Rattle.dns_message.specs.declared.question.Question.{Question}
 use Rattle.dns_message.specs.declared.srv.SrvRecord.{SrvRecord}
 use Rattle.sip_uri.specs.declared.transport.Transport.{Transport}
-use Rattle.srv_choice.specs.Outcomes.{order_from, is_root}
+use Rattle.srv_choice.specs.Outcomes.{is_root}
 use Rattle.srv_choice.specs.declared.outcome.SrvOutcome.{SrvOutcome}
 use Rattle.srv_choice.specs.declared.outcome.SrvOutcome.TheVariants.{Absent, Denied, Listed}
-use Rattle.sip_selection.specs.Known.{Given, Needing, after, made, joined, find_answer, answer_to, addresses_in, servers_in}
+use Rattle.sip_selection.specs.Known.{Given, Needing, after, made, joined, find_answer, answer_to, servers_in}
+use Rattle.sip_selection.specs.FixedOrders.{addresses_by, order_by}
 use Rattle.sip_selection.specs.Services.{targets_of, server_targets, Offer, listed, offer_of, offer_named, offers_along, next_word, target_at}
 use Rattle.sip_selection.specs.declared.service.Service.{Service}
 
@@ -66,42 +67,42 @@ module _ (given more : List Given) where
   pub answer-grows : (question : Question) → Grows (answer_to given question) (answer_to (given ++ more) question)
   answer-grows question = answer-by question (find_answer given question) refl
 
-  module _ (kinds : List Kind) where
+  module _ (kinds : List Kind) (fixed : Bool) where
     pub targets-grow : (transport : Transport) (port : ℕ) (name : List (List ℕ))
-        → Grows (targets_of given kinds transport port name) (targets_of (given ++ more) kinds transport port name)
+        → Grows (targets_of given kinds fixed transport port name) (targets_of (given ++ more) kinds fixed transport port name)
     targets-grow transport port name =
         joined-grows _ _
         (λ kind. made-grows
-        (λ (answer : AnswerValue). map (target_at transport port) (addresses_in answer.records)) _ _
+        (λ (answer : AnswerValue). map (target_at transport port) (addresses_by fixed answer.records)) _ _
         (answer-grows (record { name = name; kind = kind }))) kinds
 
     server-by : (transport : Transport) (server : SrvRecord) (root : Bool) → is_root server.target ≡ root
-        → Grows (server_targets given kinds transport server) (server_targets (given ++ more) kinds transport server)
+        → Grows (server_targets given kinds fixed transport server) (server_targets (given ++ more) kinds fixed transport server)
     server-by transport server true e = rw e (λ x is. is)
     server-by transport server false e = rw e (targets-grow transport server.port server.target)
 
     index-by : (transport : Transport) (server : Option SrvRecord)
-        → Grows (option_map_or (server_targets given kinds transport) server (Ok []))
-        (option_map_or (server_targets (given ++ more) kinds transport) server (Ok []))
+        → Grows (option_map_or (server_targets given kinds fixed transport) server (Ok []))
+        (option_map_or (server_targets (given ++ more) kinds fixed transport) server (Ok []))
     index-by transport None = λ x is. is
     index-by transport (Some server) = server-by transport server (is_root server.target) refl
 
     offer-grows : (transport : Transport) (servers : List SrvRecord) (outcome : SrvOutcome)
-        → Grows (offer_of given kinds transport servers outcome) (offer_of (given ++ more) kinds transport servers outcome)
+        → Grows (offer_of given kinds fixed transport servers outcome) (offer_of (given ++ more) kinds fixed transport servers outcome)
     offer-grows transport servers Absent = λ x is. is
     offer-grows transport servers Denied = λ x is. is
     offer-grows transport servers (Listed indexes next) =
         made-grows (λ targets. listed targets next) _ _ (joined-grows _ _ (λ index. index-by transport (slice_get servers index)) indexes)
 
     named-grows : (words : List ℕ) (transport : Transport) (word : ℕ) (name : Option (List (List ℕ)))
-        → Grows (offer_named given kinds words transport word name) (offer_named (given ++ more) kinds words transport word name)
+        → Grows (offer_named given kinds fixed words transport word name) (offer_named (given ++ more) kinds fixed words transport word name)
     named-grows words transport word None = λ x is. is
     named-grows words transport word (Some name) =
         after-grows _ _ _ _ (answer-grows (record { name = name; kind = kind.Srv }))
-        (λ answer. offer-grows transport (servers_in answer.records) (order_from (servers_in answer.records) words word))
+        (λ answer. offer-grows transport (servers_in answer.records) (order_by fixed (servers_in answer.records) words word))
 
     pub offers-grow : (words : List ℕ) (services : List Service) (word : ℕ)
-        → Grows (offers_along given kinds words services word) (offers_along (given ++ more) kinds words services word)
+        → Grows (offers_along given kinds fixed words services word) (offers_along (given ++ more) kinds fixed words services word)
     offers-grow words [] word = λ x is. is
     offers-grow words (service ∷ services) word =
         after-grows _ _ _ _ (named-grows words service.transport word service.name)

@@ -6,6 +6,8 @@ use Rattle.std.proofs.lemmas.List.Elements.{All-nil, All-cons, All-map, All-take
 use Rattle.std.proofs.lemmas.List.Sorted.{All-permutation}
 use Rattle.dns_message.specs.declared.naptr.NaptrRecord.{NaptrRecord}
 use Rattle.sip_uri.specs.declared.transport.Transport.{Transport}
+use Rattle.record_order.specs.RecordOrder.{rule_order}
+use Rattle.sip_selection.specs.FixedOrders.{ordered}
 use Rattle.sip_selection.specs.Rules.{ServiceRule, names_servers, transport_of_service, is_usable, usable, service_rule_of, first_in_order, by_preference, service_of, usable_services}
 use Rattle.sip_selection.specs.declared.caps.Caps.{Caps}
 use Rattle.sip_selection.specs.declared.service.Service.{Service}
@@ -52,8 +54,9 @@ module _ (secure : Bool) (caps : Caps) where
   pub kept_usable : (rules : List NaptrRecord) → All (λ service. is_usable secure caps service.transport
       ≡ true) (usable_services secure caps rules)
   kept_usable rules =
-      let leads = filter_map (service_rule_of secure caps) rules in
+      let used = ordered caps.is_fixed rule_order rules in
+      let leads = filter_map (service_rule_of secure caps) used in
       let first = first_in_order leads in
       All-map (λ (service : Service). is_usable secure caps service.transport ≡ true) service_of (take 8 (by_preference first))
       (All-take IsUsable 8 (by_preference first) (All-permutation IsUsable first (by_preference first) (all_stand first)
-      (All-filter _ IsUsable leads (all_service_rule rules))))
+      (All-filter _ IsUsable leads (all_service_rule used))))

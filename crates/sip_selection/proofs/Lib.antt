@@ -1,5 +1,7 @@
 mod Slots
 mod TrialRuns
+mod FixedOrders
+mod Turned
 mod Growth
 mod Finality
 mod Meeting

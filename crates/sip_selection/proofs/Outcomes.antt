@@ -60,7 +60,7 @@ module _ (request : Request) (caps : Caps) (words : List ℕ) (given : List Give
     pub usually : (transport : Transport) → offered_default (is_secure request) caps ≡ Ok transport → T transport
 
   abbrev pub Sound : Target → Type 0
-  Sound = IsSound given (kinds_of caps.families) T
+  Sound = IsSound given (kinds_of caps.families) caps.is_fixed T
 
   abbrev pub Missing : Question → Type 0
   Missing = IsMissing given (kinds_of caps.families)
@@ -71,8 +71,8 @@ module _ (request : Request) (caps : Caps) (words : List ℕ) (given : List Give
   name-meets : (name : List (List ℕ)) (port : ℕ) (transport : Transport) → T transport
       → Sounds (to_name caps given name port transport)
   name-meets name port transport is =
-      made-meets Missing (Settles (All Sound)) Ok (targets_of given (kinds_of caps.families) transport port name)
-      (targets-meet given (kinds_of caps.families) T transport is port name)
+      made-meets Missing (Settles (All Sound)) Ok (targets_of given (kinds_of caps.families) caps.is_fixed transport port name)
+      (targets-meet given (kinds_of caps.families) caps.is_fixed T transport is port name)
 
   domain-meets : (name : List (List ℕ)) (fallback : Result Transport Reason)
       → ((transport : Transport) → fallback ≡ Ok transport → T transport) → Sounds (to_domain caps given name fallback)
@@ -92,12 +92,12 @@ module _ (request : Request) (caps : Caps) (words : List ℕ) (given : List Give
       → Sounds (along caps words given name fallback services)
   along-meets name fallback services over each =
       after-meets Missing (Settles (All Sound)) (by_offers caps given name fallback)
-      (offers_along given (kinds_of caps.families) words services 0)
+      (offers_along given (kinds_of caps.families) caps.is_fixed words services 0)
       (meets-more Missing (λ offers. All Sound (flat_map offered_targets offers))
       (λ offers. Sounds (by_offers caps given name fallback offers))
-      (offers_along given (kinds_of caps.families) words services 0)
+      (offers_along given (kinds_of caps.families) caps.is_fixed words services 0)
       (λ offers are. offers-by name fallback offers (list_any is_listed offers) (list_any is_denied offers) refl refl over are)
-      (offers-meet given (kinds_of caps.families) T words services 0 each))
+      (offers-meet given (kinds_of caps.families) caps.is_fixed T words services 0 each))
 
   module _ (over : AllOver) where
     by_services-meets : (name : List (List ℕ)) (services : List Service) → All (λ service. T service.transport) services

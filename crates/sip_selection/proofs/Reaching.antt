@@ -1,7 +1,7 @@
 -- Targets that are pushed as far as a loop has come.
 use Rattle.std.proofs.Common.{◌≡◌, ℕ, ◌+◌, ◌<◌, false, List, [], ◌∷◌, ◌++◌, length, map, drop, get_or, None, Some, Ok, Err, slice_get, refl, sym, true≢false, ap, subst, ◌∙◌, append_assoc}
 use Rattle.std.specs.Bool.{IsTrue}
-use Rattle.std.proofs.lemmas.List.{drop_more}
+use Rattle.std.proofs.lemmas.List.{append-nil, drop_more}
 use Rattle.dns_answers.specs.Values.{AnswerValue}
 use Rattle.dns_message.specs.declared.kind.Kind.{Kind}
 use Rattle.dns_message.specs.declared.kind.Kind.TheVariants.{A}
@@ -10,7 +10,8 @@ use Rattle.dns_message.specs.declared.srv.SrvRecord.{SrvRecord}
 use Rattle.sip_uri.specs.declared.transport.Transport.{Transport}
 use Rattle.srv_choice.specs.Outcomes.{is_root}
 use Rattle.sip_selection.specs.Callers.{kinds_of}
-use Rattle.sip_selection.specs.Known.{Given, Needing, after, made, joined, answer_to, addresses_in}
+use Rattle.sip_selection.specs.FixedOrders.{addresses_by}
+use Rattle.sip_selection.specs.Known.{Given, Needing, after, made, joined, answer_to}
 use Rattle.sip_selection.specs.Services.{index_targets, target_at}
 use Rattle.sip_selection.specs.Stages.{Extends, Reaches, kinds_left, server_left, index_left, indexes_left, servers_left}
 use Rattle.sip_selection.specs.declared.caps.Caps.{Caps}
@@ -20,12 +21,23 @@ use Rattle.sip_selection.proofs.Needings.{twice-in-front}
 pub extends-itself : (given : List Given) → Extends given given
 extends-itself given = λ question answer is. is
 
+made-itself : {X : Type 0} (n : Needing X) → n ≡ made (λ x. x) n
+made-itself (Ok x) = refl
+made-itself (Err question) = refl
+
 module _ {Index : Type 0} (given : List Given) (left : List Given → Index → Needing (List Target)) (from : Index)
     (before : List Target) where
   pub record Came (at : Index) (now : List Target) : Type 0 where
     pub found : List Target
     pub are : now ≡ before ++ found
     pub is : (all : List Given) → Extends given all → left all from ≡ made (λ more. found ++ more) (left all at)
+
+  pub came-first : Came from before
+  came-first = record {
+    found = [];
+    are = sym (append-nil before);
+    is = λ all extends. made-itself (left all from);
+  }
 
   pub came-more : (at next : Index) (now then more : List Target) → Came at now → then ≡ now ++ more
       → ((all : List Given) → Extends given all → left all at ≡ made (λ others. more ++ others) (left all next)) → Came next then
@@ -45,7 +57,7 @@ module _ {Index : Type 0} (given : List Given) (left : List Given → Index → 
 
 module _ (caps : Caps) (transport : Transport) (port : ℕ) (name : List (List ℕ)) (kinds : List Kind) (at : ℕ) where
   abbrev said : AnswerValue → List Target
-  said answer = map (target_at transport port) (addresses_in answer.records)
+  said answer = map (target_at transport port) (addresses_by caps.is_fixed answer.records)
 
   abbrev asked : Kind
   asked = get_or kinds at A
@@ -94,7 +106,7 @@ index-server caps transport servers index server there = λ j all from. same all
 
 module _ (caps : Caps) (transport : Transport) (servers : List SrvRecord) where
   abbrev targets_at : List Given → ℕ → Needing (List Target)
-  targets_at all = index_targets all (kinds_of caps.families) transport servers
+  targets_at all = index_targets all (kinds_of caps.families) caps.is_fixed transport servers
 
   -- before its first kind, a server is whole
   pub all-left : (all : List Given) (indexes : List ℕ) → indexes_left caps all transport servers indexes 0 ≡ joined (targets_at all) indexes

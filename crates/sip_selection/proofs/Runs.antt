@@ -122,13 +122,13 @@ module _ (request : Request) (caps : Caps) (words : List ℕ) (R : Question → 
   abbrev Needs : Needing Settled → Type 0
   Needs = Meets AnySettled R
 
-  service-asks : (name : Option (List (List ℕ))) → All R (of_one_service all asked_kinds name) → ServiceAsks R given more asked_kinds name
+  service-asks : (name : Option (List (List ℕ))) → All R (of_one_service all asked_kinds name) → ServiceAsks R given more asked_kinds caps.is_fixed name
   service-asks None each = tt
   service-asks (Some name) each =
       let servers : List SrvRecord = servers_at (answer_to all (srv_question name)) in
       let asked : List Question = flat_map (λ (server : SrvRecord). addresses asked_kinds server.target) servers in (
         All-head R (srv_question name) asked each,
-        all-more (λ (server : SrvRecord). All R (addresses asked_kinds server.target)) (AsksOf R given more asked_kinds)
+        all-more (λ (server : SrvRecord). All R (addresses asked_kinds server.target)) (AsksOf R given more asked_kinds caps.is_fixed)
             (λ server asks. each-mapped R (λ asked. record { name = server.target; kind = asked }) asked_kinds asks) servers
             (each-part R (λ (server : SrvRecord). addresses asked_kinds server.target) servers (All-tail R (srv_question name) asked each)),
       )
@@ -136,9 +136,9 @@ module _ (request : Request) (caps : Caps) (words : List ℕ) (R : Question → 
   name-asks : (name : List (List ℕ)) (port : ℕ) (transport : Transport) → All R (addresses asked_kinds name)
       → Needs (to_name caps given name port transport)
   name-asks name port transport each =
-      made-meets R AnySettled Ok (targets_of given asked_kinds transport port name)
-      (meets-more R (All AnyTarget) (λ found. ⊤) (targets_of given asked_kinds transport port name) (λ found is. tt)
-      (targets-ask R given more asked_kinds transport port name
+      made-meets R AnySettled Ok (targets_of given asked_kinds caps.is_fixed transport port name)
+      (meets-more R (All AnyTarget) (λ found. ⊤) (targets_of given asked_kinds caps.is_fixed transport port name) (λ found is. tt)
+      (targets-ask R given more asked_kinds caps.is_fixed transport port name
       (each-mapped R (λ asked. record { name = name; kind = asked }) asked_kinds each)))
 
   domain-asks : (name : List (List ℕ)) (fallback : Result Transport Reason) → All R (addresses asked_kinds name)
@@ -166,14 +166,14 @@ module _ (request : Request) (caps : Caps) (words : List ℕ) (R : Question → 
       let some : Bool = list_any (has_servers all) services in
       let asked : List Question = flat_map (λ (service : Service). of_one_service all asked_kinds service.name) services in
       let after : List Question = (if some then [] else addresses asked_kinds name) in
-      after-meets R AnySettled (by_offers caps given name fallback) (offers_along given asked_kinds words services 0)
-      (meets-more R (AreTold R given more asked_kinds services) (λ offers. Needs (by_offers caps given name fallback offers))
-      (offers_along given asked_kinds words services 0)
+      after-meets R AnySettled (by_offers caps given name fallback) (offers_along given asked_kinds caps.is_fixed words services 0)
+      (meets-more R (AreTold R given more asked_kinds caps.is_fixed services) (λ offers. Needs (by_offers caps given name fallback offers))
+      (offers_along given asked_kinds caps.is_fixed words services 0)
       (λ offers told. offers-by name fallback offers (list_any is_listed offers) (list_any is_denied offers) refl refl
       (λ unlisted undenied. else-addresses name some (told unlisted undenied) (back-of R asked after each)))
-      (offers-ask R given more asked_kinds words services 0
+      (offers-ask R given more asked_kinds caps.is_fixed words services 0
       (all-more (λ (service : Service). All R (of_one_service all asked_kinds service.name))
-      (λ service. ServiceAsks R given more asked_kinds service.name)
+      (λ service. ServiceAsks R given more asked_kinds caps.is_fixed service.name)
       (λ service asks. service-asks service.name asks) services
       (each-part R (λ (service : Service). of_one_service all asked_kinds service.name) services (front-of R asked after each)))))
 
@@ -199,7 +199,7 @@ module _ (request : Request) (caps : Caps) (words : List ℕ) (R : Question → 
       (subst (λ (it : Needing AnswerValue). All R
       (of_services all asked_kinds name (tried request caps words all name (usable_services (is_secure request) caps (rules_at it))))) is
       rest))
-      (answer-asks R given more asked_kinds (rules name) (All-head R (rules name) (of_services all asked_kinds name services) each)))
+      (answer-asks R given more asked_kinds caps.is_fixed (rules name) (All-head R (rules name) (of_services all asked_kinds name services) each)))
 
   address-asks : (address : Address) (port : Option ℕ) (transport : Result Transport Reason)
       → Needs (to_address address port transport)

@@ -7,12 +7,12 @@ use Rattle.dns_message.specs.declared.kind.Kind.TheVariants as kind
 use Rattle.dns_message.specs.declared.question.Question.{Question}
 use Rattle.dns_message.specs.declared.srv.SrvRecord.{SrvRecord}
 use Rattle.sip_uri.specs.declared.transport.Transport.{Transport}
-use Rattle.srv_choice.specs.Outcomes.{order_from}
 use Rattle.srv_choice.specs.declared.outcome.SrvOutcome.{SrvOutcome}
 use Rattle.srv_choice.specs.declared.outcome.SrvOutcome.TheVariants.{Absent, Denied, Listed}
 use Rattle.sip_selection.specs.Callers.{kinds_of}
 use Rattle.sip_selection.specs.Choice.{Settled}
 use Rattle.sip_selection.specs.Known.{Given, Needing, after, made, joined, answer_to, servers_in}
+use Rattle.sip_selection.specs.FixedOrders.{order_by}
 use Rattle.sip_selection.specs.Services.{Offer, absent, denied, listed, offered_targets, next_word, index_targets, offer_by, offer_along, offers_along}
 use Rattle.sip_selection.specs.Stages.{Extends, behind, ended, position_left, offer_left, servers_left, listing_left, servers_first, Walks}
 use Rattle.sip_selection.specs.declared.caps.Caps.{Caps}
@@ -42,7 +42,7 @@ module _ (caps : Caps) (words : List ℕ) (name : List (List ℕ)) (all : List G
 
   module _ (position : Position) (found : List Target) where
     abbrev rest : ℕ → Needing (List Offer)
-    rest word = offers_along all (kinds_of caps.families) words (drop (position.service + 1) services) word
+    rest word = offers_along all (kinds_of caps.families) caps.is_fixed words (drop (position.service + 1) services) word
 
     listed-left : (indexes : List ℕ) (next : ℕ) (targets : List Target)
         → offer_left caps words name all services fallback position found (Ok (listed targets next))
@@ -60,11 +60,11 @@ module _ (caps : Caps) (words : List ℕ) (name : List (List ℕ)) (all : List G
       servers = servers_in answer.records
 
       abbrev targets-of : List ℕ → Needing (List Target)
-      targets-of indexes = joined (index_targets all (kinds_of caps.families) transport servers) indexes
+      targets-of indexes = joined (index_targets all (kinds_of caps.families) caps.is_fixed transport servers) indexes
 
-      pub answer-listed : (indexes : List ℕ) (next : ℕ) → order_from servers words position.word ≡ Listed indexes next
+      pub answer-listed : (indexes : List ℕ) (next : ℕ) → order_by caps.is_fixed servers words position.word ≡ Listed indexes next
           → offer_left caps words name all services fallback position found
-          (offer_by all (kinds_of caps.families) words transport position.word answer)
+          (offer_by all (kinds_of caps.families) caps.is_fixed words transport position.word answer)
           ≡ after (λ more. position_left caps words name all services fallback (behind position (Listed indexes next)) (found ++ more))
           (servers_left caps all transport servers indexes (record { server = 0; kind = 0 }))
       answer-listed indexes next is = rw (is, all-left caps transport servers all indexes)
@@ -84,16 +84,16 @@ module _ (caps : Caps) (words : List ℕ) (name : List (List ℕ)) (all : List G
 
     module _ (transport : Transport) (answer : AnswerValue) where
       abbrev offered : Needing Offer
-      offered = offer_by all (kinds_of caps.families) words transport position.word answer
+      offered = offer_by all (kinds_of caps.families) caps.is_fixed words transport position.word answer
 
-      absent-left : order_from (servers_in answer.records) words position.word ≡ Absent
+      absent-left : order_by caps.is_fixed (servers_in answer.records) words position.word ≡ Absent
           → offer_left caps words name all services fallback position found offered
           ≡ position_left caps words name all services fallback (behind position Absent) found
       absent-left is = rw is (after-made (ended caps name all fallback position found) (λ others. absent ∷ others) (rest position.word)
           ∙ after-each (λ others. ended caps name all fallback position found (absent ∷ others))
           (ended caps name all fallback (behind position Absent) found) (λ others. refl) (rest position.word))
 
-      denied-left : order_from (servers_in answer.records) words position.word ≡ Denied
+      denied-left : order_by caps.is_fixed (servers_in answer.records) words position.word ≡ Denied
           → offer_left caps words name all services fallback position found offered
           ≡ position_left caps words name all services fallback (behind position Denied) found
       denied-left is = rw is (after-made (ended caps name all fallback position found) (λ others. denied ∷ others) (rest position.word)
@@ -102,7 +102,7 @@ module _ (caps : Caps) (words : List ℕ) (name : List (List ℕ)) (all : List G
           (rest position.word))
 
       pub answer-unlisted : (outcome : SrvOutcome) → (outcome ≡ Absent) ⊎ (outcome ≡ Denied)
-          → outcome ≡ order_from (servers_in answer.records) words position.word
+          → outcome ≡ order_by caps.is_fixed (servers_in answer.records) words position.word
           → offer_left caps words name all services fallback position found offered
           ≡ position_left caps words name all services fallback (behind position outcome) found
       answer-unlisted outcome which is = elim which [
@@ -115,17 +115,17 @@ module _ (caps : Caps) (words : List ℕ) (name : List (List ℕ)) (all : List G
     pub service-left : (service : Service) → drop position.service services ≡ service ∷ drop (position.service + 1) services
         → position_left caps words name all services fallback position found
         ≡ offer_left caps words name all services fallback position found
-        (offer_along all (kinds_of caps.families) words service position.word)
+        (offer_along all (kinds_of caps.families) caps.is_fixed words service position.word)
     service-left service there = rw there (after-after (ended caps name all fallback position found)
         (λ offer. made (λ others. offer ∷ others) (rest (next_word position.word offer)))
-        (offer_along all (kinds_of caps.families) words service position.word))
+        (offer_along all (kinds_of caps.families) caps.is_fixed words service position.word))
 
     pub named-left : (service : Service) (owner : List (List ℕ)) → service.name ≡ Some owner → drop position.service services
         ≡ service ∷ drop (position.service + 1) services
         → (answer : AnswerValue) → answer_to all (record { name = owner; kind = kind.Srv }) ≡ Ok answer
         → position_left caps words name all services fallback position found
         ≡ offer_left caps words name all services fallback position found
-        (offer_by all (kinds_of caps.families) words service.transport position.word answer)
+        (offer_by all (kinds_of caps.families) caps.is_fixed words service.transport position.word answer)
     named-left service owner named there answer known = service-left service there ∙ rw (named, known) refl
 
 -- ---- the servers of a service, and then the other services
@@ -163,10 +163,10 @@ listing-asks caps words name given services fallback listing cursor position fou
 
 -- of the servers that an answer lists
 pub answer-asks : (caps : Caps) (words : List ℕ) (all : List Given) (transport : Transport) (answer : AnswerValue) (word : ℕ)
-    (indexes : List ℕ) (next : ℕ) → order_from (servers_in answer.records) words word ≡ Listed indexes next
+    (indexes : List ℕ) (next : ℕ) → order_by caps.is_fixed (servers_in answer.records) words word ≡ Listed indexes next
     → (question : Question)
     → servers_left caps all transport (servers_in answer.records) indexes (record { server = 0; kind = 0 }) ≡ Err question
-    → offer_by all (kinds_of caps.families) words transport word answer ≡ Err question
+    → offer_by all (kinds_of caps.families) caps.is_fixed words transport word answer ≡ Err question
 answer-asks caps words all transport answer word indexes next is question unknown =
     rw is (ap (made (λ targets. listed targets next))
     (sym (all-left caps transport (servers_in answer.records) all indexes) ∙ unknown))
@@ -175,7 +175,7 @@ answer-asks caps words all transport answer word indexes next is question unknow
 pub service-asks : (caps : Caps) (words : List ℕ) (name : List (List ℕ)) (all : List Given) (services : List Service)
     (fallback : Result Transport Reason) (position : Position) (found : List Target) (service : Service)
     → drop position.service services ≡ service ∷ drop (position.service + 1) services
-    → (question : Question) → offer_along all (kinds_of caps.families) words service position.word ≡ Err question
+    → (question : Question) → offer_along all (kinds_of caps.families) caps.is_fixed words service position.word ≡ Err question
     → position_left caps words name all services fallback position found ≡ Err question
 service-asks caps words name all services fallback position found service there question unknown =
     service-left caps words name all services fallback position found service there ∙ rw unknown refl

@@ -1,5 +1,5 @@
--- What the caller can do: its transports, in order of preference, its families of addresses, and
--- whether its request is too large for UDP.
+-- What the caller can do: its transports, in order of preference, its families of addresses, whether
+-- its request is too large for UDP, and whether records that tie come in one fixed order.
 use Rattle.std.specs.Prelude.{◌≡◌, ℕ, ◌+◌, ◌<◌, ◌≤◌, Bool, true, false, not, ◌&&◌, IsTrue, List, [], ◌∷◌, ◌++◌, filter, length, map, take, Option, Some, None}
 use Rattle.std.specs.List.{list_any, filter_map}
 use Rattle.dns_message.specs.declared.kind.Kind.{Kind}
@@ -22,12 +22,13 @@ pub record AreOffered (transports : List Transport) : Type 0 where
   pub few : length transports ≤ 4
   pub distinct : IsTrue (are_distinct transports)
 
--- what a caller can do: its transports, in order of preference, and its families of addresses; and
--- whether its request is too large for UDP
+-- what a caller can do: its transports, in order of preference, and its families of addresses;
+-- whether its request is too large for UDP; and whether records that tie come in one fixed order
 pub record CapsValue : Type 0 where
   pub transports : List Transport
   pub families : Families
   pub is_large : Bool
+  pub is_fixed : Bool
 
 -- four slots, the first of which hold these transports
 abbrev pub slots_of : List Transport → List (Option Transport)

@@ -79,7 +79,7 @@ module _ (caps : Caps) (given : List Given) where
   -- the targets of a name at a port
   abbrev pub to_name : List (List ℕ) → ℕ → Transport → Needing Settled
   to_name name port transport =
-      made Ok (targets_of given (kinds_of caps.families) transport port name)
+      made Ok (targets_of given (kinds_of caps.families) caps.is_fixed transport port name)
 
   -- the targets of a name at a port, if there is a transport
   abbrev pub to_port : List (List ℕ) → ℕ → Result Transport Reason → Needing Settled
@@ -105,7 +105,7 @@ module _ (caps : Caps) (words : List ℕ) (given : List Given) where
   abbrev pub along : List (List ℕ) → Result Transport Reason → List Service → Needing Settled
   along name fallback services =
       after (by_offers caps given name fallback)
-      (offers_along given (kinds_of caps.families) words services 0)
+      (offers_along given (kinds_of caps.families) caps.is_fixed words services 0)
 
   -- the targets of a domain by its service of the transport that is named
   abbrev pub to_service : List (List ℕ) → Result Transport Reason → Needing Settled

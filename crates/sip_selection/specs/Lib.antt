@@ -2,6 +2,7 @@ pub mod Requests
 pub mod RequestLines
 pub mod Callers
 pub mod Known
+pub mod FixedOrders
 pub mod Services
 pub mod Rules
 pub mod Choice

@@ -9,10 +9,11 @@ use Rattle.dns_message.specs.declared.srv.SrvRecord.{SrvRecord}
 use Rattle.ip_text.specs.declared.address.Address.{Address}
 use Rattle.sip_uri.specs.declared.transport.Transport.{Transport}
 use Rattle.sip_uri.specs.declared.transport.Transport.TheVariants.{Udp, Tcp, Sctp, Tls}
-use Rattle.srv_choice.specs.Outcomes.{order_from, is_root}
+use Rattle.srv_choice.specs.Outcomes.{is_root}
 use Rattle.srv_choice.specs.declared.outcome.SrvOutcome.{SrvOutcome}
 use Rattle.srv_choice.specs.declared.outcome.SrvOutcome.TheVariants.{Absent, Denied, Listed}
-use Rattle.sip_selection.specs.Known.{Given, Needing, after, made, joined, answer_to, addresses_in, servers_in}
+use Rattle.sip_selection.specs.Known.{Given, Needing, after, made, joined, answer_to, servers_in}
+use Rattle.sip_selection.specs.FixedOrders.{addresses_by, order_by}
 use Rattle.sip_selection.specs.declared.target.Target.{Target}
 use Rattle.sip_selection.specs.declared.service.Service.{Service}
 
@@ -49,11 +50,11 @@ service_at domain transport =
 abbrev pub target_at : Transport → ℕ → Address → Target
 target_at transport port address = record { transport = transport; address = address; port = port }
 
-module _ (given : List Given) (kinds : List Kind) where
+module _ (given : List Given) (kinds : List Kind) (fixed : Bool) where
   -- the targets of a name at a port that the answer to one kind of question gives (RFC 3263 4.2)
   abbrev pub kind_targets : Transport → ℕ → List (List ℕ) → Kind → Needing (List Target)
   kind_targets transport port name kind =
-      made (λ answer. map (target_at transport port) (addresses_in answer.records))
+      made (λ answer. map (target_at transport port) (addresses_by fixed answer.records))
       (answer_to given (record { name = name; kind = kind }))
 
   -- the targets of a name at a port, one kind of address after the other
@@ -103,21 +104,21 @@ next_word word absent = word
 next_word word denied = word
 next_word word (listed targets next) = next
 
-module _ (given : List Given) (kinds : List Kind) where
+module _ (given : List Given) (kinds : List Kind) (fixed : Bool) where
   -- what a service offers, by what its SRV records say of it
   abbrev pub offer_of : Transport → List SrvRecord → SrvOutcome → Needing Offer
   offer_of transport servers Absent = Ok absent
   offer_of transport servers Denied = Ok denied
   offer_of transport servers (Listed indexes next) =
       made (λ targets. listed targets next)
-      (joined (index_targets given kinds transport servers) indexes)
+      (joined (index_targets given kinds fixed transport servers) indexes)
 
-  -- what the SRV records of a service offer, ordered by the words from an index on; where it has no
-  -- name, there are none
+  -- what the SRV records of a service offer, ordered by the words from an index on, or in the fixed
+  -- order; where it has no name, there are none
   abbrev pub offer_by : List ℕ → Transport → ℕ → AnswerValue → Needing Offer
   offer_by words transport word answer =
       offer_of transport (servers_in answer.records)
-      (order_from (servers_in answer.records) words word)
+      (order_by fixed (servers_in answer.records) words word)
 
   -- what the service of a name offers; without a name it is absent
   abbrev pub offer_named : List ℕ → Transport → ℕ → Option (List (List ℕ)) → Needing Offer

@@ -84,7 +84,7 @@ module _ (caps : Caps) (all : List Given) where
   -- those of a name, from a kind on
   abbrev pub kinds_left : Transport → ℕ → List (List ℕ) → ℕ → Needing (List Target)
   kinds_left transport port name from =
-      joined (kind_targets all (kinds_of caps.families) transport port name)
+      joined (kind_targets all (kinds_of caps.families) caps.is_fixed transport port name)
       (drop from (kinds_of caps.families))
 
   -- those of a server, from a kind on
@@ -102,7 +102,7 @@ module _ (caps : Caps) (all : List Given) where
   indexes_left transport servers (index ∷ indexes) from =
       after (λ here. made
       (λ others. here ++ others)
-      (joined (index_targets all (kinds_of caps.families) transport servers) indexes))
+      (joined (index_targets all (kinds_of caps.families) caps.is_fixed transport servers) indexes))
       (index_left transport servers index from)
 
   -- those of the servers in an order, from a cursor on
@@ -135,7 +135,7 @@ module _ (caps : Caps) (words : List ℕ) (name : List (List ℕ)) (all : List G
       → Needing Settled
   position_left services fallback position found =
       after (ended caps name all fallback position found)
-      (offers_along all (kinds_of caps.families) words (drop position.service services)
+      (offers_along all (kinds_of caps.families) caps.is_fixed words (drop position.service services)
       position.word)
 
   -- where the next service offers this
@@ -145,7 +145,7 @@ module _ (caps : Caps) (words : List ℕ) (name : List (List ℕ)) (all : List G
   offer_left services fallback position found offer =
       after (λ offer. after (ended caps name all fallback position found)
       (made (λ others. offer ∷ others)
-      (offers_along all (kinds_of caps.families) words (drop (position.service + 1) services)
+      (offers_along all (kinds_of caps.families) caps.is_fixed words (drop (position.service + 1) services)
       (next_word position.word offer)))) offer
 
   -- where the addresses of the servers of a service come first

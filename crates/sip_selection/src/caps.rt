@@ -29,12 +29,14 @@ pub enum Families {
 }
 
 /// What the caller can do: 1 to 4 distinct transports, in order of preference, and its families of
-/// addresses; for any request, or for one that is too large for UDP.
+/// addresses; for any request, or for one that is too large for UDP; and whether it wants records
+/// that tie in one fixed order.
 #[derive(Clone, Copy, Debug, PartialEq, Eq)]
 pub struct Caps {
     slots: [Option<Transport>; 4],
     families: Families,
     is_large: bool,
+    is_fixed: bool,
 }
 
 impl Model for Caps {
@@ -47,6 +49,7 @@ impl Model for Caps {
       transports = held_in it.slots;
       families = it.families;
       is_large = it.is_large;
+      is_fixed = it.is_fixed;
     } };
 
     ghost invariant = { λ it. AreSlots it.slots };
@@ -55,11 +58,16 @@ impl Model for Caps {
       slots = slots_of it.transports;
       families = it.families;
       is_large = it.is_large;
+      is_fixed = it.is_fixed;
     } };
 
     ghost inverse_ok = { λ it are.
-        ap (λ slots. record { slots = slots; families = it.families; is_large = it.is_large })
-        are.packed };
+        ap (λ slots. record {
+          slots = slots;
+          families = it.families;
+          is_large = it.is_large;
+          is_fixed = it.is_fixed;
+        }) are.packed };
 }
 
 /// Whether a transport is among these.
@@ -162,6 +170,7 @@ impl Caps {
           transports = transports.now;
           families = families;
           is_large = false;
+          is_fixed = false;
         }) }
     {
         if !are_distinct(transports) {
@@ -172,6 +181,7 @@ impl Caps {
             slots,
             families,
             is_large: false,
+            is_fixed: false,
         })
     }
 
@@ -191,6 +201,7 @@ impl Caps {
           transports = without_udp self.now.transports;
           families = self.now.families;
           is_large = true;
+          is_fixed = self.now.is_fixed;
         }) }
     {
         if !is_too_large(octets, mtu) {
@@ -200,8 +211,23 @@ impl Caps {
         let caps = Caps::new(&others[..count], self.families)?;
         Some(Caps {
             is_large: true,
+            is_fixed: self.is_fixed,
             ..caps
         })
+    }
+
+    /// The same, with one fixed order for records that tie, as a stateless proxy needs it (RFC 3263
+    /// 4.4): servers of one priority come by weight, the largest first, then by name and port;
+    /// services of one order and preference by the octets of their records, and addresses by theirs.
+    /// Random words then count for nothing, and neither does the order in which a reply has its
+    /// records. It takes memory for copies of NAPTR records.
+    pub fn with_fixed_order(self) -> Caps
+        ensures { result ≡ record self { is_fixed = true } }
+    {
+        Caps {
+            is_fixed: true,
+            ..self
+        }
     }
 
     /// Whether a transport is among the caller's.
@@ -234,6 +260,13 @@ impl Caps {
             Transport::Udp if self.is_large => Transport::Tcp,
             _ => transport,
         }
+    }
+
+    /// Whether records that tie come in one fixed order.
+    pub(crate) fn is_fixed(&self) -> bool
+        ensures { result ≡ self.now.is_fixed }
+    {
+        self.is_fixed
     }
 
     /// The slots of its transports, in order of preference.

@@ -11,12 +11,15 @@ ghost use Rattle.ip_text.specs.declared.address.Address.TheVariants as address;
 ghost use Rattle.sip_uri.specs.declared.transport.Transport.TheVariants.{Tls};
 ghost use Rattle.sip_selection.specs.Callers.{kinds_of, offers};
 ghost use Rattle.sip_selection.specs.Choice.{locate, need, targets};
+ghost use Rattle.sip_selection.specs.FixedOrders.{AnswersAreTurned};
 ghost use Rattle.sip_selection.specs.Known.{Given, addresses_in, find_answer};
 ghost use Rattle.sip_selection.specs.Requests.{is_secure, target_of};
 ghost use Rattle.sip_selection.specs.declared.caps.Caps.{Caps};
 ghost use Rattle.sip_selection.specs.declared.request.Request.{Request};
 ghost use Rattle.sip_selection.specs.declared.target.Target.{Target};
 
+use dns_message::{NaptrRecord, SrvRecord};
+use record_order::{law_order_is_fixed, law_order_is_sorted, law_orders_are_exact};
 use srv_choice::law_order_is_by_priority;
 
 /// Where TARGET is an address, nothing is asked: the request goes to that address alone, or nowhere
@@ -96,3 +99,17 @@ pub fn law_questions_are_few()
         → locate request caps words (take k given) ≡ need (slice_index_or given k it).question)
         → length given ≤ 521 }
 {}
+
+/// In the fixed order a request goes the same way whatever the random words are, and however servers
+/// turn the records of their replies round (RFC 3263 4.4).
+pub fn law_fixed_order_is_of_records()
+    ensures { (request : Request) (caps : Caps) (words other_words : List ℕ)
+        → (given turned : List Given) → IsTrue caps.is_fixed → AnswersAreTurned given turned
+        → locate request caps other_words turned ≡ locate request caps words given }
+{
+    law_orders_are_exact();
+    law_order_is_fixed::<[u8; 4]>();
+    law_order_is_fixed::<SrvRecord>();
+    law_order_is_fixed::<NaptrRecord>();
+    law_order_is_sorted::<SrvRecord>();
+}

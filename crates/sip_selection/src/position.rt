@@ -4,12 +4,14 @@ ghost use Rattle.std.specs.Arc.{arc_value};
 ghost use Rattle.dns_answers.specs.Found.{answer_in};
 ghost use Rattle.sip_selection.specs.Callers.{kinds_of};
 ghost use Rattle.sip_selection.specs.Consulting as consult;
+ghost use Rattle.sip_selection.specs.FixedOrders.{order_by};
 ghost use Rattle.sip_selection.specs.Known.{after, servers_in};
 ghost use Rattle.sip_selection.specs.Services.{offer_along, offer_by};
 ghost use Rattle.sip_selection.specs.Stages as spec;
 ghost use Rattle.sip_selection.specs.declared.service.Service.{Service};
 
 use crate::boxed::Boxed;
+use crate::caps::Caps;
 use crate::service::Service;
 use crate::source::{AnswerSource, Stop, answer_from};
 use crate::stage::{Context, Cursor, Listing, Position, ServiceStage, ServiceStep, Walk};
@@ -17,7 +19,7 @@ use crate::targets::push_indexes;
 use dns_answers::{Answer, FoundAnswer, Records};
 use dns_message::{Kind, SrvRecord};
 use sip_uri::Transport;
-use srv_choice::{Indexes, SrvOutcome, order};
+use srv_choice::{Indexes, SrvOutcome, Words, fixed_order, order};
 use std::alloc::AllocError;
 use std::sync::Arc;
 
@@ -29,6 +31,19 @@ fn servers_in(answer: &Answer) -> &[SrvRecord]
     match answer.records() {
         Records::Srv(servers) => servers.as_slice(),
         Records::V4(_) | Records::V6(_) | Records::Naptr(_) => &[],
+    }
+}
+
+/// What SRV records say of a service: ordered by the words from an index on, or in the fixed order.
+fn order_by(caps: &Caps, servers: &[SrvRecord], words: &Words, from: usize) -> SrvOutcome
+    requires few { length servers.now ≤ 32 }
+    requires enough_words { from + length servers.now ≤ 256 }
+    ensures { result ≡ order_by caps.now.is_fixed servers.now words.now.0 from }
+{
+    if caps.is_fixed() {
+        fixed_order(servers, from)
+    } else {
+        order(servers, words, from)
     }
 }
 
@@ -146,7 +161,7 @@ fn push_answer<'s, S: AnswerSource>(
     requires few { position.service < 8 }
     requires words { position.word ≤ 32 * position.service }
     requires needs { consult.Needs (consult.inquiry context.now) walk.old.known
-        (λ all. offer_by all (kinds_of context.now.caps.now.families) context.now.words.now.0
+        (λ all. offer_by all (kinds_of context.now.caps.now.families) context.now.caps.now.is_fixed context.now.words.now.0
         transport position.word (answer_in answer)) }
     requires consulted { consult.Consulted (S.ready context.now.source.now) S.goes
         (S.says context.now.source.now) (consult.inquiry context.now) context.now.start.value
@@ -160,7 +175,7 @@ fn push_answer<'s, S: AnswerSource>(
         (λ all fallback found. spec.offer_left context.now.caps.now context.now.words.now.0
         context.now.name.now all services fallback position found
         (offer_by all
-        (kinds_of context.now.caps.now.families) context.now.words.now.0 transport position.word
+        (kinds_of context.now.caps.now.families) context.now.caps.now.is_fixed context.now.words.now.0 transport position.word
         (answer_in answer.entry)))
         service_step walk.old.targets.items walk.new.targets.items) }
     ensures fits { IfOk result spec.ServiceStepFits }
@@ -168,7 +183,8 @@ fn push_answer<'s, S: AnswerSource>(
     ensures lacks { IfOk result
         (consult.ServiceStepLacks (S.says context.now.source.now seat.new)) }
 {
-    let outcome = order(servers_in(answer.as_arc()), context.words, position.word);
+    let servers = servers_in(answer.as_arc());
+    let outcome = order_by(context.caps, servers, context.words, position.word);
     let behind = position.behind(&outcome);
     match outcome {
         SrvOutcome::Absent | SrvOutcome::Denied => Ok(ServiceStep::Position(behind)),
@@ -189,7 +205,7 @@ fn push_service<'s, S: AnswerSource>(
     requires few { position.service < 8 }
     requires words { position.word ≤ 32 * position.service }
     requires needs { consult.Needs (consult.inquiry context.now) walk.old.known
-        (λ all. offer_along all (kinds_of context.now.caps.now.families) context.now.words.now.0
+        (λ all. offer_along all (kinds_of context.now.caps.now.families) context.now.caps.now.is_fixed context.now.words.now.0
         service.now position.word) }
     requires consulted { consult.Consulted (S.ready context.now.source.now) S.goes
         (S.says context.now.source.now) (consult.inquiry context.now) context.now.start.value

@@ -1,7 +1,8 @@
 //! The targets of the addresses of names (RFC 3263 4.2).
-ghost use Rattle.std.specs.Prelude.{◌≡◌, ◌++◌, List, None, IfOk, IfSome, OnOk, map};
+ghost use Rattle.std.specs.Prelude.{◌≡◌, ◌≤◌, ◌++◌, List, None, IfOk, IfSome, OnOk, map};
+ghost use Rattle.dns_answers.specs.Records.{count_of};
 ghost use Rattle.sip_selection.specs.Consulting as consult;
-ghost use Rattle.sip_selection.specs.Known.{addresses_in};
+ghost use Rattle.sip_selection.specs.FixedOrders.{addresses_by};
 ghost use Rattle.sip_selection.specs.Services as spec;
 ghost use Rattle.sip_selection.specs.Stages as stage;
 ghost use Rattle.sip_selection.specs.declared.target.Target as target;
@@ -14,6 +15,7 @@ use crate::target::Target;
 use dns_answers::Records;
 use dns_message::{Question, SrvRecord};
 use dns_name::Name;
+use record_order::in_order;
 use sip_uri::{Address, Transport};
 use std::alloc::AllocError;
 
@@ -72,17 +74,27 @@ fn push_v6(
     Ok(())
 }
 
-/// Adds the addresses that records have at a port.
+/// Adds the addresses that records have at a port, as they stand or in the fixed order.
 fn push_addresses(
     targets: &mut Vec<Target>,
     transport: Transport,
     port: u16,
     records: &Records,
+    is_fixed: bool,
 ) -> Result<(), AllocError>
+    requires { count_of records.now ≤ 32 }
     ensures { OnOk result (targets.new.items ≡ targets.old.items
-        ++ map (spec.target_at transport port) (addresses_in records.now)) }
+        ++ map (spec.target_at transport port) (addresses_by is_fixed records.now)) }
 {
     match records {
+        Records::V4(addresses) if is_fixed => {
+            let addresses = in_order(addresses.as_slice());
+            push_v4(targets, transport, port, addresses.as_slice())
+        }
+        Records::V6(addresses) if is_fixed => {
+            let addresses = in_order(addresses.as_slice());
+            push_v6(targets, transport, port, addresses.as_slice())
+        }
         Records::V4(addresses) => push_v4(targets, transport, port, addresses.as_slice()),
         Records::V6(addresses) => push_v6(targets, transport, port, addresses.as_slice()),
         Records::Srv(_) | Records::Naptr(_) => Ok(()),
@@ -123,7 +135,8 @@ pub(crate) fn push_kinds<'s, S: AnswerSource>(
         match answer_from(walk, seat, context, name, kinds[at]) {
             Ok(answer) => {
                 let records = answer.as_arc().records();
-                push_addresses(&mut walk.targets, transport, port, records)?;
+                let is_fixed = context.caps.is_fixed();
+                push_addresses(&mut walk.targets, transport, port, records, is_fixed)?;
             }
             Err(Stop::Need(question)) => return Ok(Some((at, question))),
             Err(Stop::Memory) => return Err(AllocError),

@@ -18,6 +18,9 @@
 //! }
 //! ```
 //!
+//! `fixed_order` puts them in one order in which no random word counts, for a stateless proxy (RFC
+//! 3263 4.4).
+//!
 //! `specs/Outcomes.antt` says what `order` gives, as one function of the records, the words and the
 //! index of the first word. What RFC 2782 asks of it are laws: `law_order_is_by_priority` (each
 //! record comes once, none before one of a lower priority) and `law_weights_are_shares` (records of
@@ -31,7 +34,7 @@ mod next_index;
 mod outcome;
 mod words;
 
-pub use choice::order;
+pub use choice::{fixed_order, order};
 pub use indexes::Indexes;
 pub use laws::{law_limits, law_order_is_by_priority, law_weights_are_shares};
 pub use next_index::RECORD_LIMIT;

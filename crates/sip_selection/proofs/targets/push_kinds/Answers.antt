@@ -7,7 +7,7 @@ use Rattle.sip_selection.specs.Consulting.{inquiry}
 use Rattle.sip_selection.specs.Known.{answer_to}
 use Rattle.sip_selection.specs.Stages.{kinds_left}
 use Rattle.sip_selection.proofs.Consulting.{came-grown, came-needs, extends-on, needs-of}
-use Rattle.sip_selection.proofs.Reaching.{came-more, came-stop, kind-more, kind-stops}
+use Rattle.sip_selection.proofs.Reaching.{came-first, came-more, came-stop, kind-more, kind-stops}
 use Rattle.sip_selection.proofs.targets.push_kinds.Goals as goal
 
 pub answer_from-requires-clause-needs : goal.answer_from-requires-clause-needs
@@ -23,6 +23,16 @@ answer_from-requires-clause-needs g c =
     (λ all question extends is. kind-stops caps a.transport a.port a.name.now kinds l.at are c.loop-at-test.true all question is)
     (came-needs it a.walk.now.known l.walk.known (λ all. kinds_left caps all a.transport a.port a.name.now) a.from
     a.walk.now.targets.items l.at l.walk.targets.items l.invariant.more l.invariant.came c.requires.needs)
+
+pub loop-at-init : goal.loop-at-init
+loop-at-init g c =
+    let a = c.args in
+    record {
+      came = came-first a.walk.now.known (λ all. kinds_left a.context.now.caps.now all a.transport a.port a.name.now) a.from
+          a.walk.now.targets.items;
+      more = λ question answer is. is;
+      consulted = c.requires.consulted;
+    }
 
 pub loop-at-preserved : goal.loop-at-preserved
 loop-at-preserved g c =
@@ -41,6 +51,7 @@ loop-at-preserved g c =
             ← c.deref.ensures,
             ← c.records-records.ensures.records,
             ← c.answer_from.ensures.targets,
+            ← c.is_fixed-is_fixed.ensures,
           ) c.in_ok-push_addresses-in-Ok.ensures)
           (kind-more caps a.transport a.port a.name.now c.kinds_of-kinds.result.now l.at are c.loop-at-test.true then
           (answer_in c.in-Ok.answer) c.in-Ok.ensures.answer);

@@ -1,0 +1,5 @@
+pub mod Placing
+pub mod Exact
+pub mod Places
+pub mod Sorting
+pub mod Indexes
