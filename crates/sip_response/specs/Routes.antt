@@ -87,3 +87,16 @@ pub data IsRoute (over : Transport) (written : Option ℕ) (params : RouteParams
       → IsRoute over written params route
   datagram : is_reliable over ≡ false → ByDatagram params (sent_port over written) route
       → IsRoute over written params route
+
+-- a step, or the next one where that step is the connection that the request came over
+abbrev pub but_connection : Step → Option Step → Option Step
+but_connection Connection second = second
+but_connection (Opened to) second = Some (Opened to)
+but_connection (Maddr to ttl) second = Some (Maddr to ttl)
+but_connection (MaddrName name port) second = Some (MaddrName name port)
+but_connection (Received to symmetric) second = Some (Received to symmetric)
+but_connection SentBy second = Some SentBy
+
+-- what is tried first where the connection that the request came over is not used
+abbrev pub past_connection : ResponseRoute → Option Step
+past_connection route = but_connection route.first route.second

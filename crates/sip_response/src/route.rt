@@ -51,6 +51,22 @@ pub struct ResponseRoute<'a> {
     pub third: Option<Step<'a>>,
 }
 
+impl<'a> ResponseRoute<'a> {
+    /// What is tried first where the connection that the request came over is not used.
+    pub fn past_connection(&self) -> Option<Step<'a>>
+        ensures { result ≡ spec.past_connection self.now }
+    {
+        match self.first {
+            Step::Connection => self.second,
+            Step::Opened(_)
+            | Step::Maddr { .. }
+            | Step::MaddrName { .. }
+            | Step::Received { .. }
+            | Step::SentBy => Some(self.first),
+        }
+    }
+}
+
 /// The port that a Via writes, or the default of a transport (RFC 3261 18.2.2).
 fn sent_port(over: Transport, written: Option<u16>) -> u16
     ensures { result ≡ spec.sent_port over written }
