@@ -103,13 +103,14 @@ module _ (gives : List ℕ → Type 0) (shows : ℕ → Type 0) where
     module _ (sender : Sender) where
       pub line_outcome-later : (line : Line) (line_outcome : LineOutcome) → IsLineOutcome gives shows old sender line line_outcome
           → IsLineOutcome gives shows new sender line line_outcome
-      line_outcome-later line (Became outcome) it = record {
+      line_outcome-later line (Became outcome) (inl it) = inl (record {
         request = it.request;
         is = it.is;
         place = it.place;
         became = (it.became.0, it.became.1, outcome-later it.became.0 outcome it.became.2);
         tried = it.tried;
-      }
+      })
+      line_outcome-later line (Became outcome) (inr named) = inr named
       line_outcome-later line (Tried tries) it =
           let list = it.became.1 in
           record {
@@ -135,7 +136,7 @@ module _ (gives : List ℕ → Type 0) (shows : ℕ → Type 0) where
       line_outcome-later line TimeOver it = record { request = it.request; is = it.is; place = it.place; became = tt; tried = tt }
       line_outcome-later line (Bad refusal) it = it
       line_outcome-later line NotText it = it
-      line_outcome-later line Memory it = record { request = it.request; is = it.is; place = it.place; became = tt; tried = tt }
+      line_outcome-later line Memory it = it
 
       line_outcome-of-later : (line : Line) (line_outcome : Option LineOutcome) → IsLineOutcomeOf gives shows old sender line line_outcome
           → IsLineOutcomeOf gives shows new sender line line_outcome

@@ -1,6 +1,10 @@
+mod Colons
 mod Denied
+mod Ends
+mod HostNames
 mod Later
 mod Meant
+mod OneDestination
 mod Results
 pub mod Inputs
 pub mod Told

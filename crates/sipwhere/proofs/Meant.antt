@@ -1,5 +1,5 @@
 -- Whose requests are inside a resolver, and what became of lines.
-use Rattle.std.proofs.Common.{◌≡◌, ℕ, zero, suc, false, ◌+◌, ◌-◌, ◌<◌, List, [], ◌∷◌, Option, Some, None, get_or, length, set, refl, sym, ap, subst, ◌∙◌, arith}
+use Rattle.std.proofs.Common.{◌≡◌, ℕ, zero, suc, false, ◌+◌, ◌-◌, ◌<◌, inl, inr, List, [], ◌∷◌, Option, Some, None, get_or, length, set, refl, sym, ap, subst, ◌∙◌, arith}
 use Rattle.std.specs.List.{AllZip, sum_by}
 use Rattle.std.specs.Prelude.{IfSome}
 use Rattle.std.proofs.lemmas.List.Elements.{at_read}
@@ -14,7 +14,7 @@ use Rattle.sip_resolver.specs.declared.outcome.Outcome.{Outcome}
 use Rattle.sip_selection.specs.Selections.{begun}
 use Rattle.sip_selection.specs.declared.caps.Caps.{Caps}
 use Rattle.sip_selection.specs.declared.request.Request.{Request}
-use Rattle.sipwhere.specs.LineOutcomes.{AreAlike, EndsAs, IsLineOutcome, IsOfLine, IsOnly, NeedsNoReply}
+use Rattle.sipwhere.specs.LineOutcomes.{AreAlike, EndsAs, IsLineOutcome, IsOfLine, IsOnlyLocated, NeedsNoReply}
 use Rattle.sipwhere.proofs.Later.{zip-set}
 use Rattle.sipwhere.specs.OpenLines.{AreMeant, IsLineOutcomeOf, IsMeant, IsOwn}
 use Rattle.sip_report.specs.declared.line_outcome.LineOutcome.{LineOutcome}
@@ -109,7 +109,8 @@ module _ (sender : Sender) (lines : List Line) where
       omega (arith, none)
 
   -- the one request of a line, under its place
-  module _ (place : ℕ) (line : Line) (at : line ≡ get_or lines place line) (request : Request) (only : IsOnly line.text.now request) where
+  module _ (place : ℕ) (line : Line) (at : line ≡ get_or lines place line) (request : Request)
+      (only : IsOnlyLocated sender line.text.now request) where
     abbrev one : Sought
     one = record { number = place; request = request; caps = sender.caps; words = drawn sender.key line.number; until = None }
 
@@ -134,20 +135,20 @@ module _ (sender : Sender) (lines : List Line) where
 -- ---- what became of a line
 
 module _ (gives : List ℕ → Type 0) (shows : ℕ → Type 0) (seat : SeatView) (sender : Sender) where
-  pub line_outcome-needless : (line : Line) (line_outcome : LineOutcome) → NeedsNoReply line.text.now line_outcome
+  pub line_outcome-needless : (line : Line) (line_outcome : LineOutcome) → NeedsNoReply sender line.text.now line_outcome
       → IsLineOutcome gives shows seat sender line line_outcome
-  line_outcome-needless line (Became outcome) it = absurd it
+  line_outcome-needless line (Became outcome) it = inr it
   line_outcome-needless line (Tried tries) it = absurd it
   line_outcome-needless line (NoSuchName name) it = absurd it
   line_outcome-needless line TimeOver it = record { request = it.request; is = it.is; place = 0; became = tt; tried = tt }
   line_outcome-needless line (Bad refusal) it = it
   line_outcome-needless line NotText it = it
-  line_outcome-needless line Memory it = record { request = it.request; is = it.is; place = 0; became = tt; tried = tt }
+  line_outcome-needless line Memory it = it
 
   pub line_outcome-ended : (lines : List Line) (line : Line) (ended : Sought) (outcome : Outcome) (line_outcome : LineOutcome)
-      → line ≡ get_or lines ended.number line → IsMeant sender lines ended → EndsAs gives sender.extent line.text.now outcome line_outcome
+      → line ≡ get_or lines ended.number line → IsMeant sender lines ended → EndsAs gives sender line.text.now outcome line_outcome
       → IsOutcome gives shows seat ended outcome → IsLineOutcome gives shows seat sender line line_outcome
-  line_outcome-ended lines line ended outcome (Became it) at meant ends is = record {
+  line_outcome-ended lines line ended outcome (Became it) at meant (inl ends) is = inl (record {
     request = ends.request;
     is = ends.only.is;
     place = ended.number;
@@ -157,7 +158,8 @@ module _ (gives : List ℕ → Type 0) (shows : ℕ → Type 0) (seat : SeatView
       rw ends.ends.0 is,
     );
     tried = ends.ends.1;
-  }
+  })
+  line_outcome-ended lines line ended outcome (Became it) at meant (inr named) is = inr named
   line_outcome-ended lines line ended outcome (Tried tries) at meant ends is = record {
     request = ends.request;
     is = ends.only.is;
@@ -186,8 +188,7 @@ module _ (gives : List ℕ → Type 0) (shows : ℕ → Type 0) (seat : SeatView
   line_outcome-ended lines line ended outcome TimeOver at meant ends is = absurd ends
   line_outcome-ended lines line ended outcome (Bad refusal) at meant ends is = ends
   line_outcome-ended lines line ended outcome NotText at meant ends is = ends
-  line_outcome-ended lines line ended outcome Memory at meant ends is =
-      record { request = ends.request; is = ends.is; place = 0; became = tt; tried = tt }
+  line_outcome-ended lines line ended outcome Memory at meant ends is = ends
 
   -- what became of the line at a place is kept
   pub line_outcomes-set : (lines : List Line) (line_outcomes : List (Option LineOutcome)) (place : ℕ) (line : Line)
@@ -199,7 +200,7 @@ module _ (gives : List ℕ → Type 0) (shows : ℕ → Type 0) (seat : SeatView
       zip-set (IsLineOutcomeOf gives shows seat sender) lines line_outcomes place line_outcome inside all
       (at_read lines (λ l. IsLineOutcomeOf gives shows seat sender l line_outcome) place line inside at it)
 
-  pub line_outcome-submitted : (line : Line) (line_outcome : Option LineOutcome) → IfSome line_outcome (NeedsNoReply line.text.now)
+  pub line_outcome-submitted : (line : Line) (line_outcome : Option LineOutcome) → IfSome line_outcome (NeedsNoReply sender line.text.now)
       → IsLineOutcomeOf gives shows seat sender line line_outcome
   line_outcome-submitted line None it = tt
   line_outcome-submitted line (Some line_outcome) it = line_outcome-needless line line_outcome it
@@ -207,7 +208,7 @@ module _ (gives : List ℕ → Type 0) (shows : ℕ → Type 0) (seat : SeatView
   pub line_outcomes-submitted : (lines : List Line) (line_outcomes : List (Option LineOutcome)) (place : ℕ) (d : Line)
       (line_outcome : Option LineOutcome) → place < length lines
       → AllZip (IsLineOutcomeOf gives shows seat sender) lines line_outcomes
-      → IfSome line_outcome (NeedsNoReply (get_or lines place d).text.now)
+      → IfSome line_outcome (NeedsNoReply sender (get_or lines place d).text.now)
       → AllZip (IsLineOutcomeOf gives shows seat sender) lines (set line_outcomes place line_outcome)
   line_outcomes-submitted lines line_outcomes place d line_outcome inside all it =
       let line = get_or lines place d in
@@ -217,14 +218,14 @@ module _ (gives : List ℕ → Type 0) (shows : ℕ → Type 0) (seat : SeatView
   pub line_outcomes-ended : (lines : List Line) (line_outcomes : List (Option LineOutcome)) (place : ℕ) (d : Line) (ended : Sought)
       (outcome got : Outcome)
       (line_outcome : LineOutcome) → place < length lines → place ≡ ended.number → got ≡ outcome → IsMeant sender lines ended
-      → EndsAs gives sender.extent (get_or lines place d).text.now got line_outcome → IsOutcome gives shows seat ended outcome
+      → EndsAs gives sender (get_or lines place d).text.now got line_outcome → IsOutcome gives shows seat ended outcome
       → AllZip (IsLineOutcomeOf gives shows seat sender) lines line_outcomes
       → AllZip (IsLineOutcomeOf gives shows seat sender) lines (set line_outcomes place (Some line_outcome))
   line_outcomes-ended lines line_outcomes place d ended outcome got line_outcome inside number same meant ends is all =
       let line = get_or lines place d in
       let at : line ≡ get_or lines place line = at-itself lines place d in
       let here : line ≡ get_or lines ended.number line = subst (λ n. line ≡ get_or lines n line) number at in
-      let so : EndsAs gives sender.extent line.text.now outcome line_outcome =
-      subst (λ o. EndsAs gives sender.extent line.text.now o line_outcome) same ends in
+      let so : EndsAs gives sender line.text.now outcome line_outcome =
+      subst (λ o. EndsAs gives sender line.text.now o line_outcome) same ends in
       line_outcomes-set lines line_outcomes place line (Some line_outcome) inside at all
       (line_outcome-ended lines line ended outcome line_outcome here meant so is)

@@ -1,5 +1,6 @@
 pub mod LineInputs
 pub mod OpenLines
 pub mod Denials
+pub mod Destinations
 pub mod LineOutcomes
 pub mod Runs

@@ -1,11 +1,10 @@
 -- What becomes of a text.
-use Rattle.std.specs.Prelude.{◌≡◌, ◌≢◌, ℕ, List, Option, Some, None}
+use Rattle.std.specs.Prelude.{◌≡◌, ◌≢◌, ◌⊎◌, ℕ, List, [], ◌∷◌, Option, Some, None}
 use Rattle.std.specs.Str.Pattern.{FindsChar}
 use Rattle.answer_cache.specs.Seats.{SeatView}
 use Rattle.sip_resolver.specs.Draws.{drawn}
 use Rattle.sip_resolver.specs.Outcomes.{IsOutcome, Sought}
 use Rattle.sip_selection.specs.RequestLines.{RequestText}
-use Rattle.sip_selection.specs.declared.caps.Caps.{Caps}
 use Rattle.sip_selection.specs.declared.request.Request.{Request}
 use Rattle.sip_uri.specs.declared.refusal.UriRefusal.{UriRefusal}
 use Rattle.sip_uri.specs.declared.refusal.UriRefusal.TheVariants as uri
@@ -25,6 +24,8 @@ use Rattle.sip_tries.specs.declared.tries.Extent.{Extent}
 use Rattle.sip_tries.specs.declared.tries.Tries.{Tries}
 use Rattle.sipwhere_options.specs.declared.pinging.Pinging.{Pinging}
 use Rattle.sipwhere.specs.Denials.{IsDenied}
+use Rattle.sipwhere.specs.Destinations.{IsDestination}
+use Rattle.sipwhere.specs.declared.destination.Destination.TheVariants.{Located, Named}
 
 -- no number that is made of a request tells one of two requests from the other
 abbrev pub AreAlike : Sought → Sought → Type 0
@@ -109,40 +110,57 @@ pub record IsNotText (text : List ℕ) : Type 0 where
   pub none : (request : Request) → RequestText text request → ⊥
   pub has : HasReplacement text
 
--- A text is a request, of which this may become, under whatever number a resolver had it. Its words
--- are those of its own number.
-pub record IsLocated (gives : List ℕ → Type 0) (shows : ℕ → Type 0) (seat : SeatView) (caps : Caps)
-    (extent : Option Extent) (words text : List ℕ) (line_outcome : LineOutcome) : Type 0 where
+-- a text is a request
+pub record IsRequest (text : List ℕ) : Type 0 where
   pub request : Request
   pub is : RequestText text request
+
+-- A text asks for the targets of a request, of which this may become, under whatever number a
+-- resolver had it. Its words are those of its own number.
+pub record IsLocated (gives : List ℕ → Type 0) (shows : ℕ → Type 0) (seat : SeatView)
+    (sender : Sender) (words text : List ℕ) (line_outcome : LineOutcome) : Type 0 where
+  pub request : Request
+  pub is : IsDestination sender text (Located request)
   pub place : ℕ
   pub became : MayBecome gives shows seat
-      (record { number = place; request = request; caps = caps; words = words; until = None })
+      (record {
+        number = place;
+        request = request;
+        caps = sender.caps;
+        words = words;
+        until = None;
+      })
       line_outcome
-  pub tried : IsTriedBy (extent_for extent request) line_outcome
+  pub tried : IsTriedBy (extent_for sender.extent request) line_outcome
 
--- what may become of a line: it is no request, or what becomes of its request
+-- a text asks for a target that the parameters of its Via name, and the outcome is that target
+pub record IsNamed (sender : Sender) (text : List ℕ) (it : Outcome) : Type 0 where
+  pub target : Target
+  pub is : IsDestination sender text (Named target)
+  pub only : it ≡ outcome.Targets (target ∷ [])
+
+-- What may become of a line: it is no request; or it asks for the targets of a request, and this is
+-- what becomes of that; or the parameters of its Via name its target. Of a request this may become
+-- too that memory was refused.
 abbrev pub IsLineOutcome : (List ℕ → Type 0) → (ℕ → Type 0) → SeatView → Sender → Line → LineOutcome
     → Type 0
 IsLineOutcome gives shows seat sender line (Bad refusal) = IsNoRequest line.text.now refusal
 IsLineOutcome gives shows seat sender line NotText = IsNotText line.text.now
+IsLineOutcome gives shows seat sender line Memory = IsRequest line.text.now
+IsLineOutcome gives shows seat sender line (Became it) =
+    IsLocated gives shows seat sender (drawn sender.key line.number) line.text.now (Became it)
+    ⊎ IsNamed sender line.text.now it
 IsLineOutcome gives shows seat sender line line_outcome =
-    IsLocated gives shows seat sender.caps sender.extent (drawn sender.key line.number)
-    line.text.now line_outcome
+    IsLocated gives shows seat sender (drawn sender.key line.number) line.text.now line_outcome
 
 -- ---- where a fate comes from
 
 -- the request that is submitted for a line, under whatever number
 pub record IsOfLine (sender : Sender) (line : Line) (sought : Sought) : Type 0 where
-  pub is : RequestText line.text.now sought.request
+  pub is : IsDestination sender line.text.now (Located sought.request)
   pub caps : sought.caps ≡ sender.caps
   pub words : sought.words ≡ drawn sender.key line.number
   pub until : sought.until ≡ None
-
--- a text is a request
-pub record IsRequest (text : List ℕ) : Type 0 where
-  pub request : Request
-  pub is : RequestText text request
 
 -- what became of a text of which no request was made: it is none, or memory was refused for it
 abbrev pub IsUnread : List ℕ → LineOutcome → Type 0
@@ -154,20 +172,51 @@ IsUnread text (Bad refusal) = IsNoRequest text refusal
 IsUnread text NotText = IsNotText text
 IsUnread text Memory = IsRequest text
 
--- what became of a text without a reply: it is no request, its time was over, or memory was refused
-abbrev pub NeedsNoReply : List ℕ → LineOutcome → Type 0
-NeedsNoReply text (Became outcome) = ⊥
-NeedsNoReply text (Tried tries) = ⊥
-NeedsNoReply text (NoSuchName name) = ⊥
-NeedsNoReply text TimeOver = IsRequest text
-NeedsNoReply text (Bad refusal) = IsNoRequest text refusal
-NeedsNoReply text NotText = IsNotText text
-NeedsNoReply text Memory = IsRequest text
+-- a text asks for the targets of a request
+pub record IsToBeLocated (sender : Sender) (text : List ℕ) : Type 0 where
+  pub request : Request
+  pub is : IsDestination sender text (Located request)
+
+-- what became of a text of which no request is located: it is none, its Via names its target, or
+-- memory was refused for it
+abbrev pub IsReady : Sender → List ℕ → LineOutcome → Type 0
+IsReady sender text (Became it) = IsNamed sender text it
+IsReady sender text (Tried tries) = ⊥
+IsReady sender text (NoSuchName name) = ⊥
+IsReady sender text TimeOver = ⊥
+IsReady sender text (Bad refusal) = IsNoRequest text refusal
+IsReady sender text NotText = IsNotText text
+IsReady sender text Memory = IsRequest text
+
+-- what became of a text without a reply: the same, or its time was over
+abbrev pub NeedsNoReply : Sender → List ℕ → LineOutcome → Type 0
+NeedsNoReply sender text (Became it) = IsNamed sender text it
+NeedsNoReply sender text (Tried tries) = ⊥
+NeedsNoReply sender text (NoSuchName name) = ⊥
+NeedsNoReply sender text TimeOver = IsToBeLocated sender text
+NeedsNoReply sender text (Bad refusal) = IsNoRequest text refusal
+NeedsNoReply sender text NotText = IsNotText text
+NeedsNoReply sender text Memory = IsRequest text
 
 -- a text is this request, and no other (RFC 3261 25.1)
 pub record IsOnly (text : List ℕ) (request : Request) : Type 0 where
   pub is : RequestText text request
   pub only : (other : Request) → RequestText text other → request ≡ other
+
+-- a text asks for the targets of this request, and for nothing else
+pub record IsOnlyLocated (sender : Sender) (text : List ℕ) (request : Request) : Type 0 where
+  pub is : IsDestination sender text (Located request)
+  pub only : (other : Request) → IsDestination sender text (Located other) → request ≡ other
+
+-- what became of a text whose target this is, where memory was not refused
+abbrev pub IsNamedAs : Target → LineOutcome → Type 0
+IsNamedAs target (Became it) = it ≡ outcome.Targets (target ∷ [])
+IsNamedAs target (Tried tries) = ⊥
+IsNamedAs target (NoSuchName name) = ⊥
+IsNamedAs target TimeOver = ⊥
+IsNamedAs target (Bad refusal) = ⊥
+IsNamedAs target NotText = ⊥
+IsNamedAs target Memory = Unit {0}
 
 -- what becomes of targets that are tried so far, where memory was not refused
 abbrev pub IsTriedOf : Extent → List Target → LineOutcome → Type 0
@@ -205,20 +254,21 @@ EndsSo gives extent request outcome (Bad refusal) = ⊥
 EndsSo gives extent request outcome NotText = ⊥
 EndsSo gives extent request outcome Memory = Unit {0}
 
--- a text is a request that ended so
-pub record IsEnded (gives : List ℕ → Type 0) (extent : Option Extent) (text : List ℕ)
+-- a text asks for the targets of a request that ended so
+pub record IsEnded (gives : List ℕ → Type 0) (sender : Sender) (text : List ℕ)
     (outcome : Outcome) (line_outcome : LineOutcome) : Type 0 where
   pub request : Request
-  pub only : IsOnly text request
-  pub ends : EndsSo gives extent request outcome line_outcome
+  pub only : IsOnlyLocated sender text request
+  pub ends : EndsSo gives sender.extent request outcome line_outcome
 
--- the request of a text ended so; or the text is no request, or memory was refused for it
-abbrev pub EndsAs : (List ℕ → Type 0) → Option Extent → List ℕ → Outcome → LineOutcome → Type 0
-EndsAs gives extent text outcome (Became it) = IsEnded gives extent text outcome (Became it)
-EndsAs gives extent text outcome (Tried tries) = IsEnded gives extent text outcome (Tried tries)
-EndsAs gives extent text outcome (NoSuchName name) =
-    IsEnded gives extent text outcome (NoSuchName name)
-EndsAs gives extent text outcome TimeOver = ⊥
-EndsAs gives extent text outcome (Bad refusal) = IsNoRequest text refusal
-EndsAs gives extent text outcome NotText = IsNotText text
-EndsAs gives extent text outcome Memory = IsRequest text
+-- the request of a text ended so; or no request of the text is located
+abbrev pub EndsAs : (List ℕ → Type 0) → Sender → List ℕ → Outcome → LineOutcome → Type 0
+EndsAs gives sender text outcome (Became it) =
+    IsEnded gives sender text outcome (Became it) ⊎ IsNamed sender text it
+EndsAs gives sender text outcome (Tried tries) = IsEnded gives sender text outcome (Tried tries)
+EndsAs gives sender text outcome (NoSuchName name) =
+    IsEnded gives sender text outcome (NoSuchName name)
+EndsAs gives sender text outcome TimeOver = ⊥
+EndsAs gives sender text outcome (Bad refusal) = IsNoRequest text refusal
+EndsAs gives sender text outcome NotText = IsNotText text
+EndsAs gives sender text outcome Memory = IsRequest text

@@ -5,6 +5,7 @@ ghost use Rattle.std.specs.Prelude.{◌≡◌, ◌≤◌, IfOk, IsFalse, IsTrue}
 ghost use Rattle.sip_report.specs.declared.report.Report.TheVariants.{Check};
 
 mod counting_book;
+mod destination;
 mod line;
 mod line_input;
 mod noting_wire;

@@ -226,7 +226,11 @@ impl<'a, B: AnswerBook + Drop, W: MessageWire, C: Clock> OpenLines<'a, B, W, C> 
             → Stands W.gives C.shows seat self.new }
     {
         let _was_inside = cancel_over(&mut self.resolver, wire, place as u64);
-        self.line_outcomes[place] = Some(line_outcome_in_vain(self.alloc, self.lines[place].text));
+        self.line_outcomes[place] = Some(line_outcome_in_vain(
+            self.alloc,
+            &self.sender,
+            self.lines[place].text,
+        ));
     }
 
     /// Whether the time of the line at a place is over by now.
@@ -294,7 +298,7 @@ impl<'a, B: AnswerBook + Drop, W: NameNotes, C: Clock + Timer> OpenLines<'a, B, 
             self.alloc,
             wire,
             pinger,
-            self.sender.extent,
+            &self.sender,
             text,
             ended.into_outcome(),
         ));

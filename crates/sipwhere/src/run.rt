@@ -259,6 +259,7 @@ fn sender_of(options: &Options<'_>, plan: &Plan, key: [u8; 32]) -> Sender
     ensures schedule { result.schedule ≡ plan.now.schedule }
     ensures total { as_nanos result.total ≡ options.now.total * 1000000 }
     ensures extent { result.extent ≡ extent_of options.now.pinging }
+    ensures sent_by { result.by_sent_by ≡ options.now.by_sent_by }
 {
     Sender {
         caps: options.caps,
@@ -266,6 +267,7 @@ fn sender_of(options: &Options<'_>, plan: &Plan, key: [u8; 32]) -> Sender
         schedule: plan.schedule,
         total: total_of(options),
         extent: extent_of(options.pinging),
+        by_sent_by: options.by_sent_by,
     }
 }
 

@@ -5,7 +5,7 @@ use sip_tries::Extent;
 use std::time::Duration;
 
 /// What can be sent, the key of the random words and ids, how often each question is sent, how long
-/// one text may take, and whether targets are tried.
+/// one text may take, whether targets are tried, and whether the parameters of Vias count.
 #[derive(Clone, Copy, Debug)]
 pub struct Sender {
     /// The transports and families of addresses.
@@ -18,4 +18,6 @@ pub struct Sender {
     pub total: Duration,
     /// How far the targets of URIs are tried, if they are.
     pub extent: Option<Extent>,
+    /// Whether a Via is located by its sent-by alone, whatever its parameters say.
+    pub by_sent_by: bool,
 }

@@ -9,6 +9,7 @@ ghost use Rattle.sip_tries.specs.declared.tries.Extent.{Extent};
 ghost use Rattle.sipwhere.specs.LineOutcomes as spec;
 ghost use Rattle.sipwhere.specs.LineOutcomes.{EndsAs, EndsSo, IsMissing, IsOfLine, NeedsNoReply, without_address};
 
+use crate::destination::{Destination, destination_of};
 use crate::line::Line;
 use crate::noting_wire::NameNotes;
 use crate::sender::Sender;
@@ -16,9 +17,9 @@ use answer_cache::AnswerBook;
 use dns_name::Name;
 use sip_report::LineOutcome;
 use sip_resolver::{Ids, Origin, Outcome, Resolver, TargetList, draw_words};
-use sip_selection::{Reason, Request, read_request};
+use sip_selection::{Reason, Request, Target, read_request};
 use sip_tries::{Extent, Pinger, try_targets};
-use sip_uri::{Host, UriRefusal};
+use sip_uri::{Host, UriRefusal, law_one_route_of_a_text};
 use std::alloc::Global;
 
 /// Whether a text has the character that stands for octets that are no UTF-8.
@@ -44,8 +45,33 @@ fn request_of(alloc: Global, text: &str) -> Result<Request, LineOutcome>
     }
 }
 
+/// What became of a text that asks for this target.
+fn named(alloc: Global, target: Target) -> LineOutcome
+    ensures { spec.IsNamedAs target result }
+{
+    match Vec::from_slice(alloc, &[target]) {
+        Ok(targets) => LineOutcome::Became(Outcome::Targets(TargetList::from_vec(targets))),
+        Err(_) => LineOutcome::Memory,
+    }
+}
+
+/// The request that is located for a text, or what became of the text already: it is none, it asks
+/// for a target that the parameters of its Via name, or memory was refused for it.
+fn located_of(alloc: Global, sender: &Sender, text: &str) -> Result<Request, LineOutcome>
+    ensures found { IfOk result (spec.IsOnlyLocated sender.now text.now) }
+    ensures ready { IfErr result (spec.IsReady sender.now text.now) }
+{
+    law_one_route_of_a_text();
+    let request = request_of(alloc, text)?;
+    match destination_of(alloc, sender, text, request) {
+        Ok(Destination::Located(request)) => Ok(request),
+        Ok(Destination::Named(target)) => Err(named(alloc, target)),
+        Err(_) => Err(LineOutcome::Memory),
+    }
+}
+
 /// Hands the request of a text to a resolver, under this number, or gives what became of the text
-/// already: it is no request, or memory was refused.
+/// already: it is no request, it asks for a target that its Via names, or memory was refused.
 pub fn submit<B: AnswerBook, F: Origin, I: Ids + Drop>(
     alloc: Global,
     resolver: &mut Resolver<B, F, I>,
@@ -60,9 +86,9 @@ pub fn submit<B: AnswerBook, F: Origin, I: Ids + Drop>(
         → ((sought : Sought) → sought.number ≡ number → IsOfLine sender.now line.now sought
         → h sought ≡ 0)
         → weight h resolver.new.requests ≡ weight h resolver.old.requests }
-    ensures line_outcome { IfSome result (NeedsNoReply line.now.text.now) }
+    ensures line_outcome { IfSome result (NeedsNoReply sender.now line.now.text.now) }
 {
-    let request = match request_of(alloc, line.text) {
+    let request = match located_of(alloc, sender, line.text) {
         Ok(request) => request,
         Err(line_outcome) => return Some(line_outcome),
     };
@@ -172,23 +198,23 @@ pub fn line_outcome_of<W: NameNotes, P: Pinger>(
     alloc: Global,
     wire: &W,
     pinger: &mut P,
-    extent: Option<Extent>,
+    sender: &Sender,
     text: &str,
     outcome: Outcome,
 ) -> LineOutcome
-    ensures { EndsAs W.gives extent text.now outcome result }
+    ensures { EndsAs W.gives sender.now text.now outcome result }
 {
-    match request_of(alloc, text) {
-        Ok(request) => became(alloc, wire, pinger, extent, &request, outcome),
+    match located_of(alloc, sender, text) {
+        Ok(request) => became(alloc, wire, pinger, sender.extent, &request, outcome),
         Err(line_outcome) => line_outcome,
     }
 }
 
 /// What became of a text whose time is over.
-pub fn line_outcome_in_vain(alloc: Global, text: &str) -> LineOutcome
-    ensures { NeedsNoReply text.now result }
+pub fn line_outcome_in_vain(alloc: Global, sender: &Sender, text: &str) -> LineOutcome
+    ensures { NeedsNoReply sender.now text.now result }
 {
-    match request_of(alloc, text) {
+    match located_of(alloc, sender, text) {
         Ok(_) => LineOutcome::TimeOver,
         Err(line_outcome) => line_outcome,
     }

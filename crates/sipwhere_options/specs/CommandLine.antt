@@ -211,6 +211,7 @@ pub record AreOptions (matches : ArgMatches) (terminals : Terminals) (options : 
     pub edns : MaySay (NumberText 16) (one_text (found_of matches) (codes "edns"))
         options.query_form.edns
     pub caps : AreCaps matches options.caps
+    pub by_sent_by : IsFlag matches (codes "sent-by") options.by_sent_by
     pub timing : AreTimings matches options.timing
     pub total : IsTotal (one_text (found_of matches) (codes "total")) options.total
     pub seed : Says SeedText (word_of matches (codes "seed")) options.seed

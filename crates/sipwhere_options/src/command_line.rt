@@ -104,12 +104,22 @@ fn length<'a>(alloc: Global) -> Arg<'a> {
     .value_parser(value_parser!(u32))
 }
 
+/// The option of responses.
+fn sent_by<'a>(alloc: Global) -> Arg<'a> {
+    flag(
+        alloc,
+        "sent-by",
+        "Of a Via the host and port in front, whatever received, rport and maddr say",
+    )
+}
+
 /// With the options of what can be sent.
 fn with_sender<'a>(alloc: Global, command: Command<'a>) -> Result<Command<'a>, AllocError> {
     command
         .arg(families(alloc))?
         .arg(transports(alloc))?
-        .arg(length(alloc))
+        .arg(length(alloc))?
+        .arg(sent_by(alloc))
 }
 
 /// The option of how long a query is waited for.

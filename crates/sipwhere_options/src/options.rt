@@ -47,6 +47,8 @@ pub struct Options<'a> {
     pub query_form: QueryForm,
     /// What can be sent: transports and families of addresses.
     pub caps: Caps,
+    /// Whether a Via is located by its sent-by alone, whatever its parameters say.
+    pub by_sent_by: bool,
     /// How long each query is waited for, and how often each question is sent.
     pub timing: Timing,
     /// How long one text may take, in milliseconds.
@@ -457,6 +459,7 @@ pub fn read_options<'a>(
         local: local_of(matches.get_str("bind"))?,
         query_form: query_form_of(matches),
         caps: caps_in(alloc, matches)?,
+        by_sent_by: is_set(matches, "sent-by"),
         timing: timing_of(matches),
         total: total_of(matches),
         seed: seed_of(matches.get_str("seed"))?,
