@@ -5,6 +5,8 @@ use Rattle.std.specs.Option.{option_map}
 use Rattle.ip_text.specs.declared.address.Address.{Address}
 use Rattle.ip_text.specs.declared.address.Address.TheVariants.{V4, V6}
 use Rattle.sip_uri.specs.ViaRoutes.{SameRoute, ViaRouteText}
+use Rattle.sip_uri.specs.Uris.{UriText}
+use Rattle.sip_uri.specs.Vias.{ViaText}
 use Rattle.sip_uri.specs.Views.{host_of}
 use Rattle.sip_uri.specs.declared.host.Host.{Host}
 use Rattle.sip_uri.specs.declared.host.Host.TheVariants as host
@@ -12,6 +14,7 @@ use Rattle.sip_uri.specs.declared.host_part.HostPart.{HostPart}
 use Rattle.sip_uri.specs.declared.host_part.HostPart.TheVariants as part
 use Rattle.sip_uri.specs.declared.route_params.RouteParams.{RouteParams}
 use Rattle.sip_uri.specs.declared.transport.Transport.{Transport}
+use Rattle.sip_uri.specs.declared.uri.SipUri.{SipUri}
 use Rattle.sip_uri.specs.declared.via.Via.{Via as ViaValue}
 use Rattle.sip_response.specs.Routes.{is_reliable, sent_port, rport_port, endpoint, past_connection, OverConnection, again, straight, ByDatagram, maddr, maddr_name, rport, received, sent_by, IsRoute, connection, datagram}
 use Rattle.sip_response.specs.Sources.{address_of}
@@ -20,7 +23,7 @@ use Rattle.sip_response.specs.declared.route.Step.{Step}
 use Rattle.sip_selection.specs.RequestLines.{RequestText}
 use Rattle.sip_selection.specs.declared.request.Request.{Request}
 use Rattle.sip_selection.specs.declared.request.Request.TheVariants.{Uri, Via}
-use Rattle.sipwhere.proofs.Colons.{one-rest}
+use Rattle.sipwhere.proofs.Colons.{not-both, one-rest}
 use Rattle.sipwhere.specs.Destinations.{IsDestination, IsOfRequest, IsOfVia, IsStep, by_way, target_at, transport_for}
 use Rattle.sipwhere.specs.declared.destination.Destination.{Destination}
 use Rattle.sipwhere.specs.declared.destination.Destination.TheVariants.{Located}
@@ -30,6 +33,14 @@ use Rattle.sipwhere.specs.declared.sender.Sender.{Sender}
 abbrev pub OneRoute : Type 0
 OneRoute = (text : List ℕ) (via via' : ViaValue) (route route' : RouteParams) → ViaRouteText text via route
     → ViaRouteText text via' route' → SameRoute route route'
+
+-- a text is one URI
+abbrev pub OneUri : Type 0
+OneUri = (text : List ℕ) (uri uri' : SipUri) → UriText text uri → UriText text uri' → uri ≡ uri'
+
+-- a text is one Via
+abbrev pub OneVia : Type 0
+OneVia = (text : List ℕ) (via via' : ViaValue) → ViaText text via → ViaText text via' → via ≡ via'
 
 module _ (via : ViaValue) (over : Transport) where
   -- ---- over a connection
@@ -113,12 +124,22 @@ module _ (law : OneRoute) (text : List ℕ) where
   one-of-request sender (Uri uri) it other is also = is ∙ sym also
   one-of-request sender (Via via) it other is also = one-of-via via (transport_for sender via.transport) it other is also
 
-  -- what a text asks for, that is this request alone, goes to one destination
-  pub one-destination : (sender : Sender) (request : Request) (it other : Destination)
-      → ((found : Request) → RequestText text found → request ≡ found)
-      → IsOfRequest sender text request it → IsDestination sender text other → it ≡ other
-  one-destination sender request it other only is also =
-      one-of-request sender request it other is (subst (λ r. IsOfRequest sender text r other) (sym (only also.request also.is)) also.of)
+  -- a text spells one request
+  one-request : OneUri → OneVia → (request other : Request) → RequestText text request → RequestText text other → request ≡ other
+  one-request uris vias (Uri uri) (Uri other) is also = ap Uri (uris text uri other is also)
+  one-request uris vias (Uri uri) (Via other) is also = absurd (not-both text also.0 uri is also.1)
+  one-request uris vias (Via via) (Uri other) is also = absurd (not-both text is.0 other also is.1)
+  one-request uris vias (Via via) (Via other) is also =
+      let rest : also.0 ≡ is.0 = one-rest text also.0 is.0 also.1 is.1 in
+      let here : ViaText is.0 other = rw rest at also.2 in
+      ap Via (vias is.0 via other is.2 here)
+
+  -- what a text asks for goes to one destination
+  pub one-destination : OneUri → OneVia → (sender : Sender) (it other : Destination) → IsDestination sender text it
+      → IsDestination sender text other → it ≡ other
+  one-destination uris vias sender it other is also =
+      let same : also.request ≡ is.request = one-request uris vias also.request is.request also.is is.is in
+      one-of-request sender is.request it other is.of (subst (λ r. IsOfRequest sender text r other) same also.of)
 
 -- where that is the targets of a request, it is this request
 pub same-located : (request other : Request) → Located request ≡ Located other → request ≡ other

@@ -7,11 +7,16 @@ ghost use Rattle.sip_selection.specs.RequestLines.{BeginsVia, RequestText};
 ghost use Rattle.sip_selection.specs.declared.request.Request.TheVariants as request;
 ghost use Rattle.sip_uri.specs.declared.via.Via.{Via};
 ghost use Rattle.sipwhere.specs.Destinations as spec;
+ghost use Rattle.sipwhere.specs.declared.destination.Destination.{Destination};
+ghost use Rattle.sipwhere.specs.declared.sender.Sender.{Sender};
 
 use crate::sender::Sender;
 use sip_response::{Endpoint, Step, response_route};
 use sip_selection::{Caps, Request, Target};
-use sip_uri::{Host, Spoken, Transport, Via, name_of_hostname, view_via_route};
+use sip_uri::{
+    Host, Spoken, Transport, Via, law_one_route_of_a_text, law_one_uri_of_a_text,
+    law_one_via_of_a_text, name_of_hostname, view_via_route,
+};
 use std::alloc::{AllocError, Global};
 
 /// Where what a text asks for goes.
@@ -153,4 +158,14 @@ pub fn destination_of(
         Request::Uri(uri) => Ok(Destination::Located(Request::Uri(uri))),
         Request::Via(via) => of_via(alloc, sender, text, via),
     }
+}
+
+/// What a text asks for goes to one destination.
+pub fn law_one_destination_of_a_text()
+    ensures { (sender : Sender) (text : List ℕ) (it other : Destination)
+        → spec.IsDestination sender text it → spec.IsDestination sender text other → it ≡ other }
+{
+    law_one_uri_of_a_text();
+    law_one_via_of_a_text();
+    law_one_route_of_a_text();
 }

@@ -9,7 +9,7 @@ ghost use Rattle.sip_tries.specs.declared.tries.Extent.{Extent};
 ghost use Rattle.sipwhere.specs.LineOutcomes as spec;
 ghost use Rattle.sipwhere.specs.LineOutcomes.{EndsAs, EndsSo, IsMissing, IsOfLine, NeedsNoReply, without_address};
 
-use crate::destination::{Destination, destination_of};
+use crate::destination::{Destination, destination_of, law_one_destination_of_a_text};
 use crate::line::Line;
 use crate::noting_wire::NameNotes;
 use crate::sender::Sender;
@@ -19,7 +19,7 @@ use sip_report::LineOutcome;
 use sip_resolver::{Ids, Origin, Outcome, Resolver, TargetList, draw_words};
 use sip_selection::{Reason, Request, Target, read_request};
 use sip_tries::{Extent, Pinger, try_targets};
-use sip_uri::{Host, UriRefusal, law_one_route_of_a_text};
+use sip_uri::{Host, UriRefusal};
 use std::alloc::Global;
 
 /// Whether a text has the character that stands for octets that are no UTF-8.
@@ -61,7 +61,7 @@ fn located_of(alloc: Global, sender: &Sender, text: &str) -> Result<Request, Lin
     ensures found { IfOk result (spec.IsOnlyLocated sender.now text.now) }
     ensures ready { IfErr result (spec.IsReady sender.now text.now) }
 {
-    law_one_route_of_a_text();
+    law_one_destination_of_a_text();
     let request = request_of(alloc, text)?;
     match destination_of(alloc, sender, text, request) {
         Ok(Destination::Located(request)) => Ok(request),
