@@ -3,5 +3,5 @@ use Rattle.sipwhere.proofs.destination.law_one_destination_of_a_text.Goals as go
 
 pub returns : goal.returns
 returns c = λ sender text it other is also.
-    one-destination c.law_one_route_of_a_text.ensures text c.law_one_uri_of_a_text.ensures c.law_one_via_of_a_text.ensures sender it other is
-    also
+    one-destination c.law_one_route_of_a_text.ensures text c.law_one_uri_of_a_text.ensures c.law_one_via_of_a_text.ensures sender it other
+    is also
