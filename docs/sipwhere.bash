@@ -9,7 +9,7 @@ _sipwhere() {
         -t | --transports) mapfile -t COMPREPLY < <(compgen -W 'udp tcp tls sctp' -- "$word") ;;
         *)
             mapfile -t COMPREPLY < <(compgen -W '--server --resolver-file --tcp --bind --norecurse --edns --families
-                --transports --length --sent-by --timeout --tries --total --seed --short --json --check --warning --critical
+                --transports --length --fixed-order --sent-by --timeout --tries --total --seed --short --json --check --warning --critical
                 --warning-targets --critical-targets --expect --ping --all --hop --wait --metrics --trace --verbose --stats --help --version' -- "$word")
             ;;
     esac

@@ -114,11 +114,13 @@ pub record AreNotOffered (words : List (List ℕ)) : Type 0 where
   pub spelled : AllZip IsTransport words transports
   pub refused : AreOffered transports → ⊥
 
--- what can be sent of any request, by the words of transports and families
+-- what can be sent of any request, by the words of transports and families, and whether records
+-- that tie come in one fixed order (RFC 3263 4.4)
 pub record AreNamed (matches : ArgMatches) (caps : CapsValue) : Type 0 where
   pub transports : AreTransports (words_of matches (codes "transports")) caps.transports
   pub families : families_or_both (word_of matches (codes "families")) ≡ Some caps.families
   pub any : caps.is_large ≡ false
+  pub fixed : IsFlag matches (codes "fixed-order") caps.is_fixed
 
 -- What can be sent of requests of a length, where it is given: without UDP where they are too large
 -- for it (RFC 3261 18.1.1), and else the same. The path's MTU is not known.
@@ -140,13 +142,15 @@ abbrev pub IsLength : ArgMatches → Option ℕ → Type 0
 IsLength matches octets =
     MaySay (NumberText 32) (one_text (found_of matches) (codes "length")) octets
 
--- what can be sent
+-- what can be sent; whether records that tie come in one fixed order is as the word says, whatever
+-- the length
 pub record AreCaps (matches : ArgMatches) (caps : CapsValue) : Type 0 where
   pub named : CapsValue
   pub are_named : AreNamed matches named
   pub octets : Option ℕ
   pub given : IsLength matches octets
   pub sized : IsSized octets named caps
+  pub fixed : IsFlag matches (codes "fixed-order") caps.is_fixed
 
 -- nothing can be sent, since requests are too large
 pub record AreTooLarge (matches : ArgMatches) : Type 0 where

@@ -104,6 +104,15 @@ fn length<'a>(alloc: Global) -> Arg<'a> {
     .value_parser(value_parser!(u32))
 }
 
+/// The option of a stateless proxy.
+fn fixed_order<'a>(alloc: Global) -> Arg<'a> {
+    flag(
+        alloc,
+        "fixed-order",
+        "One order of records that tie, as a stateless proxy needs it (RFC 3263 4.4)",
+    )
+}
+
 /// The option of responses.
 fn sent_by<'a>(alloc: Global) -> Arg<'a> {
     flag(
@@ -119,6 +128,7 @@ fn with_sender<'a>(alloc: Global, command: Command<'a>) -> Result<Command<'a>, A
         .arg(families(alloc))?
         .arg(transports(alloc))?
         .arg(length(alloc))?
+        .arg(fixed_order(alloc))?
         .arg(sent_by(alloc))
 }
 

@@ -278,6 +278,7 @@ fn caps_of(transports: &[Transport], families: Families) -> Result<Caps, OptionF
       transports = transports.now;
       families = families;
       is_large = false;
+      is_fixed = false;
     }) }
     ensures offered { OnOk result (AreOffered transports.now) }
     ensures refused { IfErr result
@@ -289,6 +290,18 @@ fn caps_of(transports: &[Transport], families: Families) -> Result<Caps, OptionF
     }
 }
 
+/// The same, with one fixed order of records that tie where it is wanted.
+fn in_order(caps: Caps, is_fixed: bool) -> Caps
+    requires { caps.is_fixed ≡ false }
+    ensures { result ≡ record caps { is_fixed = is_fixed } }
+{
+    if is_fixed {
+        caps.with_fixed_order()
+    } else {
+        caps
+    }
+}
+
 /// What can be sent of any request.
 fn named_caps(alloc: Global, matches: &ArgMatches<'_>) -> Result<Caps, OptionFault>
     ensures read { IfOk result (spec.AreNamed matches.now) }
@@ -296,12 +309,14 @@ fn named_caps(alloc: Global, matches: &ArgMatches<'_>) -> Result<Caps, OptionFau
 {
     let transports = transports_in(alloc, matches)?;
     let families = families_or_both(matches.get_str("families"))?;
-    caps_of(transports.as_slice(), families)
+    let caps = caps_of(transports.as_slice(), families)?;
+    Ok(in_order(caps, is_set(matches, "fixed-order")))
 }
 
 /// What can be sent of requests of a length, where it is given.
 fn caps_for(caps: &Caps, length: Option<u32>) -> Option<Caps>
     ensures sized { IfSome result (spec.IsSized length caps.now) }
+    ensures fixed { IfSome result (λ sized. sized.is_fixed ≡ caps.now.is_fixed) }
     ensures none { result ≡ None → spec.HasNoTransport length caps.now }
 {
     match length {
