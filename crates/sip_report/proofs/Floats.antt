@@ -1,23 +1,69 @@
 -- What is written of a text has no float.
-use Rattle.std.proofs.Common.{◌≡◌, ℕ, false, List, [], ◌∷◌, map, refl}
+use Rattle.std.proofs.Common.{◌≡◌, ◌||◌, ℕ, Bool, true, false, true≢false, codes, List, [], ◌∷◌, map, Ordering, Less, Equal, Greater, nat_cmp, refl}
+use Rattle.std.specs.Cmp.Lexicographic.{slice_cmp}
+use Rattle.std.specs.Ordering.{match_ordering}
 use Rattle.dns_answers.specs.declared.refusal.ReplyRefusal.TheVariants as refusal
 use Rattle.serde_json.specs.View.{items_of}
-use Rattle.serde_json.specs.Written.{has_float, items_have_float}
+use Rattle.serde_json.specs.Data.{Data, Members, null, boolean, array, member, no_members, number, object, put, string}
+use Rattle.serde_json.specs.Written.{has_float, items_have_float, members_have_float}
 use Rattle.sip_resolver.specs.declared.outcome.Outcome.TheVariants as outcome
 use Rattle.sip_selection.specs.declared.target.Target.{Target}
 use Rattle.sip_ping.specs.declared.answer.Answer.TheVariants as answer
 use Rattle.sip_tries.specs.declared.found.Found.{Found}
 use Rattle.sip_tries.specs.declared.found.Found.TheVariants as found
 use Rattle.sip_tries.specs.declared.found.TargetTry.{TargetTry}
-use Rattle.sip_report.specs.Jsons.{found_data, line_outcome_data, target_data, try_data}
+use Rattle.sip_uri.specs.declared.transport.Transport.{Transport}
+use Rattle.sip_uri.specs.declared.transport.Transport.TheVariants.{Udp, Tcp, Sctp, Tls}
+use Rattle.sip_report.specs.Hosts.{host_words}
+use Rattle.sip_report.specs.Jsons.{found_data, line_outcome_data, place_data, target_data, try_data, verified, with_text}
 use Rattle.sip_report.specs.declared.address.AddressForm.{AddressForm}
 use Rattle.sip_report.specs.declared.line_outcome.LineOutcome.{LineOutcome}
 use Rattle.sip_report.specs.declared.line_outcome.LineOutcome.TheVariants as line_outcome
 
-none_in_targets : (form : AddressForm) (targets : List Target)
-    → items_have_float (items_of (map (target_data form) targets)) ≡ false
-none_in_targets form [] = refl
-none_in_targets form (target ∷ targets) = none_in_targets form targets
+-- ---- one member more
+
+both_false : (a b : Bool) → (a || b) ≡ false → (a ≡ false) × (b ≡ false)
+both_false true b e = absurd (true≢false e)
+both_false false b e = (refl, e)
+
+none_in_order : (order : Ordering) (before at behind : Members) → members_have_float before ≡ false
+    → members_have_float at ≡ false → members_have_float behind ≡ false
+    → members_have_float (match_ordering order before at behind) ≡ false
+none_in_order Less before at behind first second third = first
+none_in_order Equal before at behind first second third = second
+none_in_order Greater before at behind first second third = third
+
+none_in_put : (key text : List ℕ) (members : Members) → members_have_float members ≡ false
+    → members_have_float (put key (string text) members) ≡ false
+none_in_put key text no_members none = refl
+none_in_put key text (member other data' members) none =
+    let parts = both_false (has_float data') (members_have_float members) none in
+    none_in_order (slice_cmp nat_cmp key other) (member key (string text) (member other data' members))
+    (member other (string text) members) (member other data' (put key (string text) members)) none parts.1
+    (rw parts.0 (none_in_put key text members parts.1))
+
+none_in_text : (key text : List ℕ) (it : Data) → has_float it ≡ false → has_float (with_text key text it) ≡ false
+none_in_text key text (object members) none = none_in_put key text members none
+none_in_text key text (array items) none = none
+none_in_text key text (string other) none = none
+none_in_text key text (number value) none = none
+none_in_text key text (boolean value) none = none
+none_in_text key text null none = none
+
+none_in_verified : (verify : List ℕ) (transport : Transport) (it : Data) → has_float it ≡ false
+    → has_float (verified verify transport it) ≡ false
+none_in_verified verify Tls it none = none_in_text (codes "verify") verify it none
+none_in_verified verify Udp it none = none
+none_in_verified verify Tcp it none = none
+none_in_verified verify Sctp it none = none
+
+-- ---- targets
+
+none_in_targets : (form : AddressForm) (verify : List ℕ) (targets : List Target)
+    → items_have_float (items_of (map (target_data form verify) targets)) ≡ false
+none_in_targets form verify [] = refl
+none_in_targets form verify (target ∷ targets) =
+    rw (none_in_verified verify target.transport (place_data form target) refl) (none_in_targets form verify targets)
 
 none_in_found : (form : AddressForm) (target : Target) (it : Found) → has_float (found_data form target it) ≡ false
 none_in_found form target (found.Asked (answer.Replied reply)) = refl
@@ -26,14 +72,17 @@ none_in_found form target (found.Asked answer.Refused) = refl
 none_in_found form target (found.Asked answer.Unreadable) = refl
 none_in_found form target found.Untried = refl
 
-none_in_tries : (form : AddressForm) (tries : List TargetTry)
-    → items_have_float (items_of (map (try_data form) tries)) ≡ false
-none_in_tries form [] = refl
-none_in_tries form (it ∷ tries) = rw (none_in_found form it.target it.found) (none_in_tries form tries)
+none_in_tries : (form : AddressForm) (verify : List ℕ) (tries : List TargetTry)
+    → items_have_float (items_of (map (try_data form verify) tries)) ≡ false
+none_in_tries form verify [] = refl
+none_in_tries form verify (it ∷ tries) =
+    let none = none_in_found form it.target it.found in
+    rw (none_in_verified verify it.target.transport (found_data form it.target it.found) none) (none_in_tries form verify tries)
 
 pub none : (form : AddressForm) (text : List ℕ) (took : ℕ) (it : LineOutcome)
     → has_float (line_outcome_data form text took it) ≡ false
-none form text took (line_outcome.Became (outcome.Targets list)) = rw (none_in_targets form list) refl
+none form text took (line_outcome.Became (outcome.Targets list)) =
+    rw (none_in_targets form (host_words form list.certificate_host) list.targets) refl
 none form text took (line_outcome.Became (outcome.Refused reason)) = refl
 none form text took (line_outcome.Became (outcome.NoAnswer question)) = refl
 none form text took (line_outcome.Became (outcome.NoServer question)) = refl
@@ -44,7 +93,8 @@ none form text took (line_outcome.Became (outcome.BadReply question (refusal.Ser
 none form text took (line_outcome.Became (outcome.BadReply question refusal.Memory)) = refl
 none form text took (line_outcome.Became outcome.Memory) = refl
 none form text took (line_outcome.Tried tries) =
-    rw (none_in_targets form tries.targets.items, none_in_tries form tries.tries.items) refl
+    let verify = host_words form tries.certificate_host in
+    rw (none_in_targets form verify tries.targets.items, none_in_tries form verify tries.tries.items) refl
 none form text took (line_outcome.NoSuchName name) = refl
 none form text took line_outcome.TimeOver = refl
 none form text took (line_outcome.Bad why) = refl

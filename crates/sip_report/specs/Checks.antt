@@ -136,7 +136,7 @@ tries_line form limits took verdict tries =
 -- the line for a monitoring system of what became of a request
 abbrev pub outcome_line : AddressForm → CheckLimits → ℕ → Verdict → Outcome → List ℕ
 outcome_line form limits took verdict (outcome.Targets list) =
-    targets_line form limits took verdict list
+    targets_line form limits took verdict list.targets
 outcome_line form limits took verdict (outcome.Refused reason) =
     outcome_lines form (codes "SIP CRITICAL - ") (outcome.Refused reason)
 outcome_line form limits took verdict (outcome.NoAnswer question) =

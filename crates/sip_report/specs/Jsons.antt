@@ -5,7 +5,7 @@ use Rattle.dns_name.specs.Texts.{text_of}
 use Rattle.dns_answers.specs.declared.refusal.ReplyRefusal.{ReplyRefusal}
 use Rattle.dns_answers.specs.declared.refusal.ReplyRefusal.TheVariants as refusal
 use Rattle.dns_message.specs.declared.question.Question.{Question}
-use Rattle.serde_json.specs.Data.{Data, Members, array, member, no_members, number, object, string, unsigned}
+use Rattle.serde_json.specs.Data.{Data, Members, null, boolean, array, member, no_members, number, object, put, string, unsigned}
 use Rattle.serde_json.specs.View.{items_of}
 use Rattle.serde_json.specs.Written.{compact_text}
 use Rattle.sip_ping.specs.declared.answer.Answer.TheVariants.{Replied, Silent, Refused, Unreadable}
@@ -16,7 +16,10 @@ use Rattle.sip_tries.specs.declared.tries.Tries.{Tries}
 use Rattle.sip_resolver.specs.declared.outcome.Outcome.{Outcome}
 use Rattle.sip_resolver.specs.declared.outcome.Outcome.TheVariants as outcome
 use Rattle.sip_selection.specs.declared.target.Target.{Target}
+use Rattle.sip_uri.specs.declared.transport.Transport.{Transport}
+use Rattle.sip_uri.specs.declared.transport.Transport.TheVariants.{Udp, Tcp, Sctp, Tls}
 use Rattle.sip_report.specs.Addresses.{address_words}
+use Rattle.sip_report.specs.Hosts.{host_words}
 use Rattle.sip_report.specs.Lines.{found_words, kind_word, reason_word, request_word, status_of_tries, transport_word}
 use Rattle.sip_report.specs.declared.address.AddressForm.{AddressForm}
 use Rattle.sip_report.specs.declared.line_outcome.LineOutcome.{LineOutcome}
@@ -24,16 +27,37 @@ use Rattle.sip_report.specs.declared.line_outcome.LineOutcome.TheVariants as lin
 
 -- ---- the parts
 
--- a target as an object: address, port and transport
-abbrev pub target_data : AddressForm → Target → Data
-target_data form target =
+-- an object with one member more: a text under this key
+abbrev pub with_text : List ℕ → List ℕ → Data → Data
+with_text key text (object members) = object (put key (string text) members)
+with_text key text (array items) = array items
+with_text key text (string other) = string other
+with_text key text (number value) = number value
+with_text key text (boolean value) = boolean value
+with_text key text null = null
+
+-- the object of a target has one member more where it is reached over TLS: what the certificate of
+-- its server has to be of (RFC 3263 4.1, RFC 3261 26.3.1)
+abbrev pub verified : List ℕ → Transport → Data → Data
+verified verify Tls target = with_text (codes "verify") verify target
+verified verify Udp target = target
+verified verify Tcp target = target
+verified verify Sctp target = target
+
+-- where a target is, as an object: address, port and transport
+abbrev pub place_data : AddressForm → Target → Data
+place_data form target =
     object (member (codes "address") (string (address_words form target.address))
     (member (codes "port") (number (unsigned target.port))
     (member (codes "transport") (string (transport_word target.transport)) no_members)))
 
+-- a target as an object, with what a certificate has to be of
+abbrev pub target_data : AddressForm → List ℕ → Target → Data
+target_data form verify target = verified verify target.transport (place_data form target)
+
 -- targets as an array of objects
-abbrev pub targets_data : AddressForm → List Target → Data
-targets_data form targets = array (items_of (map (target_data form) targets))
+abbrev pub targets_data : AddressForm → List ℕ → List Target → Data
+targets_data form verify targets = array (items_of (map (target_data form verify) targets))
 
 -- a target that replied: the status of the final reply, and the milliseconds until it was there
 abbrev pub replied_data : AddressForm → Target → ℕ → ℕ → Data
@@ -62,12 +86,12 @@ found_data form target (Asked Unreadable) =
 found_data form target Untried = unreplied_data form target (found_words Untried)
 
 -- a target that was tried
-abbrev pub try_data : AddressForm → TargetTry → Data
-try_data form it = found_data form it.target it.found
+abbrev pub try_data : AddressForm → List ℕ → TargetTry → Data
+try_data form verify it = verified verify it.target.transport (found_data form it.target it.found)
 
 -- targets that were tried, as an array of objects
-abbrev pub tries_data : AddressForm → List TargetTry → Data
-tries_data form tries = array (items_of (map (try_data form) tries))
+abbrev pub tries_data : AddressForm → List ℕ → List TargetTry → Data
+tries_data form verify tries = array (items_of (map (try_data form verify) tries))
 
 -- a question, and the RCODE of the reply to it (RFC 1035 4.1.1)
 abbrev pub rcode_data : Question → ℕ → Data
@@ -156,7 +180,8 @@ with_fault text took =
 -- the object of a text, by the outcome of its request
 abbrev pub outcome_data : AddressForm → List ℕ → ℕ → Outcome → Data
 outcome_data form text took (outcome.Targets list) =
-    with_targets text took (targets_data form list)
+    with_targets text took
+    (targets_data form (host_words form list.certificate_host) list.targets)
 outcome_data form text took (outcome.Refused reason) = with_refused text took (reason_word reason)
 outcome_data form text took (outcome.NoAnswer question) =
     with_gaveup text took (why_data question (codes "timeout"))
@@ -171,8 +196,9 @@ abbrev pub line_outcome_data : AddressForm → List ℕ → ℕ → LineOutcome 
 line_outcome_data form text took (line_outcome.Became outcome) =
     outcome_data form text took outcome
 line_outcome_data form text took (line_outcome.Tried tries) =
-    with_tries text took (status_of_tries tries) (targets_data form tries.targets.items)
-    (tries_data form tries.tries.items)
+    with_tries text took (status_of_tries tries)
+    (targets_data form (host_words form tries.certificate_host) tries.targets.items)
+    (tries_data form (host_words form tries.certificate_host) tries.tries.items)
 line_outcome_data form text took (line_outcome.NoSuchName name) = with_no_name text took name
 line_outcome_data form text took line_outcome.TimeOver = with_gaveup text took total_data
 line_outcome_data form text took (line_outcome.Bad refusal) =

@@ -1,5 +1,6 @@
 pub mod Escapes
 pub mod Addresses
+pub mod Hosts
 pub mod Lines
 pub mod RecordLines
 pub mod Rules

@@ -114,7 +114,8 @@ words_line front word other = front ++ word ++ other ++ 10 ∷ []
 
 -- the lines of what became of a request
 abbrev pub outcome_lines : AddressForm → List ℕ → Outcome → List ℕ
-outcome_lines form front (outcome.Targets list) = flat_map (target_line form front) list
+outcome_lines form front (outcome.Targets list) =
+    flat_map (target_line form front) list.targets
 outcome_lines form front (outcome.Refused reason) =
     words_line front (codes "refused ") (reason_word reason)
 outcome_lines form front (outcome.NoAnswer question) = gaveup_line front question (codes "timeout")

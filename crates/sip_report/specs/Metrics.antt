@@ -41,7 +41,7 @@ gauge name help label value = head name help ++ sample name label value
 
 -- how many targets a text has
 abbrev pub count_of : LineOutcome → ℕ
-count_of (line_outcome.Became (outcome.Targets list)) = length list
+count_of (line_outcome.Became (outcome.Targets list)) = length list.targets
 count_of (line_outcome.Became (outcome.Refused reason)) = 0
 count_of (line_outcome.Became (outcome.NoAnswer question)) = 0
 count_of (line_outcome.Became (outcome.NoServer question)) = 0

@@ -71,7 +71,8 @@ verdict_on limits took targets =
 -- The verdict on what became of a text after so many milliseconds. Where it has no targets, nothing
 -- is wrong with them.
 abbrev pub verdict_of : CheckLimits → ℕ → LineOutcome → Verdict
-verdict_of limits took (line_outcome.Became (outcome.Targets list)) = verdict_on limits took list
+verdict_of limits took (line_outcome.Became (outcome.Targets list)) =
+    verdict_on limits took list.targets
 verdict_of limits took (line_outcome.Became (outcome.Refused reason)) = Well
 verdict_of limits took (line_outcome.Became (outcome.NoAnswer question)) = Well
 verdict_of limits took (line_outcome.Became (outcome.NoServer question)) = Well

@@ -3,10 +3,12 @@
 ghost use Rattle.std.specs.Prelude.{◌≡◌, ◌++◌, ◌∷◌, [], IfOk};
 ghost use Rattle.std.specs.String.{string_bytes};
 ghost use Rattle.serde_json.specs.View.{view};
+ghost use Rattle.sip_resolver.specs.declared.outcome.Outcome.TheVariants.{Targets};
 ghost use Rattle.sip_report.specs.declared.line_outcome.LineOutcome.TheVariants.{Tried};
 ghost use Rattle.sip_report.specs.Jsons as spec;
 
 use crate::address::{AddressForm, address_words};
+use crate::host::host_words;
 use crate::line_outcome::{
     BAD_STATUS, FAULT_STATUS, GAVEUP_STATUS, LineOutcome, REFUSED_STATUS, TARGETS_STATUS,
     status_of_tries,
@@ -17,9 +19,10 @@ use dns_message::Question;
 use dns_name::Name;
 use serde_json::{Value, json};
 use sip_ping::{Answer, Reply};
-use sip_resolver::Outcome;
+use sip_resolver::{Outcome, TargetList};
 use sip_selection::Target;
 use sip_tries::{Found, TargetTry, Tries};
+use sip_uri::Transport;
 use std::alloc::{AllocError, Global};
 
 /// The number of this format. It changes where a key goes, or means something else; a key that is
@@ -29,22 +32,71 @@ const FORMAT: u8 = 1;
 /// The RCODE of a reply that says that a name does not exist (RFC 1035 4.1.1).
 const NAME_ERROR: u8 = 3;
 
-/// A target.
-fn target_value(alloc: Global, form: AddressForm, target: &Target) -> Result<Value, AllocError>
-    ensures { IfOk result (λ value. view value ≡ spec.target_data form target.now) }
+/// An object with one member more: a text under this key.
+fn with_text(alloc: Global, value: Value, key: &str, text: &str) -> Result<Value, AllocError>
+    ensures { IfOk result (λ it. view it ≡ spec.with_text key.now text.now (view value)) }
+{
+    match value {
+        Value::Object(mut members) => {
+            let key = String::from_str(alloc, key)?;
+            let text = String::from_str(alloc, text)?;
+            members.insert(key, Value::String(text))?;
+            Ok(Value::Object(members))
+        }
+        other => Ok(other),
+    }
+}
+
+/// The object of a target, which over TLS has what the certificate of its server has to be of too.
+fn verified(
+    alloc: Global,
+    verify: &str,
+    transport: Transport,
+    target: Value,
+) -> Result<Value, AllocError>
+    ensures { IfOk result (λ value.
+        view value ≡ spec.verified verify.now transport (view target)) }
+{
+    match transport {
+        Transport::Tls => with_text(alloc, target, "verify", verify),
+        Transport::Udp | Transport::Tcp | Transport::Sctp => Ok(target),
+    }
+}
+
+/// Where a target is.
+fn place_value(alloc: Global, form: AddressForm, target: &Target) -> Result<Value, AllocError>
+    ensures { IfOk result (λ value. view value ≡ spec.place_data form target.now) }
 {
     let address = address_words(alloc, form, target.address)?;
     let transport = transport_word(target.transport);
     json!(in alloc; {"address": &address, "port": target.port, "transport": transport})
 }
 
+/// A target, with what a certificate has to be of.
+fn target_value(
+    alloc: Global,
+    form: AddressForm,
+    verify: &str,
+    target: &Target,
+) -> Result<Value, AllocError>
+    ensures { IfOk result (λ value. view value ≡ spec.target_data form verify.now target.now) }
+{
+    let place = place_value(alloc, form, target)?;
+    verified(alloc, verify, target.transport, place)
+}
+
 /// Targets, in their order.
-fn targets_value(alloc: Global, form: AddressForm, targets: &[Target]) -> Result<Value, AllocError>
-    ensures { IfOk result (λ value. view value ≡ spec.targets_data form targets.now) }
+fn targets_value(
+    alloc: Global,
+    form: AddressForm,
+    verify: &str,
+    targets: &[Target],
+) -> Result<Value, AllocError>
+    ensures { IfOk result (λ value. view value ≡ spec.targets_data form verify.now targets.now) }
 {
     let mut items = Vec::new(alloc);
     'targets: for target in targets {
-        items.push(target_value(alloc, form, target)?)?;
+        items.push(target_value(alloc, form, verify, target)?)?;
     }
     Ok(Value::Array(items))
 }
@@ -83,9 +135,10 @@ fn unreplied_value(
     })
 }
 
-/// A target that was tried.
-fn try_value(alloc: Global, form: AddressForm, it: &TargetTry) -> Result<Value, AllocError>
-    ensures { IfOk result (λ value. view value ≡ spec.try_data form it.now) }
+/// What was found at a target.
+fn found_value(alloc: Global, form: AddressForm, it: &TargetTry) -> Result<Value, AllocError>
+    ensures { IfOk result (λ value.
+        view value ≡ spec.found_data form it.now.target it.now.found) }
 {
     match it.found {
         Found::Asked(Answer::Replied(reply)) => replied_value(alloc, form, &it.target, reply),
@@ -98,13 +151,31 @@ fn try_value(alloc: Global, form: AddressForm, it: &TargetTry) -> Result<Value, 
     }
 }
 
+/// A target that was tried, with what a certificate has to be of.
+fn try_value(
+    alloc: Global,
+    form: AddressForm,
+    verify: &str,
+    it: &TargetTry,
+) -> Result<Value, AllocError>
+    ensures { IfOk result (λ value. view value ≡ spec.try_data form verify.now it.now) }
+{
+    let found = found_value(alloc, form, it)?;
+    verified(alloc, verify, it.target.transport, found)
+}
+
 /// Targets that were tried, in their order.
-fn tries_value(alloc: Global, form: AddressForm, tries: &[TargetTry]) -> Result<Value, AllocError>
-    ensures { IfOk result (λ value. view value ≡ spec.tries_data form tries.now) }
+fn tries_value(
+    alloc: Global,
+    form: AddressForm,
+    verify: &str,
+    tries: &[TargetTry],
+) -> Result<Value, AllocError>
+    ensures { IfOk result (λ value. view value ≡ spec.tries_data form verify.now tries.now) }
 {
     let mut items = Vec::new(alloc);
     'tries: for it in tries {
-        items.push(try_value(alloc, form, it)?)?;
+        items.push(try_value(alloc, form, verify, it)?)?;
     }
     Ok(Value::Array(items))
 }
@@ -171,6 +242,22 @@ fn with_tries(
     })
 }
 
+/// The object of targets.
+fn listed_value(
+    alloc: Global,
+    form: AddressForm,
+    text: &str,
+    took: u64,
+    list: &TargetList,
+) -> Result<Value, AllocError>
+    ensures { IfOk result (λ value. view value
+        ≡ spec.outcome_data form text.now took (Targets list.now)) }
+{
+    let verify = host_words(alloc, form, list.certificate_host())?;
+    let targets = targets_value(alloc, form, &verify, list.as_slice())?;
+    with_targets(alloc, text, took, targets)
+}
+
 /// The object of targets that were tried.
 fn tried_value(
     alloc: Global,
@@ -182,8 +269,9 @@ fn tried_value(
     ensures { IfOk result (λ value. view value
         ≡ spec.line_outcome_data form text.now took (Tried tries.now)) }
 {
-    let targets = targets_value(alloc, form, tries.targets.as_slice())?;
-    let tried = tries_value(alloc, form, tries.tries.as_slice())?;
+    let verify = host_words(alloc, form, &tries.certificate_host)?;
+    let targets = targets_value(alloc, form, &verify, tries.targets.as_slice())?;
+    let tried = tries_value(alloc, form, &verify, tries.tries.as_slice())?;
     with_tries(alloc, text, took, status_of_tries(tries), targets, tried)
 }
 
@@ -253,14 +341,7 @@ fn outcome_value(
         view value ≡ spec.outcome_data form text.now took outcome.now) }
 {
     match outcome {
-        Outcome::Targets(list) => {
-            with_targets(
-                alloc,
-                text,
-                took,
-                targets_value(alloc, form, list.as_slice())?,
-            )
-        }
+        Outcome::Targets(list) => listed_value(alloc, form, text, took, list),
         Outcome::Refused(reason) => with_refused(alloc, text, took, reason_word(*reason)),
         Outcome::NoAnswer(question) => {
             with_gaveup(alloc, text, took, why_value(alloc, question, "timeout")?)

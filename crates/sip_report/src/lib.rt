@@ -19,6 +19,7 @@
 mod address;
 mod check_limits;
 mod check_line;
+mod host;
 mod json;
 mod line_outcome;
 mod metrics;

@@ -12,6 +12,7 @@ use Rattle.sip_resolver.specs.Outcomes.{Ended}
 use Rattle.sip_resolver.specs.Requests.{IsWithoutHeld, IsWithoutReady, RequestsView}
 use Rattle.sip_resolver.specs.Sends.{IsInTime, IsUnanswered}
 use Rattle.sip_resolver.specs.Tasks.{EndsByChoice, Leaves, TaskView}
+use Rattle.sip_uri.specs.declared.host.Host.{Host}
 use Rattle.sip_resolver.specs.Waits.{IsClosed, IsFailed, IsGivenUp}
 use Rattle.sip_resolver.specs.declared.outcome.Outcome.{Outcome}
 use Rattle.sip_resolver.specs.declared.outcome.Outcome.TheVariants.{Targets, Refused, NoAnswer, NoServer, BadReply, Memory}
@@ -97,14 +98,14 @@ closed-ends task question (NoServer other) it = it.1
 closed-ends task question (BadReply other fault) it = absurd it
 closed-ends task question Memory it = tt
 
-pub choice-ends : (resolution : Resolution) (it : Progress) → Leaves resolution it → EndsByChoice it
-choice-ends resolution progress.Asks leaves = tt
-choice-ends resolution (progress.Ended (Targets list)) leaves = tt
-choice-ends resolution (progress.Ended (Refused reason)) leaves = tt
-choice-ends resolution (progress.Ended (NoAnswer question)) leaves = absurd leaves
-choice-ends resolution (progress.Ended (NoServer question)) leaves = absurd leaves
-choice-ends resolution (progress.Ended (BadReply question refusal)) leaves = absurd leaves
-choice-ends resolution (progress.Ended Memory) leaves = tt
+pub choice-ends : (resolution : Resolution) (host : Host) (it : Progress) → Leaves resolution host it → EndsByChoice it
+choice-ends resolution host progress.Asks leaves = tt
+choice-ends resolution host (progress.Ended (Targets list)) leaves = tt
+choice-ends resolution host (progress.Ended (Refused reason)) leaves = tt
+choice-ends resolution host (progress.Ended (NoAnswer question)) leaves = absurd leaves
+choice-ends resolution host (progress.Ended (NoServer question)) leaves = absurd leaves
+choice-ends resolution host (progress.Ended (BadReply question refusal)) leaves = absurd leaves
+choice-ends resolution host (progress.Ended Memory) leaves = tt
 
 module _ (schedule : Schedule) (tickets : List Ticket) (now : ℕ) where
   pub choice-in-time : (outcome : Outcome) → IsByChoice outcome → IsInTime schedule tickets now outcome

@@ -8,7 +8,9 @@ use Rattle.answer_log.specs.declared.store.Store.{Store}
 use Rattle.answer_cache.specs.Seats.{GoesOn, SeatView, StoresNothing}
 use Rattle.sip_locator.specs.Gains.{Gains, nothing, one, IsAnswered, IsBetween, IsNext, Lacks}
 use Rattle.sip_selection.specs.Choice.{Resolution, need, refused, targets}
+use Rattle.sip_selection.specs.Requests.{target_of}
 use Rattle.sip_selection.specs.Selections.{SelectionValue, given_too, now_of}
+use Rattle.sip_uri.specs.declared.host.Host.{Host}
 use Rattle.sip_resolver.proofs.Standing.{counted-later, prefix-self, works-quietly}
 use Rattle.sip_resolver.specs.Outcomes.{Counts, IsChosen, IsLacking}
 use Rattle.sip_resolver.specs.Tasks.{IsCounted, Leaves, Progresses, TaskView, sought_of}
@@ -27,6 +29,13 @@ pub same-request : (number : ℕ) (cut : Bool) (until : Option ℕ) (last : List
 same-request number cut until last now first old new (nothing is) = rw is refl
 same-request number cut until last now first old new (one history middle between found others) =
     same-request number cut until last now history middle new others ∙ (rw found.is refl)
+
+-- and so does the host that it asks for
+pub same-host : (last : List Store) (now : ℕ) (first : List Store) (old new : SelectionValue) → Gains last now first old new
+    → target_of old.request ≡ target_of new.request
+same-host last now first old new (nothing is) = rw is refl
+same-host last now first old new (one history middle between found others) =
+    rw (← same-host last now history middle new others, found.is) refl
 
 module _ (gives : List ℕ → Type 0) (shows : ℕ → Type 0) (seat : SeatView) where
   module _ (now : ℕ) (shown : shows now) where
@@ -62,10 +71,11 @@ module _ (gives : List ℕ → Type 0) (shows : ℕ → Type 0) (seat : SeatView
       All-push (Counts gives shows seat) task.selection.given (record { question = question; answer = answer }) it more
 
   -- how far a request is, of which this is next
-  leads-to : (task : TaskView) (progress : Progress) → Leaves (now_of task.selection) progress → IsCounted gives shows seat task
+  leads-to : (task : TaskView) (progress : Progress) → Leaves (now_of task.selection) (target_of task.selection.request) progress
+      → IsCounted gives shows seat task
       → tasks.Lacks shows seat task → Progresses gives shows seat task progress
   leads-to task Asks leaves it lacks = (it, lacks, leaves)
-  leads-to task (Ended (Targets list)) leaves it lacks = chosen task (targets list) leaves it
+  leads-to task (Ended (Targets list)) leaves it lacks = (chosen task (targets list.targets) leaves.0 it, leaves.1)
   leads-to task (Ended (Refused reason)) leaves it lacks = chosen task (refused reason) leaves it
   leads-to task (Ended (NoAnswer question)) leaves it lacks = absurd leaves
   leads-to task (Ended (NoServer question)) leaves it lacks = absurd leaves
@@ -82,11 +92,13 @@ module _ (gives : List ℕ → Type 0) (shows : ℕ → Type 0) (before after : 
       gained gives shows after now shown before.seen old new gains
       (counted-later gives shows before after works (task_of number cut until old) it)
 
-  pub on-next : (resolution : Resolution) (progress : Progress) → IsNext old new before.seen after.seen now resolution
-      → Leaves resolution progress → IsCounted gives shows before (task_of number cut until old)
+  pub on-next : (resolution : Resolution) (host : Host) (progress : Progress)
+      → IsNext old new before.seen after.seen now resolution → host ≡ target_of old.request → Leaves resolution host progress
+      → IsCounted gives shows before (task_of number cut until old)
       → Progresses gives shows after (task_of number cut until new) progress
-  on-next resolution progress it leaves counted =
-      let leaves' : Leaves (now_of new) progress = rw (← it.is) leaves in
+  on-next resolution host progress it asks leaves counted =
+      let same : host ≡ target_of new.request = asks ∙ same-host after.seen now before.seen old new it.gains in
+      let leaves' : Leaves (now_of new) (target_of new.request) progress = rw (← it.is, ← same) leaves in
       let lacks : (question : Question) → now_of new ≡ need question → IsLacking shows after.seen question =
       λ question needs. lacked gives shows after now shown before.seen question (it.lacks question (it.is ∙ needs)) in
       leads-to gives shows after (task_of number cut until new) progress leaves' (of-step counted it.gains) lacks

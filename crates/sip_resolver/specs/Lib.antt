@@ -1,4 +1,5 @@
 pub mod Questions
+pub mod TargetLists
 pub mod Outcomes
 pub mod Ends
 pub mod Tasks

@@ -16,6 +16,7 @@ use Rattle.answer_cache.specs.Seats.{Offer, SeatView, offer_of}
 use Rattle.sip_locator.specs.Replies.{Answers}
 use Rattle.sip_selection.specs.Choice.{Resolution, locate, targets, refused, need}
 use Rattle.sip_selection.specs.Known.{Given}
+use Rattle.sip_selection.specs.Requests.{target_of}
 use Rattle.sip_selection.specs.declared.caps.Caps.{Caps}
 use Rattle.sip_selection.specs.declared.request.Request.{Request}
 use Rattle.sip_resolver.specs.declared.outcome.Outcome.{Outcome}
@@ -102,10 +103,12 @@ pub record IsChosen (counts : Given → Type 0) (sought : Sought) (resolution : 
   pub is : locate sought.request sought.caps sought.words given ≡ resolution
 
 -- What an outcome says of a request, at a seat: it is the choice of RFC 3263 4 and 5 over answers
--- that count, or the question whose answer is missing. An outcome for want of memory says nothing.
+-- that count, or the question whose answer is missing. A certificate has to be of the host that was
+-- asked for (RFC 3263 4.1, RFC 3261 26.3.1). An outcome for want of memory says nothing.
 abbrev pub IsOutcome : (List ℕ → Type 0) → (ℕ → Type 0) → SeatView → Sought → Outcome → Type 0
 IsOutcome gives shows seat sought (Targets list) =
-    IsChosen (Counts gives shows seat) sought (targets list)
+    IsChosen (Counts gives shows seat) sought (targets list.targets)
+    × (list.certificate_host ≡ target_of sought.request)
 IsOutcome gives shows seat sought (Refused reason) =
     IsChosen (Counts gives shows seat) sought (refused reason)
 IsOutcome gives shows seat sought (NoAnswer question) =

@@ -5,6 +5,7 @@ use Rattle.dns_message.specs.declared.question.Question.{Question}
 use Rattle.answer_cache.specs.Seats.{SeatView}
 use Rattle.sip_selection.specs.Choice.{Resolution, targets, refused, need}
 use Rattle.sip_selection.specs.Selections.{SelectionValue, now_of}
+use Rattle.sip_uri.specs.declared.host.Host.{Host}
 use Rattle.sip_resolver.specs.Ends.{IsByChoice}
 use Rattle.sip_resolver.specs.Outcomes.{Counts, IsLacking, IsOutcome, Sought}
 use Rattle.sip_resolver.specs.declared.outcome.Outcome.TheVariants.{Targets, Refused, NoAnswer, NoServer, BadReply, Memory}
@@ -52,15 +53,16 @@ Lacks shows seat task =
     (question : Question) → now_of task.selection ≡ need question
     → IsLacking shows seat.seen question
 
--- how far a step leads after which this is known
-abbrev pub Leaves : Resolution → Progress → Type 0
-Leaves resolution Asks = (question : Question) × (resolution ≡ need question)
-Leaves resolution (Ended (Targets list)) = resolution ≡ targets list
-Leaves resolution (Ended (Refused reason)) = resolution ≡ refused reason
-Leaves resolution (Ended (NoAnswer question)) = ⊥
-Leaves resolution (Ended (NoServer question)) = ⊥
-Leaves resolution (Ended (BadReply question refusal)) = ⊥
-Leaves resolution (Ended Memory) = Unit {0}
+-- how far a step leads after which this is known, of a request that asked for this host
+abbrev pub Leaves : Resolution → Host → Progress → Type 0
+Leaves resolution host Asks = (question : Question) × (resolution ≡ need question)
+Leaves resolution host (Ended (Targets list)) =
+    (resolution ≡ targets list.targets) × (list.certificate_host ≡ host)
+Leaves resolution host (Ended (Refused reason)) = resolution ≡ refused reason
+Leaves resolution host (Ended (NoAnswer question)) = ⊥
+Leaves resolution host (Ended (NoServer question)) = ⊥
+Leaves resolution host (Ended (BadReply question refusal)) = ⊥
+Leaves resolution host (Ended Memory) = Unit {0}
 
 -- how far it is after a step
 abbrev pub Progresses : (List ℕ → Type 0) → (ℕ → Type 0) → SeatView → TaskView → Progress → Type 0

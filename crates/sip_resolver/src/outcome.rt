@@ -7,59 +7,95 @@ use crate::task::Task;
 use dns_answers::ReplyRefusal;
 use dns_message::Question;
 use sip_selection::{Reason, Target};
+use sip_uri::Host;
 use std::alloc::{AllocError, Global};
 use std::marker::Model;
 
-/// The targets of a request, in the order in which they are to be tried.
+/// The targets of a request, in the order in which they are to be tried, and the host that the
+/// certificate of their servers has to be of.
 ///
 /// It is made from a `Vec` and gives it back, and takes no memory for either.
 #[derive(Debug, Drop)]
 pub struct TargetList {
     items: Vec<Target>,
+    certificate_host: Host,
 }
 
 impl Model for TargetList {
-    ghost use Rattle.std.specs.Prelude.{List};
-    ghost use Rattle.sip_selection.specs.declared.target.Target.{Target as target};
+    ghost use Rattle.sip_resolver.specs.TargetLists.{TargetListView};
 
-    ghost Value = { List target };
+    ghost Value = { TargetListView };
 
-    ghost view = { λ list. list.items.items };
+    ghost view = { λ list. record {
+      targets = list.items.items;
+      certificate_host = list.certificate_host;
+    } };
 }
 
 impl TargetList {
-    /// The list of these targets.
+    /// The list of these targets, of a request that asked for this host.
     #[must_use]
-    pub fn from_vec(items: Vec<Target>) -> TargetList
-        ensures { result ≡ items.items }
+    pub fn new(items: Vec<Target>, certificate_host: Host) -> TargetList
+        ensures { result ≡ record {
+          targets = items.items;
+          certificate_host = certificate_host;
+        } }
     {
-        TargetList { items }
+        TargetList {
+            items,
+            certificate_host,
+        }
     }
 
-    /// A copy of these targets.
-    pub(crate) fn of(alloc: Global, targets: &[Target]) -> Result<TargetList, AllocError>
-        ensures { IfOk result (λ list. list ≡ targets.now) }
+    /// A copy of these targets, with a copy of this host.
+    pub(crate) fn of(
+        alloc: Global,
+        targets: &[Target],
+        certificate_host: &Host,
+    ) -> Result<TargetList, AllocError>
+        ensures { IfOk result (λ list. list ≡ record {
+          targets = targets.now;
+          certificate_host = certificate_host.now;
+        }) }
     {
         let mut items = Vec::with_capacity(alloc, targets.len())?;
         items.extend_from_slice(targets)?;
-        Ok(TargetList { items })
+        Ok(TargetList {
+            items,
+            certificate_host: certificate_host.try_clone()?,
+        })
     }
 
-    /// The targets, as a `Vec`.
+    /// The targets, as a `Vec`, and the host that a certificate has to be of.
     #[must_use]
-    pub fn into_vec(self) -> Vec<Target>
-        ensures { result.items ≡ self }
+    pub fn into_parts(self) -> (Vec<Target>, Host)
+        ensures targets { result.0.items ≡ self.targets }
+        ensures host { result.1 ≡ self.certificate_host }
     {
-        let TargetList { items } = self;
-        items
+        let TargetList {
+            items,
+            certificate_host,
+        } = self;
+        (items, certificate_host)
     }
 
     /// The targets, as a slice.
     #[must_use]
     pub fn as_slice(&self) -> &[Target]
-        ensures { result.now ≡ self.now }
+        ensures { result.now ≡ self.now.targets }
     {
         self.items.as_slice()
+    }
+
+    /// The host that the certificate of a server has to be of, where a target is reached over TLS:
+    /// the one that the request asked for, never the target of an SRV record (RFC 3263 4.1, RFC
+    /// 3261 26.3.1). Of a URI it is `maddr` where that is there, and else the host; of a Via it is
+    /// the host of sent-by (RFC 3261 26.2.2).
+    #[must_use]
+    pub fn certificate_host(&self) -> &Host
+        ensures { result.now ≡ self.now.certificate_host }
+    {
+        &self.certificate_host
     }
 }
 
@@ -88,7 +124,11 @@ impl Outcome {
         ensures memory { OnErr result (HasParts self.now) }
     {
         Ok(match self {
-            Outcome::Targets(list) => Outcome::Targets(TargetList::of(alloc, list.as_slice())?),
+            Outcome::Targets(list) => Outcome::Targets(TargetList::of(
+                alloc,
+                list.as_slice(),
+                list.certificate_host(),
+            )?),
             Outcome::Refused(reason) => Outcome::Refused(*reason),
             Outcome::NoAnswer(question) => Outcome::NoAnswer(question.try_clone()?),
             Outcome::NoServer(question) => Outcome::NoServer(question.try_clone()?),

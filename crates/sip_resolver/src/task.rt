@@ -19,6 +19,7 @@ use dns_answers::{Answer, Moment};
 use dns_message::Question;
 use sip_locator::Locator;
 use sip_selection::{Caps, GiveRefusal, Next, Request};
+use sip_uri::Host;
 use srv_choice::Words;
 use std::alloc::{AllocError, AllocFailed, Global};
 use std::marker::Model;
@@ -38,6 +39,8 @@ pub(crate) enum Progress {
 pub(crate) struct Task<B> {
     number: u64,
     locator: Box<Locator<B>>,
+    /// The host that it asks for.
+    host: Host,
     /// The reply to its question was cut, which came in a datagram.
     cut: bool,
     /// The moment by which it ends, if it has one.
@@ -45,6 +48,8 @@ pub(crate) struct Task<B> {
 }
 
 impl<B> Model for Task<B> {
+    ghost use Rattle.std.specs.Prelude.{◌≡◌};
+    ghost use Rattle.sip_selection.specs.Requests.{target_of};
     ghost use Rattle.sip_resolver.specs.Tasks.{TaskView};
 
     ghost Value = { TaskView };
@@ -55,6 +60,8 @@ impl<B> Model for Task<B> {
       cut = it.cut;
       until = it.until;
     } };
+
+    ghost invariant = { λ it. it.host ≡ target_of it.locator.value.request };
 }
 
 impl<B> Task<B> {
@@ -130,11 +137,13 @@ impl<B: AnswerBook> Task<B> {
           until = until;
         }) }
     {
+        let host = request.target().try_clone()?;
         let locator = Locator::new(alloc, request, caps, words)?;
         match Box::new(alloc, locator) {
             Ok(locator) => Ok(Task {
                 number,
                 locator,
+                host,
                 cut: false,
                 until,
             }),
@@ -174,7 +183,7 @@ impl<B: AnswerBook> Task<B> {
     {
         let locator = &mut *self.locator;
         match locator.step(book, seat, now) {
-            Ok(next) => progress_of(alloc, next),
+            Ok(next) => progress_of(alloc, next, &self.host),
             Err(AllocError) => Progress::Ended(Outcome::Memory),
         }
     }
@@ -204,14 +213,14 @@ impl<B: AnswerBook> Task<B> {
     }
 }
 
-/// How far it leads that this is next.
-fn progress_of(alloc: Global, next: Next<'_>) -> Progress
-    ensures { Leaves (next_of next.entry) result }
+/// How far it leads that this is next, of a request that asked for this host.
+fn progress_of(alloc: Global, next: Next<'_>, host: &Host) -> Progress
+    ensures { Leaves (next_of next.entry) host.now result }
 {
     match next {
         Next::Ask(_) => Progress::Asks,
         Next::Refused(reason) => Progress::Ended(Outcome::Refused(reason)),
-        Next::Targets(targets) => Progress::Ended(match TargetList::of(alloc, targets) {
+        Next::Targets(targets) => Progress::Ended(match TargetList::of(alloc, targets, host) {
             Ok(targets) => Outcome::Targets(targets),
             Err(AllocError) => Outcome::Memory,
         }),

@@ -6,6 +6,7 @@ ghost use Rattle.sip_tries.specs.Turns as spec;
 
 use crate::found::TargetTry;
 use sip_selection::Target;
+use sip_uri::Host;
 
 /// Whether one of the servers is there.
 fn is_one_there(tries: &[TargetTry]) -> bool
@@ -47,6 +48,8 @@ pub struct Tries {
     pub extent: Extent,
     /// The targets.
     pub targets: Vec<Target>,
+    /// The host that the certificate of a server over TLS has to be of (RFC 3263 4.1).
+    pub certificate_host: Host,
     /// The tries, in their order.
     pub tries: Vec<TargetTry>,
 }

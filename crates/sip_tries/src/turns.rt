@@ -6,6 +6,7 @@ use crate::found::{Found, TargetTry};
 use crate::pinger::{Pinger, over_of};
 use crate::tries::{Extent, Tries};
 use sip_selection::{Event, Target};
+use sip_uri::Host;
 use std::alloc::{AllocError, Global};
 
 /// Tries a target.
@@ -66,7 +67,7 @@ fn try_each<P: Pinger>(
 }
 
 /// Tries the targets of a request in turn, and asks the server at each that goes over UDP or TCP:
-/// until one is there (RFC 3263 4.3), or each.
+/// until one is there (RFC 3263 4.3), or each. The host that certificates have to be of is kept.
 ///
 /// # Errors
 ///
@@ -76,9 +77,11 @@ pub fn try_targets<P: Pinger>(
     pinger: &mut P,
     extent: Extent,
     targets: Vec<Target>,
+    certificate_host: Host,
 ) -> Result<Tries, AllocError>
     ensures extent { IfOk result (λ it. it.extent ≡ extent) }
     ensures targets { IfOk result (λ it. it.targets.items ≡ targets.items) }
+    ensures host { IfOk result (λ it. it.certificate_host ≡ certificate_host) }
     ensures tried { IfOk result (λ it. spec.AreTried it.extent it.targets.items it.tries.items) }
     ensures asked { IfOk result (λ it.
         spec.AreAsked P.asks pinger.old it.tries.items pinger.new) }
@@ -90,6 +93,7 @@ pub fn try_targets<P: Pinger>(
     Ok(Tries {
         extent,
         targets,
+        certificate_host,
         tries,
     })
 }

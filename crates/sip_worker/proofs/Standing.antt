@@ -50,7 +50,7 @@ module _ (gives : List ℕ → Type 0) (shows : ℕ → Type 0) where
 
       -- an outcome goes on to be one where all that counted counts still
       says-later : (outcome : Outcome) → Says gives shows seen counts job outcome → Says gives shows later counts' job outcome
-      says-later (Targets list) it = chosen-later (targets list) it
+      says-later (Targets list) it = (chosen-later (targets list.targets) it.0, it.1)
       says-later (Refused reason) it = chosen-later (refused reason) it
       says-later (NoAnswer question) it = (chosen-later (need question) it.0, lacking-later question it.1)
       says-later (NoServer question) it = (chosen-later (need question) it.0, lacking-later question it.1)

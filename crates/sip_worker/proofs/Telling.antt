@@ -1,8 +1,9 @@
 -- What became of the jobs of a batch.
-use Rattle.std.proofs.Common.{◌≡◌, ℕ, zero, suc, ◌<◌, List, [], ◌∷◌, get_or, length, replicate, set, refl, ap, arith}
+use Rattle.std.proofs.Common.{◌≡◌, ℕ, zero, suc, ◌<◌, List, [], ◌∷◌, get_or, length, replicate, set, refl, ap, ◌∙◌, arith}
 use Rattle.std.specs.List.{AllZip}
 use Rattle.answer_cache.specs.Seats.{SeatView}
 use Rattle.sip_selection.specs.Choice.{Resolution, need, refused, targets}
+use Rattle.sip_selection.specs.Requests.{target_of}
 use Rattle.sip_resolver.specs.Outcomes.{Counts, Sought}
 use Rattle.sip_resolver.specs.Outcomes.{IsChosen as WasChosen, IsOutcome as WasOutcome}
 use Rattle.sip_resolver.specs.Works.{Works}
@@ -47,7 +48,8 @@ module _ (gives : List ℕ → Type 0) (shows : ℕ → Type 0) where
 
     pub outcome-for : (sought : Sought) (place : ℕ) (job : Job) (outcome : Outcome) → sought ≡ sought_at place job
         → WasOutcome gives shows seat sought outcome → IsOutcomeAt gives shows seat job outcome
-    outcome-for sought place job (Targets list) is it = chosen-for sought place job (targets list) is it
+    outcome-for sought place job (Targets list) is it =
+        (chosen-for sought place job (targets list.targets) is it.0, it.1 ∙ ap (λ (s : Sought). target_of s.request) is)
     outcome-for sought place job (Refused reason) is it = chosen-for sought place job (refused reason) is it
     outcome-for sought place job (NoAnswer question) is it = (chosen-for sought place job (need question) is it.0, it.1)
     outcome-for sought place job (NoServer question) is it = (chosen-for sought place job (need question) is it.0, it.1)

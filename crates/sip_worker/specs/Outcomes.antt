@@ -6,6 +6,7 @@ use Rattle.answer_cache.specs.Seats.{SeatView}
 use Rattle.answer_cache.specs.Shared.{NoticeView}
 use Rattle.sip_selection.specs.Choice.{Resolution, locate, targets, refused, need}
 use Rattle.sip_selection.specs.Known.{Given}
+use Rattle.sip_selection.specs.Requests.{target_of}
 use Rattle.sip_resolver.specs.Outcomes.{IsCached, IsFaulty, IsLacking, IsReplied}
 use Rattle.sip_resolver.specs.Outcomes.{Counts as CountsAt}
 use Rattle.sip_resolver.specs.declared.outcome.Outcome.{Outcome}
@@ -24,11 +25,12 @@ pub record IsChosen (counts : Given → Type 0) (job : Job) (resolution : Resolu
   pub counted : All counts given
   pub is : locate job.request job.caps job.words.0 given ≡ resolution
 
--- what an outcome says of a job, where these answers count; an outcome for want of memory says
--- nothing
+-- what an outcome says of a job, where these answers count; a certificate has to be of the host
+-- that was asked for (RFC 3263 4.1, RFC 3261 26.3.1); an outcome for want of memory says nothing
 abbrev pub Says : (List ℕ → Type 0) → (ℕ → Type 0) → List Store → (Given → Type 0)
     → Job → Outcome → Type 0
-Says gives shows seen counts job (Targets list) = IsChosen counts job (targets list)
+Says gives shows seen counts job (Targets list) =
+    IsChosen counts job (targets list.targets) × (list.certificate_host ≡ target_of job.request)
 Says gives shows seen counts job (Refused reason) = IsChosen counts job (refused reason)
 Says gives shows seen counts job (NoAnswer question) =
     IsChosen counts job (need question) × IsLacking shows seen question

@@ -46,7 +46,7 @@ module _ (gives : List ℕ → Type 0) (shows : ℕ → Type 0) (seen history : 
     }
 
     pub outcome-on : (outcome : Outcome) → IsOutcome gives shows seen job outcome → IsOutcome gives shows history job outcome
-    outcome-on (Targets list) it = chosen-on (targets list) it
+    outcome-on (Targets list) it = (chosen-on (targets list.targets) it.0, it.1)
     outcome-on (Refused reason) it = chosen-on (refused reason) it
     outcome-on (NoAnswer question) it = (chosen-on (need question) it.0, lacking-on question it.1)
     outcome-on (NoServer question) it = (chosen-on (need question) it.0, lacking-on question it.1)

@@ -17,7 +17,7 @@ numbered number text = decimal number ++ 32 ∷ text
 -- the lines of an outcome, each after the number of its request
 abbrev pub outcome_lines : ℕ → Outcome → List ℕ
 outcome_lines number (outcome.Targets list) =
-    flat_map (λ (target : Target). numbered number (target_line target)) list
+    flat_map (λ (target : Target). numbered number (target_line target)) list.targets
 outcome_lines number (outcome.Refused reason) =
     numbered number (codes "refused " ++ reason_word reason ++ 10 ∷ [])
 outcome_lines number (outcome.NoAnswer question) =

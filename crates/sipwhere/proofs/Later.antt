@@ -93,7 +93,7 @@ module _ (gives : List ℕ → Type 0) (shows : ℕ → Type 0) where
 
     outcome-later : (sought : Sought) (outcome : Outcome) → IsOutcome gives shows old sought outcome
         → IsOutcome gives shows new sought outcome
-    outcome-later sought (outcomes.Targets list) it = chosen-later sought (targets list) it
+    outcome-later sought (outcomes.Targets list) it = (chosen-later sought (targets list.targets) it.0, it.1)
     outcome-later sought (outcomes.Refused reason) it = chosen-later sought (refused reason) it
     outcome-later sought (outcomes.NoAnswer question) it = (chosen-later sought (need question) it.0, lacking-later question it.1)
     outcome-later sought (outcomes.NoServer question) it = (chosen-later sought (need question) it.0, lacking-later question it.1)

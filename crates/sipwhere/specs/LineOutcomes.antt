@@ -4,6 +4,7 @@ use Rattle.std.specs.Str.Pattern.{FindsChar}
 use Rattle.answer_cache.specs.Seats.{SeatView}
 use Rattle.sip_resolver.specs.Draws.{drawn}
 use Rattle.sip_resolver.specs.Outcomes.{IsOutcome, Sought}
+use Rattle.sip_resolver.specs.TargetLists.{TargetListView}
 use Rattle.sip_selection.specs.RequestLines.{RequestText}
 use Rattle.sip_selection.specs.declared.request.Request.{Request}
 use Rattle.sip_uri.specs.declared.refusal.UriRefusal.{UriRefusal}
@@ -18,7 +19,6 @@ use Rattle.sip_selection.specs.Requests.{target_of}
 use Rattle.sip_selection.specs.declared.reason.Reason.TheVariants as reason
 use Rattle.sip_uri.specs.declared.host.Host.TheVariants as host
 use Rattle.sip_selection.specs.declared.request.Request.TheVariants.{Uri, Via}
-use Rattle.sip_selection.specs.declared.target.Target.{Target}
 use Rattle.sip_tries.specs.Turns.{AreTried}
 use Rattle.sip_tries.specs.declared.tries.Extent.{Extent}
 use Rattle.sip_tries.specs.declared.tries.Tries.{Tries}
@@ -54,9 +54,10 @@ extent_for extent (Uri uri) = extent
 extent_for extent (Via via) = None
 
 -- targets were tried so far, in their order (RFC 3263 4.3)
-pub record AreTriedSo (targets : List Target) (tries : Tries) : Type 0 where
-  pub same : tries.targets.items ≡ targets
-  pub tried : AreTried tries.extent targets tries.tries.items
+pub record AreTriedSo (list : TargetListView) (tries : Tries) : Type 0 where
+  pub same : tries.targets.items ≡ list.targets
+  pub host : tries.certificate_host ≡ list.certificate_host
+  pub tried : AreTried tries.extent list.targets tries.tries.items
 
 -- an outcome stands as it is: targets where they are not to be tried
 abbrev pub Stays : Option Extent → Outcome → Type 0
@@ -84,7 +85,7 @@ abbrev pub MayBecome : (List ℕ → Type 0) → (ℕ → Type 0) → SeatView �
 MayBecome gives shows seat asked (Became outcome) =
     (sought : Sought) × AreAlike sought asked × IsOutcome gives shows seat sought outcome
 MayBecome gives shows seat asked (Tried tries) =
-    (sought : Sought) × (list : List Target) × AreAlike sought asked
+    (sought : Sought) × (list : TargetListView) × AreAlike sought asked
     × IsOutcome gives shows seat sought (outcome.Targets list) × AreTriedSo list tries
 MayBecome gives shows seat asked (NoSuchName name) =
     (sought : Sought) × AreAlike sought asked × IsOutcome gives shows seat sought without_address
@@ -219,7 +220,7 @@ IsNamedAs target NotText = ⊥
 IsNamedAs target Memory = Unit {0}
 
 -- what becomes of targets that are tried so far, where memory was not refused
-abbrev pub IsTriedOf : Extent → List Target → LineOutcome → Type 0
+abbrev pub IsTriedOf : Extent → TargetListView → LineOutcome → Type 0
 IsTriedOf extent targets (Tried tries) = (tries.extent ≡ extent) × AreTriedSo targets tries
 IsTriedOf extent targets Memory = Unit {0}
 IsTriedOf extent targets (Became it) = ⊥
@@ -229,13 +230,13 @@ IsTriedOf extent targets (Bad refusal) = ⊥
 IsTriedOf extent targets NotText = ⊥
 
 -- what becomes of targets: they are tried where they are to be
-abbrev pub HasTargets : Option Extent → List Target → LineOutcome → Type 0
+abbrev pub HasTargets : Option Extent → TargetListView → LineOutcome → Type 0
 HasTargets None targets line_outcome = line_outcome ≡ Became (outcome.Targets targets)
 HasTargets (Some extent) targets line_outcome = IsTriedOf extent targets line_outcome
 
 -- the outcome of a request has targets, and they were tried
 pub record IsTriedOutcome (extent : Option Extent) (it : Outcome) (tries : Tries) : Type 0 where
-  pub targets : List Target
+  pub targets : TargetListView
   pub has : it ≡ outcome.Targets targets
   pub so : AreTriedSo targets tries
   pub extent_is : extent ≡ Some tries.extent

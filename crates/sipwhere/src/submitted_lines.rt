@@ -151,7 +151,8 @@ fn tried<P: Pinger>(
 ) -> LineOutcome
     ensures { spec.IsTriedOf extent targets result }
 {
-    match try_targets(alloc, pinger, extent, targets.into_vec()) {
+    let (targets, host) = targets.into_parts();
+    match try_targets(alloc, pinger, extent, targets, host) {
         Ok(tries) => LineOutcome::Tried(tries),
         Err(_) => LineOutcome::Memory,
     }

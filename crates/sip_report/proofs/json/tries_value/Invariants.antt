@@ -4,4 +4,4 @@ use Rattle.sip_report.specs.Jsons.{try_data}
 use Rattle.sip_report.proofs.json.tries_value.Given as goal
 
 abbrev pub invariant-tries : goal.invariant-tries
-invariant-tries l = map view l.items.items ≡ map (try_data l.form) (take l.it-index l.tries)
+invariant-tries l = map view l.items.items ≡ map (try_data l.form l.verify) (take l.it-index l.tries)

@@ -1,4 +1,5 @@
-use Rattle.sip_resolver.proofs.Going.{on-next, same-request}
+use Rattle.std.proofs.Common.{◌∙◌}
+use Rattle.sip_resolver.proofs.Going.{on-next, same-host, same-request}
 use Rattle.sip_resolver.proofs.task.Task.step.Goals.{in-Ok, in-Err}
 use Rattle.sip_resolver.proofs.task.Task.step.Goals as goal
 
@@ -28,6 +29,19 @@ returns-clause-progresses g c =
           let steps = rw (c.deref_mut-locator.ensures.value, w.in-Ok.is) at c.step.follows.holds-at-none in
           rw (w.result-is, w.self-inside-is, ← c.self.view_is)
           (on-next _ _ before after _ c.requires.shown c.step.ensures.goes_on c.step.ensures.stores_nothing c.self.inside.number
-          c.self.inside.cut c.self.inside.until old new _ w.progress_of.result steps w.progress_of.ensures)
+          c.self.inside.cut c.self.inside.until old new _ _ w.progress_of.result steps c.self.invariant w.progress_of.ensures)
       | in-Err w ↦ rw w.result-is (λ counted. tt)
+    ]
+
+pub invariant_of-self : goal.invariant_of-self
+invariant_of-self g c =
+    let old = c.self.inside.locator.value in
+    let new = c.step.follows.lender-at-none in
+    elim c.match-step.branch [
+      | in-Ok w ↦
+          let steps = rw (c.deref_mut-locator.ensures.value, w.in-Ok.is) at c.step.follows.holds-at-none in
+          rw w.self-inside-is (c.self.invariant ∙ same-host _ _ _ old new steps.gains)
+      | in-Err w ↦
+          let steps = rw (c.deref_mut-locator.ensures.value, w.in-Err.is) at c.step.follows.holds-at-none in
+          rw w.self-inside-is (c.self.invariant ∙ same-host _ _ _ old new steps.gains)
     ]
