@@ -3,13 +3,14 @@ use crate::fields::{Part, name, parts};
 use crate::requests::words_from;
 use dns_message::SrvRecord;
 use row_fields::{Fault, Output, count, first_line, number16, only_line, split_word};
-use srv_choice::{Indexes, RECORD_LIMIT, SrvOutcome, WORD_COUNT, Words, order};
+use srv_choice::{Indexes, RECORD_LIMIT, SrvOutcome, WORD_COUNT, Words, fixed_order, order};
 use std::alloc::Global;
 
 /// What a call gives for a row's lines.
 pub(crate) fn told(output: &mut Output, call: &str, input: &str) -> Result<(), Fault> {
     match call {
         "order" => ordered(output, input),
+        "fixed_order" => ordered_so(output, input),
         _ => Err(Fault::Call),
     }
 }
@@ -75,6 +76,25 @@ fn ordered(output: &mut Output, input: &str) -> Result<(), Fault> {
     let words = words_from(from, words)?;
     let records = servers_of(output.alloc(), only_line(lines))?;
     let outcome = outcome(&records, &words, from)?;
+    push_outcome(output, &outcome);
+    Ok(())
+}
+
+/// The outcome for records in the fixed order, where this index is that of the next word.
+fn fixed_outcome(records: &[SrvRecord], from: usize) -> Result<SrvOutcome, Fault> {
+    if records.len() <= RECORD_LIMIT && from <= WORD_COUNT - records.len() {
+        Ok(fixed_order(records, from))
+    } else {
+        Err(Fault::Form)
+    }
+}
+
+/// A line with an index, and lines with records, give the indexes of the records in the fixed
+/// order, and the index of the next word; or `absent` or `denied`.
+fn ordered_so(output: &mut Output, input: &str) -> Result<(), Fault> {
+    let (line, lines) = first_line(input)?;
+    let records = servers_of(output.alloc(), only_line(lines))?;
+    let outcome = fixed_outcome(&records, count(line)?)?;
     push_outcome(output, &outcome);
     Ok(())
 }

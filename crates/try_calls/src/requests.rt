@@ -124,18 +124,32 @@ fn caps_for_length(caps: &Caps, field: &str) -> Result<Option<Caps>, Fault> {
 
 /// What a caller can do that has these transports and families, if there is such a caller. Behind a
 /// slash stands the length of its request, where that is given.
-pub(crate) fn caps(
+fn caps_of(
     alloc: Global,
     transport_field: &str,
-    family_field: &str,
+    families: Families,
 ) -> Result<Option<Caps>, Fault> {
-    let families = families(family_field)?;
     let Some((transport_field, length)) = transport_field.split_once('/') else {
         return Ok(Caps::new(&transports(alloc, transport_field)?, families));
     };
     match Caps::new(&transports(alloc, transport_field)?, families) {
         Some(caps) => caps_for_length(&caps, length),
         None => Ok(None),
+    }
+}
+
+/// The same, where behind the families `/fixed` stands if the caller wants one fixed order.
+pub(crate) fn caps(
+    alloc: Global,
+    transport_field: &str,
+    family_field: &str,
+) -> Result<Option<Caps>, Fault> {
+    match family_field.strip_suffix("/fixed") {
+        Some(family_field) => {
+            let caps = caps_of(alloc, transport_field, families(family_field)?)?;
+            Ok(caps.map(Caps::with_fixed_order))
+        }
+        None => caps_of(alloc, transport_field, families(family_field)?),
     }
 }
 
