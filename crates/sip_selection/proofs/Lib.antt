@@ -1,6 +1,7 @@
 mod Slots
 mod TrialRuns
 mod FixedOrders
+mod OverUdp
 mod Turned
 mod Growth
 mod Finality

@@ -7,6 +7,7 @@ pub mod Services
 pub mod Rules
 pub mod Choice
 pub mod Trials
+pub mod Fallbacks
 pub mod Views
 pub mod Stages
 pub mod Selections

@@ -68,6 +68,7 @@ mod caps;
 mod choice;
 mod choice_laws;
 mod failover;
+mod fallbacks;
 mod known;
 mod laws;
 mod position;
@@ -91,6 +92,7 @@ pub use choice_laws::{
     law_targets_are_few, law_targets_are_offered,
 };
 pub use failover::{Event, Failover, Failure, Progress};
+pub use fallbacks::with_udp_last;
 pub use laws::{
     law_resolutions_are_final, law_rules_stand_by_preference, law_trials_follow_events,
 };

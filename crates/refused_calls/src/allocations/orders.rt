@@ -1,7 +1,8 @@
-//! The order of servers (RFC 2782).
+//! The order of servers (RFC 2782), and copies of rules in their fixed order (RFC 3263 4.4).
 use super::are_right;
-use dns_message::SrvRecord;
+use dns_message::{CharString, NaptrRecord, SrvRecord};
 use dns_name::Name;
+use record_order::rules_in_order;
 use srv_choice::{RECORD_LIMIT, SrvOutcome, WORD_COUNT, Words, order};
 use std::alloc::Global;
 
@@ -11,9 +12,10 @@ enum Call {
     Two,
     Denied,
     Absent,
+    Rules,
 }
 
-const CALLS: [Call; 3] = [Call::Two, Call::Denied, Call::Absent];
+const CALLS: [Call; 4] = [Call::Two, Call::Denied, Call::Absent, Call::Rules];
 
 const WORDS: Words = Words([0; WORD_COUNT]);
 
@@ -70,12 +72,42 @@ fn denied(alloc: Global) -> Option<bool> {
     Some(is_said(&outcome(&records), true))
 }
 
+/// A string of a record.
+fn string(alloc: Global, octets: &[u8]) -> Option<CharString> {
+    CharString::new(Vec::from_slice(alloc, octets).ok()?)
+}
+
+/// A rule of this preference.
+fn rule(alloc: Global, preference: u16) -> Option<NaptrRecord> {
+    Some(NaptrRecord {
+        order: 10,
+        preference,
+        flags: string(alloc, b"s")?,
+        services: string(alloc, b"SIP+D2U")?,
+        regexp: string(alloc, b"")?,
+        replacement: Name::from_text(alloc, HOST).ok()?,
+    })
+}
+
+/// `rules_in_order`: of two rules the second comes first.
+fn rules(alloc: Global) -> Option<bool> {
+    let mut rules = Vec::new(alloc);
+    rules.push(rule(alloc, 20)?).ok()?;
+    rules.push(rule(alloc, 10)?).ok()?;
+    if rules.len() > RECORD_LIMIT {
+        return Some(false);
+    }
+    let ordered = rules_in_order(alloc, &rules).ok()?;
+    Some(ordered.first() == rules.last() && ordered.last() == rules.first())
+}
+
 /// What a call says.
 fn says(alloc: Global, call: Call) -> Option<bool> {
     match call {
         Call::Two => two(alloc),
         Call::Denied => denied(alloc),
         Call::Absent => Some(is_said(&outcome(&[]), false)),
+        Call::Rules => rules(alloc),
     }
 }
 
