@@ -1,17 +1,16 @@
 -- What a verdict says of targets.
-use Rattle.std.proofs.Common.{◌≡◌, ℕ, ◌≤◌, nat_lt, Bool, true, false, not, List, length, Option, Some, None, option_map, IsTrue, inl, inr, sym, subst, ap, ◌∙◌, refl, arith}
+use Rattle.std.proofs.Common.{◌≡◌, ℕ, ◌≤◌, nat_lt, true, false, List, length, Option, Some, None, option_map, IsTrue, inl, inr, sym, subst, ◌∙◌, refl, arith}
 use Rattle.std.proofs.lemmas.Bool.{cases_Bool}
 use Rattle.std.proofs.lemmas.Bool.Decides.{nat_tests}
 use Rattle.std.proofs.lemmas.List.Folds.{Any-from_list_any, list_any-from_Any}
 use Rattle.std.specs.List.{Any}
 use Rattle.sip_selection.specs.declared.target.Target.{Target}
-use Rattle.sip_report.specs.Verdicts.{HasExpected, IsBelowCritical, IsNotCritical, IsWell, IsWithin, are_enough, graver_verdict, is_among, is_in_time, is_missing, is_shown, shortfall_of, verdict_by_bounds, verdict_on}
+use Rattle.sip_report.specs.Verdicts.{IsBelowCritical, IsNotCritical, IsWell, IsWithin, are_enough, graver_verdict, is_among, is_in_time, is_missing, is_shown, shortfall_of, verdict_by_bounds, verdict_on}
 use Rattle.sip_report.specs.declared.check_limits.Bounds.{Bounds}
 use Rattle.sip_report.specs.declared.check_limits.CheckLimits.{CheckLimits}
 use Rattle.sip_report.specs.declared.verdict.Shortfall.{Shortfall}
 use Rattle.sip_report.specs.declared.verdict.Shortfall.TheVariants.{Missing}
-use Rattle.sip_report.specs.declared.verdict.Verdict.{Verdict}
-use Rattle.sip_report.specs.declared.verdict.Verdict.TheVariants.{Well, Warning, Critical}
+use Rattle.sip_report.specs.declared.verdict.Verdict.TheVariants.{Well, Critical}
 
 -- ---- bounds
 

@@ -12,7 +12,6 @@ use Rattle.sip_ping.specs.declared.answer.Answer.TheVariants.{Replied, Silent, R
 use Rattle.sip_tries.specs.declared.found.Found.{Found}
 use Rattle.sip_tries.specs.declared.found.Found.TheVariants.{Asked, Untried}
 use Rattle.sip_tries.specs.declared.found.TargetTry.{TargetTry}
-use Rattle.sip_tries.specs.declared.tries.Tries.{Tries}
 use Rattle.sip_resolver.specs.declared.outcome.Outcome.{Outcome}
 use Rattle.sip_resolver.specs.declared.outcome.Outcome.TheVariants as outcome
 use Rattle.sip_selection.specs.declared.target.Target.{Target}
