@@ -192,7 +192,7 @@ pub(crate) fn push_target(output: &mut Output, target: &Target) {
 }
 
 /// Writes a line for each target.
-fn push_targets(output: &mut Output, targets: &[Target]) {
+pub(crate) fn push_targets(output: &mut Output, targets: &[Target]) {
     for target in targets {
         push_target(output, target);
         output.push("\n");

@@ -3,12 +3,14 @@ use crate::fields::{Part, parts};
 use crate::replies::{Reply, read_reply};
 use crate::request_lines::request_line;
 use crate::requests::{
-    Sending, caps, push_next, push_target, read_sending, transport, transport_word,
+    Sending, caps, push_next, push_target, push_targets, read_sending, transport, transport_word,
 };
 use crate::shown::{push_debug, push_debug_line};
 use ip_text::address_from_text;
 use row_fields::{Fault, Output, first_line, number16, only_line, split_word};
-use sip_selection::{Caps, Event, Failover, Failure, GiveRefusal, Selection, Target};
+use sip_selection::{
+    Caps, Event, Failover, Failure, GiveRefusal, Selection, Target, with_udp_last,
+};
 use sip_uri::Transport;
 use std::alloc::Global;
 
@@ -18,6 +20,7 @@ pub(crate) fn told(output: &mut Output, call: &str, input: &str) -> Result<(), F
         "next" | "random" => conversation(output, input),
         "caps" => caps_line(output, only_line(input)),
         "failover" => tries(output, input),
+        "with_udp_last" => udp_last(output, input),
         "read_request" => request_line(output, only_line(input)),
         _ => Err(Fault::Call),
     }
@@ -196,5 +199,17 @@ fn tries(output: &mut Output, input: &str) -> Result<(), Fault> {
         tell(output, &mut failover, event(line)?);
     }
     drop(failover);
+    Ok(())
+}
+
+/// Targets, and those over TCP once more.
+fn with_last(alloc: Global, line: &str) -> Result<Vec<Target>, Fault> {
+    Ok(with_udp_last(targets(alloc, line)?)?)
+}
+
+/// A line with targets gives all that are to be tried, a line each.
+fn udp_last(output: &mut Output, input: &str) -> Result<(), Fault> {
+    let all = with_last(output.alloc(), only_line(input))?;
+    push_targets(output, all.as_slice());
     Ok(())
 }

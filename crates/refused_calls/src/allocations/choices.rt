@@ -4,7 +4,7 @@ use dns_answers::{Answer, Records};
 use dns_message::{Kind, Question, Section};
 use dns_name::Name;
 use pending_list::{InsertRefusal, PendingList};
-use sip_selection::{Caps, Families, GiveRefusal, Next, Request, Selection, Target};
+use sip_selection::{Caps, Families, GiveRefusal, Next, Request, Selection, Target, with_udp_last};
 use sip_uri::{Address, Transport, read_uri};
 use srv_choice::{WORD_COUNT, Words};
 use std::alloc::Global;
@@ -18,14 +18,16 @@ enum Call {
     Insert,
     NewSelection,
     Give,
+    UdpLast,
 }
 
-const CALLS: [Call; 5] = [
+const CALLS: [Call; 6] = [
     Call::RequestCopy,
     Call::NewList,
     Call::Insert,
     Call::NewSelection,
     Call::Give,
+    Call::UdpLast,
 ];
 
 const WORDS: Words = Words([0; WORD_COUNT]);
@@ -162,6 +164,26 @@ fn give(alloc: Global) -> Option<bool> {
     Some(takes(alloc, &mut selection, &question, answers))
 }
 
+/// A target over TCP.
+fn over_tcp() -> Target {
+    Target {
+        transport: Transport::Tcp,
+        address: Address::V4(ADDRESS),
+        port: 5070,
+    }
+}
+
+/// `with_udp_last`
+fn udp_last(alloc: Global) -> Option<bool> {
+    let targets = Vec::from_slice(alloc, &[over_tcp()]).ok()?;
+    let all = with_udp_last(targets).ok()?;
+    let last = Target {
+        transport: Transport::Udp,
+        ..over_tcp()
+    };
+    Some(all.as_slice() == [over_tcp(), last].as_slice())
+}
+
 /// What a call says.
 fn says(alloc: Global, call: Call) -> Option<bool> {
     match call {
@@ -170,6 +192,7 @@ fn says(alloc: Global, call: Call) -> Option<bool> {
         Call::Insert => three_inserts(alloc),
         Call::NewSelection => new_selection(alloc),
         Call::Give => give(alloc),
+        Call::UdpLast => udp_last(alloc),
     }
 }
 
