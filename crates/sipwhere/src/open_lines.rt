@@ -226,11 +226,8 @@ impl<'a, B: AnswerBook + Drop, W: MessageWire, C: Clock> OpenLines<'a, B, W, C> 
             → Stands W.gives C.shows seat self.new }
     {
         let _was_inside = cancel_over(&mut self.resolver, wire, place as u64);
-        self.line_outcomes[place] = Some(line_outcome_in_vain(
-            self.alloc,
-            &self.sender,
-            self.lines[place].text,
-        ));
+        let text = self.lines[place].text;
+        self.line_outcomes[place] = Some(line_outcome_in_vain(self.alloc, &self.sender, text));
     }
 
     /// Whether the time of the line at a place is over by now.
