@@ -7,13 +7,13 @@
 //! - addresses by their octets;
 //! - SRV records by priority, the lowest first; then by weight, the largest first; then by the
 //!   octets of the target, and by port;
-//! - NAPTR records by order and preference, the lowest first; then by the octets of services, flags,
-//!   regular expression and replacement.
+//! - NAPTR records by order and preference, the lowest first; then by the octets of services,
+//!   flags, regular expression and replacement.
 //!
-//! `indexes_in_order` gives the indexes of records in that order, `in_order` copies of addresses, and
-//! `rules_in_order` copies of NAPTR records. `specs/RecordOrder.antt` says what the order is. It
-//! tells different records apart (`law_orders_are_exact`), so permutations of records have the same
-//! order (`law_order_is_fixed`).
+//! `indexes_in_order` gives the indexes of records in that order, `in_order` copies of addresses,
+//! and `rules_in_order` copies of NAPTR records. `specs/RecordOrder.antt` says what the order is.
+//! It tells different records apart (`law_orders_are_exact`), so permutations of records have the
+//! same order (`law_order_is_fixed`).
 #![tactic(auto)]
 
 mod laws;

@@ -145,11 +145,13 @@ module _ (given : List Given) (small : All IsSmall given) where
       outcome-few transport servers word Absent e le = omega arith
       outcome-few transport servers word Denied e le = omega arith
       outcome-few transport servers word (Listed indexes next) e le =
-          made-meets Any-question OfFew (λ targets. listed targets next) (joined (index_targets given kinds fixed transport servers) indexes)
+          made-meets Any-question OfFew (λ targets. listed targets next)
+          (joined (index_targets given kinds fixed transport servers) indexes)
           (meets-more Any-question (AtMost (length indexes * 64)) (AtMost 2048)
           (joined (index_targets given kinds fixed transport servers) indexes)
           (λ found le'. omega (arith, le, le', all-count count fixed servers words word indexes next e))
-          (joined-few 64 (index_targets given kinds fixed transport servers) (λ index. index-by transport (slice_get servers index)) indexes))
+          (joined-few 64 (index_targets given kinds fixed transport servers)
+          (λ index. index-by transport (slice_get servers index)) indexes))
 
       named-few : (transport : Transport) (word : ℕ) (name : Option (List (List ℕ)))
           → Meets OfFew Any-question (offer_named given kinds fixed words transport word name)

@@ -95,7 +95,8 @@ module _ (given more : List Given) where
         made-grows (λ targets. listed targets next) _ _ (joined-grows _ _ (λ index. index-by transport (slice_get servers index)) indexes)
 
     named-grows : (words : List ℕ) (transport : Transport) (word : ℕ) (name : Option (List (List ℕ)))
-        → Grows (offer_named given kinds fixed words transport word name) (offer_named (given ++ more) kinds fixed words transport word name)
+        → Grows (offer_named given kinds fixed words transport word name)
+        (offer_named (given ++ more) kinds fixed words transport word name)
     named-grows words transport word None = λ x is. is
     named-grows words transport word (Some name) =
         after-grows _ _ _ _ (answer-grows (record { name = name; kind = kind.Srv }))

@@ -122,7 +122,8 @@ module _ (request : Request) (caps : Caps) (words : List ℕ) (R : Question → 
   abbrev Needs : Needing Settled → Type 0
   Needs = Meets AnySettled R
 
-  service-asks : (name : Option (List (List ℕ))) → All R (of_one_service all asked_kinds name) → ServiceAsks R given more asked_kinds caps.is_fixed name
+  service-asks : (name : Option (List (List ℕ))) → All R (of_one_service all asked_kinds name)
+      → ServiceAsks R given more asked_kinds caps.is_fixed name
   service-asks None each = tt
   service-asks (Some name) each =
       let servers : List SrvRecord = servers_at (answer_to all (srv_question name)) in
@@ -199,7 +200,8 @@ module _ (request : Request) (caps : Caps) (words : List ℕ) (R : Question → 
       (subst (λ (it : Needing AnswerValue). All R
       (of_services all asked_kinds name (tried request caps words all name (usable_services (is_secure request) caps (rules_at it))))) is
       rest))
-      (answer-asks R given more asked_kinds caps.is_fixed (rules name) (All-head R (rules name) (of_services all asked_kinds name services) each)))
+      (answer-asks R given more asked_kinds caps.is_fixed (rules name)
+      (All-head R (rules name) (of_services all asked_kinds name services) each)))
 
   address-asks : (address : Address) (port : Option ℕ) (transport : Result Transport Reason)
       → Needs (to_address address port transport)

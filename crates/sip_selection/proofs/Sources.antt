@@ -51,7 +51,8 @@ module _ (given : List Given) (kinds : List Kind) where
           (λ i d lt. (is, (question, answer, among, found, addresses-there fixed answer.records i d lt))))
           (answer-meets question (Contains-append_right (kind.Naptr ∷ kind.Srv ∷ []) kinds asked among)))
 
-      pub targets-meet : (port : ℕ) (name : List (List ℕ)) → Meets (All IsSound) IsMissing (targets_of given kinds fixed transport port name)
+      pub targets-meet : (port : ℕ) (name : List (List ℕ))
+          → Meets (All IsSound) IsMissing (targets_of given kinds fixed transport port name)
       targets-meet port name =
           joined-meets IsMissing IsSound (kind_targets given kinds fixed transport port name) kinds
           (All-weaker (Contains kinds) (λ asked. Meets (All IsSound) IsMissing (kind_targets given kinds fixed transport port name asked))
@@ -74,7 +75,8 @@ module _ (given : List Given) (kinds : List Kind) where
       offer-meets servers (Listed indexes next) =
           made-meets IsMissing (λ offer. All IsSound (offered_targets offer)) (λ targets. listed targets next)
           (joined (index_targets given kinds fixed transport servers) indexes)
-          (joined-meets IsMissing IsSound (index_targets given kinds fixed transport servers) indexes (λ i d lt. index-by (slice_get servers _)))
+          (joined-meets IsMissing IsSound (index_targets given kinds fixed transport servers) indexes
+          (λ i d lt. index-by (slice_get servers _)))
 
       named-meets : (words : List ℕ) (word : ℕ) (name : Option (List (List ℕ)))
           → Meets (λ offer. All IsSound (offered_targets offer)) IsMissing (offer_named given kinds fixed words transport word name)
@@ -94,12 +96,15 @@ module _ (given : List Given) (kinds : List Kind) where
     offers-meet words [] word each = All-nil IsSound
     offers-meet words (service ∷ services) word each =
         let Q : List Offer → Type 0 = (λ offers. All IsSound (flat_map offered_targets offers)) in
-        after-meets IsMissing Q (λ offer. made (λ others. offer ∷ others) (offers_along given kinds fixed words services (next_word word offer)))
+        after-meets IsMissing Q
+        (λ offer. made (λ others. offer ∷ others) (offers_along given kinds fixed words services (next_word word offer)))
         (offer_along given kinds fixed words service word)
         (meets-more IsMissing (λ offer. All IsSound (offered_targets offer))
-        (λ offer. Meets Q IsMissing (made (λ others. offer ∷ others) (offers_along given kinds fixed words services (next_word word offer))))
+        (λ offer. Meets Q IsMissing (made (λ others. offer ∷ others)
+        (offers_along given kinds fixed words services (next_word word offer))))
         (offer_along given kinds fixed words service word)
-        (λ offer is. made-meets IsMissing Q (λ others. offer ∷ others) (offers_along given kinds fixed words services (next_word word offer))
+        (λ offer is. made-meets IsMissing Q (λ others. offer ∷ others)
+        (offers_along given kinds fixed words services (next_word word offer))
         (meets-more IsMissing Q (λ others. Q (offer ∷ others)) (offers_along given kinds fixed words services (next_word word offer))
         (λ others is'. All-append IsSound (offered_targets offer) (flat_map offered_targets others) is is')
         (offers-meet words services (next_word word offer) (All-tail (λ service. T service.transport) service services each))))

@@ -199,7 +199,8 @@ module _ (octets-fixed : IsFixed octets_order) (servers-fixed : IsFixed server_o
     -- ---- services
 
     offered-same : (transport : Transport) (word : ℕ) (l m : List SrvRecord) → IsPermutation l m
-        → offer_of turned kinds fixed transport m (fixed_order_from m word) ≡ offer_of given kinds fixed transport l (fixed_order_from l word)
+        → offer_of turned kinds fixed transport m (fixed_order_from m word)
+        ≡ offer_of given kinds fixed transport l (fixed_order_from l word)
     offered-same transport word [] [] moved = refl
     offered-same transport word [] (b ∷ m) moved = absurd (omega (arith, length_permutation [] (b ∷ m) moved))
     offered-same transport word (a ∷ l) [] moved = absurd (omega (arith, length_permutation (a ∷ l) [] moved))

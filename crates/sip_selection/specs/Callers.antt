@@ -1,5 +1,5 @@
--- What the caller can do: its transports, in order of preference, its families of addresses, whether
--- its request is too large for UDP, and whether records that tie come in one fixed order.
+-- What the caller can do: its transports, in order of preference, its families of addresses,
+-- whether its request is too large for UDP, and whether records that tie come in one fixed order.
 use Rattle.std.specs.Prelude.{◌≡◌, ℕ, ◌+◌, ◌<◌, ◌≤◌, Bool, true, false, not, ◌&&◌, IsTrue, List, [], ◌∷◌, ◌++◌, filter, length, map, take, Option, Some, None}
 use Rattle.std.specs.List.{list_any, filter_map}
 use Rattle.dns_message.specs.declared.kind.Kind.{Kind}

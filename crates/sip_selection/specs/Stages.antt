@@ -135,7 +135,8 @@ module _ (caps : Caps) (words : List ℕ) (name : List (List ℕ)) (all : List G
       → Needing Settled
   position_left services fallback position found =
       after (ended caps name all fallback position found)
-      (offers_along all (kinds_of caps.families) caps.is_fixed words (drop position.service services)
+      (offers_along all (kinds_of caps.families) caps.is_fixed words
+      (drop position.service services)
       position.word)
 
   -- where the next service offers this
@@ -145,7 +146,8 @@ module _ (caps : Caps) (words : List ℕ) (name : List (List ℕ)) (all : List G
   offer_left services fallback position found offer =
       after (λ offer. after (ended caps name all fallback position found)
       (made (λ others. offer ∷ others)
-      (offers_along all (kinds_of caps.families) caps.is_fixed words (drop (position.service + 1) services)
+      (offers_along all (kinds_of caps.families) caps.is_fixed words
+      (drop (position.service + 1) services)
       (next_word position.word offer)))) offer
 
   -- where the addresses of the servers of a service come first

@@ -218,9 +218,9 @@ impl Caps {
 
     /// The same, with one fixed order for records that tie, as a stateless proxy needs it (RFC 3263
     /// 4.4): servers of one priority come by weight, the largest first, then by name and port;
-    /// services of one order and preference by the octets of their records, and addresses by theirs.
-    /// Random words then count for nothing, and neither does the order in which a reply has its
-    /// records. It takes memory for copies of NAPTR records.
+    /// services of one order and preference by the octets of their records, and addresses by
+    /// theirs. Random words then count for nothing, and neither does the order in which a reply has
+    /// its records. It takes memory for copies of NAPTR records.
     pub fn with_fixed_order(self) -> Caps
         ensures { result ≡ record self { is_fixed = true } }
     {

@@ -100,8 +100,8 @@ pub fn law_questions_are_few()
         → length given ≤ 521 }
 {}
 
-/// In the fixed order a request goes the same way whatever the random words are, and however servers
-/// turn the records of their replies round (RFC 3263 4.4).
+/// In the fixed order a request goes the same way whatever the random words are, and however
+/// servers turn the records of their replies round (RFC 3263 4.4).
 pub fn law_fixed_order_is_of_records()
     ensures { (request : Request) (caps : Caps) (words other_words : List ℕ)
         → (given turned : List Given) → IsTrue caps.is_fixed → AnswersAreTurned given turned

@@ -53,9 +53,10 @@
 //! (`law_questions_are_few`) and 16,384 targets (`law_targets_are_few`); of a selection as it is,
 //! `Selection::law_answers_are_few` says both.
 //!
-//! A request that is too large for UDP (RFC 3261 18.1.1) goes by `Caps::for_length`. A stateless proxy
-//! (RFC 3263 4.4) asks for one fixed order of records that tie, by `Caps::with_fixed_order`: however
-//! servers turn records round, a request then goes the same way (`law_fixed_order_is_of_records`).
+//! A request that is too large for UDP (RFC 3261 18.1.1) goes by `Caps::for_length`, and
+//! `with_udp_last` tries it over UDP after all. A stateless proxy (RFC 3263 4.4) asks for one fixed
+//! order of records that tie, by `Caps::with_fixed_order`: however servers turn records round, a
+//! request then goes the same way (`law_fixed_order_is_of_records`).
 //!
 //! `read_request` reads the request of a line: a URI, or the top Via of a request.
 //!

@@ -161,7 +161,8 @@ fn push_answer<'s, S: AnswerSource>(
     requires few { position.service < 8 }
     requires words { position.word ≤ 32 * position.service }
     requires needs { consult.Needs (consult.inquiry context.now) walk.old.known
-        (λ all. offer_by all (kinds_of context.now.caps.now.families) context.now.caps.now.is_fixed context.now.words.now.0
+        (λ all. offer_by all (kinds_of context.now.caps.now.families)
+        context.now.caps.now.is_fixed context.now.words.now.0
         transport position.word (answer_in answer)) }
     requires consulted { consult.Consulted (S.ready context.now.source.now) S.goes
         (S.says context.now.source.now) (consult.inquiry context.now) context.now.start.value
@@ -175,7 +176,8 @@ fn push_answer<'s, S: AnswerSource>(
         (λ all fallback found. spec.offer_left context.now.caps.now context.now.words.now.0
         context.now.name.now all services fallback position found
         (offer_by all
-        (kinds_of context.now.caps.now.families) context.now.caps.now.is_fixed context.now.words.now.0 transport position.word
+        (kinds_of context.now.caps.now.families) context.now.caps.now.is_fixed
+        context.now.words.now.0 transport position.word
         (answer_in answer.entry)))
         service_step walk.old.targets.items walk.new.targets.items) }
     ensures fits { IfOk result spec.ServiceStepFits }
@@ -205,7 +207,8 @@ fn push_service<'s, S: AnswerSource>(
     requires few { position.service < 8 }
     requires words { position.word ≤ 32 * position.service }
     requires needs { consult.Needs (consult.inquiry context.now) walk.old.known
-        (λ all. offer_along all (kinds_of context.now.caps.now.families) context.now.caps.now.is_fixed context.now.words.now.0
+        (λ all. offer_along all (kinds_of context.now.caps.now.families)
+        context.now.caps.now.is_fixed context.now.words.now.0
         service.now position.word) }
     requires consulted { consult.Consulted (S.ready context.now.source.now) S.goes
         (S.says context.now.source.now) (consult.inquiry context.now) context.now.start.value

@@ -24,7 +24,8 @@ push_answer-requires-clause-needs g c =
     let b = a.context.now in
     let then = c.answer_from.new.walk.known in
     let answer = answer_in c.in-Ok.answer in
-    needs-of (inquiry b) then (λ all. offer_along all (kinds_of b.caps.now.families) b.caps.now.is_fixed b.words.now.0 a.service.now a.position.word)
+    needs-of (inquiry b) then
+    (λ all. offer_along all (kinds_of b.caps.now.families) b.caps.now.is_fixed b.words.now.0 a.service.now a.position.word)
     (λ all. offer_by all (kinds_of b.caps.now.families) b.caps.now.is_fixed b.words.now.0 a.service.now.transport a.position.word answer)
     (λ all question extends is. rw (c.in-Some.is, extends (record { name = c.in-Some.name; kind = Srv }) answer c.in-Ok.ensures.answer) is)
     (needs-on (inquiry b) a.walk.now.known then _ c.answer_from.ensures.extends c.requires.needs)
