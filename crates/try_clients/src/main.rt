@@ -8,6 +8,7 @@
 mod askers;
 mod clients;
 mod lookups;
+mod pings;
 mod resolver_calls;
 mod resolver_lines;
 mod resolver_steps;
@@ -32,6 +33,7 @@ fn told<R: Wait>(
     match crate_name {
         "dns_asker" => askers::told(rt, output, call, input),
         "dns_transport" | "resolver_file" => clients::told(output, call, input),
+        "sip_ping" => pings::told(rt, output, call, input),
         "sip_resolver" => resolvers::told(rt, output, call, input),
         _ => Err(Fault::Call),
     }
