@@ -41,17 +41,22 @@ module _ (E : Transport → Transport → Bool) where
   by-slots (a ∷ b ∷ c ∷ d ∷ []) (e ∷ f ∷ g ∷ []) few many = refl
   by-slots (a ∷ b ∷ c ∷ d ∷ []) (e ∷ f ∷ g ∷ h ∷ []) few many = refl
 
-and-right : (a b c : Bool) → (a && (b && c)) ≡ (a && b && c)
-and-right true b c = refl
-and-right false b c = refl
+and-right : (a b c d : Bool) → (a && (b && (c && d))) ≡ (a && b && c && d)
+and-right true true c d = refl
+and-right true false c d = refl
+and-right false b c d = refl
 
-pub caps-same : (E : Transport → Transport → Bool) (families large : Bool) (caps other : CapsValue) (result : Bool)
-    → result ≡ (pointwise (option_eq E) (slots_of caps.transports) (slots_of other.transports) && (families && large))
+pub caps-same : (E : Transport → Transport → Bool) (families large fixed : Bool) (caps other : CapsValue) (result : Bool)
+    → result ≡ (pointwise (option_eq E) (slots_of caps.transports) (slots_of other.transports) && (families && (large && fixed)))
     → E ≡ same_transport → families ≡ same_families caps.families other.families → large ≡ beq caps.is_large other.is_large
+    → fixed ≡ beq caps.is_fixed other.is_fixed
     → AreOffered caps.transports → AreOffered other.transports → result ≡ same_caps caps other
-caps-same E families large caps other result is one two three few many =
-    is ∙ and-right (pointwise (option_eq E) (slots_of caps.transports) (slots_of other.transports)) families large
-    ∙ ap (λ b. b && families && large) (by-slots E caps.transports other.transports few.few many.few)
-    ∙ ap (λ (e : Transport → Transport → Bool). pointwise e caps.transports other.transports && families && large) one
-    ∙ ap (λ b. pointwise same_transport caps.transports other.transports && b && large) two
-    ∙ ap (λ b. pointwise same_transport caps.transports other.transports && same_families caps.families other.families && b) three
+caps-same E families large fixed caps other result is one two three four few many =
+    is ∙ and-right (pointwise (option_eq E) (slots_of caps.transports) (slots_of other.transports)) families large fixed
+    ∙ ap (λ b. b && families && large && fixed) (by-slots E caps.transports other.transports few.few many.few)
+    ∙ ap (λ (e : Transport → Transport → Bool). pointwise e caps.transports other.transports && families && large && fixed) one
+    ∙ ap (λ b. pointwise same_transport caps.transports other.transports && b && large && fixed) two
+    ∙ ap (λ b. pointwise same_transport caps.transports other.transports && same_families caps.families other.families && b && fixed)
+    three
+    ∙ ap (λ b. pointwise same_transport caps.transports other.transports && same_families caps.families other.families
+    && beq caps.is_large other.is_large && b) four

@@ -27,11 +27,12 @@ same_families V6ThenV4 V6ThenV4 = true
 same_families families other = false
 
 -- two callers can do the same: the transports, in the same order, and the families of addresses;
--- and both for requests that are too large for UDP, or for any
+-- both for requests that are too large for UDP, or for any; and both in the fixed order or neither
 abbrev pub same_caps : CapsValue → CapsValue → Bool
 same_caps caps other =
     pointwise same_transport caps.transports other.transports
     && same_families caps.families other.families && beq caps.is_large other.is_large
+    && beq caps.is_fixed other.is_fixed
 
 -- two jobs are the same in each part: number, request, what the caller can use, and random words
 abbrev pub same_job : Job → Job → Bool

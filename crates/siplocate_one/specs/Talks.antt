@@ -18,6 +18,7 @@ own_caps families = record {
   transports = Udp ∷ Tcp ∷ Tls ∷ Sctp ∷ [];
   families = families;
   is_large = false;
+  is_fixed = false;
 }
 
 -- the random words of the program: those of a key of zeros, by the number 1

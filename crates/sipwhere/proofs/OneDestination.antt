@@ -47,7 +47,7 @@ module _ (via : ViaValue) (over : Transport) where
 
   abbrev connected : Option Address → ℕ → Destination
   connected None port = Located (Via via)
-  connected (Some address) port = target_at over (endpoint address port)
+  connected (Some address) port = target_at over via.host (endpoint address port)
 
   connection-is : (found : Option Address) (port : ℕ) (route : ResponseRoute) → OverConnection found port route
       → by_way via over (past_connection route) ≡ connected found port
@@ -57,22 +57,22 @@ module _ (via : ViaValue) (over : Transport) where
   -- ---- by a datagram
 
   abbrev hosted : Host → ℕ → Destination
-  hosted (host.V4 octets) port = target_at over (endpoint (V4 octets) port)
-  hosted (host.V6 octets) port = target_at over (endpoint (V6 octets) port)
+  hosted (host.V4 octets) port = target_at over via.host (endpoint (V4 octets) port)
+  hosted (host.V6 octets) port = target_at over via.host (endpoint (V6 octets) port)
   hosted (host.Domain name) port =
       Located (Via (record { transport = via.transport; host = host.Domain name; port = Some port }))
 
   abbrev sourced : Option Address → Option ℕ → ℕ → Destination
   sourced None it port = Located (Via via)
-  sourced (Some address) None port = target_at over (endpoint address port)
-  sourced (Some address) (Some source) port = target_at over (endpoint address source)
+  sourced (Some address) None port = target_at over via.host (endpoint address port)
+  sourced (Some address) (Some source) port = target_at over via.host (endpoint address source)
 
   abbrev sent : Option Host → Option Address → Option ℕ → ℕ → Destination
   sent (Some it) found source port = hosted it port
   sent None found source port = sourced found source port
 
   host-is : (it : HostPart) (address : Address) (port : ℕ) → address_of it ≡ Some address
-      → target_at over (endpoint address port) ≡ hosted (host_of it) port
+      → target_at over via.host (endpoint address port) ≡ hosted (host_of it) port
   host-is (part.V4 octets) address port e = rw (← same_Some (V4 octets) address e) refl
   host-is (part.V6 octets) address port e = rw (← same_Some (V6 octets) address e) refl
   host-is (part.Domain name) address port e = absurd cc

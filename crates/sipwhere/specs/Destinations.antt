@@ -4,6 +4,7 @@ use Rattle.std.specs.Prelude.{◌≡◌, ℕ, List, Option, Some, None, ⊤, if�
 use Rattle.sip_uri.specs.Hosts.{DomainText}
 use Rattle.sip_uri.specs.ViaRoutes.{ViaRouteText}
 use Rattle.sip_uri.specs.Views.{name_of}
+use Rattle.sip_uri.specs.declared.host.Host.{Host}
 use Rattle.sip_uri.specs.declared.host.Host.TheVariants as host
 use Rattle.sip_uri.specs.declared.route_params.RouteParams.{RouteParams}
 use Rattle.sip_uri.specs.declared.transport.Spoken.{Spoken}
@@ -64,9 +65,10 @@ pub record IsStep (text : List ℕ) (via : ViaValue) (over : Transport) (step : 
     pub is : IsRoute over via.port params route
     pub first : step ≡ past_connection route
 
--- the target of an endpoint
-abbrev pub target_at : Transport → Endpoint → Destination
-target_at over to = Named (record { transport = over; address = to.address; port = to.port })
+-- the target of an endpoint, whose certificate has to be of this host
+abbrev pub target_at : Transport → Host → Endpoint → Destination
+target_at over host to =
+    Named (record { transport = over; address = to.address; port = to.port }) host
 
 -- the addresses of a name at a port, as of a Via that has them in front
 abbrev pub named_host : Spoken → List ℕ → ℕ → Destination
@@ -80,10 +82,10 @@ named_host named name port = Located (Via (record {
 -- `maddr`; or to where RFC 3263 5 says that the host and port in front are
 abbrev pub by_step : ViaValue → Transport → Step → Destination
 by_step via over Connection = Located (Via via)
-by_step via over (Opened to) = target_at over to
-by_step via over (Maddr to ttl) = target_at over to
+by_step via over (Opened to) = target_at over via.host to
+by_step via over (Maddr to ttl) = target_at over via.host to
 by_step via over (MaddrName name port) = named_host via.transport name.now port
-by_step via over (Received to symmetric) = target_at over to
+by_step via over (Received to symmetric) = target_at over via.host to
 by_step via over SentBy = Located (Via via)
 
 -- the same, where there may be no step

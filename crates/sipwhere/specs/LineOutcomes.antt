@@ -17,8 +17,10 @@ use Rattle.sip_resolver.specs.declared.outcome.Outcome.{Outcome}
 use Rattle.sip_resolver.specs.declared.outcome.Outcome.TheVariants as outcome
 use Rattle.sip_selection.specs.Requests.{target_of}
 use Rattle.sip_selection.specs.declared.reason.Reason.TheVariants as reason
+use Rattle.sip_uri.specs.declared.host.Host.{Host}
 use Rattle.sip_uri.specs.declared.host.Host.TheVariants as host
 use Rattle.sip_selection.specs.declared.request.Request.TheVariants.{Uri, Via}
+use Rattle.sip_selection.specs.declared.target.Target.{Target}
 use Rattle.sip_tries.specs.Turns.{AreTried}
 use Rattle.sip_tries.specs.declared.tries.Extent.{Extent}
 use Rattle.sip_tries.specs.declared.tries.Tries.{Tries}
@@ -134,11 +136,17 @@ pub record IsLocated (gives : List ℕ → Type 0) (shows : ℕ → Type 0) (sea
       line_outcome
   pub tried : IsTriedBy (extent_for sender.extent request) line_outcome
 
+-- this target alone, whose certificate has to be of this host
+abbrev pub target_alone : Target → Host → Outcome
+target_alone target host =
+    outcome.Targets (record { targets = target ∷ []; certificate_host = host })
+
 -- a text asks for a target that the parameters of its Via name, and the outcome is that target
 pub record IsNamed (sender : Sender) (text : List ℕ) (it : Outcome) : Type 0 where
   pub target : Target
-  pub is : IsDestination sender text (Named target)
-  pub only : it ≡ outcome.Targets (target ∷ [])
+  pub host : Host
+  pub is : IsDestination sender text (Named target host)
+  pub only : it ≡ target_alone target host
 
 -- What may become of a line: it is no request; or it asks for the targets of a request, and this is
 -- what becomes of that; or the parameters of its Via name its target. Of a request this may become
@@ -210,14 +218,14 @@ pub record IsOnlyLocated (sender : Sender) (text : List ℕ) (request : Request)
   pub only : (other : Request) → IsDestination sender text (Located other) → request ≡ other
 
 -- what became of a text whose target this is, where memory was not refused
-abbrev pub IsNamedAs : Target → LineOutcome → Type 0
-IsNamedAs target (Became it) = it ≡ outcome.Targets (target ∷ [])
-IsNamedAs target (Tried tries) = ⊥
-IsNamedAs target (NoSuchName name) = ⊥
-IsNamedAs target TimeOver = ⊥
-IsNamedAs target (Bad refusal) = ⊥
-IsNamedAs target NotText = ⊥
-IsNamedAs target Memory = Unit {0}
+abbrev pub IsNamedAs : Target → Host → LineOutcome → Type 0
+IsNamedAs target host (Became it) = it ≡ target_alone target host
+IsNamedAs target host (Tried tries) = ⊥
+IsNamedAs target host (NoSuchName name) = ⊥
+IsNamedAs target host TimeOver = ⊥
+IsNamedAs target host (Bad refusal) = ⊥
+IsNamedAs target host NotText = ⊥
+IsNamedAs target host Memory = Unit {0}
 
 -- what becomes of targets that are tried so far, where memory was not refused
 abbrev pub IsTriedOf : Extent → TargetListView → LineOutcome → Type 0

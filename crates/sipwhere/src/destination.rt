@@ -24,8 +24,9 @@ use std::alloc::{AllocError, Global};
 pub enum Destination {
     /// To the targets of this request, which DNS servers are asked for.
     Located(Request),
-    /// To this target, which the parameters of a Via name.
-    Named(Target),
+    /// To this target, which the parameters of a Via name. A certificate has to be of the host in
+    /// front of them.
+    Named(Target, Host),
 }
 
 /// A transport that a Via names, where it is among the sender's.
@@ -81,15 +82,16 @@ fn step_of(text: &str, over: Transport) -> Option<Step<'_>>
     }
 }
 
-/// The target of an endpoint.
-fn target_at(over: Transport, to: Endpoint) -> Destination
-    ensures { result ≡ spec.target_at over to }
+/// The target of an endpoint, whose certificate has to be of this host.
+fn target_at(over: Transport, host: Host, to: Endpoint) -> Destination
+    ensures { result ≡ spec.target_at over host to }
 {
-    Destination::Named(Target {
+    let target = Target {
         transport: over,
         address: to.address,
         port: to.port,
-    })
+    };
+    Destination::Named(target, host)
 }
 
 /// The addresses of a name at a port.
@@ -122,7 +124,7 @@ fn by_step(
 {
     match step {
         Step::Opened(to) | Step::Maddr { to, .. } | Step::Received { to, .. } => {
-            Ok(target_at(over, to))
+            Ok(target_at(over, via.host, to))
         }
         Step::MaddrName { name, port } => named_host(alloc, via.transport, name, port),
         Step::Connection | Step::SentBy => Ok(Destination::Located(Request::Via(via))),

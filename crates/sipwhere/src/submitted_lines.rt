@@ -45,12 +45,12 @@ fn request_of(alloc: Global, text: &str) -> Result<Request, LineOutcome>
     }
 }
 
-/// What became of a text that asks for this target.
-fn named(alloc: Global, target: Target) -> LineOutcome
-    ensures { spec.IsNamedAs target result }
+/// What became of a text that asks for this target, whose certificate has to be of this host.
+fn named(alloc: Global, target: Target, host: Host) -> LineOutcome
+    ensures { spec.IsNamedAs target host result }
 {
     match Vec::from_slice(alloc, &[target]) {
-        Ok(targets) => LineOutcome::Became(Outcome::Targets(TargetList::from_vec(targets))),
+        Ok(targets) => LineOutcome::Became(Outcome::Targets(TargetList::new(targets, host))),
         Err(_) => LineOutcome::Memory,
     }
 }
@@ -65,7 +65,7 @@ fn located_of(alloc: Global, sender: &Sender, text: &str) -> Result<Request, Lin
     let request = request_of(alloc, text)?;
     match destination_of(alloc, sender, text, request) {
         Ok(Destination::Located(request)) => Ok(request),
-        Ok(Destination::Named(target)) => Err(named(alloc, target)),
+        Ok(Destination::Named(target, host)) => Err(named(alloc, target, host)),
         Err(_) => Err(LineOutcome::Memory),
     }
 }

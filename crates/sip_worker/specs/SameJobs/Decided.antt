@@ -61,17 +61,29 @@ both false s one two = (λ e. absurd cc, λ e. one.1 e.0)
 pub caps_decides : (caps other : CapsValue) → Decides (same_caps caps other) (caps ≡ other)
 caps_decides caps other =
     let k = both (pointwise same_transport caps.transports other.transports
+    && same_families caps.families other.families && beq caps.is_large other.is_large)
+    (beq caps.is_fixed other.is_fixed)
+    (both (pointwise same_transport caps.transports other.transports
     && same_families caps.families other.families) (beq caps.is_large other.is_large)
     (both (pointwise same_transport caps.transports other.transports)
     (same_families caps.families other.families)
     (pointwise_decides transport_decides caps.transports other.transports)
     (families_decides caps.families other.families))
-    (booleans_Decides caps.is_large other.is_large) in (
+    (booleans_Decides caps.is_large other.is_large))
+    (booleans_Decides caps.is_fixed other.is_fixed) in (
       λ e. let p = k.0 e in
-          λ i. record { transports = p.0.0 i; families = p.0.1 i; is_large = p.1 i },
+          λ i. record {
+            transports = p.0.0.0 i;
+            families = p.0.0.1 i;
+            is_large = p.0.1 i;
+            is_fixed = p.1 i;
+          },
       λ e. k.1 (
-        (ap (λ (c : CapsValue). c.transports) e, ap (λ (c : CapsValue). c.families) e),
-        ap (λ (c : CapsValue). c.is_large) e,
+        (
+          (ap (λ (c : CapsValue). c.transports) e, ap (λ (c : CapsValue). c.families) e),
+          ap (λ (c : CapsValue). c.is_large) e,
+        ),
+        ap (λ (c : CapsValue). c.is_fixed) e,
       ),
     )
 

@@ -18,6 +18,7 @@ families-alike families other = search rules
 pub returns : goal.returns
 returns c =
     caps-same _ (families-value.it c.args.caps.now.families c.args.other.now.families)
-    (beq c.args.caps.now.is_large c.args.other.now.is_large) c.args.caps.now c.args.other.now c.eq.result c.eq.ensures
-    (λ i transport other. alike transport other i) (families-alike c.args.caps.now.families c.args.other.now.families) refl
+    (beq c.args.caps.now.is_large c.args.other.now.is_large) (beq c.args.caps.now.is_fixed c.args.other.now.is_fixed)
+    c.args.caps.now c.args.other.now c.eq.result c.eq.ensures
+    (λ i transport other. alike transport other i) (families-alike c.args.caps.now.families c.args.other.now.families) refl refl
     c.law_transports_are_few.ensures c.law_transports_are_few-2.ensures
