@@ -81,7 +81,7 @@ impl Flow for Script {
 }
 
 /// What a line says that arrives, behind its time.
-fn arrival(alloc: Global, rest: &str) -> Result<Arrival, Fault> {
+fn arrival_of(alloc: Global, rest: &str) -> Result<Arrival, Fault> {
     match split_word(rest) {
         ("octets", field) => Ok(Arrival::Octets(octets(alloc, field)?)),
         ("closed", "") => Ok(Arrival::Closed),
@@ -98,7 +98,7 @@ fn arrivals(alloc: Global, lines: &str) -> Result<Vec<(u64, Arrival)>, Fault> {
     }
     for line in lines.split('\n') {
         let (at, rest) = split_word(line);
-        let arrival = (number64(at)?, arrival(alloc, rest)?);
+        let arrival = (number64(at)?, arrival_of(alloc, rest)?);
         arrivals.push(arrival).map_err(|_| Fault::Memory)?;
     }
     Ok(arrivals)
