@@ -15,7 +15,7 @@ use Rattle.sip_tries.specs.declared.found.TargetTry.{TargetTry}
 use Rattle.sip_uri.specs.declared.transport.Transport.{Transport}
 use Rattle.sip_uri.specs.declared.transport.Transport.TheVariants.{Udp, Tcp, Sctp, Tls}
 use Rattle.sip_report.specs.Hosts.{host_words}
-use Rattle.sip_report.specs.Jsons.{found_data, line_outcome_data, place_data, target_data, try_data, verified, with_text}
+use Rattle.sip_report.specs.Jsons.{found_data, line_outcome_data, place_data, target_data, try_data, verified, with_member}
 use Rattle.sip_report.specs.declared.address.AddressForm.{AddressForm}
 use Rattle.sip_report.specs.declared.line_outcome.LineOutcome.{LineOutcome}
 use Rattle.sip_report.specs.declared.line_outcome.LineOutcome.TheVariants as line_outcome
@@ -42,7 +42,8 @@ none_in_put key text (member other data' members) none =
     (member other (string text) members) (member other data' (put key (string text) members)) none parts.1
     (rw parts.0 (none_in_put key text members parts.1))
 
-none_in_text : (key text : List ℕ) (it : Data) → has_float it ≡ false → has_float (with_text key text it) ≡ false
+none_in_text : (key text : List ℕ) (it : Data) → has_float it ≡ false
+    → has_float (with_member key (string text) it) ≡ false
 none_in_text key text (object members) none = none_in_put key text members none
 none_in_text key text (array items) none = none
 none_in_text key text (string other) none = none

@@ -26,19 +26,23 @@ use Rattle.sip_report.specs.declared.line_outcome.LineOutcome.TheVariants as lin
 
 -- ---- the parts
 
--- an object with one member more: a text under this key
-abbrev pub with_text : List ℕ → List ℕ → Data → Data
-with_text key text (object members) = object (put key (string text) members)
-with_text key text (array items) = array items
-with_text key text (string other) = string other
-with_text key text (number value) = number value
-with_text key text (boolean value) = boolean value
-with_text key text null = null
+-- a number
+abbrev pub number_data : ℕ → Data
+number_data value = number (unsigned value)
+
+-- an object with one member more, under this key
+abbrev pub with_member : List ℕ → Data → Data → Data
+with_member key it (object members) = object (put key it members)
+with_member key it (array items) = array items
+with_member key it (string other) = string other
+with_member key it (number value) = number value
+with_member key it (boolean value) = boolean value
+with_member key it null = null
 
 -- the object of a target has one member more where it is reached over TLS: what the certificate of
 -- its server has to be of (RFC 3263 4.1, RFC 3261 26.3.1)
 abbrev pub verified : List ℕ → Transport → Data → Data
-verified verify Tls target = with_text (codes "verify") verify target
+verified verify Tls target = with_member (codes "verify") (string verify) target
 verified verify Udp target = target
 verified verify Tcp target = target
 verified verify Sctp target = target
@@ -92,6 +96,12 @@ try_data form verify it = verified verify it.target.transport (found_data form i
 abbrev pub tries_data : AddressForm → List ℕ → List TargetTry → Data
 tries_data form verify tries = array (items_of (map (try_data form verify) tries))
 
+-- a question: its type and its name
+abbrev pub question_data : Question → Data
+question_data question =
+    object (member (codes "kind") (string (kind_word question.kind))
+    (member (codes "name") (string (text_of question.name)) no_members))
+
 -- a question, and the RCODE of the reply to it (RFC 1035 4.1.1)
 abbrev pub rcode_data : Question → ℕ → Data
 rcode_data question rcode =
@@ -123,6 +133,11 @@ last_members text took =
     member (codes "text") (string text)
     (member (codes "time") (number (unsigned took))
     (member (codes "v") (number (unsigned 1)) no_members))
+
+-- what the object of each text has: its status, and the members that stand last
+abbrev pub line_data : List ℕ → ℕ → ℕ → Data
+line_data text took status =
+    object (member (codes "status") (number (unsigned status)) (last_members text took))
 
 -- the object of a text with targets
 abbrev pub with_targets : List ℕ → ℕ → Data → Data

@@ -2,6 +2,7 @@
 //! docs/sipwhere.schema.json.
 ghost use Rattle.std.specs.Prelude.{◌≡◌, ◌++◌, ◌∷◌, [], IfOk};
 ghost use Rattle.std.specs.String.{string_bytes};
+ghost use Rattle.serde_json.specs.Data.{string};
 ghost use Rattle.serde_json.specs.View.{view};
 ghost use Rattle.sip_resolver.specs.declared.outcome.Outcome.TheVariants.{Targets};
 ghost use Rattle.sip_report.specs.declared.line_outcome.LineOutcome.TheVariants.{Tried};
@@ -32,19 +33,36 @@ const FORMAT: u8 = 1;
 /// The RCODE of a reply that says that a name does not exist (RFC 1035 4.1.1).
 const NAME_ERROR: u8 = 3;
 
-/// An object with one member more: a text under this key.
-fn with_text(alloc: Global, value: Value, key: &str, text: &str) -> Result<Value, AllocError>
-    ensures { IfOk result (λ it. view it ≡ spec.with_text key.now text.now (view value)) }
+/// An object with one member more, under this key.
+fn with_member(alloc: Global, object: Value, key: &str, member: Value) -> Result<Value, AllocError>
+    ensures { IfOk result (λ it.
+        view it ≡ spec.with_member key.now (view member) (view object)) }
 {
-    match value {
+    match object {
         Value::Object(mut members) => {
             let key = String::from_str(alloc, key)?;
-            let text = String::from_str(alloc, text)?;
-            members.insert(key, Value::String(text))?;
+            members.insert(key, member)?;
             Ok(Value::Object(members))
         }
         other => Ok(other),
     }
+}
+
+/// An object with one member more: a text.
+fn with_text(alloc: Global, object: Value, key: &str, text: &str) -> Result<Value, AllocError>
+    ensures { IfOk result (λ it.
+        view it ≡ spec.with_member key.now (string text.now) (view object)) }
+{
+    let text = String::from_str(alloc, text)?;
+    with_member(alloc, object, key, Value::String(text))
+}
+
+/// An object with one member more: a number.
+fn with_number(alloc: Global, object: Value, key: &str, number: u64) -> Result<Value, AllocError>
+    ensures { IfOk result (λ it.
+        view it ≡ spec.with_member key.now (spec.number_data number) (view object)) }
+{
+    with_member(alloc, object, key, Value::from(number))
 }
 
 /// The object of a target, which over TLS has what the certificate of its server has to be of too.
@@ -111,12 +129,9 @@ fn replied_value(
     ensures { IfOk result (λ value.
         view value ≡ spec.replied_data form target.now reply.status reply.after) }
 {
-    let address = address_words(alloc, form, target.address)?;
-    let transport = transport_word(target.transport);
-    json!(in alloc; {
-        "address": &address, "port": target.port, "rtt": reply.after, "status": reply.status,
-        "transport": transport
-    })
+    let place = place_value(alloc, form, target)?;
+    let timed = with_number(alloc, place, "rtt", reply.after)?;
+    with_number(alloc, timed, "status", u64::from(reply.status))
 }
 
 /// A target without a final reply.
@@ -128,11 +143,8 @@ fn unreplied_value(
 ) -> Result<Value, AllocError>
     ensures { IfOk result (λ value. view value ≡ spec.unreplied_data form target.now why.now) }
 {
-    let address = address_words(alloc, form, target.address)?;
-    let transport = transport_word(target.transport);
-    json!(in alloc; {
-        "address": &address, "port": target.port, "transport": transport, "why": why
-    })
+    let place = place_value(alloc, form, target)?;
+    with_text(alloc, place, "why", why)
 }
 
 /// What was found at a target.
@@ -180,22 +192,28 @@ fn tries_value(
     Ok(Value::Array(items))
 }
 
+/// A question: its type and its name.
+fn question_value(alloc: Global, question: &Question) -> Result<Value, AllocError>
+    ensures { IfOk result (λ value. view value ≡ spec.question_data question.now) }
+{
+    let name = question.name.text()?;
+    json!(in alloc; {"kind": kind_word(question.kind), "name": &name})
+}
+
 /// A question, and the RCODE of the reply to it.
 fn rcode_value(alloc: Global, question: &Question, rcode: u8) -> Result<Value, AllocError>
     ensures { IfOk result (λ value. view value ≡ spec.rcode_data question.now rcode) }
 {
-    let name = question.name.text()?;
-    let kind = kind_word(question.kind);
-    json!(in alloc; {"kind": kind, "name": &name, "rcode": rcode})
+    let object = question_value(alloc, question)?;
+    with_number(alloc, object, "rcode", u64::from(rcode))
 }
 
 /// A question, and why it has no answer.
 fn why_value(alloc: Global, question: &Question, why: &str) -> Result<Value, AllocError>
     ensures { IfOk result (λ value. view value ≡ spec.why_data question.now why.now) }
 {
-    let name = question.name.text()?;
-    let kind = kind_word(question.kind);
-    json!(in alloc; {"kind": kind, "name": &name, "why": why})
+    let object = question_value(alloc, question)?;
+    with_text(alloc, object, "why", why)
 }
 
 /// A question, and what is wrong with the reply to it.
@@ -215,13 +233,20 @@ fn reply_value(
     }
 }
 
+/// What the object of each text has: its status, the text, the milliseconds that it took, and the
+/// number of this format.
+fn line_value(alloc: Global, text: &str, took: u64, status: u8) -> Result<Value, AllocError>
+    ensures { IfOk result (λ value. view value ≡ spec.line_data text.now took status) }
+{
+    json!(in alloc; {"status": status, "text": text, "time": took, "v": FORMAT})
+}
+
 /// An object of targets.
 fn with_targets(alloc: Global, text: &str, took: u64, targets: Value) -> Result<Value, AllocError>
     ensures { IfOk result (λ value. view value ≡ spec.with_targets text.now took (view targets)) }
 {
-    json!(in alloc; {
-        "status": TARGETS_STATUS, "targets": targets, "text": text, "time": took, "v": FORMAT
-    })
+    let object = line_value(alloc, text, took, TARGETS_STATUS)?;
+    with_member(alloc, object, "targets", targets)
 }
 
 /// An object of targets that were tried.
@@ -236,10 +261,9 @@ fn with_tries(
     ensures { IfOk result (λ value. view value
         ≡ spec.with_tries text.now took status (view targets) (view tries)) }
 {
-    json!(in alloc; {
-        "status": status, "targets": targets, "text": text, "time": took, "tries": tries,
-        "v": FORMAT
-    })
+    let object = line_value(alloc, text, took, status)?;
+    let object = with_member(alloc, object, "targets", targets)?;
+    with_member(alloc, object, "tries", tries)
 }
 
 /// The object of targets.
@@ -279,9 +303,8 @@ fn tried_value(
 fn with_gaveup(alloc: Global, text: &str, took: u64, gaveup: Value) -> Result<Value, AllocError>
     ensures { IfOk result (λ value. view value ≡ spec.with_gaveup text.now took (view gaveup)) }
 {
-    json!(in alloc; {
-        "gaveup": gaveup, "status": GAVEUP_STATUS, "text": text, "time": took, "v": FORMAT
-    })
+    let object = line_value(alloc, text, took, GAVEUP_STATUS)?;
+    with_member(alloc, object, "gaveup", gaveup)
 }
 
 /// Why a question has no answer whose time was over.
@@ -291,13 +314,27 @@ fn total_value(alloc: Global) -> Result<Value, AllocError>
     json!(in alloc; {"why": "total"})
 }
 
+/// An object of a text without targets: by its status, with a word for why.
+fn with_word(
+    alloc: Global,
+    text: &str,
+    took: u64,
+    status: u8,
+    key: &str,
+    word: &str,
+) -> Result<Value, AllocError>
+    ensures { IfOk result (λ value. view value
+        ≡ spec.with_member key.now (string word.now) (spec.line_data text.now took status)) }
+{
+    let object = line_value(alloc, text, took, status)?;
+    with_text(alloc, object, key, word)
+}
+
 /// An object of a refusal.
 fn with_refused(alloc: Global, text: &str, took: u64, word: &str) -> Result<Value, AllocError>
     ensures { IfOk result (λ value. view value ≡ spec.with_refused text.now took word.now) }
 {
-    json!(in alloc; {
-        "refused": word, "status": REFUSED_STATUS, "text": text, "time": took, "v": FORMAT
-    })
+    with_word(alloc, text, took, REFUSED_STATUS, "refused", word)
 }
 
 /// An object of a refusal for a name that does not exist.
@@ -305,28 +342,23 @@ fn with_no_name(alloc: Global, text: &str, took: u64, name: &Name) -> Result<Val
     ensures { IfOk result (λ value. view value ≡ spec.with_no_name text.now took name.now) }
 {
     let name = name.text()?;
-    json!(in alloc; {
-        "name": &name, "rcode": NAME_ERROR, "refused": "NoAddress", "status": REFUSED_STATUS,
-        "text": text, "time": took, "v": FORMAT
-    })
+    let object = with_refused(alloc, text, took, "NoAddress")?;
+    let object = with_number(alloc, object, "rcode", u64::from(NAME_ERROR))?;
+    with_text(alloc, object, "name", &name)
 }
 
 /// An object of a text that is no request.
 fn with_bad(alloc: Global, text: &str, took: u64, word: &str) -> Result<Value, AllocError>
     ensures { IfOk result (λ value. view value ≡ spec.with_bad text.now took word.now) }
 {
-    json!(in alloc; {
-        "bad": word, "status": BAD_STATUS, "text": text, "time": took, "v": FORMAT
-    })
+    with_word(alloc, text, took, BAD_STATUS, "bad", word)
 }
 
 /// An object of a fault.
 fn with_fault(alloc: Global, text: &str, took: u64) -> Result<Value, AllocError>
     ensures { IfOk result (λ value. view value ≡ spec.with_fault text.now took) }
 {
-    json!(in alloc; {
-        "fault": "memory", "status": FAULT_STATUS, "text": text, "time": took, "v": FORMAT
-    })
+    with_word(alloc, text, took, FAULT_STATUS, "fault", "memory")
 }
 
 /// The object of what became of a request.

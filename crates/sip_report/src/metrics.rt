@@ -128,30 +128,27 @@ pub fn metrics_of(
         string_bytes metrics ≡ spec.metrics_of text.now took line_outcome.now) }
 {
     let label = label_of(alloc, text)?;
-    let status = number_words(alloc, u64::from(status_of(line_outcome)))?;
-    let count = number_words(alloc, count_of(line_outcome) as u64)?;
-    let time = seconds(alloc, took)?;
     let mut metrics = String::new(alloc);
     push_gauge(
         &mut metrics,
         "sipwhere_status",
         "The exit status: 0 with targets.",
         &label,
-        &status,
+        &number_words(alloc, u64::from(status_of(line_outcome)))?,
     )?;
     push_gauge(
         &mut metrics,
         "sipwhere_targets",
         "How many targets there are.",
         &label,
-        &count,
+        &number_words(alloc, count_of(line_outcome) as u64)?,
     )?;
     push_gauge(
         &mut metrics,
         "sipwhere_duration_seconds",
         "How long it took.",
         &label,
-        &time,
+        &seconds(alloc, took)?,
     )?;
     Ok(metrics)
 }

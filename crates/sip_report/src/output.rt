@@ -90,11 +90,10 @@ fn why_word(alloc: Global, refusal: ReplyRefusal) -> Result<String, AllocError>
 pub fn target_words(alloc: Global, form: AddressForm, target: &Target) -> Result<String, AllocError>
     ensures { IfOk result (λ words. string_bytes words ≡ spec.target_words form target.now) }
 {
-    let address = address_words(alloc, form, target.address)?;
     let port = target.port;
     let mut words = String::from_str(alloc, transport_word(target.transport))?;
     words.push_str(" ")?;
-    words.push_str(&address)?;
+    words.push_str(&address_words(alloc, form, target.address)?)?;
     words.push_str(&format!(in alloc; " {port}")?)?;
     Ok(words)
 }
@@ -109,9 +108,8 @@ fn target_line(
     ensures { IfOk result (λ line.
         string_bytes line ≡ spec.target_line form front.now target.now) }
 {
-    let words = target_words(alloc, form, target)?;
     let mut line = String::from_str(alloc, front)?;
-    line.push_str(&words)?;
+    line.push_str(&target_words(alloc, form, target)?)?;
     line.push_str("\n")?;
     Ok(line)
 }
@@ -176,12 +174,10 @@ fn try_line(
 ) -> Result<String, AllocError>
     ensures { IfOk result (λ line. string_bytes line ≡ spec.try_line form front.now it.now) }
 {
-    let target = target_words(alloc, form, &it.target)?;
-    let found = found_words(alloc, it.found)?;
     let mut line = String::from_str(alloc, front)?;
-    line.push_str(&target)?;
+    line.push_str(&target_words(alloc, form, &it.target)?)?;
     line.push_str(" ")?;
-    line.push_str(&found)?;
+    line.push_str(&found_words(alloc, it.found)?)?;
     line.push_str("\n")?;
     Ok(line)
 }
@@ -222,10 +218,9 @@ fn gaveup_line(
     ensures { IfOk result (λ line.
         string_bytes line ≡ spec.gaveup_line front.now question.now why.now) }
 {
-    let question = question_words(alloc, question)?;
     let mut line = String::from_str(alloc, front)?;
     line.push_str("gaveup ")?;
-    line.push_str(&question)?;
+    line.push_str(&question_words(alloc, question)?)?;
     line.push_str(" ")?;
     line.push_str(why)?;
     line.push_str("\n")?;

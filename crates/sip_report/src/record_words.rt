@@ -19,7 +19,7 @@ pub fn push_number(alloc: Global, number: u64, words: &mut String) -> Result<(),
 }
 
 /// Adds a name.
-fn push_name(name: &Name, words: &mut String) -> Result<(), AllocError>
+pub fn push_name(name: &Name, words: &mut String) -> Result<(), AllocError>
     ensures { OnOk result (string_bytes words.new ≡ string_bytes words.old ++ text_of name.now) }
 {
     words.push_str(&name.text()?)

@@ -6,6 +6,7 @@ ghost use Rattle.sip_report.specs.Traces as spec;
 
 use crate::address::AddressForm;
 use crate::record_lines::push_message;
+use crate::record_words::push_name;
 use crate::rule::rule_of;
 use dns_message::{Asked, Message};
 use dns_transport::{TryRoute, WireReply, WireTry};
@@ -29,13 +30,11 @@ fn type_word(alloc: Global, type_number: u16) -> Result<String, AllocError>
 fn asked_words(alloc: Global, via: bool, asked: &Asked) -> Result<String, AllocError>
     ensures { IfOk result (λ words. string_bytes words ≡ spec.asked_words via asked.now) }
 {
-    let name = asked.name.text()?;
-    let rule = rule_of(alloc, via, asked)?;
     let mut words = type_word(alloc, asked.type_number)?;
     words.push_str(" ")?;
-    words.push_str(&name)?;
+    push_name(&asked.name, &mut words)?;
     words.push_str(" (")?;
-    words.push_str(&rule)?;
+    words.push_str(&rule_of(alloc, via, asked)?)?;
     words.push_str(")")?;
     Ok(words)
 }
@@ -100,10 +99,9 @@ fn sent_words(alloc: Global, via: bool, one: &WireTry) -> Result<String, AllocEr
     ensures { IfOk result (λ words. string_bytes words ≡ spec.sent_words via one.now) }
 {
     let id = one.id;
-    let route = route_words(alloc, one.route)?;
     let mut words = question_words(alloc, via, &one.asked)?;
     words.push_str(" to ")?;
-    words.push_str(&route)?;
+    words.push_str(&route_words(alloc, one.route)?)?;
     words.push_str(&format!(in alloc; " id {id}")?)?;
     Ok(words)
 }
@@ -112,12 +110,10 @@ fn sent_words(alloc: Global, via: bool, one: &WireTry) -> Result<String, AllocEr
 fn trace_line(alloc: Global, via: bool, one: &WireTry) -> Result<String, AllocError>
     ensures { IfOk result (λ line. string_bytes line ≡ spec.trace_line via one.now) }
 {
-    let sent = sent_words(alloc, via, one)?;
-    let reply = reply_words(alloc, one.sent_at, &one.reply)?;
     let mut line = String::from_str(alloc, "; ")?;
-    line.push_str(&sent)?;
+    line.push_str(&sent_words(alloc, via, one)?)?;
     line.push_str(": ")?;
-    line.push_str(&reply)?;
+    line.push_str(&reply_words(alloc, one.sent_at, &one.reply)?)?;
     line.push_str("\n")?;
     Ok(line)
 }
