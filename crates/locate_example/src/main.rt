@@ -9,12 +9,14 @@ use answer_cache::{AnswerBook, ListCache};
 use dns_asker as asker;
 use dns_asker::MessageWire;
 use dns_transport::{QueryForm, ReplyTimes, RunClock, WireOptions, open_wire};
+use rand_chacha::ChaCha20Rng;
 use sip_resolver::{
-    Limits, Outcome, Resolver, WireOrigin, draw_words, next_outcome, random_ids, random_key,
+    Limits, Outcome, RandomIds, Resolver, WireOrigin, draw_words, next_outcome, random_ids,
+    random_key,
 };
 use sip_selection::{Caps, Families, Request};
 use sip_uri::Transport::{Tcp, Tls, Udp};
-use sip_uri::{address_text, read_uri};
+use sip_uri::{SipUri, address_text, read_uri};
 use std::alloc::Global;
 use std::net::{Net, SocketAddr};
 use std::process::ExitCode;
@@ -31,10 +33,13 @@ const LIMITS: Limits = Limits {
     streams: false,
 };
 
-/// Asks for a request over a wire, with a key of its random ids and words, until it ends.
+/// The number of the one request.
+const NUMBER: u64 = 1;
+
+/// Asks for a request over a wire, with a key of its random words, until it ends.
 fn resolve<R: Wait, B: AnswerBook + Drop, W: MessageWire, C: asker::Clock>(
     rt: &R,
-    alloc: Global,
+    resolver: &mut Resolver<B, WireOrigin<W, C>, RandomIds<ChaCha20Rng>>,
     request: Request,
     key: [u8; 32],
     book: &B,
@@ -45,15 +50,38 @@ fn resolve<R: Wait, B: AnswerBook + Drop, W: MessageWire, C: asker::Clock>(
     requires made_here { B.belongs book.now seat.old }
 {
     let caps = Caps::new(&[Udp, Tcp, Tls], Families::V4ThenV6)?;
-    let ids = random_ids(key, 1);
-    let Ok(mut resolver) = Resolver::<B, WireOrigin<W, C>, _>::new(alloc, LIMITS, ids) else {
-        return None;
-    };
-    let Ok(()) = resolver.submit(1, request, caps, draw_words(key, 1), None) else {
-        return None;
-    };
-    let ended = next_outcome(rt, &mut resolver, book, seat, wire, clock)?;
+    let words = draw_words(key, NUMBER);
+    resolver.submit(NUMBER, request, caps, words, None).ok()?;
+    let ended = next_outcome(rt, resolver, book, seat, wire, clock)?;
     Some(ended.into_outcome())
+}
+
+/// The same with a resolver and a book of its own.
+fn resolve_over<R: Wait, W: MessageWire, C: asker::Clock>(
+    rt: &R,
+    alloc: Global,
+    request: Request,
+    key: [u8; 32],
+    wire: &mut W,
+    clock: &C,
+) -> Option<Outcome> {
+    let ids = random_ids(key, NUMBER);
+    let Ok(mut resolver) = Resolver::new(alloc, LIMITS, ids) else {
+        return None;
+    };
+    let (book, mut seat) = ListCache::new(alloc);
+    let outcome = resolve(
+        rt,
+        &mut resolver,
+        request,
+        key,
+        &book,
+        &mut seat,
+        wire,
+        clock,
+    );
+    drop(resolver);
+    outcome
 }
 
 /// What becomes of a request at a server, if anything does within five seconds.
@@ -62,7 +90,6 @@ fn resolve_at<R: Wait + Net + Clock + RandomSource + AllocGlobal>(
     server: SocketAddr,
     request: Request,
 ) -> io::Result<Option<Outcome>> {
-    let alloc = rt.alloc();
     let options = WireOptions {
         over_tcp: false,
         form: QueryForm::PLAIN,
@@ -72,10 +99,11 @@ fn resolve_at<R: Wait + Net + Clock + RandomSource + AllocGlobal>(
         total: Duration::from_secs(5),
     };
     let key = random_key(rt)?;
-    let mut wire = open_wire(rt, alloc, &[server], None, options, key)?;
     let clock = RunClock::start(rt)?;
-    let (book, mut seat) = ListCache::new(alloc);
-    Ok(resolve(rt, alloc, request, key, &book, &mut seat, &mut wire, &clock))
+    let mut wire = open_wire(rt, rt.alloc(), &[server], None, options, key)?;
+    let outcome = resolve_over(rt, rt.alloc(), request, key, &mut wire, &clock);
+    drop(wire);
+    Ok(outcome)
 }
 
 /// Prints what became of a request, and gives the status.
@@ -95,26 +123,50 @@ fn tell<R: Print + AllocGlobal>(rt: &R, outcome: &Outcome) -> io::Result<u8> {
     }
 }
 
-/// Does what the words ask for, and gives the status.
-fn perform<R: Wait + Env + Print + Net + Clock + RandomSource + AllocGlobal>(
+/// Prints a line for one who asks for what cannot be done, and gives the status.
+fn refuse<R: Print>(rt: &R, line: &str) -> io::Result<u8> {
+    println!(rt; "{line}")?;
+    Ok(2)
+}
+
+/// Locates a URI by a server, prints what became of it, and gives the status.
+fn locate<R: Wait + Print + Net + Clock + RandomSource + AllocGlobal>(
     rt: &R,
+    server: SocketAddr,
+    uri: SipUri,
 ) -> io::Result<u8> {
-    let alloc = rt.alloc();
-    let words = env::args(rt)?.collect::<Vec<String>>(alloc)?;
-    let [_, server, uri] = words.as_slice() else {
-        println!(rt; "usage: locate_example SERVER URI")?;
-        return Ok(2);
-    };
-    let (Ok(server), Ok(uri)) = (server.parse(), read_uri(alloc, uri)) else {
-        println!(rt; "no address with a port, or no SIP URI")?;
-        return Ok(2);
-    };
     match resolve_at(rt, server, Request::Uri(uri))? {
         Some(outcome) => tell(rt, &outcome),
         None => {
             println!(rt; "no reply in time")?;
             Ok(1)
         }
+    }
+}
+
+/// Does so with the words of a server and of a URI.
+fn locate_words<R: Wait + Print + Net + Clock + RandomSource + AllocGlobal>(
+    rt: &R,
+    server: &str,
+    uri: &str,
+) -> io::Result<u8> {
+    let Ok(server) = server.parse() else {
+        return refuse(rt, "no address with a port");
+    };
+    match read_uri(rt.alloc(), uri) {
+        Ok(uri) => locate(rt, server, uri),
+        Err(_) => refuse(rt, "no SIP URI"),
+    }
+}
+
+/// Does what the words ask for, and gives the status.
+fn perform<R: Wait + Env + Print + Net + Clock + RandomSource + AllocGlobal>(
+    rt: &R,
+) -> io::Result<u8> {
+    let words = env::args(rt)?.collect::<Vec<String>>(rt.alloc())?;
+    match words.as_slice() {
+        [_, server, uri] => locate_words(rt, server.as_str(), uri.as_str()),
+        _ => refuse(rt, "usage: locate_example SERVER URI"),
     }
 }
 
