@@ -2,17 +2,64 @@
 ghost use Rattle.std.specs.Prelude.{◌≡◌, IfSome};
 ghost use Rattle.std.specs.Arc.{arc_value};
 ghost use Rattle.dns_answers.specs.Records.{kind_of};
+ghost use Rattle.dns_message.specs.declared.kind.Kind.TheVariants.{A};
 ghost use Rattle.answer_cache.specs.Shared.{Belongs, CacheView, cache_view};
 
-use crate::allocations::asked::{REPLY, answer, now, question};
-use crate::allocations::locators::{goes, locator};
 use answer_cache::{AnswerBook, Rival, Seat, SharedCache, StoreRefusal};
-use dns_answers::{Answer, FoundAnswer, Moment};
-use dns_message::Question;
+use dns_answers::{Answer, FoundAnswer, Moment, Records};
+use dns_message::{Kind, Question, Section};
+use dns_name::Name;
 use sip_locator::{Kept, Locator, LocatorRefusal};
+use sip_selection::{Caps, Families, Next, Request};
+use sip_uri::{Transport, read_uri};
+use srv_choice::{WORD_COUNT, Words};
 use std::alloc::{AllocError, Global};
 use std::marker::{Brand, Model, PhantomData};
 use std::sync::{Arc, Wait};
+
+/// The question for addresses of a.example.
+fn question(alloc: Global) -> Option<Question>
+    ensures { IfSome result (λ made. made.kind ≡ A) }
+{
+    Some(Question {
+        name: Name::from_text(alloc, "a.example").ok()?,
+        kind: Kind::A,
+    })
+}
+
+/// Its answer of one address.
+fn answer(alloc: Global) -> Option<Arc<Answer>>
+    ensures { IfSome result (λ made. kind_of (arc_value made).records ≡ A) }
+{
+    let addresses = Vec::from_slice(alloc, &[[192, 0, 2, 7]]).ok()?;
+    let records = Records::V4(Section::from_vec(addresses));
+    Arc::new(alloc, Answer::new(records, 10)?).ok()
+}
+
+/// The octets of a reply with the address and a TTL of 60, under the id 0 (RFC 1035 4.1).
+const REPLY: [u8; 43] = *b"\x00\x00\x81\x80\x00\x01\x00\x01\x00\x00\x00\x00\
+    \x01a\x07example\x00\x00\x01\x00\x01\
+    \xc0\x0c\x00\x01\x00\x01\x00\x00\x00\x3c\x00\x04\xc0\x00\x02\x07";
+
+/// The moment of all calls.
+fn now() -> Moment {
+    Moment::new(100).unwrap()
+}
+
+/// Random words, of which the request uses none.
+const WORDS: Words = Words([0; WORD_COUNT]);
+
+/// The locator of a request to port 5070 of that host, over UDP and IPv4.
+fn locator<B: AnswerBook>(alloc: Global) -> Option<Locator<B>> {
+    let request = Request::Uri(read_uri(alloc, "sip:a.example:5070").ok()?);
+    let caps = Caps::new(&[Transport::Udp], Families::V4)?;
+    Locator::new(alloc, request, caps, WORDS).ok()
+}
+
+/// Whether one target is next.
+fn goes(next: Next<'_>) -> bool {
+    matches!(next, Next::Targets([_]))
+}
 
 /// Which cache the seats are of. Each call of the test picks it.
 trait Naming {
@@ -197,7 +244,7 @@ fn two_seats(alloc: Global) -> Option<(SharedCache, Seat, Seat)>
 
 /// The same over a new cache.
 fn over_two_seats(rt: &(impl Wait + AllocGlobal)) -> Option<bool> {
-    let asked = (question(rt.alloc())?, answer(rt.alloc(), 10)?);
+    let asked = (question(rt.alloc())?, answer(rt.alloc())?);
     let (cache, seat, other) = two_seats(rt.alloc())?;
     is_used_by_two::<Brand, _>(rt, rt.alloc(), &cache, (seat, other), asked)
 }

@@ -1,6 +1,6 @@
-//! What public calls do where memory is refused, one allocation after the other, or a thread, and
-//! what a locator does where another seat keeps its answer from being stored. This crate has tests
-//! alone.
+//! What public calls that no row of `tests/rows` makes do where memory is refused, one allocation
+//! after the other, or a thread, and what a locator does where another seat keeps its answer from
+//! being stored. This crate has tests alone.
 //!
 //! Each test of `allocations` makes each of its calls twice. `tools/refuse-allocations` runs it
 //! once for each allocation that it makes, which is then refused: the call says so and leaves what
