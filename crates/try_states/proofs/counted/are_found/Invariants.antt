@@ -1,0 +1,5 @@
+use Rattle.answer_cache.specs.Shared.{Belongs}
+use Rattle.try_states.proofs.counted.are_found.Given as goal
+
+abbrev pub invariant-questions : goal.invariant-questions
+invariant-questions l = Belongs l.cache l.seat

@@ -1,5 +1,0 @@
-use Rattle.answer_cache.specs.Shared.{Belongs}
-use Rattle.try_threads.proofs.contended.store_often.Given as goal
-
-abbrev pub invariant-stores : goal.invariant-stores
-invariant-stores g l = Belongs l.cache l.seat
