@@ -9,9 +9,8 @@ use answer_cache::{AnswerBook, ListCache};
 use dns_asker as asker;
 use dns_asker::MessageWire;
 use dns_transport::{QueryForm, ReplyTimes, RunClock, WireOptions, open_wire};
-use rand_chacha::ChaCha20Rng;
 use sip_resolver::{
-    Limits, Outcome, RandomIds, Resolver, WireOrigin, draw_words, next_outcome, random_ids,
+    Limits, Outcome, Resolved, Resolver, WireOrigin, draw_words, next_outcome, random_ids,
     random_key,
 };
 use sip_selection::{Caps, Families, Request};
@@ -36,27 +35,33 @@ const LIMITS: Limits = Limits {
 /// The number of the one request.
 const NUMBER: u64 = 1;
 
-/// Asks for a request over a wire, with a key of its random words, until it ends.
+/// Asks for a request over a wire, with a key of its random ids and words, until it ends.
 fn resolve<R: Wait, B: AnswerBook + Drop, W: MessageWire, C: asker::Clock>(
     rt: &R,
-    resolver: &mut Resolver<B, WireOrigin<W, C>, RandomIds<ChaCha20Rng>>,
+    alloc: Global,
     request: Request,
     key: [u8; 32],
     book: &B,
     seat: &mut B::Seat,
     wire: &mut W,
     clock: &C,
-) -> Option<Outcome>
+) -> Option<Resolved<B>>
     requires made_here { B.belongs book.now seat.old }
 {
     let caps = Caps::new(&[Udp, Tcp, Tls], Families::V4ThenV6)?;
-    let words = draw_words(key, NUMBER);
-    resolver.submit(NUMBER, request, caps, words, None).ok()?;
-    let ended = next_outcome(rt, resolver, book, seat, wire, clock)?;
-    Some(ended.into_outcome())
+    let ids = random_ids(key, NUMBER);
+    let Ok(mut resolver) = Resolver::<B, WireOrigin<W, C>, _>::new(alloc, LIMITS, ids) else {
+        return None;
+    };
+    let ended = match resolver.submit(NUMBER, request, caps, draw_words(key, NUMBER), None) {
+        Ok(()) => next_outcome(rt, &mut resolver, book, seat, wire, clock),
+        Err(_) => None,
+    };
+    drop(resolver);
+    ended
 }
 
-/// The same with a resolver and a book of its own.
+/// The same with a book of its own.
 fn resolve_over<R: Wait, W: MessageWire, C: asker::Clock>(
     rt: &R,
     alloc: Global,
@@ -65,23 +70,9 @@ fn resolve_over<R: Wait, W: MessageWire, C: asker::Clock>(
     wire: &mut W,
     clock: &C,
 ) -> Option<Outcome> {
-    let ids = random_ids(key, NUMBER);
-    let Ok(mut resolver) = Resolver::new(alloc, LIMITS, ids) else {
-        return None;
-    };
     let (book, mut seat) = ListCache::new(alloc);
-    let outcome = resolve(
-        rt,
-        &mut resolver,
-        request,
-        key,
-        &book,
-        &mut seat,
-        wire,
-        clock,
-    );
-    drop(resolver);
-    outcome
+    let ended = resolve(rt, alloc, request, key, &book, &mut seat, wire, clock)?;
+    Some(ended.into_outcome())
 }
 
 /// What becomes of a request at a server, if anything does within five seconds.
