@@ -17,8 +17,8 @@ mod stats;
 mod submitted_lines;
 mod tell;
 
-use clap::Error;
 use clap::error::ErrorKind;
+use clap::{ArgMatches, Error};
 use run::run;
 use sip_report::{FAULT_STATUS, Report, UNKNOWN_STATUS};
 use sipwhere_options::{
@@ -103,34 +103,47 @@ fn run_as<R: Wait + Input + Print + Eprint + Files + Net + RandomSource + Clock 
     }
 }
 
+/// Tells what is wrong with the words, and gives the status.
+fn tell_wrong_words<R: Print + Eprint>(rt: &R, error: &Error, words: &[String]) -> u8
+    ensures { result ≤ 5 }
+{
+    let status = tell_usage(rt, error);
+    let why = if status == FAULT_STATUS {
+        "memory or output failed"
+    } else {
+        "the words are wrong"
+    };
+    status_in_form(rt, ask_for_check(words), status, &why)
+}
+
+/// Does what words ask for that were found, and gives the status.
+fn run_matches<R: Wait + Input + Print + Eprint + Files + Net + RandomSource + Clock + AllocGlobal>(
+    rt: &R,
+    matches: &ArgMatches<'_>,
+    terminals: Terminals,
+) -> u8
+    ensures { result ≤ 5 }
+{
+    match read_options(rt.alloc(), matches, terminals) {
+        Ok(options) => run_as(rt, &options),
+        Err(fault) => {
+            let _ = eprintln!(rt; "sipwhere: {fault}");
+            let is_check = matches.get_flag("check");
+            status_in_form(rt, is_check, option_status(fault), &fault)
+        }
+    }
+}
+
 /// Does what the program is asked to do, and gives its status.
 fn perform<
     R: Wait + Env + Input + Print + Eprint + Files + Net + RandomSource + Clock + AllocGlobal,
 >(rt: &R, terminals: Terminals) -> io::Result<u8>
     ensures { IfOk result (λ status. status ≤ 5) }
 {
-    let alloc = rt.alloc();
-    let words = env::args(rt)?.collect::<Vec<String>>(alloc)?;
-    let matches = match command(alloc)?.try_get_matches_from(words.as_slice()) {
-        Ok(matches) => matches,
-        Err(error) => {
-            let status = tell_usage(rt, &error);
-            let is_check = ask_for_check(words.as_slice());
-            let why = if status == FAULT_STATUS {
-                "memory or output failed"
-            } else {
-                "the words are wrong"
-            };
-            return Ok(status_in_form(rt, is_check, status, &why));
-        }
-    };
-    match read_options(alloc, &matches, terminals) {
-        Ok(options) => Ok(run_as(rt, &options)),
-        Err(fault) => {
-            let _ = eprintln!(rt; "sipwhere: {fault}");
-            let is_check = matches.get_flag("check");
-            Ok(status_in_form(rt, is_check, option_status(fault), &fault))
-        }
+    let words = env::args(rt)?.collect::<Vec<String>>(rt.alloc())?;
+    match command(rt.alloc())?.try_get_matches_from(words.as_slice()) {
+        Ok(matches) => Ok(run_matches(rt, &matches, terminals)),
+        Err(error) => Ok(tell_wrong_words(rt, &error, words.as_slice())),
     }
 }
 

@@ -1,6 +1,6 @@
 //! Texts that are located side by side.
 ghost use Rattle.std.specs.Prelude.{◌≡◌, ◌+◌, ◌/◌, ◌^◌, ◌<◌, ◌≤◌, IfOk, IfSome, None, length};
-ghost use Rattle.std.specs.Prelude.{◌↔◌, ◌⊎◌, ◌++◌, ℕ, List, Option, IsTrue, replicate};
+ghost use Rattle.std.specs.Prelude.{◌↔◌, ◌⊎◌, ◌++◌, ℕ, List, Option, IsTrue, replicate, set};
 ghost use Rattle.std.specs.Duration.{as_nanos};
 ghost use Rattle.answer_cache.specs.Seats.{SeatView};
 ghost use Rattle.sip_resolver.specs.Outcomes.{IsOutcome};
@@ -84,6 +84,14 @@ fn unknown(alloc: Global, count: usize) -> Result<Vec<Option<LineOutcome>>, Allo
     Ok(made)
 }
 
+/// Puts an item into a place in front of the end.
+fn put<T: Drop>(items: &mut Vec<T>, place: usize, item: T)
+    requires inside { place < length items.old.items }
+    ensures { items.new.items ≡ set items.old.items place item }
+{
+    items[place] = item;
+}
+
 /// Lines that are located side by side. The request of each that was begun is inside a resolver
 /// under the place of its line, or came out.
 #[derive(Drop)]
@@ -134,6 +142,8 @@ impl<'a, B: AnswerBook + Drop, W: MessageWire, C: Clock> OpenLines<'a, B, W, C> 
     {
         let first = lines.first().map_or(0, |line| line.number);
         let ids = random_ids(sender.key, first);
+        let limits = limits_for(lines.len());
+        let schedule = bounded(sender.schedule);
         Ok(OpenLines {
             alloc,
             sender,
@@ -141,13 +151,8 @@ impl<'a, B: AnswerBook + Drop, W: MessageWire, C: Clock> OpenLines<'a, B, W, C> 
             times: Vec::with_capacity(alloc, lines.len())?,
             late: 0,
             told: 0,
-            resolver: Resolver::with_schedule(
-                alloc,
-                limits_for(lines.len()),
-                bounded(sender.schedule),
-                ids,
-            )?,
             line_outcomes: unknown(alloc, lines.len())?,
+            resolver: Resolver::with_schedule(alloc, limits, schedule, ids)?,
         })
     }
 
@@ -182,13 +187,14 @@ impl<'a, B: AnswerBook + Drop, W: MessageWire, C: Clock> OpenLines<'a, B, W, C> 
             begun: now,
             took: Duration::ZERO,
         })?;
-        self.line_outcomes[place] = submit(
+        let line_outcome = submit(
             self.alloc,
             &mut self.resolver,
             place as u64,
             &self.sender,
             &lines[place],
         );
+        put(&mut self.line_outcomes, place, line_outcome);
         Ok(true)
     }
 
@@ -227,7 +233,8 @@ impl<'a, B: AnswerBook + Drop, W: MessageWire, C: Clock> OpenLines<'a, B, W, C> 
     {
         let _was_inside = cancel_over(&mut self.resolver, wire, place as u64);
         let text = self.lines[place].text;
-        self.line_outcomes[place] = Some(line_outcome_in_vain(self.alloc, &self.sender, text));
+        let line_outcome = line_outcome_in_vain(self.alloc, &self.sender, text);
+        put(&mut self.line_outcomes, place, Some(line_outcome));
     }
 
     /// Whether the time of the line at a place is over by now.
@@ -287,18 +294,14 @@ impl<'a, B: AnswerBook + Drop, W: NameNotes, C: Clock + Timer> OpenLines<'a, B, 
             → Stands W.gives C.shows seat self.new }
     {
         let place = ended.number() as usize;
+        let outcome = ended.into_outcome();
         if self.line_outcomes[place].is_some() {
+            drop(outcome);
             return;
         }
         let text = self.lines[place].text;
-        self.line_outcomes[place] = Some(line_outcome_of(
-            self.alloc,
-            wire,
-            pinger,
-            &self.sender,
-            text,
-            ended.into_outcome(),
-        ));
+        let line_outcome = line_outcome_of(self.alloc, wire, pinger, &self.sender, text, outcome);
+        put(&mut self.line_outcomes, place, Some(line_outcome));
     }
 
     /// Goes on with the requests inside, until one comes out or something came over the wire. The

@@ -4,6 +4,7 @@ ghost use Rattle.std.specs.Duration.{as_nanos};
 ghost use Rattle.sipwhere.specs.LineInputs.{AreInputTexts};
 ghost use Rattle.sipwhere_options.specs.Timings.{AreReplyTimes};
 ghost use Rattle.sipwhere.specs.LineOutcomes.{extent_of};
+ghost use Rattle.sipwhere.specs.OpenLines.{Stands};
 ghost use Rattle.sipwhere.specs.Runs.{AreRun, IsRun, IsRunBy, IsRunOf, StaysSo, from_input};
 
 use crate::counting_book::CountingBook;
@@ -17,7 +18,7 @@ use crate::stats::tell_stats;
 use crate::tell::{FAULT_TOLD, NOTHING_TOLD, Told};
 use answer_cache::{AnswerBook, ListCache};
 use dns_asker::Clock;
-use dns_transport::{RunClock, Timer, Tracer, WireOptions, open_wire};
+use dns_transport::{HostWire, RunClock, Timer, Tracer, WireOptions, open_wire};
 use sip_report::Style;
 use sip_resolver::random_key;
 use sip_tries::{Extent, PingForm, Pinger, ServerPinger, random_pings};
@@ -29,6 +30,54 @@ use std::random::RandomSource;
 use std::rt::Files;
 use std::sync::Wait;
 use std::time::{self, Duration};
+
+/// Goes on with lines that are open, until what became of each is printed, in their order, or the
+/// output takes no more.
+fn locate_open<
+    R: Wait + Eprint,
+    B: AnswerBook + Drop,
+    W: NameNotes + Tracer,
+    C: Clock + Timer,
+    P: Pinger,
+    O: Write,
+>(
+    rt: &R,
+    lines: &mut OpenLines<'_, B, W, C>,
+    style: Style<'_>,
+    book: &B,
+    seat: &mut B::Seat,
+    wire: &mut W,
+    clock: &C,
+    pinger: &mut P,
+    progress: &mut Progress,
+    output: &mut O,
+) -> Told
+    requires made_here { B.belongs book.now seat.old }
+    requires stands { Stands W.gives C.shows (B.shown seat.old) lines.old }
+    requires told { lines.old.told ≡ 0 }
+    ensures stays { B.belongs book.now seat.new }
+    ensures run { AreRun W.gives C.shows (B.shown seat.new) lines.old.sender style.entry
+        lines.old.lines (O.contents output.old) (O.contents output.new) result.status }
+    ensures later { StaysSo W.gives C.shows (B.shown seat.old) (B.shown seat.new) }
+    ensures range { result.status ≤ 5 }
+    ensures closed { IsTrue result.is_closed → result.status ≡ 5 }
+{
+    let mut told = NOTHING_TOLD;
+    'rounds: for _ in rt.forever() {
+        let now = clock.elapsed();
+        lines.give_late_up(wire, now);
+        if lines.begin_all(now).is_err() {
+            return FAULT_TOLD;
+        }
+        told = told.and(lines.tell_all(style, wire, output));
+        progress.tell(rt, now, lines.told());
+        if lines.is_done(told) {
+            return told;
+        }
+        lines.advance(rt, book, seat, wire, clock, pinger);
+    }
+    unreachable!()
+}
 
 /// Locates lines side by side, and prints what became of each, in their order, until the output
 /// takes no more.
@@ -65,21 +114,11 @@ fn locate_side_by_side<
     let Ok(mut open) = OpenLines::<B, W, C>::new(alloc, *sender, lines) else {
         return FAULT_TOLD;
     };
-    let mut told = NOTHING_TOLD;
-    'rounds: for _ in rt.forever() {
-        let now = clock.elapsed();
-        open.give_late_up(wire, now);
-        if open.begin_all(now).is_err() {
-            return FAULT_TOLD;
-        }
-        told = told.and(open.tell_all(style, wire, output));
-        progress.tell(rt, now, open.told());
-        if open.is_done(told) {
-            return told;
-        }
-        open.advance(rt, book, seat, wire, clock, pinger);
-    }
-    unreachable!()
+    let told = locate_open(
+        rt, &mut open, style, book, seat, wire, clock, pinger, progress, output,
+    );
+    drop(open);
+    told
 }
 
 /// Locates lines one after the other, so that what went over the wire for each is with it, and no
@@ -389,6 +428,42 @@ fn locate_all<
     )
 }
 
+/// Does what the options ask for, over a wire, and gives the status.
+fn run_wire<R: Wait + Input + Print + Eprint + Net + time::Clock>(
+    rt: &R,
+    alloc: Global,
+    options: &Options<'_>,
+    sender: &Sender,
+    wire: &mut NotingWire<HostWire<'_, R>>,
+    clock: &RunClock<'_, R>,
+) -> u8
+    ensures { result ≤ 5 }
+{
+    let (book, seat) = ListCache::new(alloc);
+    let (book, mut seat) = CountingBook::new(book, seat);
+    let mut pinger = ServerPinger::new(rt, random_pings(sender.key), form_of(options.pinging));
+    let mut progress = Progress::new(options.shows_progress);
+    let told = locate_all(
+        rt,
+        alloc,
+        options,
+        sender,
+        &book,
+        &mut seat,
+        wire,
+        clock,
+        &mut pinger,
+        &mut progress,
+        rt.reader(),
+        &mut io::writer(rt),
+    );
+    progress.wipe(rt);
+    if options.stats {
+        tell_stats(rt, wire.wire().counts(), seat.found(), clock.elapsed());
+    }
+    told.status
+}
+
 /// Does what the options ask for, over these servers, and gives the status.
 fn run_over<R: Wait + Input + Print + Eprint + Net + time::Clock>(
     rt: &R,
@@ -399,35 +474,15 @@ fn run_over<R: Wait + Input + Print + Eprint + Net + time::Clock>(
 ) -> io::Result<u8>
     ensures { IfOk result (λ status. status ≤ 5) }
 {
-    let sender = sender_of(options, plan, key);
     let servers = plan.servers.as_slice();
     let asks = wire_options(options, plan);
+    let clock = RunClock::start(rt)?;
     let wire = open_wire(rt, alloc, servers, options.local, asks, key)?;
     let mut wire = NotingWire::new(alloc, wire);
-    let clock = RunClock::start(rt)?;
-    let (book, seat) = ListCache::new(alloc);
-    let (book, mut seat) = CountingBook::new(book, seat);
-    let mut pinger = ServerPinger::new(rt, random_pings(key), form_of(options.pinging));
-    let mut progress = Progress::new(options.shows_progress);
-    let told = locate_all(
-        rt,
-        alloc,
-        options,
-        &sender,
-        &book,
-        &mut seat,
-        &mut wire,
-        &clock,
-        &mut pinger,
-        &mut progress,
-        rt.reader(),
-        &mut io::writer(rt),
-    );
-    progress.wipe(rt);
-    if options.stats {
-        tell_stats(rt, wire.wire().counts(), seat.found(), clock.elapsed());
-    }
-    Ok(told.status)
+    let sender = sender_of(options, plan, key);
+    let status = run_wire(rt, alloc, options, &sender, &mut wire, &clock);
+    drop(wire);
+    Ok(status)
 }
 
 /// Does what the options ask for, and gives the status.

@@ -1,19 +1,17 @@
-use Rattle.std.proofs.Common.{◌≡◌, ◌∙◌, ◌++◌, [], inl, inr, lit≤}
+use Rattle.std.proofs.Common.{◌≡◌, ◌∙◌, ◌++◌, [], inl, inr, lit≤, refl}
 use Rattle.sipwhere.proofs.Told.{all-told, gravest-more, gravest-none, told-later, told-none, told-of, told-same}
-use Rattle.sipwhere.proofs.run.locate_side_by_side.Goals as goal
+use Rattle.sipwhere.proofs.run.locate_open.Goals as goal
 
 pub rounds-init : goal.rounds-init
-rounds-init g c =
-    let made = c.in-Ok.ensures.made in
-    record {
-      stays = c.requires.made_here;
-      stands = c.in-Ok.ensures.stands (g.B.AnswerBook.shown c.args.seat.now);
-      same = (made.1, made.2);
-      told = ([], told-none _ _ _ _ c.in-Ok.open _ made.0, gravest-none);
-      later = λ sender line it is. is;
-      range = lit≤ tt;
-      closed = λ is. absurd (cc (is));
-    }
+rounds-init g c = record {
+  stays = c.requires.made_here;
+  stands = c.requires.stands;
+  same = (refl, refl);
+  told = ([], told-none _ _ _ _ c.args.lines.now _ c.requires.told, gravest-none);
+  later = λ sender line it is. is;
+  range = lit≤ tt;
+  closed = λ is. absurd (cc (is));
+}
 
 pub advance-requires-clause-stands : goal.advance-requires-clause-stands
 advance-requires-clause-stands g c =
@@ -28,7 +26,7 @@ rounds-preserved g c =
     let late = c.give_late_up.ensures.same in
     let begun = c.begin_all.ensures.same in
     let stands = c.begin_all.ensures.stands seat (c.give_late_up.ensures.stands seat c.rounds.invariant.stands) in
-    let before = told-same _ _ seat style c.rounds.open c.begin_all.new.self _ _ was.0
+    let before = told-same _ _ seat style c.rounds.lines c.begin_all.new.self _ _ was.0
     (begun.0 ∙ late.0, begun.1 ∙ late.1, begun.2 ∙ late.2) was.1 in
     let more = c.tell_all.ensures.tells seat stands _ was.0 before in
     let said = c.tell_all.ensures.same in
@@ -62,20 +60,20 @@ returns-then-is_done-clause-run g c =
     let late = c.give_late_up.ensures.same in
     let begun = c.begin_all.ensures.same in
     let stands = c.begin_all.ensures.stands seat (c.give_late_up.ensures.stands seat c.rounds.invariant.stands) in
-    let before = told-same _ _ seat style c.rounds.open c.begin_all.new.self _ _ was.0
+    let before = told-same _ _ seat style c.rounds.lines c.begin_all.new.self _ _ was.0
     (begun.0 ∙ late.0, begun.1 ∙ late.1, begun.2 ∙ late.2) was.1 in
     let more = c.tell_all.ensures.tells seat stands _ was.0 before in
     let said = c.tell_all.ensures.same in
-    let lines : c.tell_all.new.self.lines ≡ c.args.lines.now = said.0 ∙ begun.1 ∙ late.1 ∙ c.rounds.invariant.same.0 in
-    let sender : c.tell_all.new.self.sender ≡ c.args.sender.now = said.1 ∙ begun.2 ∙ late.2 ∙ c.rounds.invariant.same.1 in
+    let lines : c.tell_all.new.self.lines ≡ c.args.lines.now.lines = said.0 ∙ begun.1 ∙ late.1 ∙ c.rounds.invariant.same.0 in
+    let sender : c.tell_all.new.self.sender ≡ c.args.lines.now.sender = said.1 ∙ begun.2 ∙ late.2 ∙ c.rounds.invariant.same.1 in
     let all = was.0 ++ more.0 in
     record {
       count = c.tell_all.new.self.told;
       statuses = all;
-      told = told-of _ _ seat style c.tell_all.new.self c.args.lines.now c.args.sender.now _ _ all lines sender more.1;
+      told = told-of _ _ seat style c.tell_all.new.self c.args.lines.now.lines c.args.lines.now.sender _ _ all lines sender more.1;
       gravest = inl (rw c.and-told.ensures.status (gravest-more was.0 more.0 _ _ was.2 more.2));
       whole = elim (c.is_done.ensures.0 c.if-is_done.true) [
-        | inl every ↦ inl (all-told c.tell_all.new.self.told c.tell_all.new.self.lines c.args.lines.now every lines)
+        | inl every ↦ inl (all-told c.tell_all.new.self.told c.tell_all.new.self.lines c.args.lines.now.lines every lines)
         | inr closed ↦ inr (c.and-told.ensures.ended c.rounds.invariant.closed c.tell_all.ensures.closed c.rounds.invariant.range
             c.tell_all.ensures.range closed)
       ];

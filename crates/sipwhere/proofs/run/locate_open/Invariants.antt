@@ -2,14 +2,14 @@ use Rattle.std.proofs.Common.{◌≡◌, ◌≤◌, ℕ, List}
 use Rattle.std.specs.Prelude.{IsTrue}
 use Rattle.sipwhere.specs.OpenLines.{HasTold, Stands}
 use Rattle.sipwhere.specs.Runs.{IsGravest, StaysSo}
-use Rattle.sipwhere.proofs.run.locate_side_by_side.Given as goal
+use Rattle.sipwhere.proofs.run.locate_open.Given as goal
 
 abbrev pub invariant-rounds : goal.invariant-rounds
 invariant-rounds g l = record {
   stays : g.B.AnswerBook.belongs l.book l.seat;
-  stands : Stands g.W.MessageWire.gives g.C.Clock.shows (g.B.AnswerBook.shown l.seat) l.open;
-  same : (l.open.lines ≡ l.fn.lines) × (l.open.sender ≡ l.fn.sender);
-  told : (statuses : List ℕ) × HasTold g.W.MessageWire.gives g.C.Clock.shows (g.B.AnswerBook.shown l.seat) l.fn.style l.open
+  stands : Stands g.W.MessageWire.gives g.C.Clock.shows (g.B.AnswerBook.shown l.seat) l.lines;
+  same : (l.lines.lines ≡ l.fn.lines.lines) × (l.lines.sender ≡ l.fn.lines.sender);
+  told : (statuses : List ℕ) × HasTold g.W.MessageWire.gives g.C.Clock.shows (g.B.AnswerBook.shown l.seat) l.fn.style l.lines
       (g.O.Write.contents l.fn.output) (g.O.Write.contents l.output) statuses × IsGravest statuses l.told.status;
   later : StaysSo g.W.MessageWire.gives g.C.Clock.shows (g.B.AnswerBook.shown l.fn.seat) (g.B.AnswerBook.shown l.seat);
   range : l.told.status ≤ 5;

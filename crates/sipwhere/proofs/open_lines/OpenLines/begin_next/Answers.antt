@@ -10,8 +10,8 @@ invariant_of-self-2 g c =
     record {
       few = omega (arith, inside, c.in_ok-push.ensures.len);
       own = meant-next c.self.inside.sender lines c.len-place.result _ inside c.self.inside.resolver.requests
-          c.submit.new.resolver.requests c.submit.ensures.weighs c.self.invariant.own;
-      as_many = length-set _ _ _ ∙ c.self.invariant.as_many;
+          c.submit-line_outcome.new.resolver.requests c.submit-line_outcome.ensures.weighs c.self.invariant.own;
+      as_many = rw c.put.ensures (length-set _ _ _ ∙ c.self.invariant.as_many);
     }
 
 pub returns : goal.returns
@@ -22,8 +22,8 @@ returns g c = record {
       let lines = c.self.inside.lines.now in
       let inside : c.len-place.result < length lines = omega arith in
       record {
-        requests = c.submit.ensures.stand seat before.requests;
-        line_outcomes = line_outcomes-submitted _ _ seat c.self.inside.sender lines _ _ _ _ inside before.line_outcomes
-            c.submit.ensures.line_outcome;
+        requests = c.submit-line_outcome.ensures.stand seat before.requests;
+        line_outcomes = rw c.put.ensures (line_outcomes-submitted _ _ seat c.self.inside.sender lines _ _ _ _ inside
+            before.line_outcomes c.submit-line_outcome.ensures.line_outcome);
       };
 }

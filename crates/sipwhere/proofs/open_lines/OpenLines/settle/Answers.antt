@@ -13,8 +13,8 @@ returns g c = record {
       let inside : c.number-place.result < length lines = omega (arith, within) in
       record {
         requests = before.requests;
-        line_outcomes = line_outcomes-ended _ _ seat c.self.inside.sender lines _ c.number-place.result _ c.args.ended.sought
-            c.args.ended.outcome _ _
-            inside c.number-place.ensures c.into_outcome.ensures own c.line_outcome_of.ensures is before.line_outcomes;
+        line_outcomes = rw c.put.ensures (line_outcomes-ended _ _ seat c.self.inside.sender lines _ c.number-place.result _
+            c.args.ended.sought c.args.ended.outcome _ _ inside c.number-place.ensures c.into_outcome-outcome.ensures own
+            c.line_outcome_of-line_outcome.ensures is before.line_outcomes);
       };
 }
