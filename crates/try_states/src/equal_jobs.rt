@@ -1,7 +1,8 @@
 //! Equal jobs of one batch, which share questions.
 ghost use Rattle.answer_cache.specs.Shared.{Belongs};
 
-use crate::workers::{WORDS, clock_at_100, one_worker};
+use crate::worker_jobs::{WORDS, clock_at_100};
+use crate::workers::one_worker;
 use answer_cache::SharedCache;
 use dns_asker::{Zone, ZoneWire};
 use sip_selection::{Caps, Families, Request, Target};

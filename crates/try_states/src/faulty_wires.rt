@@ -2,7 +2,8 @@
 ghost use Rattle.std.specs.Prelude.{◌≡◌, ◌+◌, ◌-◌, ◌^◌, ◌<◌, ◌≤◌};
 ghost use Rattle.answer_cache.specs.Shared.{Belongs};
 
-use crate::workers::{WORDS, one_worker};
+use crate::worker_jobs::WORDS;
+use crate::workers::one_worker;
 use answer_cache::SharedCache;
 use dns_answers::{Moment, ReplyRefusal};
 use dns_asker::{Clock, DATAGRAM_LIMIT, Wire, WireFault, Zone};

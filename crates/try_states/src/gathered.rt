@@ -1,9 +1,8 @@
 //! Results that are put in the order of their jobs: those of two jobs, over a wire in memory.
-ghost use Rattle.std.specs.Prelude.{Decides};
 ghost use Rattle.answer_cache.specs.Shared.{Belongs};
-ghost use Rattle.sip_workers.specs.Runs.{Rises};
 
-use crate::workers::{ZONE, clock_at_100, goes_to, job_of, one_worker};
+use crate::worker_jobs::{ZONE, clock_at_100, goes_to, rises, two_jobs};
+use crate::workers::one_worker;
 use answer_cache::{Notice, SharedCache};
 use dns_asker::{StandingClock, Zone, ZoneWire};
 use sip_workers::{GatherRefusal, Job, JobResult, OpenGate, Outcome, Worker, gather};
@@ -13,21 +12,6 @@ use std::sync::atomic::AtomicU64;
 
 /// The result of a job.
 type Made<'a, 'b> = JobResult<'a, ZoneWire<'b>, StandingClock>;
-
-/// Whether the number of each job is below the number of the next.
-fn rises(jobs: &[Job]) -> bool
-    ensures { Decides result (Rises jobs.now) }
-{
-    jobs.is_sorted_by(|first, second| first.number < second.number)
-}
-
-/// Two jobs.
-fn two_jobs(alloc: Global, first: &str, second: &str) -> Option<Vec<Job>> {
-    let mut jobs = Vec::new(alloc);
-    jobs.push(job_of(alloc, 1, first)?).ok()?;
-    jobs.push(job_of(alloc, 2, second)?).ok()?;
-    Some(jobs)
-}
 
 /// A copy of the result at a place.
 fn copy_at<'a, 'b>(alloc: Global, made: &[Made<'a, 'b>], at: usize) -> Option<Made<'a, 'b>> {

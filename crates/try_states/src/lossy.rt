@@ -3,7 +3,7 @@ ghost use Rattle.std.specs.Prelude.{ℕ, IfSome, List};
 ghost use Rattle.answer_cache.specs.Seats.{SeatView};
 ghost use Rattle.sip_resolver.specs.Requests.{Stand};
 
-use crate::workers::WORDS;
+use crate::worker_jobs::WORDS;
 use answer_cache::{AnswerBook, ListCache};
 use dns_answers::Moment;
 use dns_zone::Zone;

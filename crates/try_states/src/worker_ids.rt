@@ -1,7 +1,8 @@
 //! The ids of a worker's queries, over a wire that counts along.
 ghost use Rattle.answer_cache.specs.Shared.{Belongs};
 
-use crate::workers::{clock_at_100, goes_to, job_of, one_worker};
+use crate::worker_jobs::{clock_at_100, goes_to, job_of};
+use crate::workers::one_worker;
 use answer_cache::SharedCache;
 use dns_asker::{DATAGRAM_LIMIT, Wire, WireFault, Zone, ZoneWire};
 use sip_workers::{Job, OpenGate, Worker};

@@ -1,5 +1,7 @@
 //! Jobs of workers, runs of these, and where they go.
 ghost use Rattle.std.specs.List.{All};
+ghost use Rattle.std.specs.Prelude.{Decides};
+ghost use Rattle.sip_workers.specs.Runs.{Rises};
 ghost use Rattle.answer_cache.specs.Shared.{Belongs};
 
 use answer_cache::{Notice, Seat, SharedCache};
@@ -23,7 +25,7 @@ pub(crate) const TO_NAME: &str = "sip:a.example:5070";
 pub(crate) const TO_ADDRESS: &str = "sip:192.0.2.7:5070";
 
 /// Random words, of which a request to a host with a port uses none.
-const WORDS: Words = Words([0; WORD_COUNT]);
+pub(crate) const WORDS: Words = Words([0; WORD_COUNT]);
 
 /// Where these go, at this port.
 fn target_at(port: u16) -> Target {
@@ -62,6 +64,21 @@ pub(crate) fn jobs_to(alloc: Global, texts: &[&str]) -> Option<Vec<Job>> {
         jobs.push(job_of(alloc, number, text)?).ok()?;
     }
     Some(jobs)
+}
+
+/// Two such jobs, of the numbers 1 and 2.
+pub(crate) fn two_jobs(alloc: Global, first: &str, second: &str) -> Option<Vec<Job>> {
+    let mut jobs = Vec::new(alloc);
+    jobs.push(job_of(alloc, 1, first)?).ok()?;
+    jobs.push(job_of(alloc, 2, second)?).ok()?;
+    Some(jobs)
+}
+
+/// Whether the number of each job is below the number of the next.
+pub(crate) fn rises(jobs: &[Job]) -> bool
+    ensures { Decides result (Rises jobs.now) }
+{
+    jobs.is_sorted_by(|first, second| first.number < second.number)
 }
 
 /// A clock that stands at the moment 100.

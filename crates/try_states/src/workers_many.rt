@@ -50,7 +50,7 @@ fn port_at(place: usize) -> u16 {
 }
 
 /// So many requests to the name in the zone, each to a port of its own.
-fn jobs_to_ports(alloc: Global, count: usize) -> Option<Vec<Job>> {
+pub(crate) fn jobs_to_ports(alloc: Global, count: usize) -> Option<Vec<Job>> {
     let mut jobs = Vec::new(alloc);
     for place in 0..count {
         let port = port_at(place);
@@ -61,7 +61,7 @@ fn jobs_to_ports(alloc: Global, count: usize) -> Option<Vec<Job>> {
 }
 
 /// Whether these are so many, and each goes to its own port.
-fn each_goes(made: &[(Outcome, Notice)], count: usize) -> bool {
+pub(crate) fn each_goes(made: &[(Outcome, Notice)], count: usize) -> bool {
     made.len() == count
         && made
             .iter()

@@ -1,82 +1,19 @@
 //! Workers: where memory is refused, each call says so, or has its answer all the same, and done
 //! again it has it.
-ghost use Rattle.std.specs.Prelude.{Decides, IfSome};
-ghost use Rattle.sip_workers.specs.Runs.{Rises};
 ghost use Rattle.answer_cache.specs.Shared.{Belongs};
 
+use crate::worker_jobs::{TO_ADDRESS, TO_NAME, ZONE, goes_to, rises, two_jobs};
+use crate::workers::one_worker;
 use answer_cache::{Notice, SharedCache};
 use dns_answers::Moment;
 use dns_asker::{Clock, Wire, Zone, ZoneWire};
-use sip_selection::{Caps, Families, Request, Target};
-use sip_uri::Transport::Udp;
-use sip_uri::{Address, read_uri};
 use sip_workers::{
     GatherRefusal, Job, JobResult, OpenGate, Outcome, RunRefusal, Worker, gather, run_workers,
 };
-use srv_choice::{WORD_COUNT, Words};
 use std::alloc::Global;
 use std::sync::Wait;
 use std::sync::atomic::{AtomicU64, Ordering};
 use std::thread::Threads;
-
-/// A zone with one address.
-const ZONE: &str = "a.example. 300 A 192.0.2.7";
-
-/// A request to the name in it, and one to its address.
-const TO_NAME: &str = "sip:a.example:5070";
-
-const TO_ADDRESS: &str = "sip:192.0.2.7:5070";
-
-/// Where both go.
-const TARGET: Target = Target {
-    transport: Udp,
-    address: Address::V4([192, 0, 2, 7]),
-    port: 5070,
-};
-
-/// Random words, of which a request to a host with a port uses none.
-const WORDS: Words = Words([0; WORD_COUNT]);
-
-/// A job over UDP and IPv4 alone, where there is memory for it.
-fn job_of(alloc: Global, number: u64, text: &str) -> Option<Job> {
-    Some(Job {
-        number,
-        request: Request::Uri(read_uri(alloc, text).ok()?),
-        caps: Caps::new(&[Udp], Families::V4)?,
-        words: WORDS,
-    })
-}
-
-/// Two such jobs.
-fn two_jobs(alloc: Global, first: &str, second: &str) -> Option<Vec<Job>> {
-    let mut jobs = Vec::new(alloc);
-    jobs.push(job_of(alloc, 1, first)?).ok()?;
-    jobs.push(job_of(alloc, 2, second)?).ok()?;
-    Some(jobs)
-}
-
-/// Whether a request goes to the one target.
-fn goes_to_target(outcome: &Outcome) -> bool {
-    matches!(outcome, Outcome::Targets(list) if list.as_slice() == [TARGET].as_slice())
-}
-
-/// Whether the number of each job is below the number of the next.
-fn rises(jobs: &[Job]) -> bool
-    ensures { Decides result (Rises jobs.now) }
-{
-    jobs.is_sorted_by(|first, second| first.number < second.number)
-}
-
-/// A worker over this wire, with its cache.
-fn one_worker<W: Wire + Drop>(alloc: Global, wire: W) -> Option<(SharedCache, Worker<W>)>
-    ensures { IfSome result (λ made. Belongs made.0 made.1) }
-{
-    let Ok((cache, mut seats)) = SharedCache::new(alloc, 1) else {
-        return None;
-    };
-    let worker = Worker::new(alloc, seats.pop()?, wire).ok()?;
-    Some((cache, worker))
-}
 
 /// What a call says.
 #[derive(Clone, Copy, Debug, PartialEq, Eq)]
@@ -102,7 +39,7 @@ fn are_right(first: Said, second: Said) -> bool {
 fn said_by(outcome: &Outcome) -> Said {
     match outcome {
         Outcome::Memory => Said::Memory,
-        _ if goes_to_target(outcome) => Said::Right,
+        _ if goes_to(outcome, 5070) => Said::Right,
         _ => Said::Wrong,
     }
 }

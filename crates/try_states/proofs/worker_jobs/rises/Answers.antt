@@ -4,7 +4,7 @@ use Rattle.std.proofs.lemmas.List.Sorted.{answers_always}
 use Rattle.std.specs.List.{IsAllAdjacentAnswer}
 use Rattle.sip_workers.specs.Runs.{Rises}
 use Rattle.sip_worker.specs.declared.job.Job.{Job}
-use Rattle.try_states.proofs.allocations.workers.rises.Goals as goal
+use Rattle.try_states.proofs.worker_jobs.rises.Goals as goal
 
 answer : (jobs : List Job) (r : Bool) → IsAllAdjacentAnswer (λ x y b. b ≡ nat_lt x.number y.number) jobs r
     → (r ≡ true → Rises jobs) × (Rises jobs → r ≡ true)
