@@ -10,6 +10,18 @@ ITEM = re.compile(r"^pub (struct|enum|trait|const|type) (\w+)")
 # of the items that no caller meets, those that say how contracts see a value
 SEEN = {"view"}
 FOLDER = "out/doc"
+# calls that no other crate meets, of which a page tells too, since their contracts say what no public one does
+PRIVATE = {
+    "sip_worker": {"send_all", "receive_once"},
+    "sip_workers": {"deal_out", "put_in_order"},
+    "dns_transport": {
+        *("OpenChain::begin", "OpenChain::step", "has_id", "refuses_edns", "rcode_of", "moment_after", "server_at", "place_of"),
+        *("ServerWire::ask", "ServerWire::ask_in_turn", "ServerWire::take", "port_of"),
+    },
+    "sip_report": {"check_status", "check_line"},
+    "sipwhere_options": {"servers_from", "server_from_text", "local_from_text", "schedule_by"},
+    "sipwhere": {"OpenLines::settle", "OpenLines::tell_first", "locate_input", "locate_texts", "locate_all"},
+}
 
 
 def cell(text):
@@ -42,20 +54,6 @@ def linked(path, line):
 
 def fenced(text):
     return f"```text\n{text}\n```\n"
-
-
-def named_in_tables(text):
-    """The crates that docs/PROVED.md has a section about, each with the names in the first columns of its tables."""
-    found, crate = {}, None
-    for line in text.split("\n"):
-        if line.startswith("## "):
-            heading = re.match(r"## `(\w+)`", line)
-            crate = heading[1] if heading else None
-            if crate:
-                found[crate] = set()
-        elif crate and line.startswith("| `"):
-            found[crate].update(re.findall(r"`([\w:]+)`", CELL.split(line)[1]))
-    return found
 
 
 def statement_of(call):
@@ -93,11 +91,11 @@ def seen_as(crate, name):
 
 
 class Pages:
-    """What contracts cite, and what is written about it."""
+    """What contracts cite, and what is written about it, of the crates that have definitions."""
 
-    def __init__(self, crates, proved):
+    def __init__(self, crates):
         self.crates = crates
-        self.others = named_in_tables(proved)
+        self.others = {it: PRIVATE.get(it, set()) for it in crates if crates[it].modules}
         self.known, self.by, self.through = closure(crates, self.others)
 
     def is_cited(self, key):
@@ -112,7 +110,7 @@ class Pages:
                 yield f"{it.crate} {it.module}.{it.name}"
 
     def calls_of(self, crate):
-        """The calls of a page: those that are public, and those that docs/PROVED.md names."""
+        """The calls of a page: those that are public, and some that are private."""
         return [it for it in crate.calls if crate.is_exported(it) or it.title in self.others.get(crate.name, ())]
 
     def citing(self, key):
@@ -197,7 +195,12 @@ class Pages:
 
 ABOUT = """`tools/make-docs` writes this page from the sources: the public types and calls of the crate, with what each call asks
 (`requires`) and says (`ensures`), and the definitions of `specs/` that contracts of public calls cite or that these rest on,
-a module after those that it uses. [`docs/PROVED.md`](../../docs/PROVED.md) says in words what contracts say.
+a module after those that it uses.
+
+Of every call it is proved, besides, that no index is out of range, no number overflows and nothing is used after it was freed,
+on every input that its `requires` allows; and that it returns, unless it takes a runtime that may wait (`R: Wait`): then the
+contract says what holds if it returns. A call whose name begins with `law_` does nothing: its contract is a statement about the
+definitions. Of a trait's call the contract stands at the trait. Where memory was refused a call says so in its result.
 """
 
 

@@ -276,13 +276,13 @@ def definition_passage(crate, title):
 
 
 def call_passage(crate, title, names):
-    """The function of a title with what it asks, and with those clauses of what it says that are named, or all where none
-    is; nothing where one is not there."""
+    """The function of a title, whole; or, where some are named, those clauses of what it says alone. Nothing where one of them
+    is not there."""
     for call in crate.calls:
         if call.title == title:
             head, clauses = head_and_clauses(call)
-            those = [it for it in clauses if it[0] == "requires" or not names or it[1] in names]
-            text = textwrap.dedent("\n".join([head, *(it[2] for it in those)]))
+            those = [it[2] for it in clauses if not names or (it[0] == "ensures" and it[1] in names)]
+            text = textwrap.dedent("\n".join(those if names else [head, *those]))
             is_whole = {*names} <= {*call.names_of("ensures")}
             return Passage(title, call.path, call.line, text) if is_whole else None
     return None
