@@ -2,8 +2,8 @@
 
 1. In a table whose first column is headed "Crate" each word of the row is a file of this crate (without `.rt`), a public name
    of it, a type or a definition of it, a crate, or what a crate below makes public.
-2. docs/ARCHITECTURE.md says in a table, headed "Section" and "Crates", which crates some of its sections are about. Each word
-   there is a file or a name of these, or as in 1; in a table headed "File" the first column has files alone.
+2. docs/DESIGN.md says in a table, headed "Section" and "Crates", which crates some of its sections are about. Each word there
+   is a file or a name of these, or as in 1; in a table headed "File" the first column has files alone.
 3. A file (`name.rt`, `specs/Name.antt`) is one of the crate that is named behind it (`name.rt` of `crate`), else of the row's
    as in 1, else of the one named last before it in the row or paragraph, else of one of its section's, else of any.
 4. What stands in a row of a table that is headed "Step", "Crate" and "Function" is a function of a crate of this row.
