@@ -18,9 +18,10 @@ A server is a transport, `u` (UDP) or `t` (TCP), and what it does:
 """
 import re
 import socket
-import struct
 import threading
 import time
+
+import dns_messages as dns
 
 HOST = "127.0.0.1"
 
@@ -130,35 +131,24 @@ class Server:
 
 # ---- the DNS server: the first label of a name says which servers a domain has, as `u5061-t5062-s5063`
 
-A, SRV, NAPTR = 1, 33, 35
 SERVICES = {"u": ("SIP+D2U", "_sip._udp"), "t": ("SIP+D2T", "_sip._tcp"), "s": ("SIPS+D2T", "_sips._tcp")}
 
 
-def wire_name(name):
-    return b"".join(bytes([len(label)]) + label.encode() for label in name.split(".")) + b"\0"
-
-
 def records(name, kind):
-    """The data of the records of a name."""
+    """The records of a name, each by its type and data."""
     service, _, domain = name.partition(".") if name.startswith("_") else ("", "", name)
     if service:
         transport, _, domain = domain.partition(".")
         service = f"{service}.{transport}"
     servers = re.findall(r"([uts])(\d+)", domain.partition(".")[0])
-    if kind == A and name == "host.ping.example":
-        return [bytes([127, 0, 0, 1])]
-    if kind == NAPTR and not service:
-        letters = list(dict.fromkeys(letter for letter, _ in servers))
-        return [
-            struct.pack(">HH", 10 + at, 10) + b"\1s" + bytes([len(SERVICES[letter][0])]) + SERVICES[letter][0].encode()
-            + b"\0" + wire_name(f"{SERVICES[letter][1]}.{domain}")
-            for at, letter in enumerate(letters)
-        ]
-    if kind == SRV:
+    if kind == dns.A and name == "host.ping.example":
+        return [(dns.A, bytes([127, 0, 0, 1]))]
+    if kind == dns.NAPTR and not service:
+        offered = dict.fromkeys(SERVICES[letter] for letter, _ in servers)
+        return [dns.naptr(10 + at, field, f"{labels}.{domain}") for at, (field, labels) in enumerate(offered)]
+    if kind == dns.SRV:
         ports = [int(port) for letter, port in servers if SERVICES[letter][1] == service]
-        return [
-            struct.pack(">HHH", at, 0, port) + wire_name("host.ping.example") for at, port in enumerate(ports)
-        ]
+        return [dns.srv(at, port, "host.ping.example") for at, port in enumerate(ports)]
     return []
 
 
@@ -173,16 +163,7 @@ class Names:
 
     def run(self):
         while True:
-            query, peer = self.socket.recvfrom(4096)
-            at, labels = 12, []
-            while query[at]:
-                labels.append(query[at + 1 : at + 1 + query[at]].decode().lower())
-                at += 1 + query[at]
-            question = query[12 : at + 5]
-            kind = struct.unpack(">H", query[at + 1 : at + 3])[0]
-            found = records(".".join(labels), kind)
-            answer = b"".join(
-                b"\xc0\x0c" + struct.pack(">HHIH", kind, 1, 60, len(data)) + data for data in found
-            )
-            head = query[:2] + b"\x81\x80" + struct.pack(">HHHH", 1, len(found), 0, 0)
-            self.socket.sendto(head + question + answer, peer)
+            octets, peer = self.socket.recvfrom(4096)
+            query = dns.Query(octets)
+            found = [dns.record(dns.QNAME, 60, *record) for record in records(query.name.lower(), query.type)]
+            self.socket.sendto(dns.message(query.ident, dns.REPLY, query.question, found), peer)
