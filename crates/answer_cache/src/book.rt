@@ -13,7 +13,7 @@ use crate::refusal::StoreRefusal;
 use dns_answers::{Answer, FoundAnswer, Moment};
 use dns_message::Question;
 use std::alloc::AllocError;
-use std::sync::{Arc, Wait};
+use std::sync::Arc;
 
 /// A book of answers that seats share: one history of what was stored, which only grows.
 ///
@@ -66,8 +66,16 @@ pub trait AnswerBook {
         kept(self.look(seat, question, now)?)
     }
 
+    // What holds of each seat of the book.
+    ghost holds: { (book : Self) (seat : Self.Seat) → belongs book seat → IsSeat (shown seat) };
+}
+
+/// A book in which whoever holds an `R` stores answers: in a book that threads share, a runtime
+/// that may wait (`Wait`), as the memory for its stores grows; in a book of one thread any type, as
+/// `()`.
+pub trait Stores<R>: AnswerBook {
     /// Stores an answer at this moment: it lives until as many seconds after it as its life is.
-    fn store<R: Wait>(
+    fn store(
         &self,
         rt: &R,
         seat: &mut Self::Seat,
@@ -75,19 +83,16 @@ pub trait AnswerBook {
         answer: &Arc<Answer>,
         now: Moment,
     ) -> Result<(), StoreRefusal>
-        requires made_here { belongs self.now seat.old }
+        requires made_here { Self.belongs self.now seat.old }
         requires kind { kind_of (arc_value answer.now).records ≡ question.now.kind }
-        ensures stays { belongs self.now seat.new }
-        ensures goes_on { GoesOn (shown seat.old) (shown seat.new) }
-        ensures offered { (shown seat.new).offered
-            ≡ (shown seat.old).offered ++ offer_of question.now (arc_value answer.now) now ∷ [] }
+        ensures stays { Self.belongs self.now seat.new }
+        ensures goes_on { GoesOn (Self.shown seat.old) (Self.shown seat.new) }
+        ensures offered { (Self.shown seat.new).offered ≡ (Self.shown seat.old).offered
+            ++ offer_of question.now (arc_value answer.now) now ∷ [] }
         ensures stored { OnOk result
-            (IsStored (shown seat.old) (shown seat.new)
+            (IsStored (Self.shown seat.old) (Self.shown seat.new)
             (offer_of question.now (arc_value answer.now) now)) }
         ensures refused { IfErr result
-            (IsRefused (shown seat.old) (shown seat.new)
+            (IsRefused (Self.shown seat.old) (Self.shown seat.new)
             (offer_of question.now (arc_value answer.now) now)) };
-
-    // What holds of each seat of the book.
-    ghost holds: { (book : Self) (seat : Self.Seat) → belongs book seat → IsSeat (shown seat) };
 }

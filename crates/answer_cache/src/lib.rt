@@ -27,10 +27,11 @@
 //! are full, the user of a book begins a new one. A `SharedCache` hands on what lives (`carry`),
 //! and its successor begins with that.
 //!
-//! `AnswerBook` is the trait of all books: each has `look` and `store`, and `lookup` comes with
-//! these. Its `store` takes a runtime that may wait, for books that other threads share.
-//! `ListCache` is the book of one thread, and has one seat. It never waits, and a lookup looks
-//! through the stores of one group. Its seat has the answers, so it lends none.
+//! `AnswerBook` is the trait of all books: each has `look`, and `lookup` comes with it. `Stores<R>`
+//! is the trait of those in which the holder of an `R` stores: in a book that threads share, a
+//! runtime that may wait (`Wait`). `ListCache` is the book of one thread, and has one seat. It
+//! never waits, so its `store` takes any `R`, also `()`; a lookup looks through the stores of one
+//! group. Its seat has the answers, so it lends none.
 //!
 //! So an answer of life 10 that is stored at the moment 100 is found at 109, and not at 110.
 //!
@@ -81,7 +82,7 @@ mod store_list;
 mod successor;
 
 pub use answer_log::group;
-pub use book::AnswerBook;
+pub use book::{AnswerBook, Stores};
 pub use carried::{Carried, law_carried_answers_as_before};
 pub use list_cache::{ListCache, ListSeat};
 pub use refusal::{CacheRefusal, StoreRefusal};

@@ -9,7 +9,7 @@ ghost use Rattle.answer_cache.specs.Lists.{IsListSeat, Refuses, Takes, offered_t
 ghost use Rattle.answer_cache.specs.Lists.{stored_too};
 ghost use Rattle.answer_cache.specs.Seats.{offer_of};
 
-use crate::book::AnswerBook;
+use crate::book::{AnswerBook, Stores};
 use crate::notes::Notes;
 use crate::refusal::StoreRefusal;
 use crate::store_list::StoreList;
@@ -17,7 +17,7 @@ use dns_answers::{Answer, FoundAnswer, Moment};
 use dns_message::Question;
 use std::alloc::{AllocError, Global};
 use std::marker::Model;
-use std::sync::{Arc, Wait};
+use std::sync::Arc;
 
 /// A book of one thread: what was stored lies in its one seat.
 #[derive(Debug, Drop)]
@@ -108,8 +108,10 @@ impl AnswerBook for ListCache {
     {
         seat.stores.lookup(question, now)
     }
+}
 
-    fn store<R: Wait>(
+impl<R> Stores<R> for ListCache {
+    fn store(
         &self,
         _rt: &R,
         seat: &mut ListSeat,

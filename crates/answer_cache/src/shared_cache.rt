@@ -29,7 +29,7 @@ ghost use Rattle.answer_cache.specs.Shared.{cache_view, new_seat, view_of};
 ghost use Rattle.answer_log.specs.Cursors.{Ahead};
 ghost use Rattle.answer_log.specs.declared.event.Event.{Event as Noticed};
 
-use crate::book::AnswerBook;
+use crate::book::{AnswerBook, Stores};
 use crate::index::{Index, IndexEntry};
 use crate::kept::kept;
 use crate::node::{ByBook, Hashed, Node, Shelf, ShelfRefusal, Shelved};
@@ -706,8 +706,10 @@ impl AnswerBook for SharedCache {
     {
         kept(self.look(seat, question, now)?)
     }
+}
 
-    fn store<R: Wait>(
+impl<R: Wait> Stores<R> for SharedCache {
+    fn store(
         &self,
         rt: &R,
         seat: &mut Seat,

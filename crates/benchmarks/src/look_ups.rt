@@ -10,7 +10,7 @@ ghost use Rattle.answer_cache.specs.Shared.{Belongs};
 mod questions;
 
 use crate::look_ups::questions::{Known, known_of};
-use answer_cache::{AnswerBook, Seat, SharedCache};
+use answer_cache::{AnswerBook, Seat, SharedCache, Stores};
 use dns_answers::Moment;
 use std::sync::Wait;
 use std::thread::{Threads, map_vec};

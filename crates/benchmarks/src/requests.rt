@@ -22,7 +22,7 @@ mod rows;
 use crate::requests::books::{fill, one_seat};
 use crate::requests::known::Known;
 use crate::requests::rows::{Row, large_row, small_rows};
-use answer_cache::{AnswerBook, ListCache};
+use answer_cache::{AnswerBook, ListCache, Stores};
 use dns_answers::Moment;
 use sip_locator::{Located, locate};
 use sip_selection::{Caps, Request, RequestView};
@@ -213,7 +213,7 @@ fn measure<R: Clock + AllocGlobal, B: AnswerBook>(
 }
 
 /// Measures a request in both forms over a book, and prints it.
-fn print_forms<R: Clock + Print + Wait + AllocGlobal, B: AnswerBook>(
+fn print_forms<R: Clock + Print + AllocGlobal, B: Stores<R>>(
     rt: &R,
     name: &str,
     load: &Load<'_>,
@@ -241,7 +241,7 @@ fn print_forms<R: Clock + Print + Wait + AllocGlobal, B: AnswerBook>(
 }
 
 /// Fills a book, measures a request in both forms over it, and prints it.
-fn print_filled<R: Clock + Print + Wait + AllocGlobal, B: AnswerBook>(
+fn print_filled<R: Clock + Print + AllocGlobal, B: Stores<R>>(
     rt: &R,
     name: &str,
     load: &Load<'_>,

@@ -5,7 +5,7 @@
 //! line for each target, in the order in which they are to be tried.
 #![tactic(auto)]
 
-use answer_cache::{AnswerBook, ListCache};
+use answer_cache::{ListCache, Stores};
 use dns_asker as asker;
 use dns_asker::MessageWire;
 use dns_transport::{QueryForm, ReplyTimes, RunClock, WireOptions, open_wire};
@@ -36,7 +36,7 @@ const LIMITS: Limits = Limits {
 const NUMBER: u64 = 1;
 
 /// Asks for a request over a wire, with a key of its random ids and words, until it ends.
-fn resolve<R: Wait, B: AnswerBook + Drop, W: MessageWire, C: asker::Clock>(
+fn resolve<R: Wait, B: Stores<R> + Drop, W: MessageWire, C: asker::Clock>(
     rt: &R,
     alloc: Global,
     request: Request,

@@ -5,7 +5,7 @@ ghost use Rattle.dns_answers.specs.Records.{kind_of};
 ghost use Rattle.answer_cache.specs.Shared.{Belongs};
 
 use crate::answers::{answer, question};
-use answer_cache::{AnswerBook, Seat, SharedCache};
+use answer_cache::{AnswerBook, Seat, SharedCache, Stores};
 use dns_answers::{Answer, Moment};
 use dns_message::Question;
 use std::alloc::Global;

@@ -5,7 +5,7 @@ ghost use Rattle.dns_answers.specs.Records.{kind_of};
 ghost use Rattle.rolling_cache.specs.Rolling.{IsAt};
 
 use crate::answers::{answer, question};
-use answer_cache::AnswerBook;
+use answer_cache::{AnswerBook, Stores};
 use dns_answers::{Answer, Moment};
 use dns_message::Question;
 use rolling_cache::{Change, RollingCache, RollingSeat};

@@ -1,6 +1,6 @@
 //! The example of the page of `sip_locator`.
 use crate::answers::{REPLY, request};
-use answer_cache::{AnswerBook, ListCache};
+use answer_cache::{AnswerBook, ListCache, Stores};
 use dns_answers::Moment;
 use sip_locator::Locator;
 use sip_selection::{Caps, Families, Next, Request};
@@ -61,8 +61,8 @@ fn asks_first<B: AnswerBook>(
 }
 
 /// Hands a reply in; None where it is not taken.
-fn hear<B: AnswerBook>(
-    rt: &impl Wait,
+fn hear<R, B: Stores<R>>(
+    rt: &R,
     locator: &mut Locator<B>,
     book: &B,
     seat: &mut B::Seat,
@@ -92,8 +92,8 @@ fn goes_then<B: AnswerBook>(
 }
 
 /// Whether a locator asks before a reply came in, and gives a target after that.
-fn asks_and_goes<B: AnswerBook>(
-    rt: &impl Wait,
+fn asks_and_goes<R, B: Stores<R>>(
+    rt: &R,
     locator: &mut Locator<B>,
     book: &B,
     seat: &mut B::Seat,

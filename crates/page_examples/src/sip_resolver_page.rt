@@ -4,7 +4,7 @@ ghost use Rattle.answer_cache.specs.Seats.{SeatView};
 ghost use Rattle.sip_resolver.specs.Requests.{Stand};
 
 use crate::answers::request;
-use answer_cache::{AnswerBook, ListCache};
+use answer_cache::{AnswerBook, ListCache, Stores};
 use dns_answers::Moment;
 use sip_resolver::{
     Anything, CountingIds, Heard, Limits, Origin, Outcome, Over, Resolver, rounded_up,
@@ -65,8 +65,8 @@ fn sends<B: AnswerBook, F: Origin>(
 }
 
 /// Hands its reply in; None where memory is refused.
-fn hears<B: AnswerBook, F: Origin>(
-    rt: &impl Wait,
+fn hears<R, B: Stores<R>, F: Origin>(
+    rt: &R,
     resolver: &mut Resolver<B, F, CountingIds>,
     book: &B,
     seat: &mut B::Seat,
@@ -92,8 +92,8 @@ fn goes<B: AnswerBook, F: Origin>(resolver: &mut Resolver<B, F, CountingIds>) ->
 }
 
 /// Whether a query is sent, nothing more after its reply, and the request then goes to a target.
-fn sends_and_goes<B: AnswerBook, F: Origin>(
-    rt: &impl Wait,
+fn sends_and_goes<R, B: Stores<R>, F: Origin>(
+    rt: &R,
     resolver: &mut Resolver<B, F, CountingIds>,
     book: &B,
     seat: &mut B::Seat,

@@ -14,7 +14,7 @@ ghost use Rattle.rolling_cache.specs.Rolling.{Changes, IsAt, IsFirst, IsFresh, I
 use crate::change::Change;
 use crate::generation::{Generation, Present};
 use crate::seat::RollingSeat;
-use answer_cache::{AnswerBook, CacheRefusal, StoreRefusal};
+use answer_cache::{AnswerBook, CacheRefusal, StoreRefusal, Stores};
 use dns_answers::{Answer, FoundAnswer, Moment};
 use dns_message::Question;
 use std::alloc::{AllocError, Global};
@@ -226,8 +226,10 @@ impl AnswerBook for RollingCache {
         let cache = &seat.generation.cache;
         cache.lookup(&mut seat.seat, question, now)
     }
+}
 
-    fn store<R: Wait>(
+impl<R: Wait> Stores<R> for RollingCache {
+    fn store(
         &self,
         rt: &R,
         seat: &mut RollingSeat,

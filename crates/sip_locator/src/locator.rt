@@ -18,7 +18,7 @@ use crate::book_at::BookAt;
 use crate::kept::Kept;
 use crate::read::read_answer;
 use crate::refusal::LocatorRefusal;
-use answer_cache::AnswerBook;
+use answer_cache::{AnswerBook, Stores};
 use dns_answers::{Answer, Moment};
 use dns_message::{Question, law_same_questions_are_equal};
 use sip_selection::{
@@ -27,7 +27,7 @@ use sip_selection::{
 use srv_choice::Words;
 use std::alloc::{AllocError, Global};
 use std::marker::{Model, PhantomData};
-use std::sync::{Arc, Wait};
+use std::sync::Arc;
 
 /// One more than the answers that a locator can use.
 const ROUND_LIMIT: usize = 522;
@@ -282,7 +282,7 @@ impl<B: AnswerBook> Locator<B> {
     /// Takes the octets of a reply to the question that is asked: its answer is used for this
     /// request, and then stored in the book. Where the book does not store it, it stays used. After
     /// a refusal all is as before.
-    pub fn reply<R: Wait>(
+    pub fn reply<R>(
         &mut self,
         rt: &R,
         book: &B,
@@ -290,6 +290,8 @@ impl<B: AnswerBook> Locator<B> {
         now: Moment,
         octets: &[u8],
     ) -> Result<Kept, LocatorRefusal>
+    where
+        B: Stores<R>,
         requires { B.belongs book.now seat.old }
         ensures stays { B.belongs book.now seat.new }
         ensures goes_on { GoesOn (B.shown seat.old) (B.shown seat.new) }

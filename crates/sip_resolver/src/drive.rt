@@ -15,7 +15,7 @@ use crate::resolver::Resolver;
 use crate::rounding::rounded_up;
 use crate::transmit::Over;
 use crate::wire_origin::WireOrigin;
-use answer_cache::AnswerBook;
+use answer_cache::{AnswerBook, Stores};
 use dns_asker::{Clock, MessageWire, Received};
 use std::sync::Wait;
 
@@ -97,7 +97,7 @@ fn send_and_poll<B: AnswerBook, W: MessageWire, C: Clock, I: Ids + Drop>(
 
 /// Receives once, and hands on what came: a message, or that no server takes a query. Where memory
 /// is refused for a message, it is lost.
-fn receive_once<R: Wait, B: AnswerBook, W: MessageWire, C: Clock, I: Ids + Drop>(
+fn receive_once<R, B: Stores<R>, W: MessageWire, C: Clock, I: Ids + Drop>(
     rt: &R,
     resolver: &mut Resolver<B, WireOrigin<W, C>, I>,
     book: &B,
@@ -137,7 +137,7 @@ fn receive_once<R: Wait, B: AnswerBook, W: MessageWire, C: Clock, I: Ids + Drop>
 ///
 /// It is what `next_outcome` does again and again, for a caller that submits requests in between,
 /// or counts the time of each by itself.
-pub fn poll_over<R: Wait, B: AnswerBook, W: MessageWire, C: Clock, I: Ids + Drop>(
+pub fn poll_over<R, B: Stores<R>, W: MessageWire, C: Clock, I: Ids + Drop>(
     rt: &R,
     resolver: &mut Resolver<B, WireOrigin<W, C>, I>,
     book: &B,
@@ -170,7 +170,7 @@ pub fn poll_over<R: Wait, B: AnswerBook, W: MessageWire, C: Clock, I: Ids + Drop
 ///
 /// None: no question is out that could end another request, or the time of the wire is over. Then
 /// all that ended came out.
-pub fn next_outcome<R: Wait, B: AnswerBook, W: MessageWire, C: Clock, I: Ids + Drop>(
+pub fn next_outcome<R: Wait, B: Stores<R>, W: MessageWire, C: Clock, I: Ids + Drop>(
     rt: &R,
     resolver: &mut Resolver<B, WireOrigin<W, C>, I>,
     book: &B,

@@ -34,7 +34,7 @@ use crate::requests::Requests;
 use crate::task::{Progress, Task};
 use crate::transmit::{Over, Transmit};
 use crate::waits::{WaitEnd, settle_all};
-use answer_cache::AnswerBook;
+use answer_cache::{AnswerBook, Stores};
 use dns_answers::{Answer, Moment, ReplyRefusal, law_answers_are_bounded};
 use dns_asker::{Ending, Incoming, Schedule, Why};
 use dns_message::Question;
@@ -42,7 +42,7 @@ use sip_selection::{Caps, Request};
 use srv_choice::Words;
 use std::alloc::{AllocError, Global};
 use std::marker::{Model, PhantomData};
-use std::sync::{Arc, Wait};
+use std::sync::Arc;
 
 /// How many requests and questions a resolver has at once.
 #[derive(Clone, Copy, Debug)]
@@ -154,6 +154,14 @@ impl<B: AnswerBook, F: Origin, I: Ids + Drop> Resolver<B, F, I> {
         self.requests.is_empty()
     }
 
+    /// Whether a request of this number is inside, or has an outcome that was not taken.
+    #[must_use]
+    pub fn has(&self, number: u64) -> bool
+        ensures { IsTrue result ↔ Contains (numbers_of self.now.requests) number }
+    {
+        self.requests.has(number)
+    }
+
     /// Takes a request in, under a number that its outcome will have.
     ///
     /// `until` is the moment by which it ends: a `poll_transmit` at that moment or later ends it,
@@ -225,7 +233,7 @@ impl<B: AnswerBook, F: Origin, I: Ids + Drop> Resolver<B, F, I> {
     /// Takes octets that came in. The answer of a reply is stored once, and all requests that wait
     /// for it get it, in the order in which they came to wait; they go on when
     /// `poll_transmit` is called. Where memory is refused all is as before.
-    pub fn handle<R: Wait>(
+    pub fn handle<R>(
         &mut self,
         rt: &R,
         book: &B,
@@ -234,6 +242,8 @@ impl<B: AnswerBook, F: Origin, I: Ids + Drop> Resolver<B, F, I> {
         over: Over,
         octets: &[u8],
     ) -> Result<Heard, AllocError>
+    where
+        B: Stores<R>,
         requires made_here { B.belongs book.now seat.old }
         requires given { F.gives octets.now }
         requires shown { F.shows now }
@@ -551,7 +561,7 @@ impl<B: AnswerBook, F: Origin, I: Ids + Drop> Resolver<B, F, I> {
     }
 
     /// Takes the end of the wait for the reply to a question.
-    fn hear<R: Wait>(
+    fn hear<R>(
         &mut self,
         rt: &R,
         book: &B,
@@ -562,6 +572,8 @@ impl<B: AnswerBook, F: Origin, I: Ids + Drop> Resolver<B, F, I> {
         question: &Question,
         ending: Ending,
     )
+    where
+        B: Stores<R>,
         requires made_here { B.belongs book.now seat.old }
         requires given { F.gives octets.now }
         requires shown { F.shows now }
@@ -590,7 +602,7 @@ impl<B: AnswerBook, F: Origin, I: Ids + Drop> Resolver<B, F, I> {
     }
 
     /// Takes the answer that a reply has: it is stored, and given to all that wait for it.
-    fn take<R: Wait>(
+    fn take<R>(
         &mut self,
         rt: &R,
         book: &B,
@@ -601,6 +613,8 @@ impl<B: AnswerBook, F: Origin, I: Ids + Drop> Resolver<B, F, I> {
         question: &Question,
         answer: Answer,
     )
+    where
+        B: Stores<R>,
         requires made_here { B.belongs book.now seat.old }
         requires given { F.gives octets.now }
         requires shown { F.shows now }

@@ -6,7 +6,7 @@ ghost use Rattle.sip_resolver.specs.Works.{Works};
 ghost use Rattle.sip_worker.specs.Drives.{Gives, HearsNothing, HearsOne, Loses, Sends, SendsAll, SendsNext};
 
 use crate::wire_origin::WireOrigin;
-use answer_cache::AnswerBook;
+use answer_cache::{AnswerBook, Stores};
 use dns_asker::{Clock, DATAGRAM_LIMIT, Wire};
 use sip_resolver::{Ids, Over, Resolver, rounded_up};
 use std::alloc::AllocError;
@@ -112,7 +112,7 @@ pub(crate) fn send_all<B: AnswerBook, W: Wire, C: Clock, I: Ids + Drop>(
 }
 
 /// Receives once, and hands on what came. Where memory is refused for that, it is lost.
-pub(crate) fn receive_once<R: Wait, B: AnswerBook, W: Wire, C: Clock, I: Ids + Drop>(
+pub(crate) fn receive_once<R: Wait, B: Stores<R>, W: Wire, C: Clock, I: Ids + Drop>(
     rt: &R,
     resolver: &mut Resolver<B, WireOrigin<W, C>, I>,
     book: &B,

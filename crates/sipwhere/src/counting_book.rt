@@ -2,11 +2,11 @@
 ghost use Rattle.std.specs.Prelude.{◌≡◌};
 ghost use Rattle.dns_transport.specs.WireCounts.{more, one_if};
 
-use answer_cache::{AnswerBook, StoreRefusal};
+use answer_cache::{AnswerBook, StoreRefusal, Stores};
 use dns_answers::{Answer, FoundAnswer, Moment};
 use dns_message::Question;
 use std::alloc::AllocError;
-use std::sync::{Arc, Wait};
+use std::sync::Arc;
 
 /// A book, each seat of which counts the look-ups that found an answer.
 #[derive(Drop)]
@@ -70,8 +70,10 @@ impl<B: AnswerBook> AnswerBook for CountingBook<B> {
         seat.note(found.is_some());
         Ok(found)
     }
+}
 
-    fn store<R: Wait>(
+impl<R, B: Stores<R>> Stores<R> for CountingBook<B> {
+    fn store(
         &self,
         rt: &R,
         seat: &mut CountingSeat<B::Seat>,

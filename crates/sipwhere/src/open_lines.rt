@@ -12,7 +12,7 @@ use crate::noting_wire::NameNotes;
 use crate::sender::Sender;
 use crate::submitted_lines::{line_outcome_in_vain, line_outcome_of, submit};
 use crate::tell::{NOTHING_TOLD, Told, tell};
-use answer_cache::AnswerBook;
+use answer_cache::{AnswerBook, Stores};
 use dns_asker::{Clock, MessageWire, Schedule};
 use dns_transport::{Timer, Tracer};
 use rand_chacha::ChaCha20Rng;
@@ -24,7 +24,6 @@ use sip_tries::Pinger;
 use std::alloc::{AllocError, Global};
 use std::io::Write;
 use std::marker::Model;
-use std::sync::Wait;
 use std::time::Duration;
 
 /// How many requests are inside at once. A resolver goes through all that wait at each reply.
@@ -306,7 +305,7 @@ impl<'a, B: AnswerBook + Drop, W: NameNotes, C: Clock + Timer> OpenLines<'a, B, 
 
     /// Goes on with the requests inside, until one comes out or something came over the wire. The
     /// targets of one that came out are tried, where they are to be.
-    pub fn advance<R: Wait, P: Pinger>(
+    pub fn advance<R, P: Pinger>(
         &mut self,
         rt: &R,
         book: &B,
@@ -315,6 +314,8 @@ impl<'a, B: AnswerBook + Drop, W: NameNotes, C: Clock + Timer> OpenLines<'a, B, 
         clock: &C,
         pinger: &mut P,
     )
+    where
+        B: Stores<R>,
         requires made_here { B.belongs book.now seat.old }
         requires stands { Stands W.gives C.shows (B.shown seat.old) self.old }
         ensures stays { B.belongs book.now seat.new }

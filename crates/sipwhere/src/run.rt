@@ -16,7 +16,7 @@ use crate::progress::Progress;
 use crate::sender::Sender;
 use crate::stats::tell_stats;
 use crate::tell::{FAULT_TOLD, NOTHING_TOLD, Told};
-use answer_cache::{AnswerBook, ListCache};
+use answer_cache::{ListCache, Stores};
 use dns_asker::Clock;
 use dns_transport::{HostWire, RunClock, Timer, Tracer, WireOptions, open_wire};
 use sip_report::Style;
@@ -35,7 +35,7 @@ use std::time::{self, Duration};
 /// output takes no more.
 fn locate_open<
     R: Wait + Eprint,
-    B: AnswerBook + Drop,
+    B: Stores<R> + Drop,
     W: NameNotes + Tracer,
     C: Clock + Timer,
     P: Pinger,
@@ -83,7 +83,7 @@ fn locate_open<
 /// takes no more.
 fn locate_side_by_side<
     R: Wait + Eprint,
-    B: AnswerBook + Drop,
+    B: Stores<R> + Drop,
     W: NameNotes + Tracer,
     C: Clock + Timer,
     P: Pinger,
@@ -126,7 +126,7 @@ fn locate_side_by_side<
 /// output takes no more.
 fn locate_in_turn<
     R: Wait + Eprint,
-    B: AnswerBook + Drop,
+    B: Stores<R> + Drop,
     W: NameNotes + Tracer,
     C: Clock + Timer,
     P: Pinger,
@@ -169,7 +169,7 @@ fn locate_in_turn<
 /// Locates lines, and prints what became of each, until the output takes no more.
 pub fn locate_lines<
     R: Wait + Eprint,
-    B: AnswerBook + Drop,
+    B: Stores<R> + Drop,
     W: NameNotes + Tracer,
     C: Clock + Timer,
     P: Pinger,
@@ -209,7 +209,7 @@ pub fn locate_lines<
 /// Locates the lines of the input as they come, until the output takes no more.
 fn locate_input<
     R: Wait + Eprint,
-    B: AnswerBook + Drop,
+    B: Stores<R> + Drop,
     W: NameNotes + Tracer,
     C: Clock + Timer,
     P: Pinger,
@@ -332,7 +332,7 @@ fn wire_options(options: &Options<'_>, plan: &Plan) -> WireOptions
 /// Locates texts that are given, until the output takes no more.
 fn locate_texts<
     R: Wait + Eprint,
-    B: AnswerBook + Drop,
+    B: Stores<R> + Drop,
     W: NameNotes + Tracer,
     C: Clock + Timer,
     P: Pinger,
@@ -389,7 +389,7 @@ fn is_from_input(texts: &[&str]) -> bool
 /// Locates the texts of the options, or the lines of the input, until the output takes no more.
 fn locate_all<
     R: Wait + Eprint,
-    B: AnswerBook + Drop,
+    B: Stores<R> + Drop,
     W: NameNotes + Tracer,
     C: Clock + Timer,
     P: Pinger,

@@ -8,15 +8,15 @@ ghost use Rattle.answer_cache.specs.Shared.{Belongs};
 use crate::fields::{moment, question_of};
 use crate::replies::{Reply, absent, push_answer, read_reply};
 use crate::shown::push_debug_line;
-use answer_cache::{AnswerBook, Seat, SharedCache, StoreRefusal, group};
+use answer_cache::{AnswerBook, Seat, SharedCache, StoreRefusal, Stores, group};
 use dns_answers::{Answer, FoundAnswer, Moment};
 use dns_message::Question;
 use row_fields::{Fault, Output, number32, split_word};
 use std::alloc::{AllocError, Global};
-use std::sync::{Arc, Wait};
+use std::sync::Arc;
 
 /// What a book says to a store.
-fn stored<R: Wait, B: AnswerBook>(
+fn stored<R, B: Stores<R>>(
     rt: &R,
     book: &B,
     seat: &mut B::Seat,
@@ -33,7 +33,7 @@ fn stored<R: Wait, B: AnswerBook>(
 
 /// What a book says to a store of a reply, whose records have to be of the kind of its question:
 /// `None` where they are not.
-pub(crate) fn reply_stored<R: Wait, B: AnswerBook>(
+pub(crate) fn reply_stored<R, B: Stores<R>>(
     rt: &R,
     book: &B,
     seat: &mut B::Seat,
@@ -125,13 +125,7 @@ fn store_of(alloc: Global, line: &str) -> Result<DatedReply, Fault> {
 }
 
 /// A moment, a question and its answer are stored.
-fn store<R: Wait, B: AnswerBook>(
-    rt: &R,
-    output: &mut Output,
-    book: &B,
-    seat: &mut B::Seat,
-    line: &str,
-)
+fn store<R, B: Stores<R>>(rt: &R, output: &mut Output, book: &B, seat: &mut B::Seat, line: &str)
     requires { B.belongs book.now seat.old }
     ensures { B.belongs book.now seat.new }
 {
@@ -146,7 +140,7 @@ fn store<R: Wait, B: AnswerBook>(
 }
 
 /// Stores a reply, and counts it where it is stored.
-fn count_reply<R: Wait, B: AnswerBook>(
+fn count_reply<R, B: Stores<R>>(
     rt: &R,
     book: &B,
     seat: &mut B::Seat,
@@ -185,7 +179,7 @@ fn absence(alloc: Global, question: &Question, life: &str) -> Result<Reply, Faul
 }
 
 /// Stores an answer without records with a life, and counts it where it is stored.
-fn store_absence<R: Wait, B: AnswerBook>(
+fn store_absence<R, B: Stores<R>>(
     rt: &R,
     output: &mut Output,
     book: &B,
@@ -207,7 +201,7 @@ fn store_absence<R: Wait, B: AnswerBook>(
 }
 
 /// Stores answers without records with lives, and writes how many are stored.
-fn store_absences<R: Wait, B: AnswerBook>(
+fn store_absences<R, B: Stores<R>>(
     rt: &R,
     output: &mut Output,
     book: &B,
@@ -228,13 +222,7 @@ fn store_absences<R: Wait, B: AnswerBook>(
 
 /// A moment, a kind and a name, and lives: an answer without records is stored with each of these.
 /// Gives how many are stored.
-fn stores<R: Wait, B: AnswerBook>(
-    rt: &R,
-    output: &mut Output,
-    book: &B,
-    seat: &mut B::Seat,
-    line: &str,
-)
+fn stores<R, B: Stores<R>>(rt: &R, output: &mut Output, book: &B, seat: &mut B::Seat, line: &str)
     requires { B.belongs book.now seat.old }
     ensures { B.belongs book.now seat.new }
 {
@@ -304,7 +292,7 @@ fn group_line(output: &mut Output, line: &str) {
 }
 
 /// What a book gives for a line.
-pub(crate) fn book_line<R: Wait, B: AnswerBook>(
+pub(crate) fn book_line<R, B: Stores<R>>(
     rt: &R,
     output: &mut Output,
     book: &B,

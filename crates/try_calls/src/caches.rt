@@ -7,7 +7,7 @@ use crate::books::{book_line, last_of, one_seat, push_both, push_seats};
 use crate::fields::moment;
 use crate::replies::{push_answer, push_question};
 use crate::shown::push_debug_line;
-use answer_cache::{AnswerBook, CacheRefusal, Carried, ListCache, Notice, Seat, SharedCache};
+use answer_cache::{CacheRefusal, Carried, ListCache, Notice, Seat, SharedCache, Stores};
 use dns_answers::{Answer, Moment};
 use dns_message::Question;
 use row_fields::{Fault, Output, count, only_line, split_word};
@@ -30,13 +30,7 @@ pub(crate) fn told<R: Wait>(rt: &R, output: &mut Output, call: &str, input: &str
 }
 
 /// What a book gives for lines.
-fn talk<R: Wait, B: AnswerBook>(
-    rt: &R,
-    output: &mut Output,
-    book: &B,
-    seat: &mut B::Seat,
-    input: &str,
-)
+fn talk<R, B: Stores<R>>(rt: &R, output: &mut Output, book: &B, seat: &mut B::Seat, input: &str)
     requires { B.belongs book.now seat.old }
 {
     'lines: for line in input.lines() {

@@ -6,7 +6,7 @@ use crate::fields::{keep, moment};
 use crate::replies::{Reply, read_reply};
 use crate::requests::{Sending, push_next, read_sending, view};
 use crate::shown::push_debug_line;
-use answer_cache::{AnswerBook, ListCache};
+use answer_cache::{AnswerBook, ListCache, Stores};
 use dns_answers::Moment;
 use row_fields::{Fault, Output, count, octets, split_word};
 use sip_locator::{Kept, Located, Locator, LocatorRefusal, locate};
@@ -83,7 +83,7 @@ fn step<B: AnswerBook>(
 }
 
 /// What comes of a reply.
-fn replied<R: Wait, B: AnswerBook>(
+fn replied<R, B: Stores<R>>(
     rt: &R,
     locator: &mut Locator<B>,
     book: &B,
@@ -149,7 +149,7 @@ fn heard_of(alloc: Global, line: &str) -> Result<Heard, Fault> {
 }
 
 /// What a locator gives for the octets that came in at a moment.
-fn reply<R: Wait, B: AnswerBook>(
+fn reply<R, B: Stores<R>>(
     rt: &R,
     output: &mut Output,
     locator: &mut Locator<B>,
@@ -169,7 +169,7 @@ fn reply<R: Wait, B: AnswerBook>(
 }
 
 /// What a locator gives for a line.
-fn locator_line<R: Wait, B: AnswerBook>(
+fn locator_line<R, B: Stores<R>>(
     rt: &R,
     output: &mut Output,
     locator: &mut Locator<B>,
@@ -342,7 +342,7 @@ fn numbered<'a, B: AnswerBook>(
 }
 
 /// What the locator of a number gives for a line.
-fn numbered_line<R: Wait, B: AnswerBook>(
+fn numbered_line<R, B: Stores<R>>(
     rt: &R,
     output: &mut Output,
     locators: &mut Vec<Locator<B>>,
@@ -361,7 +361,7 @@ fn numbered_line<R: Wait, B: AnswerBook>(
 }
 
 /// What the locators over a book give for a line, or the book itself.
-fn said<R: Wait, B: AnswerBook>(
+fn said<R, B: Stores<R>>(
     rt: &R,
     output: &mut Output,
     locators: &mut Vec<Locator<B>>,
@@ -383,13 +383,7 @@ fn said<R: Wait, B: AnswerBook>(
 }
 
 /// What a book and the locators over it give for lines.
-fn talk<R: Wait, B: AnswerBook>(
-    rt: &R,
-    output: &mut Output,
-    book: &B,
-    seat: &mut B::Seat,
-    input: &str,
-)
+fn talk<R, B: Stores<R>>(rt: &R, output: &mut Output, book: &B, seat: &mut B::Seat, input: &str)
     requires { B.belongs book.now seat.old }
 {
     let mut locators = Vec::new(output.alloc());

@@ -9,7 +9,6 @@ use crate::books::{
 use crate::fields::moment;
 use crate::replies::{Reply, read_reply};
 use crate::shown::push_debug_line;
-use answer_cache::AnswerBook;
 use dns_answers::Moment;
 use dns_message::Question;
 use rolling_cache::{Change, RollingCache, RollingSeat};

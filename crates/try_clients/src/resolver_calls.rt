@@ -6,12 +6,11 @@ ghost use Rattle.sip_resolver.specs.Requests.{Stand};
 use crate::lookups::{keep, push_debug_line, push_number_line, push_yes};
 use crate::resolver_lines::{push_heard, push_outcome, push_sent, push_sent_octets};
 use crate::resolver_steps::{LineIds, Submitted};
-use answer_cache::AnswerBook;
+use answer_cache::{AnswerBook, Stores};
 use dns_answers::Moment;
 use dns_asker::Zone;
 use row_fields::{Fault, Output};
 use sip_resolver::{Origin, Over, Resolver};
-use std::sync::Wait;
 
 /// How many queries are answered at one moment at most.
 const SERVE_LIMIT: usize = 1_000;
@@ -106,7 +105,7 @@ pub(crate) fn poll_send<B: AnswerBook, F: Origin>(
 }
 
 /// Hands octets in.
-pub(crate) fn hear<B: AnswerBook, F: Origin, R: Wait>(
+pub(crate) fn hear<B: Stores<R>, F: Origin, R>(
     rt: &R,
     output: &mut Output,
     resolver: &mut Resolver<B, F, LineIds>,
@@ -246,7 +245,7 @@ fn send_all<B: AnswerBook, F: Origin>(
 }
 
 /// Sends all that is to be sent at a moment, and hands in the zone's replies.
-pub(crate) fn serve<B: AnswerBook, F: Origin, R: Wait>(
+pub(crate) fn serve<B: Stores<R>, F: Origin, R>(
     rt: &R,
     output: &mut Output,
     resolver: &mut Resolver<B, F, LineIds>,

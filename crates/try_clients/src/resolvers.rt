@@ -10,7 +10,7 @@ use crate::resolver_calls::{
 };
 use crate::resolver_steps::{LineIds, Setting, Step, setting_of, steps_of, zone_text};
 use crate::schedules::is_in_range;
-use answer_cache::{AnswerBook, ListCache};
+use answer_cache::{AnswerBook, ListCache, Stores};
 use dns_asker::Zone;
 use row_fields::{Fault, Output, first_line, only_line};
 use sip_resolver::{Anything, Limits, Origin, Resolver, Schedule, rounded_up};
@@ -129,7 +129,7 @@ fn play_new<R: Wait>(rt: &R, output: &mut Output, setting: Setting, zone: &Zone,
 }
 
 /// Plays steps to a resolver.
-fn play<B: AnswerBook, F: Origin, R: Wait>(
+fn play<B: Stores<R>, F: Origin, R>(
     rt: &R,
     output: &mut Output,
     resolver: &mut Resolver<B, F, LineIds>,
@@ -149,7 +149,7 @@ fn play<B: AnswerBook, F: Origin, R: Wait>(
 }
 
 /// What a resolver gives for a step.
-fn does<B: AnswerBook, F: Origin, R: Wait>(
+fn does<B: Stores<R>, F: Origin, R>(
     rt: &R,
     output: &mut Output,
     resolver: &mut Resolver<B, F, LineIds>,

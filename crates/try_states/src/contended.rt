@@ -6,7 +6,7 @@ ghost use Rattle.dns_answers.specs.Records.{kind_of};
 ghost use Rattle.answer_cache.specs.Shared.{Belongs, CacheView, cache_view};
 
 use crate::seats::{Pair, both, last_of, learn, life, now, pair_of, store};
-use answer_cache::{AnswerBook, Rival, Seat, SharedCache, StoreRefusal};
+use answer_cache::{Rival, Seat, SharedCache, StoreRefusal};
 use dns_answers::{Answer, Moment};
 use dns_message::{Kind, Question};
 use std::alloc::Global;

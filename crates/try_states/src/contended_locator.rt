@@ -5,7 +5,7 @@ ghost use Rattle.dns_answers.specs.Records.{kind_of};
 ghost use Rattle.dns_message.specs.declared.kind.Kind.TheVariants.{A};
 ghost use Rattle.answer_cache.specs.Shared.{Belongs, CacheView, cache_view};
 
-use answer_cache::{AnswerBook, Rival, Seat, SharedCache, StoreRefusal};
+use answer_cache::{AnswerBook, Rival, Seat, SharedCache, StoreRefusal, Stores};
 use dns_answers::{Answer, FoundAnswer, Moment, Records};
 use dns_message::{Kind, Question, Section};
 use dns_name::Name;
@@ -137,8 +137,10 @@ impl<'a, R: Wait + 'a, J: Naming> AnswerBook for Contended<'a, R, J> {
     ) -> Result<Option<FoundAnswer<'b>>, AllocError> {
         self.cache.look(&mut pair.seat, question, now)
     }
+}
 
-    fn store<S: Wait>(
+impl<'a, R: Wait + 'a, J: Naming, S: Wait> Stores<S> for Contended<'a, R, J> {
+    fn store(
         &self,
         rt: &S,
         pair: &mut Pair<'a, R, J>,
@@ -157,12 +159,7 @@ fn is_contended(kept: &Result<Kept, LocatorRefusal>) -> bool {
 }
 
 /// Whether the answer of a reply is used and not stored.
-fn is_used<R: Wait, B: AnswerBook>(
-    rt: &R,
-    locator: &mut Locator<B>,
-    book: &B,
-    seat: &mut B::Seat,
-) -> bool
+fn is_used<R, B: Stores<R>>(rt: &R, locator: &mut Locator<B>, book: &B, seat: &mut B::Seat) -> bool
     requires { B.belongs book.now seat.old }
 {
     let kept = locator.reply(rt, book, seat, now(), &REPLY);

@@ -4,7 +4,7 @@ ghost use Rattle.answer_cache.specs.Seats.{SeatView};
 ghost use Rattle.sip_resolver.specs.Requests.{Stand};
 
 use crate::worker_jobs::WORDS;
-use answer_cache::{AnswerBook, ListCache};
+use answer_cache::{AnswerBook, ListCache, Stores};
 use dns_answers::Moment;
 use dns_zone::Zone;
 use rand_chacha::ChaCha20Rng;
@@ -132,8 +132,8 @@ fn add_all<B: AnswerBook, F: Origin>(
 
 /// Sends what is to be sent next, and hears the reply at once if it comes. Whether anything was
 /// sent.
-fn sends_one<B: AnswerBook, F: Origin>(
-    rt: &impl Wait,
+fn sends_one<R, B: Stores<R>, F: Origin>(
+    rt: &R,
     alloc: Global,
     resolver: &mut Resolver<B, F, CountingIds>,
     book: &B,
@@ -159,8 +159,8 @@ fn sends_one<B: AnswerBook, F: Origin>(
 }
 
 /// Goes on until no question is out.
-fn finish<B: AnswerBook, F: Origin>(
-    rt: &impl Wait,
+fn finish<R, B: Stores<R>, F: Origin>(
+    rt: &R,
     alloc: Global,
     resolver: &mut Resolver<B, F, CountingIds>,
     book: &B,

@@ -7,7 +7,7 @@ ghost use Rattle.dns_message.specs.declared.kind.Kind.TheVariants.{A};
 ghost use Rattle.rolling_cache.specs.Rolling.{IsAt, IsFirst};
 
 use crate::seats::question;
-use answer_cache::AnswerBook;
+use answer_cache::{AnswerBook, Stores};
 use dns_answers::{Answer, Moment, Records, Section};
 use dns_message::{Kind, Question};
 use rolling_cache::{RollingCache, RollingSeat};

@@ -5,7 +5,7 @@ ghost use Rattle.std.specs.List.{All};
 ghost use Rattle.dns_answers.specs.Records.{kind_of};
 ghost use Rattle.answer_cache.specs.Shared.{Belongs};
 
-use answer_cache::{AnswerBook, Seat, SharedCache, StoreRefusal};
+use answer_cache::{AnswerBook, Seat, SharedCache, StoreRefusal, Stores};
 use dns_answers::{Answer, Moment, Records, Section};
 use dns_message::{Kind, Question};
 use dns_name::Name;

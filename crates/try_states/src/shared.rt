@@ -6,7 +6,7 @@ ghost use Rattle.dns_answers.specs.Records.{kind_of};
 ghost use Rattle.answer_cache.specs.Shared.{Belongs};
 
 use crate::seats::{Pair, keep, last_of, learn, life, now, pair_of, question};
-use answer_cache::{AnswerBook, Seat, SharedCache, StoreRefusal};
+use answer_cache::{Seat, SharedCache, StoreRefusal, Stores};
 use dns_answers::Moment;
 use dns_message::{Kind, Question};
 use std::alloc::Global;

@@ -3,19 +3,12 @@ ghost use Rattle.std.specs.Prelude.{IfSome};
 ghost use Rattle.answer_cache.specs.Shared.{Belongs};
 
 use crate::requests::known::Known;
-use answer_cache::{AnswerBook, Seat, SharedCache};
+use answer_cache::{Seat, SharedCache, Stores};
 use dns_answers::Moment;
 use std::alloc::Global;
-use std::sync::Wait;
 
 /// Stores answers.
-pub fn fill<R: Wait, B: AnswerBook>(
-    rt: &R,
-    book: &B,
-    seat: &mut B::Seat,
-    known: &[Known],
-    now: Moment,
-)
+pub fn fill<R, B: Stores<R>>(rt: &R, book: &B, seat: &mut B::Seat, known: &[Known], now: Moment)
     requires { B.belongs book.now seat.old }
     ensures { B.belongs book.now seat.new }
 {

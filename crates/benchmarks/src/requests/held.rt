@@ -5,7 +5,7 @@ ghost use Rattle.answer_cache.specs.Shared.{Belongs};
 use crate::requests::books::{fill, one_seat};
 use crate::requests::known::{Domain, Known};
 use crate::requests::rows::{self, Row};
-use answer_cache::{AnswerBook, ListCache, Seat, SharedCache};
+use answer_cache::{AnswerBook, ListCache, Seat, SharedCache, Stores};
 use dns_answers::Moment;
 use sip_locator::Locator;
 use sip_selection::Caps;
@@ -58,7 +58,7 @@ fn look_up<B: AnswerBook>(book: &B, seat: &mut B::Seat, known: &[Known], now: Mo
 }
 
 /// Stores a part of so many domains in a book.
-fn store_parts<R: Wait + AllocGlobal, B: AnswerBook>(
+fn store_parts<R: AllocGlobal, B: Stores<R>>(
     rt: &R,
     part: Part,
     count: u64,

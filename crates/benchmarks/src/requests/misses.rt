@@ -1,6 +1,6 @@
 //! How long a miss takes: a reply is read, its answer is taken out of it, and is stored in a book.
 use crate::requests::books::one_seat;
-use answer_cache::{AnswerBook, ListCache};
+use answer_cache::{ListCache, Stores};
 use dns_answers::{Answer, Moment, answer_of};
 use dns_message::{Kind, Message, Question, read_message};
 use dns_name::Name;
@@ -80,7 +80,7 @@ fn answer_in(alloc: Global, reply: &Reply<'_>) -> Option<Arc<Answer>> {
 }
 
 /// Stores an answer under a question: how many records it has.
-fn store_answer<R: Wait, B: AnswerBook>(
+fn store_answer<R, B: Stores<R>>(
     rt: &R,
     question: &Question,
     answer: &Arc<Answer>,
@@ -101,7 +101,7 @@ fn store_answer<R: Wait, B: AnswerBook>(
 }
 
 /// Reads the reply, and stores its answer under a question: how many records it has.
-fn store_one<R: Wait + AllocGlobal, B: AnswerBook>(
+fn store_one<R: AllocGlobal, B: Stores<R>>(
     rt: &R,
     reply: &Reply<'_>,
     question: &Question,
@@ -118,7 +118,7 @@ fn store_one<R: Wait + AllocGlobal, B: AnswerBook>(
 }
 
 /// Does so for each question.
-fn store_all<R: Wait + AllocGlobal, B: AnswerBook>(
+fn store_all<R: AllocGlobal, B: Stores<R>>(
     rt: &R,
     reply: &Reply<'_>,
     book: &B,
@@ -138,7 +138,7 @@ fn store_all<R: Wait + AllocGlobal, B: AnswerBook>(
 }
 
 /// How many nanoseconds it takes to store all in a book.
-fn timed<R: Clock + Wait + AllocGlobal, B: AnswerBook>(
+fn timed<R: Clock + AllocGlobal, B: Stores<R>>(
     rt: &R,
     reply: &Reply<'_>,
     book: &B,
