@@ -1,4 +1,5 @@
-# What tools/launch, ./prove, ./install and ./check share: which built program stands in out/, and of which sources it is.
+# What tools/launch, ./prove, ./install, tools/make-c-library and ./check share: which program, or which archive of the crate
+# wokhleas, stands in out/, and of which sources it is.
 # `top` is the repository's top.
 #
 # shellcheck shell=bash
@@ -44,16 +45,22 @@ toolchain_name() {
     cat "$(dirname "$(readlink -f "$rt")")/../KIT-ID" 2>/dev/null || rt version
 }
 
-# is_current NAME DIGEST TOOLCHAIN: whether out/ has the program of these sources, by this toolchain where there is one.
+# file_of NAME: the file that is built of a crate: a program, or the archive of the C library.
+file_of() {
+    if [ "$1" = wokhleas ]; then echo libwokhleas.a; else echo "$1"; fi
+}
+
+# is_current NAME DIGEST TOOLCHAIN: whether out/ has the program, or the archive, of these sources, by this toolchain where there is one.
 is_current() {
     local origin=$top/out/$1.origin
-    [ -x "$top/out/$1" ] && [ -r "$origin" ] && [ "$(sed -n 1p "$origin")" = "$2" ] &&
+    [ -s "$top/out/$(file_of "$1")" ] && [ -r "$origin" ] && [ "$(sed -n 1p "$origin")" = "$2" ] &&
         { [ -z "$3" ] || [ "$(sed -n 2p "$origin")" = "$3" ]; }
 }
 
-# keep_program NAME FILE DIGEST TOOLCHAIN: puts a program that was proved and built from these sources into out/.
-keep_program() {
-    local program=$top/out/$1
-    mkdir -p "$top/out" && rm -f "$program.origin" && cp "$2" "$program.new" && mv "$program.new" "$program" &&
-        printf '%s\n' "$3" "$4" >"$program.origin"
+# keep_built NAME TOP DIGEST TOOLCHAIN: puts what was proved and built from these sources, in a repository, into out/.
+keep_built() {
+    local kept origin=$top/out/$1.origin
+    kept=$top/out/$(file_of "$1")
+    mkdir -p "$top/out" && rm -f "$origin" && cp "$2/crates/$1/out/$(file_of "$1")" "$kept.new" && mv "$kept.new" "$kept" &&
+        printf '%s\n' "$3" "$4" >"$origin"
 }

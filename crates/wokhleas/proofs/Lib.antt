@@ -1,0 +1,3 @@
+pub mod HeldSteps
+pub mod LooseValues
+pub mod Soundness

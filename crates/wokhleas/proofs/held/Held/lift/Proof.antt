@@ -1,0 +1,60 @@
+-- `lift` hands what is owned to another pointer.
+use Rattle.std.proofs.Common.{◌≡◌, ℕ, Option, Some, None, List, [], ◌∷◌, ◌++◌, sym, refl, ap, ◌∙◌}
+use mir.Syntax.{named}
+use mir.Val.{Val, vptr}
+use base.Fraction.{full_share}
+use base.Logic.{SProp, emp}
+use base.Fml.{Lft, Fml, ftrue, flft}
+use types.Kit.{‵, raw, ◌⊛◌, at_ret, ◌$◌, ◌∵◌, !, qed, by, move, keep, drop, split, join, fsplit, fsplit3, fjoin, fjoin3, use0, rewrite, feq_i}
+use types.Run.{stop, fld, load, of_opd, no_more, and_then, returns, enter}
+use types.ByLocal.{alloc_all, pass_all, free_all, look_at, get, through, sets}
+use types.Part.{agg, sub, whole, look_in}
+use contract.Running.{tables}
+use contract.Monad.{fact, fact_i}
+use denote.RattleType.{RattleType, owns}
+use denote.Signature.{types_at, plain}
+use denote.RawPtr.{Ptr}
+use denote.Steps.{nothing, peeks, opens, closes}
+use denote.Laws.{Is, shows}
+use denote.Memory.{cell_at}
+use denote.Ref.{mut_vals, mut_Tells}
+use denote.Triple.Walked.{Stays, stay_ref, walk_of, Goes-ref}
+use Rattle.std.proofs.raw_atomic.Walks.{proved, leaves}
+use Rattle.wokhleas.specs.Handles.{boxed_as}
+use Rattle.wokhleas.specs.contracts.state.State as state
+use Rattle.wokhleas.specs.contracts.held.Held as held
+use Rattle.wokhleas.proofs.HeldSteps.{word, Data, told, made, ptr_good, word_good}
+use Rattle.wokhleas.specs.contracts.held.Held.lift.{ended, clauses}
+use Rattle.wokhleas.specs.contracts.held.Held.lift.Key.{name as #self}
+use Rattle.wokhleas.proofs.held.Held.lift.Statement.{statement}
+use Rattle.wokhleas.proofs.held.Held.lift.Code as code
+
+pub lift_spec : {M : Type 1} → statement M
+lift_spec 𝓤 𝓛 𝓜 𝓡 wired =
+    let H = 𝓛.H in let 𝓣 = tables 𝓤 H 𝓜 𝓡 𝓡.env in let fn = code.function in let Row : RattleType = held.the_row in
+    let c = clauses 𝓛 𝓜.mem 𝓡.returns in let self = plain (λ _. Row) in
+    let hs : Stays ended.signature.params ended.kept = (stay_ref (0 ∷ []) tt self, tt) in
+    proved 𝓛 ended hs c 𝓜 𝓡 (Goes-ref 𝓛 1 0 tt self, tt) #self fn (code.unfolded 𝓤 H 𝓜 𝓡 wired)
+    (λ κs. (mut_vals, tt)) (λ κs. (mut_Tells (named 0) κs.0 Row, tt)) (λ κs qs bounds a gh are.
+    let b : ℕ = a.0.ref_ptr.0 in let o : ℕ = a.0.ref_ptr.1 in let κ : Lft = κs.0 in let d : Row.Denot = a.0.now in let p : Ptr = d.at in
+    let d' : Row.Denot = record d { state = None } in let new : Row.Denot = record d { state = d.state } in
+    let y : (walk_of 𝓛 ended hs c).Ghost = ((κs, qs, bounds, a, (vptr b o ∷ [], tt)), gh) in
+    let Post : Val → SProp 𝓤 = (walk_of 𝓛 ended hs c).post y in
+    let Moved : Type 0 = d.state ≡ d.state in let Left : Type 0 = None ≡ None in
+    qed 𝓛 (((‵ (flft κ qs.0) ⊛ ‵ ftrue) ⊛ ‵ (owns (types_at ended.signature.params κs) a y.0.4)) ∷ ‵ ftrue ∷ []) ∵
+    keep ! (0 ∷ []) $ split ! $ split ! $ move ! (2 ∷ []) $ fsplit ! $ fsplit3 ! $ keep ! (1 ∷ 2 ∷ 4 ∷ []) $
+    enter ! 𝓣.C 𝓣.Λ fn (vptr b o ∷ []) Post $ alloc_all ! (λ l. pass_all ! refl ((tt, tt), tt) $
+    opens ! tt Row b o (λ vs. move ! (1 ∷ []) $ fsplit ! $
+    peeks ! Data (Is Data) (shows 𝓛 Data) (p, tt) vs (λ so. let ev : vs ≡ word p ∷ [] = told p vs so in
+    -- [the field; what is owned; the cell; the open borrow; the names]
+    rewrite ! 2 (λ (ws : List Val). ‵ (cell_at full_share Row.mir ws b o)) ev refl $
+    sets ! (of_opd ! (load ! (through ! refl (fld ! refl (stop !))) (look_in ! 2 (sub ! 0 refl (whole !))))) refl (ptr_good p) $
+    sets ! (agg ! (and_then ! (get ! refl) (no_more !))) refl (word_good p) $
+    rewrite ! 2 (λ (ws : List Val). ‵ (cell_at full_share Row.mir ws b o)) (sym ev) refl $ nothing ! $ move ! (1 ∷ 0 ∷ []) $ fjoin ! $
+    move ! (2 ∷ 0 ∷ 3 ∷ 4 ∷ 5 ∷ []) $ closes ! tt Row d' vs b o $
+    feq_i ! (List Val) (vptr b o ∷ []) (vptr b o ∷ []) refl $ fjoin3 ! $ nothing ! $ move ! (1 ∷ 0 ∷ []) $ fjoin ! $ move ! (1 ∷ []) $
+    nothing ! $ move ! (1 ∷ 0 ∷ []) $ join ! $
+    move ! (2 ∷ []) $ use0 𝓛 (‵ (Data.own_val (p, tt) (word p ∷ []))) (made 𝓛 p) $ fjoin ! $
+    use0 𝓛 (raw (fact 𝓤 Left)) (fact_i 𝓤 Left (emp 𝓤) refl) $ use0 𝓛 (raw (fact 𝓤 Moved)) (fact_i 𝓤 Moved (emp 𝓤) refl) $ join ! $
+    returns ! (look_at ! 0 refl) $ free_all ! refl $ keep ! (2 ∷ 3 ∷ 1 ∷ 0 ∷ []) $
+    by ! (leaves 𝓛 ended hs c y (word p) new (d', tt) (tt, tt))))))

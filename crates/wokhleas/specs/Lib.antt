@@ -1,0 +1,6 @@
+pub mod Handles
+pub mod Numbers
+pub mod Requests
+pub mod States
+pub mod Told
+pub mod Tries

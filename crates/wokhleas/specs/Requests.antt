@@ -1,0 +1,21 @@
+-- Requests that C hands in.
+use Rattle.std.specs.Prelude.{◌≡◌, ℕ, List, Option}
+use Rattle.sip_selection.specs.declared.caps.Caps.{Caps}
+use Rattle.sip_selection.specs.declared.request.Request.{Request}
+use Rattle.sip_selection.specs.declared.request.Request.TheVariants.{Uri, Via}
+use Rattle.sip_uri.specs.Uris.{UriText}
+use Rattle.sip_uri.specs.Vias.{ViaText}
+use Rattle.wokhleas.specs.States.{StateView, TakesIn}
+
+-- octets are a URI, or the value of a Via (RFC 3261 25.1)
+abbrev pub IsRequest : List ℕ → Request → Type 0
+IsRequest octets (Uri uri) = UriText octets uri
+IsRequest octets (Via via) = ViaText octets via
+
+-- a request that octets spell is taken in under a number
+pub record IsSubmitted (number : ℕ) (octets : List ℕ) (new : StateView) : Type 0 where
+  pub request : Request
+  pub caps : Caps
+  pub until : Option ℕ
+  pub spelled : IsRequest octets request
+  pub taken_in : TakesIn number request caps until new

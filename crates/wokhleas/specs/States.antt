@@ -1,0 +1,93 @@
+-- What a resolver of the caller's holds, and what calls leave of it.
+use Rattle.std.specs.Prelude.{⊤, ◌≡◌, ◌≤◌, ℕ, List, Option, Some, None, IfSome, option_and_then}
+use Rattle.std.specs.List.{Contains}
+use Rattle.answer_cache.specs.Lists.{IsListSeat}
+use Rattle.answer_cache.specs.Seats.{SeatView}
+use Rattle.dns_asker.specs.Tickets.{usual}
+use Rattle.sip_resolver.specs.Outcomes.{Ended, IsOutcome}
+use Rattle.sip_resolver.specs.Requests.{Stand, numbers_of}
+use Rattle.sip_resolver.specs.Resolvers.{IsTaken, ResolverView, begun_of, with_request}
+use Rattle.sip_resolver.specs.declared.resolver.Limits.{Limits}
+use Rattle.sip_selection.specs.declared.caps.Caps.{Caps}
+use Rattle.sip_selection.specs.declared.request.Request.{Request}
+use Rattle.wokhleas.specs.Told.{outcome_told, target_at}
+use Rattle.wokhleas.specs.declared.told.ToldOutcome.{ToldOutcome}
+use Rattle.wokhleas.specs.declared.told.ToldTarget.{ToldTarget}
+
+-- what holds of the seat and of the requests of a generation
+pub record Holds (seat : SeatView) (core : ResolverView) : Type 0 where
+  pub seated : IsListSeat seat
+  pub stand : Stand (λ _. ⊤) (λ _. ⊤) seat core.requests
+
+-- a resolver can have these limits
+pub record AreInRange (limits : Limits) : Type 0 where
+  pub requests : (1 ≤ limits.requests) × (limits.requests ≤ 1024)
+  pub questions : (1 ≤ limits.questions) × (limits.questions ≤ 256)
+
+-- the request whose outcome was told last, the generation that requests go to, and the one before
+-- it, while requests are inside
+pub record StateView : Type 0 where
+  pub told : Option Ended
+  pub current : ResolverView
+  pub draining : Option ResolverView
+
+-- a resolver in which no request is
+abbrev pub begun_state : Limits → StateView
+begun_state limits = record {
+  told = None;
+  current = begun_of limits.requests limits.questions limits.streams usual;
+  draining = None;
+}
+
+-- An outcome is sound: it is what RFC 3263 says over answers that some history had, or that octets
+-- which came in had; or the question is told whose answer is missing.
+pub record IsSound (ended : Ended) : Type 0 where
+  pub seat : SeatView
+  pub is : IsOutcome (λ _. ⊤) (λ _. ⊤) seat ended.sought ended.outcome
+
+-- the first request that ended in the older generation is taken out of it
+pub record TakesOlder (ended : Ended) (old new : StateView) : Type 0 where
+  pub before : ResolverView
+  pub after : ResolverView
+  pub was : old.draining ≡ Some before
+  pub first : IsTaken ended before after
+  pub is : new ≡ record old { draining = Some after }
+
+-- the first request that ended in one of the generations is taken out of it
+pub data Takes (ended : Ended) (old new : StateView) : Type 0 where
+  older : TakesOlder ended old new → Takes ended old new
+  younger : (after : ResolverView) → IsTaken ended old.current after
+      → new ≡ record old { current = after } → Takes ended old new
+
+-- The first request that ended in one of the generations is taken out and told: its number is that
+-- under which it was taken in, and its outcome is sound.
+pub record Tells (told : ToldOutcome) (old new : StateView) : Type 0 where
+  pub ended : Ended
+  pub middle : StateView
+  pub takes : Takes ended old middle
+  pub is : new ≡ record middle { told = Some ended }
+  pub sound : IsSound ended
+  pub told_is : told ≡ outcome_told ended
+
+-- a request was taken in, by the generation that is the younger one then, and none of its number is
+-- inside the older one
+pub record TakesIn (number : ℕ) (request : Request) (caps : Caps) (until : Option ℕ)
+    (new : StateView) : Type 0 where
+  pub words : List ℕ
+  pub before : ResolverView
+  pub is : new.current ≡ with_request number request caps words until before
+  pub apart : IfSome new.draining (λ older. Contains (numbers_of older.requests) number → ⊥)
+
+-- ---- handles: what one has is a state, or none where it is closed
+
+-- a handle is open before and after a call, and what it has goes on so
+abbrev pub GoesBy : (StateView → StateView → Type 0) → Option StateView → Option StateView
+    → Type 0
+GoesBy P (Some old) (Some new) = P old new
+GoesBy P (Some old) None = ⊥
+GoesBy P None new = ⊥
+
+-- the target at an index of the outcome that was told last
+abbrev pub target_told_at : ℕ → Option StateView → Option ToldTarget
+target_told_at index state =
+    option_and_then (λ it. option_and_then (λ ended. target_at ended index) it.told) state

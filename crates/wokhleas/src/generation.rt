@@ -1,0 +1,239 @@
+//! A resolver core over a book of its own.
+ghost use Rattle.std.specs.Prelude.{◌≡◌, ◌↔◌, ◌≤◌, ◌%◌, ⊤, IfErr, IfNone, IfOk, IfSome, IsTrue, OnErr, OnOk, length};
+ghost use Rattle.std.specs.Bool.{OnFalse};
+ghost use Rattle.std.specs.List.{Contains};
+ghost use Rattle.answer_cache.specs.Lists.{IsListSeat};
+ghost use Rattle.dns_asker.specs.Tickets.{usual};
+ghost use Rattle.sip_resolver.specs.Cancels.{requests_without};
+ghost use Rattle.sip_resolver.specs.Expiries.{timeouts_of};
+ghost use Rattle.sip_resolver.specs.Idle.{IsOut};
+ghost use Rattle.sip_resolver.specs.Questions.{IsLeast};
+ghost use Rattle.sip_resolver.specs.Requests.{Stand, count_of, numbers_of};
+ghost use Rattle.sip_resolver.specs.Resolvers.{Hears, IsTaken, RefusesSubmit, begun_of, with_request};
+ghost use Rattle.wokhleas.specs.States.{IsSound};
+
+use crate::clock::Instant;
+use answer_cache::{ListCache, ListSeat};
+use dns_answers::Moment;
+use rand_chacha::ChaCha20Rng;
+use sip_resolver::{
+    Anything, Heard, Limits, Over, RandomIds, Resolved, Resolver, SubmitRefusal, random_ids,
+};
+use sip_selection::{Caps, Request};
+use srv_choice::Words;
+use std::alloc::{AllocError, Global};
+use std::marker::Model;
+
+/// The resolver core over the book of one thread.
+type Core = Resolver<ListCache, Anything, RandomIds<ChaCha20Rng>>;
+
+/// A request that ended, with what became of it.
+pub(crate) type Ended = Resolved<ListCache>;
+
+/// After so many replies a generation is left: by then its book, which has room for 8,192 answers
+/// in 64 groups of 128, is half full.
+const REPLIES: u64 = 4_096;
+
+/// How many ids of queries there are.
+const IDS: u32 = 65_536;
+
+/// A message that was written into a buffer.
+#[derive(Clone, Copy)]
+pub(crate) struct Sent {
+    pub(crate) length: usize,
+    /// What names its query for `give_up`: its id, and the mark of its generation.
+    pub(crate) query: u32,
+    pub(crate) over: Over,
+    pub(crate) send: u8,
+}
+
+/// A resolver core with its book, and how many replies it took.
+#[derive(Drop)]
+pub(crate) struct Generation {
+    core: Core,
+    book: ListCache,
+    seat: ListSeat,
+    replies: u64,
+    /// What sets the names of its queries apart from those of the next generation.
+    mark: u32,
+}
+
+impl Model for Generation {
+    ghost use Rattle.sip_resolver.specs.Resolvers.{ResolverView};
+    ghost use Rattle.wokhleas.specs.States.{Holds};
+
+    ghost Value = { ResolverView };
+
+    ghost view = { λ it. it.core };
+
+    ghost invariant = { λ it. Holds it.seat it.core };
+}
+
+impl Generation {
+    /// One in which no request is, over an empty book. The ids of its queries come of this seed and
+    /// number.
+    pub(crate) fn new(
+        alloc: Global,
+        limits: Limits,
+        seed: [u8; 32],
+        number: u64,
+    ) -> Result<Generation, AllocError>
+        requires requests { (1 ≤ limits.requests) × (limits.requests ≤ 1024) }
+        requires questions { (1 ≤ limits.questions) × (limits.questions ≤ 256) }
+        ensures { IfOk result
+            (λ it. it ≡ begun_of limits.requests limits.questions limits.streams usual) }
+    {
+        let (book, seat) = ListCache::new(alloc);
+        let core = Resolver::new(alloc, limits, random_ids(seed, number))?;
+        Ok(Generation {
+            core,
+            book,
+            seat,
+            replies: 0,
+            mark: if number % 2 == 0 { 0 } else { IDS },
+        })
+    }
+
+    /// Whether its book may soon be full.
+    pub(crate) fn is_old(&self) -> bool {
+        self.replies >= REPLIES
+    }
+
+    /// Whether no request is inside, also none whose outcome was not taken.
+    pub(crate) fn is_empty(&self) -> bool
+        ensures { IsTrue result ↔ (count_of self.now.requests ≡ 0) }
+    {
+        self.core.is_empty()
+    }
+
+    /// Whether a request of this number is inside.
+    pub(crate) fn has(&self, number: u64) -> bool
+        ensures { IsTrue result ↔ Contains (numbers_of self.now.requests) number }
+    {
+        self.core.has(number)
+    }
+
+    /// Takes a request in.
+    pub(crate) fn submit(
+        &mut self,
+        number: u64,
+        request: Request,
+        caps: Caps,
+        words: Words,
+        until: Option<Moment>,
+    ) -> Result<(), SubmitRefusal>
+        ensures submitted { OnOk result
+            (self.new ≡ with_request number request caps words.0 until self.old) }
+        ensures refused { IfErr result (RefusesSubmit self.old number) }
+        ensures unchanged { OnErr result (self.new ≡ self.old) }
+    {
+        self.core.submit(number, request, caps, words, until)
+    }
+
+    /// Cancels the request of this number, and says whether there was one.
+    pub(crate) fn cancel(&mut self, number: u64) -> bool
+        ensures found { IsTrue result ↔ Contains (numbers_of self.old.requests) number }
+        ensures requests { self.new.requests ≡ requests_without number self.old.requests }
+    {
+        self.core.cancel(number)
+    }
+
+    /// Writes what is to be sent next into a buffer, if it has room for it.
+    pub(crate) fn transmit(&mut self, at: &Instant, octets: &mut [u8]) -> Option<Sent> {
+        let mark = self.mark;
+        transmit(&mut self.core, &self.book, &mut self.seat, at, mark, octets)
+    }
+
+    /// Takes octets that came in.
+    pub(crate) fn receive(
+        &mut self,
+        at: &Instant,
+        over: Over,
+        octets: &[u8],
+    ) -> Result<Heard, AllocError>
+        ensures hears { IfOk result (Hears self.old self.new over octets.now) }
+        ensures unchanged { OnErr result (self.new ≡ self.old) }
+    {
+        let heard = self
+            .core
+            .handle(&(), &self.book, &mut self.seat, at.now, over, octets)?;
+        if heard == Heard::Reply {
+            self.replies = self.replies.saturating_add(1);
+        }
+        Ok(heard)
+    }
+
+    /// Ends the wait for the reply to the question of this query, which no server takes, and says
+    /// whether one was out.
+    pub(crate) fn give_up(&mut self, query: u32) -> bool
+        ensures found { IsTrue result → IsOut (query % 65536) self.old.questions }
+        ensures unchanged { OnFalse result (self.new ≡ self.old) }
+    {
+        if query - query % IDS != self.mark {
+            return false;
+        }
+        self.core.close((query % IDS) as u16)
+    }
+
+    /// The second at which there is something to do next, if nothing else happens.
+    pub(crate) fn deadline(&self) -> Option<u64>
+        ensures { IsLeast (timeouts_of self.now.requests self.now.questions) result }
+    {
+        self.core.next_timeout()
+    }
+
+    /// The next request that ended, with what became of it.
+    pub(crate) fn next_ended(&mut self) -> Option<Ended>
+        ensures taken { IfSome result (λ ended. IsTaken ended self.old self.new) }
+        ensures none { IfNone result (self.new ≡ self.old) }
+        ensures sound { IfSome result (λ ended. IsSound ended) }
+    {
+        self.core.poll_outcome()
+    }
+}
+
+/// Writes what is to be sent next into a buffer, if it has room for it.
+fn transmit(
+    core: &mut Core,
+    book: &ListCache,
+    seat: &mut ListSeat,
+    at: &Instant,
+    mark: u32,
+    octets: &mut [u8],
+) -> Option<Sent>
+    requires made_here { IsListSeat seat.old }
+    requires stand { Stand (λ _. ⊤) (λ _. ⊤) seat.old core.old.requests }
+    ensures stays { IsListSeat seat.new }
+    ensures stand { Stand (λ _. ⊤) (λ _. ⊤) seat.new core.new.requests }
+{
+    let message = core.poll_transmit(book, seat, at.now, at.asked)?;
+    let length = write_into(octets, message.octets)?;
+    let (over, send) = (message.over, message.send);
+    let query = mark.wrapping_add(u32::from(id_of(message.octets)));
+    Some(Sent {
+        length,
+        query,
+        over,
+        send,
+    })
+}
+
+/// The id of a message (RFC 1035 4.1.1).
+fn id_of(octets: &[u8]) -> u16 {
+    match octets {
+        [high, low, ..] => u16::from(*high) * 256 + u16::from(*low),
+        _ => 0,
+    }
+}
+
+/// Writes octets into the front of a buffer, and gives their number; None where they don't fit.
+fn write_into(buffer: &mut [u8], octets: &[u8]) -> Option<usize>
+    ensures { IfSome result (λ n. n ≡ length octets.now) }
+{
+    let count = octets.len();
+    if buffer.len() < count {
+        return None;
+    }
+    buffer[..count].copy_from_slice(octets);
+    Some(count)
+}

@@ -1,0 +1,88 @@
+//! A resolver begins and ends.
+ghost use Rattle.std.specs.Prelude.{◌≡◌, ◌≢◌, ◌≤◌, ◌/◌, None, Some, IfSome, OnErr, OnOk, pos};
+ghost use Rattle.sip_resolver.specs.declared.resolver.Limits as limits;
+ghost use Rattle.wokhleas.specs.States.{AreInRange, begun_state};
+
+use crate::handle::Handle;
+use crate::state::State;
+use crate::status::{DONE, Status};
+use sip_resolver::Limits;
+use std::alloc::Global;
+
+/// The limits of a generation, of which there can be two at once: each has half of the questions.
+/// None where one of the numbers is out of its range.
+fn limits_of(requests: usize, questions: usize, streams: bool) -> Option<Limits>
+    ensures requests { IfSome result (λ it. (1 ≤ it.requests) × (it.requests ≤ 1024)) }
+    ensures questions { IfSome result (λ it. (1 ≤ it.questions) × (it.questions ≤ 256)) }
+    ensures are { IfSome result (λ it. it ≡ record {
+      requests = requests;
+      questions = questions / 2;
+      streams = streams;
+    }) }
+{
+    if requests < 1 || 1_024 < requests {
+        return None;
+    }
+    if questions < 2 || 512 < questions {
+        return None;
+    }
+    Some(Limits {
+        requests,
+        questions: questions / 2,
+        streams,
+    })
+}
+
+/// Opens a resolver with these limits and this seed.
+fn open(alloc: Global, handle: &mut Handle, limits: Limits, seed: [u8; 32]) -> Result<(), Status>
+    requires requests { (1 ≤ limits.requests) × (limits.requests ≤ 1024) }
+    requires questions { (1 ≤ limits.questions) × (limits.questions ≤ 256) }
+    ensures was_closed { OnOk result (handle.old.held.state ≡ None) }
+    ensures begun { OnOk result (handle.new.held.state ≡ Some (begun_state limits)) }
+    ensures unchanged { OnErr result (handle.new.held.state ≡ handle.old.held.state) }
+{
+    if handle.is_open() {
+        return Err(Status::Open);
+    }
+    let Ok(state) = State::new(alloc, limits, seed) else {
+        return Err(Status::Memory);
+    };
+    let Ok(state) = Box::new(alloc, state) else {
+        return Err(Status::Memory);
+    };
+    handle.put(state);
+    Ok(())
+}
+
+/// See `c/wokhleas.h`.
+#[unsafe(no_mangle)]
+pub extern "C" fn wokhleas_raw_open(
+    alloc: Global,
+    handle: &mut Handle,
+    requests: usize,
+    questions: usize,
+    streams: bool,
+    seed: &[u8; 32],
+) -> i32
+    ensures was_closed { result ≡ pos 0 → handle.old.held.state ≡ None }
+    ensures begun { result ≡ pos 0 → (limits : limits.Limits) × AreInRange limits
+        × (limits.requests ≡ requests) × (limits.questions ≡ questions / 2)
+        × (limits.streams ≡ streams) × (handle.new.held.state ≡ Some (begun_state limits)) }
+    ensures unchanged { result ≢ pos 0 → handle.new.held.state ≡ handle.old.held.state }
+{
+    let Some(limits) = limits_of(requests, questions, streams) else {
+        return Status::Argument.code();
+    };
+    match open(alloc, handle, limits, *seed) {
+        Ok(()) => DONE,
+        Err(status) => status.code(),
+    }
+}
+
+/// See `c/wokhleas.h`.
+#[unsafe(no_mangle)]
+pub extern "C" fn wokhleas_raw_close(alloc: Global, handle: &mut Handle)
+    ensures { handle.new.held.state ≡ None }
+{
+    let _ended = handle.take(alloc);
+}

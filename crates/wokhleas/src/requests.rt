@@ -1,0 +1,125 @@
+//! Requests come in.
+ghost use Rattle.std.specs.Prelude.{◌≡◌, IfOk, OnOk, pos};
+ghost use Rattle.wokhleas.specs.Requests.{IsRequest, IsSubmitted};
+ghost use Rattle.wokhleas.specs.States.{GoesBy, TakesIn};
+
+use crate::clock::instant_of;
+use crate::handle::Handle;
+use crate::numbers::caps_of;
+use crate::status::{DONE, Status};
+use dns_answers::Moment;
+use sip_selection::{Caps, Request};
+use sip_uri::{UriRefusal, read_uri, read_via};
+use std::alloc::Global;
+
+/// A request has no moment by which it ends, in C.
+const NEVER: u64 = u64::MAX;
+
+/// The request that a text spells: a URI, or else the value of a Via header field.
+fn request_of(alloc: Global, octets: &[u8]) -> Result<Request, Status>
+    ensures { IfOk result (λ request. IsRequest octets.now request) }
+{
+    let Ok(text) = str::from_utf8(octets) else {
+        return Err(Status::Syntax);
+    };
+    match read_uri(alloc, text) {
+        Ok(uri) => return Ok(Request::Uri(uri)),
+        Err(UriRefusal::Memory) => return Err(Status::Memory),
+        Err(_) => (),
+    }
+    match read_via(alloc, text) {
+        Ok(via) => Ok(Request::Via(via)),
+        Err(UriRefusal::Memory) => Err(Status::Memory),
+        Err(_) => Err(Status::Syntax),
+    }
+}
+
+/// The moment by which a request ends, which C has in milliseconds; none where it says never.
+fn until_of(milliseconds: u64) -> Result<Option<Moment>, Status> {
+    if milliseconds == NEVER {
+        return Ok(None);
+    }
+    match instant_of(milliseconds) {
+        Some(instant) => Ok(Some(instant.asked)),
+        None => Err(Status::Argument),
+    }
+}
+
+/// Hands a request to a resolver.
+fn submit(
+    alloc: Global,
+    handle: &mut Handle,
+    number: u64,
+    request: Request,
+    caps: Caps,
+    until: Option<Moment>,
+) -> Result<(), Status>
+    ensures { OnOk result (GoesBy (λ old new. TakesIn number request caps until new)
+        handle.old.held.state handle.new.held.state) }
+{
+    let mut state = handle.take(alloc)?;
+    let submitted = state.submit(alloc, number, request, caps, until);
+    handle.put(state);
+    match submitted {
+        Ok(()) => Ok(()),
+        Err(refusal) => Err(Status::from(refusal)),
+    }
+}
+
+/// Hands the request of a text to a resolver.
+fn submit_text(
+    alloc: Global,
+    handle: &mut Handle,
+    number: u64,
+    text: &[u8],
+    transports: &[u8],
+    families: u8,
+    until: u64,
+) -> Result<(), Status>
+    ensures { OnOk result (GoesBy (λ old new. IsSubmitted number text.now new)
+        handle.old.held.state handle.new.held.state) }
+{
+    let Some(caps) = caps_of(transports, families) else {
+        return Err(Status::Argument);
+    };
+    let until = until_of(until)?;
+    let request = request_of(alloc, text)?;
+    submit(alloc, handle, number, request, caps, until)
+}
+
+/// Cancels the request of a number.
+fn cancel(alloc: Global, handle: &mut Handle, number: u64) -> Result<(), Status> {
+    let mut state = handle.take(alloc)?;
+    let found = state.cancel(number);
+    handle.put(state);
+    if found { Ok(()) } else { Err(Status::Nothing) }
+}
+
+/// See `c/wokhleas.h`.
+#[unsafe(no_mangle)]
+pub extern "C" fn wokhleas_raw_submit(
+    alloc: Global,
+    handle: &mut Handle,
+    number: u64,
+    text: &[u8],
+    transports: &[u8],
+    families: u8,
+    until: u64,
+) -> i32
+    ensures { result ≡ pos 0 → GoesBy (λ old new. IsSubmitted number text.now new)
+        handle.old.held.state handle.new.held.state }
+{
+    match submit_text(alloc, handle, number, text, transports, families, until) {
+        Ok(()) => DONE,
+        Err(status) => status.code(),
+    }
+}
+
+/// See `c/wokhleas.h`.
+#[unsafe(no_mangle)]
+pub extern "C" fn wokhleas_raw_cancel(alloc: Global, handle: &mut Handle, number: u64) -> i32 {
+    match cancel(alloc, handle, number) {
+        Ok(()) => DONE,
+        Err(status) => status.code(),
+    }
+}

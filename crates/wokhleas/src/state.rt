@@ -1,0 +1,296 @@
+//! What a resolver of the caller's holds.
+ghost use Rattle.std.specs.Prelude.{◌≡◌, ◌↔◌, ◌≤◌, false, IsTrue, MatchOption, Some, IfNone, IfOk, IfSome, OnOk, option_and_then};
+ghost use Rattle.std.specs.List.{Contains};
+ghost use Rattle.sip_resolver.specs.Requests.{numbers_of};
+ghost use Rattle.wokhleas.specs.States.{IsSound, Takes, TakesIn, TakesOlder, Tells, begun_state};
+ghost use Rattle.wokhleas.specs.Told.{target_at as target_told_at};
+ghost use Rattle.wokhleas.specs.Told as told;
+
+use crate::clock::Instant;
+use crate::generation::{Ended, Generation, Sent};
+use crate::told::{ToldOutcome, ToldTarget, question_of, target_at, told_outcome};
+use dns_answers::Moment;
+use dns_asker::Why;
+use dns_message::Question;
+use sip_resolver::{Heard, Limits, Over, SubmitRefusal, draw_words};
+use sip_selection::{Caps, Request};
+use std::alloc::{AllocError, Global};
+use std::marker::Model;
+
+/// The numbers of draws, and those of generations, are below this one.
+const DRAWS: u64 = 1 << 63;
+
+/// Generations of a resolver, and the request whose outcome was told last.
+#[derive(Drop)]
+pub struct State {
+    limits: Limits,
+    seed: [u8; 32],
+    /// How many times words were drawn.
+    drawn: u64,
+    /// How many generations began.
+    begun: u64,
+    /// How many requests are inside, in both generations.
+    inside: usize,
+    /// Requests that come in go to this one.
+    current: Generation,
+    /// The one before it, while requests are inside.
+    draining: Option<Generation>,
+    told: Option<Ended>,
+}
+
+impl Model for State {
+    ghost use Rattle.std.specs.Prelude.{◌≤◌};
+    ghost use Rattle.wokhleas.specs.States.{AreInRange, StateView};
+
+    ghost Value = { StateView };
+
+    ghost view = { λ it. record {
+      told = it.told;
+      current = it.current;
+      draining = it.draining;
+    } };
+
+    ghost invariant = { λ it. AreInRange it.limits × (it.inside ≤ it.limits.requests) };
+}
+
+/// The least of two seconds, if there are any.
+fn first_of(one: Option<u64>, other: Option<u64>) -> Option<u64> {
+    match (one, other) {
+        (Some(one), Some(other)) => Some(one.min(other)),
+        (Some(one), None) => Some(one),
+        (None, other) => other,
+    }
+}
+
+impl State {
+    /// A resolver in which no request is, over an empty book.
+    pub(crate) fn new(alloc: Global, limits: Limits, seed: [u8; 32]) -> Result<State, AllocError>
+        requires requests { (1 ≤ limits.requests) × (limits.requests ≤ 1024) }
+        requires questions { (1 ≤ limits.questions) × (limits.questions ≤ 256) }
+        ensures { IfOk result (λ it. it ≡ begun_state limits) }
+    {
+        let current = Generation::new(alloc, limits, seed, 0)?;
+        Ok(State {
+            limits,
+            seed,
+            drawn: 0,
+            begun: 1,
+            inside: 0,
+            current,
+            draining: None,
+            told: None,
+        })
+    }
+
+    /// Lets go of the older generation, where no request is inside it.
+    fn let_go(&mut self)
+        ensures told { self.new.told ≡ self.old.told }
+    {
+        let is_empty = match &self.draining {
+            Some(draining) => draining.is_empty(),
+            None => false,
+        };
+        if is_empty {
+            self.draining = None;
+        }
+    }
+
+    /// Begins a generation, where the book of this one may soon be full and no older one is there.
+    /// Where memory is refused this one goes on.
+    fn renew(&mut self, alloc: Global)
+        ensures told { self.new.told ≡ self.old.told }
+    {
+        self.let_go();
+        if !self.current.is_old() || self.draining.is_some() {
+            return;
+        }
+        if let Ok(next) = Generation::new(alloc, self.limits, self.seed, self.begun) {
+            self.begun = self.begun.wrapping_add(1) % DRAWS;
+            self.draining = Some(std::mem::replace(&mut self.current, next));
+        }
+    }
+
+    /// Whether a request of this number is inside the older generation.
+    fn has_older(&self, number: u64) -> bool
+        ensures { MatchOption self.now.draining (result ≡ false)
+            (λ older. IsTrue result ↔ Contains (numbers_of older.requests) number) }
+    {
+        match &self.draining {
+            Some(draining) => draining.has(number),
+            None => false,
+        }
+    }
+
+    /// Takes a request in, under this number.
+    pub(crate) fn submit(
+        &mut self,
+        alloc: Global,
+        number: u64,
+        request: Request,
+        caps: Caps,
+        until: Option<Moment>,
+    ) -> Result<(), SubmitRefusal>
+        ensures told { self.new.told ≡ self.old.told }
+        ensures taken_in { OnOk result (TakesIn number request caps until self.new) }
+    {
+        self.renew(alloc);
+        if self.inside >= self.limits.requests {
+            return Err(SubmitRefusal::Full);
+        }
+        if self.has_older(number) {
+            return Err(SubmitRefusal::NumberTaken);
+        }
+        let words = draw_words(self.seed, self.drawn);
+        self.drawn = self.drawn.wrapping_add(1) % DRAWS;
+        self.current.submit(number, request, caps, words, until)?;
+        self.inside += 1;
+        Ok(())
+    }
+
+    /// Cancels the request of this number in the older generation, and says whether there was one.
+    fn cancel_older(&mut self, number: u64) -> bool
+        ensures told { self.new.told ≡ self.old.told }
+    {
+        match &mut self.draining {
+            Some(draining) => draining.cancel(number),
+            None => false,
+        }
+    }
+
+    /// Cancels the request of this number, and says whether there was one.
+    pub(crate) fn cancel(&mut self, number: u64) -> bool
+        ensures told { self.new.told ≡ self.old.told }
+    {
+        if !self.current.cancel(number) && !self.cancel_older(number) {
+            return false;
+        }
+        self.inside = self.inside.saturating_sub(1);
+        true
+    }
+
+    /// Writes what the older generation sends next into a buffer.
+    fn transmit_older(&mut self, at: &Instant, octets: &mut [u8]) -> Option<Sent>
+        ensures told { self.new.told ≡ self.old.told }
+    {
+        match &mut self.draining {
+            Some(draining) => draining.transmit(at, octets),
+            None => None,
+        }
+    }
+
+    /// Writes what is to be sent next into a buffer.
+    pub(crate) fn transmit(&mut self, at: &Instant, octets: &mut [u8]) -> Option<Sent>
+        ensures told { self.new.told ≡ self.old.told }
+    {
+        if let Some(sent) = self.transmit_older(at, octets) {
+            return Some(sent);
+        }
+        self.current.transmit(at, octets)
+    }
+
+    /// Hands octets that came in to the older generation, where the other one ignored them.
+    fn receive_older(
+        &mut self,
+        at: &Instant,
+        over: Over,
+        octets: &[u8],
+        why: Why,
+    ) -> Result<Heard, AllocError>
+        ensures told { self.new.told ≡ self.old.told }
+    {
+        match &mut self.draining {
+            Some(draining) => draining.receive(at, over, octets),
+            None => Ok(Heard::Ignored(why)),
+        }
+    }
+
+    /// Takes octets that came in.
+    pub(crate) fn receive(
+        &mut self,
+        at: &Instant,
+        over: Over,
+        octets: &[u8],
+    ) -> Result<Heard, AllocError>
+        ensures told { self.new.told ≡ self.old.told }
+    {
+        match self.current.receive(at, over, octets)? {
+            Heard::Ignored(why) => self.receive_older(at, over, octets, why),
+            heard => Ok(heard),
+        }
+    }
+
+    /// Ends the wait for the reply to the question of this query, which no server takes, and says
+    /// whether one was out.
+    pub(crate) fn give_up(&mut self, query: u32) -> bool
+        ensures told { self.new.told ≡ self.old.told }
+    {
+        if self.current.give_up(query) {
+            return true;
+        }
+        match &mut self.draining {
+            Some(draining) => draining.give_up(query),
+            None => false,
+        }
+    }
+
+    /// The second at which there is something to do next, if nothing else happens.
+    pub(crate) fn deadline(&self) -> Option<u64> {
+        match &self.draining {
+            Some(draining) => first_of(draining.deadline(), self.current.deadline()),
+            None => self.current.deadline(),
+        }
+    }
+
+    /// The next request of the older generation that ended.
+    fn next_older(&mut self) -> Option<Ended>
+        ensures none { IfNone result (self.new ≡ self.old) }
+        ensures sound { IfSome result (λ ended. IsSound ended) }
+        ensures some { IfSome result (λ ended. TakesOlder ended self.old self.new) }
+    {
+        match &mut self.draining {
+            Some(draining) => draining.next_ended(),
+            None => None,
+        }
+    }
+
+    /// The next request that ended.
+    fn next_ended(&mut self) -> Option<Ended>
+        ensures none { IfNone result (self.new ≡ self.old) }
+        ensures sound { IfSome result (λ ended. IsSound ended) }
+        ensures some { IfSome result (λ ended. Takes ended self.old self.new) }
+    {
+        if let Some(ended) = self.next_older() {
+            return Some(ended);
+        }
+        self.current.next_ended()
+    }
+
+    /// Goes to the next request that ended, and tells what became of it. Where none has ended, what
+    /// was told last can be told again.
+    pub(crate) fn next_told(&mut self) -> Option<ToldOutcome>
+        ensures none { IfNone result (self.new ≡ self.old) }
+        ensures some { IfSome result (λ told. Tells told self.old self.new) }
+    {
+        let ended = self.next_ended()?;
+        let told = told_outcome(&ended);
+        self.told = Some(ended);
+        self.inside = self.inside.saturating_sub(1);
+        Some(told)
+    }
+
+    /// A target of the outcome that was told last.
+    pub(crate) fn told_target(&self, index: usize) -> Option<ToldTarget>
+        ensures { result ≡ option_and_then (λ ended. target_told_at ended index) self.now.told }
+    {
+        target_at(self.told.as_ref()?, index)
+    }
+
+    /// The question whose answer the outcome that was told last lacks.
+    pub(crate) fn told_question(&self) -> Option<&Question>
+        ensures { IfSome result
+            (λ question. IfSome self.now.told
+            (λ ended. Some question.now ≡ told.question_of ended.outcome)) }
+    {
+        question_of(self.told.as_ref()?)
+    }
+}

@@ -1,0 +1,149 @@
+//! What goes out, what comes in, and when.
+use crate::clock::{Instant, instant_of, left_until};
+use crate::generation::Sent;
+use crate::handle::Handle;
+use crate::numbers::{number_of_over, over_of};
+use crate::status::{DONE, Status};
+use sip_resolver::{Heard, Over};
+use std::alloc::Global;
+
+/// So many octets a buffer for a query has at least, as C is told.
+const QUERY_ROOM: usize = 512;
+
+/// A message that was written into a buffer.
+#[repr(C)]
+#[derive(Drop)]
+pub struct ToldMessage {
+    /// Its length.
+    pub length: usize,
+    /// What names its query for `wokhleas_raw_give_up`.
+    pub query: u32,
+    /// Over what it goes.
+    pub over: u8,
+    /// Which send of its question it is.
+    pub send: u8,
+}
+
+/// Writes what a resolver sends next into a buffer.
+fn transmit(
+    alloc: Global,
+    handle: &mut Handle,
+    at: Instant,
+    octets: &mut [u8],
+) -> Result<Sent, Status> {
+    let mut state = handle.take(alloc)?;
+    let sent = state.transmit(&at, octets);
+    handle.put(state);
+    match sent {
+        Some(sent) => Ok(sent),
+        None => Err(Status::Nothing),
+    }
+}
+
+/// Hands octets that came in to a resolver.
+fn receive(
+    alloc: Global,
+    handle: &mut Handle,
+    at: Instant,
+    over: Over,
+    octets: &[u8],
+) -> Result<Heard, Status> {
+    let mut state = handle.take(alloc)?;
+    let heard = state.receive(&at, over, octets);
+    handle.put(state);
+    match heard {
+        Ok(heard) => Ok(heard),
+        Err(_) => Err(Status::Memory),
+    }
+}
+
+/// Says that no server takes a query.
+fn give_up(alloc: Global, handle: &mut Handle, query: u32) -> Result<(), Status> {
+    let mut state = handle.take(alloc)?;
+    let found = state.give_up(query);
+    handle.put(state);
+    if found { Ok(()) } else { Err(Status::Nothing) }
+}
+
+/// The second at which a resolver has something to do next.
+fn deadline(alloc: Global, handle: &mut Handle) -> Result<u64, Status> {
+    let state = handle.take(alloc)?;
+    let second = state.deadline();
+    handle.put(state);
+    match second {
+        Some(second) => Ok(second),
+        None => Err(Status::Nothing),
+    }
+}
+
+/// See `c/wokhleas.h`.
+#[unsafe(no_mangle)]
+pub extern "C" fn wokhleas_raw_transmit(
+    alloc: Global,
+    handle: &mut Handle,
+    milliseconds: u64,
+    octets: &mut [u8],
+    message: &mut ToldMessage,
+) -> i32 {
+    let Some(at) = instant_of(milliseconds) else {
+        return Status::Argument.code();
+    };
+    if octets.len() < QUERY_ROOM {
+        return Status::Room.code();
+    }
+    match transmit(alloc, handle, at, octets) {
+        Ok(sent) => {
+            message.length = sent.length;
+            message.query = sent.query;
+            message.over = number_of_over(sent.over);
+            message.send = sent.send;
+            DONE
+        }
+        Err(status) => status.code(),
+    }
+}
+
+/// See `c/wokhleas.h`.
+#[unsafe(no_mangle)]
+pub extern "C" fn wokhleas_raw_receive(
+    alloc: Global,
+    handle: &mut Handle,
+    milliseconds: u64,
+    over: u8,
+    octets: &[u8],
+) -> i32 {
+    let (Some(at), Some(over)) = (instant_of(milliseconds), over_of(over)) else {
+        return Status::Argument.code();
+    };
+    match receive(alloc, handle, at, over, octets) {
+        Ok(Heard::Reply | Heard::Cut) => DONE,
+        Ok(Heard::Ignored(_)) => Status::Nothing.code(),
+        Err(status) => status.code(),
+    }
+}
+
+/// See `c/wokhleas.h`.
+#[unsafe(no_mangle)]
+pub extern "C" fn wokhleas_raw_give_up(alloc: Global, handle: &mut Handle, query: u32) -> i32 {
+    match give_up(alloc, handle, query) {
+        Ok(()) => DONE,
+        Err(status) => status.code(),
+    }
+}
+
+/// See `c/wokhleas.h`.
+#[unsafe(no_mangle)]
+pub extern "C" fn wokhleas_raw_timeout(
+    alloc: Global,
+    handle: &mut Handle,
+    milliseconds: u64,
+    left: &mut u64,
+) -> i32 {
+    match deadline(alloc, handle) {
+        Ok(second) => {
+            *left = left_until(second, milliseconds);
+            DONE
+        }
+        Err(status) => status.code(),
+    }
+}
