@@ -6,7 +6,7 @@ import os
 import re
 import textwrap
 
-FUNCTION = re.compile(r"^( *)(pub(?:\(crate\))? )?(?:const |unsafe )*fn (\w+)")
+FUNCTION = re.compile(r"^( *)(pub(?:\(crate\))? )?(?:const |unsafe |extern \"C\" )*fn (\w+)")
 CLAUSE = re.compile(r"^ *(requires|ensures)\*? (?:(\w+) )?\{")
 BLOCK = re.compile(r"^(?:pub(?:\(crate\))? )?(?:unsafe )?(impl|trait|struct|enum)\b(.*)")
 USE = re.compile(r"(?m)^ *(?:ghost )?use Rattle\.(\w+)\.specs\.([\w.]+)(?:\.\{([^}]*)\}| as (\w+))")
@@ -187,12 +187,13 @@ class Crate:
 
     @functools.cached_property
     def exported(self):
-        """The names that the page of a library makes public; of a program what its modules say is public."""
+        """The names that the page of a library makes public, and its functions for C; of a program what its modules say is
+        public."""
         page = self.sources.get(f"{self.folder}/src/lib.rt")
+        every = "\n".join(self.sources.values())
         if page is None:
-            every = "\n".join(self.sources.values())
             return set(re.findall(r"(?m)^pub (?:fn|struct|enum|trait) (\w+)", every))
-        found = set()
+        found = set(re.findall(r'(?m)^pub extern "C" fn (\w+)', every))
         for line in re.findall(r"(?m)^pub use ([^;]*);", page):
             found |= set(re.findall(r"\w+", line.split("::")[-1] if "{" not in line else line[line.index("{") :]))
         return found
