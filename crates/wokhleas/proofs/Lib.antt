@@ -1,3 +1,4 @@
 pub mod HeldSteps
 pub mod LooseValues
+pub mod Receiving
 pub mod Soundness

@@ -1,15 +1,20 @@
 -- What a resolver of the caller's holds, and what calls leave of it.
-use Rattle.std.specs.Prelude.{⊤, ◌≡◌, ◌≤◌, ℕ, List, Option, Some, None, IfSome, option_and_then}
+use Rattle.std.specs.Prelude.{⊤, ◌≡◌, ◌≢◌, ◌⊎◌, ◌≤◌, ℕ, List, Option, Some, None, IfSome, option_and_then}
 use Rattle.std.specs.List.{Contains}
 use Rattle.answer_cache.specs.Lists.{IsListSeat}
 use Rattle.answer_cache.specs.Seats.{SeatView}
 use Rattle.dns_asker.specs.Tickets.{usual}
+use Rattle.dns_asker.specs.declared.incoming.Why.{Why}
 use Rattle.sip_resolver.specs.Outcomes.{Ended, IsOutcome}
 use Rattle.sip_resolver.specs.Requests.{Stand, numbers_of}
-use Rattle.sip_resolver.specs.Resolvers.{IsTaken, ResolverView, begun_of, with_request}
+use Rattle.sip_resolver.specs.Resolvers.{Hears, IsTaken, ResolverView, begun_of, with_request}
+use Rattle.sip_resolver.specs.declared.resolver.Heard.{Heard}
+use Rattle.sip_resolver.specs.declared.resolver.Heard.TheVariants.{Ignored}
+use Rattle.sip_resolver.specs.declared.transmit.Over.{Over}
 use Rattle.sip_resolver.specs.declared.resolver.Limits.{Limits}
 use Rattle.sip_selection.specs.declared.caps.Caps.{Caps}
 use Rattle.sip_selection.specs.declared.request.Request.{Request}
+use Rattle.wokhleas.specs.Numbers.{number_of_over}
 use Rattle.wokhleas.specs.Told.{outcome_told, target_at}
 use Rattle.wokhleas.specs.declared.told.ToldOutcome.{ToldOutcome}
 use Rattle.wokhleas.specs.declared.told.ToldTarget.{ToldTarget}
@@ -77,6 +82,32 @@ pub record TakesIn (number : ℕ) (request : Request) (caps : Caps) (until : Opt
   pub before : ResolverView
   pub is : new.current ≡ with_request number request caps words until before
   pub apart : IfSome new.draining (λ older. Contains (numbers_of older.requests) number → ⊥)
+
+-- What octets that came in over this leave: the younger generation takes them, and where that
+-- ignores them the older one. A reply to a question that is out is stored, and given to all that
+-- wait for it; octets that are none leave all as it was.
+pub data Receives (over : Over) (octets : List ℕ) (heard : Heard) (old new : StateView) : Type 0
+  where
+    younger : (after : ResolverView) → Hears old.current after over octets heard
+        → new ≡ record old { current = after } → Receives over octets heard old new
+    older : (before after : ResolverView) → old.draining ≡ Some before
+        → Hears before after over octets heard
+        → new ≡ record old { draining = Some after } → Receives over octets heard old new
+
+-- the older generation takes octets that the younger one ignored for this reason, if it is there
+abbrev pub ReceivesOlder : Over → List ℕ → Why → Heard → StateView → StateView → Type 0
+ReceivesOlder over octets why heard old new =
+    ((old.draining ≡ None) × (heard ≡ Ignored why) × (new ≡ old))
+    ⊎ ((before : ResolverView) × (after : ResolverView) × (old.draining ≡ Some before)
+    × Hears before after over octets heard × (new ≡ record old { draining = Some after }))
+
+-- octets were a reply to a question that is out over what this number stands for
+pub record IsReceived (number : ℕ) (octets : List ℕ) (old new : StateView) : Type 0 where
+  pub over : Over
+  pub numbered : number_of_over over ≡ number
+  pub heard : Heard
+  pub ends : (why : Why) → heard ≢ Ignored why
+  pub receives : Receives over octets heard old new
 
 -- ---- handles: what one has is a state, or none where it is closed
 

@@ -44,7 +44,9 @@ fn families_of(number: u8) -> Option<Families> {
 }
 
 /// What a message goes over, by its number.
-pub(crate) fn over_of(number: u8) -> Option<Over> {
+pub(crate) fn over_of(number: u8) -> Option<Over>
+    ensures { IfSome result (λ over. spec.number_of_over over ≡ number) }
+{
     match number {
         1 => Some(Over::Datagram),
         2 => Some(Over::Stream),
@@ -53,7 +55,9 @@ pub(crate) fn over_of(number: u8) -> Option<Over> {
 }
 
 /// The number of what a message goes over.
-pub(crate) fn number_of_over(over: Over) -> u8 {
+pub(crate) fn number_of_over(over: Over) -> u8
+    ensures { result ≡ spec.number_of_over over }
+{
     match over {
         Over::Datagram => 1,
         Over::Stream => 2,

@@ -1,8 +1,8 @@
 //! What a resolver of the caller's holds.
-ghost use Rattle.std.specs.Prelude.{◌≡◌, ◌↔◌, ◌≤◌, false, IsTrue, MatchOption, Some, IfNone, IfOk, IfSome, OnOk, option_and_then};
+ghost use Rattle.std.specs.Prelude.{◌≡◌, ◌↔◌, ◌≤◌, false, IsTrue, MatchOption, Some, IfNone, IfOk, IfSome, OnErr, OnOk, option_and_then};
 ghost use Rattle.std.specs.List.{Contains};
 ghost use Rattle.sip_resolver.specs.Requests.{numbers_of};
-ghost use Rattle.wokhleas.specs.States.{IsSound, Takes, TakesIn, TakesOlder, Tells, begun_state};
+ghost use Rattle.wokhleas.specs.States.{IsSound, Receives, ReceivesOlder, Takes, TakesIn, TakesOlder, Tells, begun_state};
 ghost use Rattle.wokhleas.specs.Told.{target_at as target_told_at};
 ghost use Rattle.wokhleas.specs.Told as told;
 
@@ -196,7 +196,9 @@ impl State {
         octets: &[u8],
         why: Why,
     ) -> Result<Heard, AllocError>
-        ensures told { self.new.told ≡ self.old.told }
+        ensures receives { IfOk result
+            (λ heard. ReceivesOlder over octets.now why heard self.old self.new) }
+        ensures unchanged { OnErr result (self.new ≡ self.old) }
     {
         match &mut self.draining {
             Some(draining) => draining.receive(at, over, octets),
@@ -211,7 +213,8 @@ impl State {
         over: Over,
         octets: &[u8],
     ) -> Result<Heard, AllocError>
-        ensures told { self.new.told ≡ self.old.told }
+        ensures receives { IfOk result (λ heard. Receives over octets.now heard self.old self.new) }
+        ensures unchanged { OnErr result (self.new ≡ self.old) }
     {
         match self.current.receive(at, over, octets)? {
             Heard::Ignored(why) => self.receive_older(at, over, octets, why),

@@ -1,4 +1,10 @@
 //! What goes out, what comes in, and when.
+ghost use Rattle.std.specs.Prelude.{◌≡◌, ◌≢◌, OnErr, OnOk, pos};
+ghost use Rattle.dns_asker.specs.declared.incoming.Why.{Why};
+ghost use Rattle.sip_resolver.specs.declared.resolver.Heard.TheVariants.{Ignored};
+ghost use Rattle.wokhleas.specs.Numbers.{number_of_over};
+ghost use Rattle.wokhleas.specs.States.{GoesBy, IsReceived};
+
 use crate::clock::{Instant, instant_of, left_until};
 use crate::generation::Sent;
 use crate::handle::Handle;
@@ -47,13 +53,28 @@ fn receive(
     at: Instant,
     over: Over,
     octets: &[u8],
-) -> Result<Heard, Status> {
+) -> Result<(), Status>
+    ensures received { OnOk result (GoesBy (IsReceived (number_of_over over) octets.now)
+        handle.old.held.state handle.new.held.state) }
+    ensures unchanged { OnErr result (handle.new.held.state ≡ handle.old.held.state) }
+{
     let mut state = handle.take(alloc)?;
     let heard = state.receive(&at, over, octets);
     handle.put(state);
     match heard {
-        Ok(heard) => Ok(heard),
+        Ok(heard) => is_reply(heard),
         Err(_) => Err(Status::Memory),
+    }
+}
+
+/// Whether octets were a reply: `Nothing` where they were ignored.
+fn is_reply(heard: Heard) -> Result<(), Status>
+    ensures reply { OnOk result ((why : Why) → heard ≢ Ignored why) }
+    ensures ignored { OnErr result ((why : Why) × (heard ≡ Ignored why)) }
+{
+    match heard {
+        Heard::Ignored(_) => Err(Status::Nothing),
+        Heard::Reply | Heard::Cut => Ok(()),
     }
 }
 
@@ -111,13 +132,16 @@ pub extern "C" fn wokhleas_raw_receive(
     milliseconds: u64,
     over: u8,
     octets: &[u8],
-) -> i32 {
+) -> i32
+    ensures received { result ≡ pos 0 → GoesBy (IsReceived over octets.now)
+        handle.old.held.state handle.new.held.state }
+    ensures unchanged { result ≢ pos 0 → handle.new.held.state ≡ handle.old.held.state }
+{
     let (Some(at), Some(over)) = (instant_of(milliseconds), over_of(over)) else {
         return Status::Argument.code();
     };
     match receive(alloc, handle, at, over, octets) {
-        Ok(Heard::Reply | Heard::Cut) => DONE,
-        Ok(Heard::Ignored(_)) => Status::Nothing.code(),
+        Ok(()) => DONE,
         Err(status) => status.code(),
     }
 }
