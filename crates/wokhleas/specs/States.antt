@@ -1,11 +1,13 @@
 -- What a resolver of the caller's holds, and what calls leave of it.
-use Rattle.std.specs.Prelude.{⊤, ◌≡◌, ◌≢◌, ◌⊎◌, ◌≤◌, ℕ, List, Option, Some, None, IfSome, option_and_then}
+use Rattle.std.specs.Prelude.{⊤, ◌≡◌, ◌≢◌, ◌⊎◌, ◌≤◌, ℕ, List, Option, Some, None, IfSome, option_and_then, take}
 use Rattle.std.specs.List.{Contains}
 use Rattle.answer_cache.specs.Lists.{IsListSeat}
 use Rattle.answer_cache.specs.Seats.{SeatView}
-use Rattle.dns_asker.specs.Tickets.{usual}
+use Rattle.dns_asker.specs.Events.{sent_octets}
+use Rattle.dns_asker.specs.Tickets.{Ticket, ticket_of, usual}
 use Rattle.dns_asker.specs.declared.incoming.Why.{Why}
 use Rattle.sip_resolver.specs.Outcomes.{Ended, IsOutcome}
+use Rattle.sip_resolver.specs.Questions.{QuestionsView, asking_over}
 use Rattle.sip_resolver.specs.Requests.{Stand, numbers_of}
 use Rattle.sip_resolver.specs.Resolvers.{Hears, IsTaken, ResolverView, begun_of, with_request}
 use Rattle.sip_resolver.specs.declared.resolver.Heard.{Heard}
@@ -16,8 +18,10 @@ use Rattle.sip_selection.specs.declared.caps.Caps.{Caps}
 use Rattle.sip_selection.specs.declared.request.Request.{Request}
 use Rattle.wokhleas.specs.Numbers.{number_of_over}
 use Rattle.wokhleas.specs.Told.{outcome_told, target_at}
+use Rattle.wokhleas.specs.declared.generation.Sent.{Sent}
 use Rattle.wokhleas.specs.declared.told.ToldOutcome.{ToldOutcome}
 use Rattle.wokhleas.specs.declared.told.ToldTarget.{ToldTarget}
+use Rattle.wokhleas.specs.declared.wire.ToldMessage.{ToldMessage}
 
 -- what holds of the seat and of the requests of a generation
 pub record Holds (seat : SeatView) (core : ResolverView) : Type 0 where
@@ -82,6 +86,33 @@ pub record TakesIn (number : ℕ) (request : Request) (caps : Caps) (until : Opt
   pub before : ResolverView
   pub is : new.current ≡ with_request number request caps words until before
   pub apart : IfSome new.draining (λ older. Contains (numbers_of older.requests) number → ⊥)
+
+-- These octets are the query of a question that is out over this, which was sent so often with it
+-- (RFC 1035 4.1.1).
+pub record IsQuery (over : Over) (send : ℕ) (octets : List ℕ) (it : QuestionsView) : Type 0 where
+  pub id : ℕ
+  pub ticket : Ticket
+  pub out : ticket_of id (asking_over over it).tickets ≡ Some ticket
+  pub are : octets ≡ sent_octets id ticket.sent.question
+  pub sends : send ≡ ticket.sent.sends
+
+-- the first octets of a buffer, so many as were told, are such a query
+abbrev pub IsWritten : Sent → List ℕ → QuestionsView → Type 0
+IsWritten sent buffer it = IsQuery sent.over sent.send (take sent.length buffer) it
+
+-- octets are a query of the younger generation, or of the older one
+pub data IsQueryOf (over : Over) (send : ℕ) (octets : List ℕ) (it : StateView) : Type 0 where
+  of_younger : IsQuery over send octets it.current.questions → IsQueryOf over send octets it
+  of_older : (older : ResolverView) → it.draining ≡ Some older
+      → IsQuery over send octets older.questions → IsQueryOf over send octets it
+
+-- a message was told whose octets are in front of the buffer: a query that is out, over what goes
+-- by this number
+pub record IsTransmitted (message : ToldMessage) (buffer : List ℕ) (new : StateView) : Type 0
+  where
+    pub over : Over
+    pub numbered : number_of_over over ≡ message.over
+    pub query : IsQueryOf over message.send (take message.length buffer) new
 
 -- What octets that came in over this leave: the younger generation takes them, and where that
 -- ignores them the older one. A reply to a question that is out is stored, and given to all that

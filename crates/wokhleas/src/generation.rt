@@ -1,5 +1,5 @@
 //! A resolver core over a book of its own.
-ghost use Rattle.std.specs.Prelude.{◌≡◌, ◌↔◌, ◌≤◌, ◌%◌, ⊤, IfErr, IfNone, IfOk, IfSome, IsTrue, OnErr, OnOk, length};
+ghost use Rattle.std.specs.Prelude.{◌≡◌, ◌↔◌, ◌≤◌, ◌%◌, ⊤, IfErr, IfNone, IfOk, IfSome, IsTrue, OnErr, OnOk, length, take};
 ghost use Rattle.std.specs.Bool.{OnFalse};
 ghost use Rattle.std.specs.List.{Contains};
 ghost use Rattle.answer_cache.specs.Lists.{IsListSeat};
@@ -10,7 +10,7 @@ ghost use Rattle.sip_resolver.specs.Idle.{IsOut};
 ghost use Rattle.sip_resolver.specs.Questions.{IsLeast};
 ghost use Rattle.sip_resolver.specs.Requests.{Stand, count_of, numbers_of};
 ghost use Rattle.sip_resolver.specs.Resolvers.{Hears, IsTaken, RefusesSubmit, begun_of, with_request};
-ghost use Rattle.wokhleas.specs.States.{IsSound};
+ghost use Rattle.wokhleas.specs.States.{IsSound, IsWritten};
 
 use crate::clock::Instant;
 use answer_cache::{ListCache, ListSeat};
@@ -139,7 +139,9 @@ impl Generation {
     }
 
     /// Writes what is to be sent next into a buffer, if it has room for it.
-    pub(crate) fn transmit(&mut self, at: &Instant, octets: &mut [u8]) -> Option<Sent> {
+    pub(crate) fn transmit(&mut self, at: &Instant, octets: &mut [u8]) -> Option<Sent>
+        ensures written { IfSome result (λ sent. IsWritten sent octets.new self.new.questions) }
+    {
         let mark = self.mark;
         transmit(&mut self.core, &self.book, &mut self.seat, at, mark, octets)
     }
@@ -205,6 +207,7 @@ fn transmit(
     requires stand { Stand (λ _. ⊤) (λ _. ⊤) seat.old core.old.requests }
     ensures stays { IsListSeat seat.new }
     ensures stand { Stand (λ _. ⊤) (λ _. ⊤) seat.new core.new.requests }
+    ensures written { IfSome result (λ sent. IsWritten sent octets.new core.new.questions) }
 {
     let message = core.poll_transmit(book, seat, at.now, at.asked)?;
     let length = write_into(octets, message.octets)?;
@@ -228,7 +231,7 @@ fn id_of(octets: &[u8]) -> u16 {
 
 /// Writes octets into the front of a buffer, and gives their number; None where they don't fit.
 fn write_into(buffer: &mut [u8], octets: &[u8]) -> Option<usize>
-    ensures { IfSome result (λ n. n ≡ length octets.now) }
+    ensures { IfSome result (λ n. (n ≡ length octets.now) × (take n buffer.new ≡ octets.now)) }
 {
     let count = octets.len();
     if buffer.len() < count {

@@ -1,8 +1,8 @@
 //! What a resolver of the caller's holds.
-ghost use Rattle.std.specs.Prelude.{◌≡◌, ◌↔◌, ◌≤◌, false, IsTrue, MatchOption, Some, IfNone, IfOk, IfSome, OnErr, OnOk, option_and_then};
+ghost use Rattle.std.specs.Prelude.{◌≡◌, ◌↔◌, ◌≤◌, false, IsTrue, MatchOption, Some, IfNone, IfOk, IfSome, OnErr, OnOk, option_and_then, take};
 ghost use Rattle.std.specs.List.{Contains};
 ghost use Rattle.sip_resolver.specs.Requests.{numbers_of};
-ghost use Rattle.wokhleas.specs.States.{IsSound, Receives, ReceivesOlder, Takes, TakesIn, TakesOlder, Tells, begun_state};
+ghost use Rattle.wokhleas.specs.States.{IsQueryOf, IsSound, Receives, ReceivesOlder, Takes, TakesIn, TakesOlder, Tells, begun_state};
 ghost use Rattle.wokhleas.specs.Told.{target_at as target_told_at};
 ghost use Rattle.wokhleas.specs.Told as told;
 
@@ -171,16 +171,20 @@ impl State {
     /// Writes what the older generation sends next into a buffer.
     fn transmit_older(&mut self, at: &Instant, octets: &mut [u8]) -> Option<Sent>
         ensures told { self.new.told ≡ self.old.told }
+        ensures query { IfSome result (λ sent.
+            IsQueryOf sent.over sent.send (take sent.length octets.new) self.new) }
     {
-        match &mut self.draining {
-            Some(draining) => draining.transmit(at, octets),
-            None => None,
-        }
+        let Some(draining) = &mut self.draining else {
+            return None;
+        };
+        draining.transmit(at, octets)
     }
 
     /// Writes what is to be sent next into a buffer.
     pub(crate) fn transmit(&mut self, at: &Instant, octets: &mut [u8]) -> Option<Sent>
         ensures told { self.new.told ≡ self.old.told }
+        ensures query { IfSome result (λ sent.
+            IsQueryOf sent.over sent.send (take sent.length octets.new) self.new) }
     {
         if let Some(sent) = self.transmit_older(at, octets) {
             return Some(sent);

@@ -1,9 +1,9 @@
 //! What goes out, what comes in, and when.
-ghost use Rattle.std.specs.Prelude.{◌≡◌, ◌≢◌, OnErr, OnOk, pos};
+ghost use Rattle.std.specs.Prelude.{◌≡◌, ◌≢◌, IfOk, OnErr, OnOk, pos, take};
 ghost use Rattle.dns_asker.specs.declared.incoming.Why.{Why};
 ghost use Rattle.sip_resolver.specs.declared.resolver.Heard.TheVariants.{Ignored};
 ghost use Rattle.wokhleas.specs.Numbers.{number_of_over};
-ghost use Rattle.wokhleas.specs.States.{GoesBy, IsReceived};
+ghost use Rattle.wokhleas.specs.States.{GoesBy, IsQueryOf, IsReceived, IsTransmitted};
 
 use crate::clock::{Instant, instant_of, left_until};
 use crate::generation::Sent;
@@ -36,7 +36,11 @@ fn transmit(
     handle: &mut Handle,
     at: Instant,
     octets: &mut [u8],
-) -> Result<Sent, Status> {
+) -> Result<Sent, Status>
+    ensures query { IfOk result (λ sent. GoesBy
+        (λ old new. IsQueryOf sent.over sent.send (take sent.length octets.new) new)
+        handle.old.held.state handle.new.held.state) }
+{
     let mut state = handle.take(alloc)?;
     let sent = state.transmit(&at, octets);
     handle.put(state);
@@ -105,7 +109,12 @@ pub extern "C" fn wokhleas_raw_transmit(
     milliseconds: u64,
     octets: &mut [u8],
     message: &mut ToldMessage,
-) -> i32 {
+) -> i32
+    ensures transmitted { result ≡ pos 0 → GoesBy
+        (λ old new. IsTransmitted message.new octets.new new)
+        handle.old.held.state handle.new.held.state }
+    ensures unchanged { result ≢ pos 0 → message.new ≡ message.old }
+{
     let Some(at) = instant_of(milliseconds) else {
         return Status::Argument.code();
     };
