@@ -11,6 +11,7 @@
 #include <stdio.h>
 #include <stdlib.h>
 #include <string.h>
+#include <strings.h>
 #include <sys/random.h>
 #include <time.h>
 #include <re.h>
@@ -107,16 +108,17 @@ static void send_query(struct caller *it, const wokhleas_message *message, const
 
 /* ---- SIP */
 
-static void try_target(struct caller *it);
+static bool try_target(struct caller *it);
 
-/* What became of a try (RFC 3263 4.3): another target is tried where it failed, and there is one. */
+/* What became of a try (RFC 3263 4.3): where it failed the next target is tried, until there is none. */
 static void go_on(struct caller *it, bool failed) {
+    int progress;
     tmr_cancel(&it->patience);
-    switch (wokhleas_failover_event(&it->failover, failed)) {
-    case WOKHLEAS_TRYING: try_target(it); break;
-    case WOKHLEAS_ANSWERED: end(it, 0); break;
-    default: end(it, 1);
+    while ((progress = wokhleas_failover_event(&it->failover, failed)) == WOKHLEAS_TRYING) {
+        if (try_target(it)) return;
+        failed = true;
     }
+    end(it, progress == WOKHLEAS_ANSWERED ? 0 : 1);
 }
 
 /* Where a transport failed, or the time of a transaction ran out, libre tells an error in place of a message. */
@@ -149,18 +151,14 @@ static void make_hop(struct caller *it, const wokhleas_target *target, char *add
     re_snprintf(it->target, sizeof it->target, "%s %s %u", transport, address, target->port);
 }
 
-/* A copy of the request to the target that is to be tried: a new transaction, with a branch of its own. */
-static void try_target(struct caller *it) {
+/* Sends a copy of the request to the target that is to be tried, in a new transaction, and says whether it could. */
+static bool try_target(struct caller *it) {
     char address[INET6_ADDRSTRLEN];
     wokhleas_target target;
     struct uri hop;
     int error;
-    if (wokhleas_get_target(&it->resolver, it->failover.failures, &target) != WOKHLEAS_OK) {
-        end(it, 1);
-        return;
-    }
+    if (wokhleas_get_target(&it->resolver, it->failover.failures, &target) != WOKHLEAS_OK) return false;
     make_hop(it, &target, address, sizeof address, &hop);
-    tmr_start(&it->patience, PATIENCE, on_silence, it);
     error = sip_requestf(&it->request, it->sip, true, "OPTIONS", it->uri, &hop, NULL, NULL, on_response, it,
                          "From: <sip:anonymous@anonymous.invalid>;tag=%08x\r\n"
                          "To: <%s>\r\n"
@@ -170,9 +168,9 @@ static void try_target(struct caller *it) {
                          "Content-Length: 0\r\n"
                          "\r\n",
                          (uint32_t)it->call, it->uri, it->call);
-    if (error == 0) return;
-    printf("%s: %s\n", it->target, strerror(error));
-    go_on(it, true);
+    if (error == 0) tmr_start(&it->patience, PATIENCE, on_silence, it);
+    else printf("%s: %s\n", it->target, strerror(error));
+    return error == 0;
 }
 
 /* ---- the library */
@@ -181,7 +179,7 @@ static void try_target(struct caller *it) {
 static void take_outcome(struct caller *it, const wokhleas_outcome *outcome) {
     if (outcome->kind == WOKHLEAS_TARGETS) {
         it->failover = (wokhleas_failover)WOKHLEAS_FAILOVER_INIT(outcome->targets);
-        try_target(it);
+        if (!try_target(it)) go_on(it, true);
         return;
     }
     if (outcome->kind == WOKHLEAS_REFUSED) printf("%s: %s\n", it->uri, wokhleas_strreason(outcome->detail));
@@ -247,9 +245,14 @@ static void on_signal(int signal) {
     re_cancel();
 }
 
+/* The library also takes the value of a Via, to which no request goes. */
+static bool is_uri(const char *text) {
+    return strncasecmp(text, "sip:", 4) == 0 || strncasecmp(text, "sips:", 5) == 0;
+}
+
 int main(int count, char **words) {
     static struct caller it = { .resolver = WOKHLEAS_RESOLVER_INIT, .status = 4 };
-    if (count != 3 || strncmp(words[2], "sip", 3) != 0) fail("usage", "libre_options SERVER[:PORT] URI");
+    if (count != 3 || !is_uri(words[2])) fail("usage", "libre_options SERVER[:PORT] URI");
     it.uri = words[2];
     need(libre_init(), "libre");
     if (sa_decode(&it.server, words[1], strlen(words[1])) != 0) need(sa_set_str(&it.server, words[1], 53), words[1]);
@@ -257,11 +260,11 @@ int main(int count, char **words) {
     open_stack(&it);
     submit(&it);
     tmr_start(&it.due, 0, turn, &it); /* inside the loop, which an outcome that is there at once has to end */
-    re_main(on_signal);
+    need(re_main(on_signal), "loop");
     sip_close(it.sip, true);
     mem_deref(it.sip);
     wokhleas_close(&it.resolver);
-    tmr_debug();
+    tmr_debug(); /* says which timers are left, and mem_debug what memory of libre */
     libre_close();
     mem_debug();
     return it.status;
