@@ -3,7 +3,7 @@
  * The library does no input or output: it opens no socket, reads no clock, starts no thread, has no global state and
  * takes no callback. The caller hands it requests, octets that came in and times, and takes octets to send and
  * outcomes. It keeps the answers that it got while they live, and asks a question that many requests ask at once only
- * once.
+ * once. After 4,096 replies it begins anew with none; requests that are inside go on with those that it had.
  *
  * A loop over one resolver:
  *
@@ -75,8 +75,7 @@ typedef struct wokhleas_limits {
     bool streams;     /* whether the caller asks over TCP where a reply was cut; else requests that need it end */
 } wokhleas_limits;
 
-/* Half of the questions are kept free for the time when a cache that is nearly full is left: requests inside go on with
- * it, and new ones begin with an empty one. */
+/* Half of the questions are kept for the time when the cache has begun anew, and requests with both are inside. */
 #define WOKHLEAS_LIMITS_INIT { 1024, 512, true }
 
 /* Opens a closed resolver. The 32 octets of the seed come from the system's source of random octets, as getrandom(2):
@@ -169,7 +168,7 @@ int wokhleas_timeout(wokhleas_resolver *resolver, uint64_t now, uint64_t *left);
 typedef enum wokhleas_kind {
     WOKHLEAS_TARGETS = 1,   /* the request can be sent to its targets, in their order */
     WOKHLEAS_REFUSED = 2,   /* it goes nowhere: detail is a number of wokhleas_reason */
-    WOKHLEAS_NO_ANSWER = 3, /* wokhleas_get_question tells the question that was sent in vain, or was too late */
+    WOKHLEAS_NO_ANSWER = 3, /* wokhleas_get_question tells the question whose answer did not come in time */
     WOKHLEAS_BAD_REPLY = 4, /* the same of one whose reply says no answer: detail is its RCODE, or 0 where it was cut */
     WOKHLEAS_NO_SERVER = 5, /* the same of one that no server takes (wokhleas_give_up) */
     WOKHLEAS_NO_MEMORY = 6
