@@ -1,5 +1,5 @@
 -- What a resolver of the caller's holds, and what calls leave of it.
-use Rattle.std.specs.Prelude.{⊤, ◌≡◌, ◌≢◌, ◌⊎◌, ◌≤◌, ℕ, List, Option, Some, None, IfSome, option_and_then, take}
+use Rattle.std.specs.Prelude.{⊤, ◌≡◌, ◌≢◌, ◌⊎◌, ◌≤◌, ℕ, List, [], Option, Some, None, IfSome, option_and_then, take}
 use Rattle.std.specs.List.{Contains}
 use Rattle.answer_cache.specs.Lists.{IsListSeat}
 use Rattle.answer_cache.specs.Seats.{SeatView}
@@ -67,6 +67,14 @@ pub data Takes (ended : Ended) (old new : StateView) : Type 0 where
   older : TakesOlder ended old new → Takes ended old new
   younger : (after : ResolverView) → IsTaken ended old.current after
       → new ≡ record old { current = after } → Takes ended old new
+
+-- no request of the older generation has ended whose outcome was not taken
+abbrev pub HasNoneOlder : StateView → Type 0
+HasNoneOlder it = IfSome it.draining (λ older. older.requests.ended ≡ [])
+
+-- nor one of the younger
+abbrev pub HasNone : StateView → Type 0
+HasNone it = HasNoneOlder it × (it.current.requests.ended ≡ [])
 
 -- The first request that ended in one of the generations is taken out and told: its number is that
 -- under which it was taken in, and its outcome is sound.

@@ -1,5 +1,5 @@
 //! A resolver core over a book of its own.
-ghost use Rattle.std.specs.Prelude.{◌≡◌, ◌↔◌, ◌≤◌, ◌%◌, ⊤, IfErr, IfNone, IfOk, IfSome, IsTrue, OnErr, OnOk, length, take};
+ghost use Rattle.std.specs.Prelude.{◌≡◌, [], ◌↔◌, ◌≤◌, ◌%◌, ⊤, IfErr, IfNone, IfOk, IfSome, IsTrue, OnErr, OnOk, length, take};
 ghost use Rattle.std.specs.Bool.{OnFalse};
 ghost use Rattle.std.specs.List.{Contains};
 ghost use Rattle.answer_cache.specs.Lists.{IsListSeat};
@@ -188,6 +188,7 @@ impl Generation {
     pub(crate) fn next_ended(&mut self) -> Option<Ended>
         ensures taken { IfSome result (λ ended. IsTaken ended self.old self.new) }
         ensures none { IfNone result (self.new ≡ self.old) }
+        ensures empty { IfNone result (self.old.requests.ended ≡ []) }
         ensures sound { IfSome result (λ ended. IsSound ended) }
     {
         self.core.poll_outcome()

@@ -1,6 +1,6 @@
 //! What became of requests.
-ghost use Rattle.std.specs.Prelude.{◌≡◌, ◌≢◌, None, Some, IfOk, OnErr, pos};
-ghost use Rattle.wokhleas.specs.States.{GoesBy, Tells, target_told_at};
+ghost use Rattle.std.specs.Prelude.{◌≡◌, ◌≢◌, None, Some, IfOk, IfSome, OnErr, pos};
+ghost use Rattle.wokhleas.specs.States.{GoesBy, HasNone, Tells, target_told_at};
 
 use crate::handle::Handle;
 use crate::state::State;
@@ -23,6 +23,7 @@ fn next(alloc: Global, handle: &mut Handle) -> Result<ToldOutcome, Status>
     ensures told { IfOk result
         (λ told. GoesBy (Tells told) handle.old.held.state handle.new.held.state) }
     ensures unchanged { OnErr result (handle.new.held.state ≡ handle.old.held.state) }
+    ensures none { OnErr result (IfSome handle.old.held.state (λ state. HasNone state)) }
 {
     let mut state = handle.take(alloc)?;
     let told = state.next_told();
@@ -86,6 +87,7 @@ pub extern "C" fn wokhleas_raw_next(
         → GoesBy (Tells outcome.new) handle.old.held.state handle.new.held.state }
     ensures unchanged { result ≢ pos 0 → (handle.new.held.state ≡ handle.old.held.state)
         × (outcome.new ≡ outcome.old) }
+    ensures none { result ≢ pos 0 → IfSome handle.old.held.state (λ state. HasNone state) }
 {
     match next(alloc, handle) {
         Ok(told) => {

@@ -2,7 +2,7 @@
 ghost use Rattle.std.specs.Prelude.{◌≡◌, ◌↔◌, ◌≤◌, false, IsTrue, MatchOption, Some, IfNone, IfOk, IfSome, OnErr, OnOk, option_and_then, take};
 ghost use Rattle.std.specs.List.{Contains};
 ghost use Rattle.sip_resolver.specs.Requests.{numbers_of};
-ghost use Rattle.wokhleas.specs.States.{IsQueryOf, IsSound, Receives, ReceivesOlder, Takes, TakesIn, TakesOlder, Tells, begun_state};
+ghost use Rattle.wokhleas.specs.States.{HasNone, HasNoneOlder, IsQueryOf, IsSound, Receives, ReceivesOlder, Takes, TakesIn, TakesOlder, Tells, begun_state};
 ghost use Rattle.wokhleas.specs.Told.{target_at as target_told_at};
 ghost use Rattle.wokhleas.specs.Told as told;
 
@@ -251,18 +251,20 @@ impl State {
     /// The next request of the older generation that ended.
     fn next_older(&mut self) -> Option<Ended>
         ensures none { IfNone result (self.new ≡ self.old) }
+        ensures empty { IfNone result (HasNoneOlder self.old) }
         ensures sound { IfSome result (λ ended. IsSound ended) }
         ensures some { IfSome result (λ ended. TakesOlder ended self.old self.new) }
     {
-        match &mut self.draining {
-            Some(draining) => draining.next_ended(),
-            None => None,
-        }
+        let Some(draining) = &mut self.draining else {
+            return None;
+        };
+        draining.next_ended()
     }
 
     /// The next request that ended.
     fn next_ended(&mut self) -> Option<Ended>
         ensures none { IfNone result (self.new ≡ self.old) }
+        ensures empty { IfNone result (HasNone self.old) }
         ensures sound { IfSome result (λ ended. IsSound ended) }
         ensures some { IfSome result (λ ended. Takes ended self.old self.new) }
     {
@@ -276,6 +278,7 @@ impl State {
     /// was told last can be told again.
     pub(crate) fn next_told(&mut self) -> Option<ToldOutcome>
         ensures none { IfNone result (self.new ≡ self.old) }
+        ensures empty { IfNone result (HasNone self.old) }
         ensures some { IfSome result (λ told. Tells told self.old self.new) }
     {
         let ended = self.next_ended()?;

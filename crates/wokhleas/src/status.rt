@@ -49,6 +49,11 @@ impl Status {
 }
 
 impl From<SubmitRefusal> for Status {
+    ghost use Rattle.std.specs.Prelude.{◌≡◌};
+    ghost use Rattle.wokhleas.specs.Requests.{status_of};
+
+    ghost from_gives = { λ refusal status. status ≡ status_of refusal };
+
     fn from(refusal: SubmitRefusal) -> Status {
         match refusal {
             SubmitRefusal::Full => Status::Full,
