@@ -39,11 +39,6 @@ took-more known part now ended is taken end =
     let least = taken.took_end end in
     omega (arith, sum, least))
 
--- of those in front
-pub all-front : {A : Type 0} (P : A → Type 0) (xs ys : List A) → All P (xs ++ ys) → All P xs
-all-front P xs ys all k d inside =
-    subst P (get_or_append_left xs ys d k inside) (all k d (omega (arith, inside, length-append xs ys)))
-
 -- a part was cut off, and nothing else is another
 pub stays-cut : (first known now : PassView) → pass_view first.deals known.parts first.put first.taken ≡ known
     → now ≡ pass_view known.deals (known.parts - 1) known.put known.taken

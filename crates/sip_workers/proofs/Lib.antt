@@ -6,6 +6,7 @@ mod NextPut
 mod Once
 mod Places
 mod Sorting
+mod Storing
 mod Taking
 mod Totals
 mod Whole

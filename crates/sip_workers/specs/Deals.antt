@@ -1,12 +1,18 @@
 -- How the jobs of a run are cut into batches, and what workers make of those that they take.
-use Rattle.std.specs.Prelude.{◌≡◌, ℕ, ◌+◌, ◌<◌, ◌≤◌, ◌==◌, if◌then◌else◌, Bool, true, List, [], ◌∷◌, drop, flat_map, length, map, take}
+use Rattle.std.specs.Prelude.{◌≡◌, ℕ, ◌+◌, ◌<◌, ◌≤◌, ◌==◌, if◌then◌else◌, Bool, true, List, [], ◌∷◌, ◌++◌, drop, flat_map, length, map, take}
 use Rattle.std.specs.List.{All, sum_by}
-use Rattle.answer_cache.specs.Shared.{CacheView}
+use mathlib.Core.List.{IsPrefix}
+use Rattle.answer_log.specs.Histories.{mine}
+use Rattle.answer_log.specs.declared.store.Store.{Store}
+use Rattle.answer_cache.specs.Seats.{SeatView}
+use Rattle.answer_cache.specs.Shared.{Belongs, CacheView, NoticeView, SharedView}
 use Rattle.sip_workers.specs.Gathers.{job_in}
 use Rattle.sip_worker.specs.Outcomes.{IsOutcome, ResultView}
 use Rattle.sip_workers.specs.Rules.{pass_view}
+use Rattle.sip_workers.specs.Runs.{IsHistoryOf, IsOfReply}
 use Rattle.sip_workers.specs.declared.batch.Batch.{Batch}
 use Rattle.sip_worker.specs.declared.job.Job.{Job}
+use Rattle.sip_resolver.specs.declared.outcome.Outcome.{Outcome}
 use Rattle.sip_workers.specs.declared.queue.PassView.{PassView}
 
 -- ---- batches
@@ -56,10 +62,28 @@ module _ (gives : List ℕ → Type 0) (shows : ℕ → Type 0) where
   abbrev pub IsTold : ResultView → Type 0
   IsTold it = IsOutcome gives shows it.notice.seen it.job it.outcome
 
+  -- a seat has the stores that it had, and then answers of replies alone
+  pub record StoresReplies (old new : SeatView) : Type 0 where
+    pub number : new.number ≡ old.number
+    pub stores : List Store
+    pub own : new.own ≡ old.own ++ stores
+    pub replies : All (IsOfReply gives shows) stores
+
   module _ (cache : CacheView) where
     -- what a worker reports of a job, with a notice of this cache
     abbrev pub IsReport : ResultView → Type 0
     IsReport it = IsTold it × (it.notice.cache ≡ cache)
+
+    -- a seat that a worker brings home, as it was before the run and as it is
+    pub record ComesHome (first last : SharedView) : Type 0 where
+      pub here : Belongs cache last
+      pub stored : StoresReplies first.seat last.seat
+
+    -- one more seat comes home, after the others
+    pub record BringsHome (first : SharedView) (old new : List SharedView) : Type 0 where
+      pub last : SharedView
+      pub after : new ≡ old ++ last ∷ []
+      pub home : ComesHome first last
 
     -- reports of the jobs of all that was taken
     pub record AreTaken (jobs : List Job) (known : PassView) (made : List ResultView)
@@ -74,6 +98,25 @@ stays_with known put = pass_view known.deals known.parts put known.taken
 -- each job has as many results as the list has it
 abbrev pub EachOnce : List Job → List ResultView → Type 0
 EachOnce jobs made = (h : Job → ℕ) → sum_by h (map job_in made) ≡ sum_by h jobs
+
+-- ---- the history that is seen at last
+
+-- a seat has learned what others have seen, and has stored nothing
+pub record StaysSo (old new : SeatView) : Type 0 where
+  pub number : new.number ≡ old.number
+  pub own : new.own ≡ old.own
+  pub seen : IsPrefix old.seen new.seen
+
+-- there is one history of this cache: what each of these notices tells is its beginning, and of
+-- each of these seats it has the stores that the seat made, once each and in their order
+pub record TellsOneHistory (cache : CacheView) (seats : List SharedView)
+    (made : List (Outcome × NoticeView)) : Type 0 where
+  pub history : List Store
+  pub is : IsHistoryOf cache history
+  pub begin : All (λ it. IsPrefix it.1.seen history) made
+  pub whole : All (λ seat. mine history seat.seat.number ≡ seat.seat.own) seats
+
+-- ---- promises
 
 -- a promise of a worker, in its own words
 pub record IsPromise {Queue : Type 0} (queue its_queue : Queue) (jobs its_jobs : List Job)

@@ -1,10 +1,12 @@
 -- What a run of many workers is, and what it gives.
-use Rattle.std.specs.Prelude.{◌≡◌, ◌≢◌, ℕ, ◌+◌, ◌<◌, ◌≤◌, List, length, slice_index_or}
+use Rattle.std.specs.Prelude.{◌≡◌, ◌≢◌, ℕ, ◌+◌, ◌<◌, ◌≤◌, List, ◌++◌, length, slice_index_or}
 use Rattle.std.specs.List.{All, AllZip}
 use mathlib.Core.List.{IsPrefix}
-use Rattle.answer_log.specs.Histories.{IsHistory}
+use Rattle.answer_log.specs.Histories.{IsHistory, mine}
 use Rattle.answer_log.specs.declared.store.Store.{Store}
-use Rattle.answer_cache.specs.Shared.{CacheView, NoticeView}
+use Rattle.answer_cache.specs.Seats.{SeatView}
+use Rattle.answer_cache.specs.Shared.{CacheView, NoticeView, SharedView}
+use Rattle.sip_resolver.specs.Works.{IsHeard, offer_in}
 use Rattle.sip_worker.specs.Outcomes.{IsOutcome}
 use Rattle.sip_worker.specs.declared.job.Job.{Job}
 use Rattle.sip_resolver.specs.declared.outcome.Outcome.{Outcome}
@@ -64,8 +66,24 @@ pub record IsHistoryOf (cache : CacheView) (history : List Store) : Type 0 where
   pub sound : IsHistory history
   pub seats : All (λ store. store.seat < cache.seats) history
 
--- there is one history of this cache, and what each of these notices tells is its beginning
-pub record HaveOneHistory (cache : CacheView) (made : List (Outcome × NoticeView)) : Type 0 where
-  pub history : List Store
-  pub is : IsHistoryOf cache history
-  pub begin : All (λ it. IsPrefix it.1.seen history) made
+-- over a wire and a clock
+module _ (gives : List ℕ → Type 0) (shows : ℕ → Type 0) where
+  -- a store is the answer of a reply that the wire gave, at a moment that the clock showed
+  abbrev pub IsOfReply : Store → Type 0
+  IsOfReply store = IsHeard gives shows (offer_in store)
+
+  -- What a history has of a seat that took part in a run: the stores that the seat had made before,
+  -- once each and in their order, and then answers of replies alone.
+  pub record HasStoresOf (history : List Store) (seat : SeatView) : Type 0 where
+    pub stores : List Store
+    pub are : mine history seat.number ≡ seat.own ++ stores
+    pub replies : All IsOfReply stores
+
+  -- There is one history of this cache. What each of these notices tells is its beginning, and of
+  -- each seat it has what the seat stored.
+  pub record HaveOneHistory (cache : CacheView) (seats : List SharedView)
+      (made : List (Outcome × NoticeView)) : Type 0 where
+    pub history : List Store
+    pub is : IsHistoryOf cache history
+    pub begin : All (λ it. IsPrefix it.1.seen history) made
+    pub stores : All (λ seat. HasStoresOf history seat.seat) seats

@@ -5,7 +5,7 @@ ghost use Rattle.std.specs.List.{All};
 ghost use Rattle.crossbeam_channel.specs.Claims.{IsSeatAt, view};
 ghost use Rattle.crossbeam_channel.specs.Ends.{sends_on};
 ghost use Rattle.answer_cache.specs.Shared.{Belongs};
-ghost use Rattle.sip_workers.specs.Deals.{AreTaken, IsInside, IsReport, IsTaken, jobs_of};
+ghost use Rattle.sip_workers.specs.Deals.{AreTaken, ComesHome, IsInside, IsReport, IsTaken, StoresReplies, jobs_of};
 ghost use Rattle.sip_workers.specs.Gathers.{job_in};
 ghost use Rattle.sip_workers.specs.Rules.{pass_view};
 
@@ -63,6 +63,7 @@ fn more<'a, J: Dealt, R: Wait, W: Wire + Drop, C: Clock, G: Gate>(
     requires made_here { Belongs plan.now.cache.now worker.old }
     requires here { IfOk made (λ all. All (IsReport W.gives C.shows plan.now.cache.now) all.items) }
     ensures made_here { Belongs plan.now.cache.now worker.new }
+    ensures stored { StoresReplies W.gives C.shows worker.old.seat worker.new.seat }
     ensures jobs { IfOk result (λ after. IsOkAnd made.entry (λ before.
         map job_in after.items ≡ map job_in before.items ++ jobs.now)) }
     ensures here { IfOk result
@@ -92,7 +93,8 @@ fn work_off<'a, J: Dealt, R: Wait, W: Wire + Drop, C: Clock, G: Gate>(
     ensures made { IfOk result.made (λ all.
         AreTaken W.gives C.shows plan.now.cache.now plan.now.jobs.now
         (view result.right) all.items) }
-    ensures seat { IsSomeAnd result.seat (Belongs plan.now.cache.now) }
+    ensures seat { IsSomeAnd result.seat
+        (ComesHome W.gives C.shows plan.now.cache.now worker) }
 {
     let mut made = Ok(Vec::new(plan.alloc));
     let mut ended = false;
@@ -164,7 +166,8 @@ pub(crate) fn work<'a, J: Dealt, R: Wait, W: Wire + Drop, C: Clock, G: Gate>(
     ensures made { IfOk result.made (λ all.
         AreTaken W.gives C.shows plan.now.cache.now plan.now.jobs.now
         (view result.right) all.items) }
-    ensures seat { OnOk result.made (IsSomeAnd result.seat (Belongs plan.now.cache.now)) }
+    ensures seat { OnOk result.made (IsSomeAnd result.seat
+        (ComesHome W.gives C.shows plan.now.cache.now seat)) }
 {
     match Worker::new(plan.alloc, seat, wire) {
         Ok(worker) => work_off(rt, plan, worker, right),

@@ -1,10 +1,10 @@
 //! Many workers at once, each in a thread of its own, over one shared cache.
-ghost use Rattle.std.specs.Prelude.{⊤, ◌≡◌, ◌<◌, ◌≤◌, true, [], Decides, IsTrue, IfErr, IfOk, IsSomeAnd, OnOk, length};
-ghost use Rattle.std.specs.List.{All};
+ghost use Rattle.std.specs.Prelude.{⊤, ◌≡◌, ◌<◌, ◌≤◌, true, List, [], Decides, IsTrue, IfErr, IfOk, OnOk, length};
+ghost use Rattle.std.specs.List.{All, AllZip};
 ghost use Rattle.crossbeam_channel.specs.Claims.{IsSeatAt, view};
 ghost use Rattle.crossbeam_channel.specs.Ends.{sends_on};
-ghost use Rattle.answer_cache.specs.Shared.{Belongs};
-ghost use Rattle.sip_workers.specs.Deals.{AreSized, EachOnce, IsCut, IsReport};
+ghost use Rattle.answer_cache.specs.Shared.{Belongs, SharedView};
+ghost use Rattle.sip_workers.specs.Deals.{AreSized, ComesHome, EachOnce, IsCut, IsReport};
 ghost use Rattle.sip_workers.specs.Rules.{all_parts, pass_view};
 ghost use Rattle.sip_workers.specs.Runs.{AreMade, HaveOneHistory, MayRun, RefusesRun, Rises};
 ghost use Rattle.sip_workers.specs.declared.refusal.RunRefusal.TheVariants.{Memory};
@@ -100,7 +100,8 @@ fn deal_out<
         All (IsReport W.gives C.shows plan.now.cache.now) it.0.reports.items) }
     ensures once { IfOk result (λ it.
         IsTrue it.1 → EachOnce plan.now.jobs.now it.0.reports.items) }
-    ensures seat { IfOk result (λ it. IsSomeAnd it.0.seat (Belongs plan.now.cache.now)) }
+    ensures seats { IfOk result (λ it.
+        AllZip (ComesHome W.gives C.shows plan.now.cache.now) seats.items it.0.seats.items) }
     ensures refused { IfErr result (RefusesRun ⊤) }
 {
     let (threads, started) = start_all(scope, rt, plan, &mut own, seats, wires)?;
@@ -116,8 +117,8 @@ fn deal_out<
     Ok((home, dealt & ended & took))
 }
 
-/// What became of each job, in order. Where the queue failed nowhere, each job has one result, and
-/// memory alone can be wanted.
+/// What became of each job, in order, over one history of the seats that come home. Where the queue
+/// failed nowhere, each job has one result, and memory alone can be wanted.
 fn put_in_order<J: Dealt, W: Wire + Drop, C: Clock, G>(
     plan: &Plan<'_, J, C, G>,
     home: Home<'_>,
@@ -126,18 +127,21 @@ fn put_in_order<J: Dealt, W: Wire + Drop, C: Clock, G>(
     requires rises { Rises plan.now.jobs.now }
     requires told { All (IsReport W.gives C.shows plan.now.cache.now) home.reports.items }
     requires once { IsTrue whole → EachOnce plan.now.jobs.now home.reports.items }
-    requires seat { IsSomeAnd home.seat (Belongs plan.now.cache.now) }
+    requires some { 0 < length home.seats.items }
+    requires here { All (Belongs plan.now.cache.now) home.seats.items }
     ensures outcomes { IfOk result (λ made.
         AreMade W.gives C.shows plan.now.cache.now plan.now.jobs.now made.items) }
     ensures refused { IfErr result (RefusesRun ⊤) }
     ensures memory { IsTrue whole → IfErr result (λ refusal. refusal ≡ Memory) }
-    ensures one_history { IfOk result (λ made. HaveOneHistory plan.now.cache.now made.items) }
+    ensures one_history { (firsts : List SharedView)
+        → AllZip (ComesHome W.gives C.shows plan.now.cache.now) firsts home.entry.seats.items
+        → IfOk result (λ made.
+        HaveOneHistory W.gives C.shows plan.now.cache.now firsts made.items) }
 {
-    let Home { reports, seat } = home;
+    let Home { reports, seats } = home;
     let results = results_of::<W, C>(plan.alloc, reports)?;
     let made = gather(plan.alloc, plan.jobs, results)?;
-    let Some(seat) = seat else { unreachable!() };
-    see_one_history(plan.cache, seat, made.as_slice());
+    see_one_history(plan.cache, seats, made.as_slice());
     Ok(made)
 }
 
@@ -165,7 +169,8 @@ fn run_plan<
     requires cut { IsCut plan.now.jobs.now (length plan.now.jobs.now) J.batches }
     ensures outcomes { IfOk result (λ made.
         AreMade W.gives C.shows plan.now.cache.now plan.now.jobs.now made.items) }
-    ensures one_history { IfOk result (λ made. HaveOneHistory plan.now.cache.now made.items) }
+    ensures one_history { IfOk result (λ made.
+        HaveOneHistory W.gives C.shows plan.now.cache.now seats.items made.items) }
     ensures refused { IfErr result (RefusesRun ⊤) }
 {
     thread::scope(
@@ -180,8 +185,8 @@ fn run_plan<
                 × IsCut plan.now.jobs.now (length plan.now.jobs.now) J.batches }
             ensures outcomes { IfOk result (λ made. AreMade W.gives C.shows
                 plan.entry.now.cache.now plan.entry.now.jobs.now made.items) }
-            ensures one_history { IfOk result (λ made.
-                HaveOneHistory plan.entry.now.cache.now made.items) }
+            ensures one_history { IfOk result (λ made. HaveOneHistory W.gives C.shows
+                plan.entry.now.cache.now seats.items made.items) }
             ensures refused { IfErr result (RefusesRun ⊤) }
         {
             let (home, whole) = deal_out::<_, J, R, W, C, G>(scope, rt, plan, own, seats, wires)?;
@@ -216,7 +221,8 @@ fn run_batches<
     requires cut { IsCut jobs.now (length jobs.now) J.batches }
     ensures outcomes { IfOk result (λ made.
         AreMade W.gives C.shows cache.now jobs.now made.items) }
-    ensures one_history { IfOk result (λ made. HaveOneHistory cache.now made.items) }
+    ensures one_history { IfOk result (λ made.
+        HaveOneHistory W.gives C.shows cache.now seats.items made.items) }
     ensures refused { IfErr result (RefusesRun ⊤) }
 {
     let (queue, own) = Queue::<J>::new(alloc, seats.len())?;
@@ -237,7 +243,9 @@ fn run_batches<
 ///
 /// The jobs are cut into batches of this many, in order, and a worker that is free takes the next
 /// one. The result has what became of each job, in order, with its worker's notice taken then. What
-/// the notices tell is of one history. The seats and the wires are given up in each case.
+/// the notices tell is of one history. Of each seat it has the stores that the seat had made, and
+/// then answers of replies alone, once each and in the order in which the seat stored them. The
+/// seats and the wires are given up in each case.
 ///
 /// `BadCount` exactly where there are no seats or not as many wires as seats, a batch is not of 1
 /// to 8 jobs, the numbers of the jobs do not rise strictly, or there are over 10,000 jobs;
@@ -267,7 +275,8 @@ pub fn run_workers<
         (MayRun (length seats.items) (length wires.items) jobs.items batch)) }
     ensures outcomes { IfOk result (λ made.
         AreMade W.gives C.shows cache.now jobs.items made.items) }
-    ensures one_history { IfOk result (λ made. HaveOneHistory cache.now made.items) }
+    ensures one_history { IfOk result (λ made.
+        HaveOneHistory W.gives C.shows cache.now seats.items made.items) }
 {
     if !may_run(seats.len(), wires.len(), jobs.as_slice(), batch) {
         return Err(RunRefusal::BadCount);

@@ -1,10 +1,10 @@
 //! The threads of a run's workers: they are started, and what they bring home is joined.
-ghost use Rattle.std.specs.Prelude.{◌≡◌, ◌+◌, ◌≤◌, ◌<◌, false, [], IsTrue, IfOk, IfSome, IsSomeAnd, OnOk, length};
-ghost use Rattle.std.specs.List.{All, sum_by};
+ghost use Rattle.std.specs.Prelude.{◌≡◌, ◌+◌, ◌≤◌, ◌<◌, false, [], IsTrue, IfOk, IfSome, OnOk, length, map};
+ghost use Rattle.std.specs.List.{All, AllZip, sum_by};
 ghost use Rattle.crossbeam_channel.specs.Claims.{IsSeatAt, view};
 ghost use Rattle.crossbeam_channel.specs.Ends.{sends_on};
 ghost use Rattle.answer_cache.specs.Shared.{Belongs};
-ghost use Rattle.sip_workers.specs.Deals.{AreTaken, IsInside, IsPromise, end_of};
+ghost use Rattle.sip_workers.specs.Deals.{AreTaken, BringsHome, ComesHome, IsInside, IsPromise, end_of};
 ghost use Rattle.sip_workers.specs.Rules.{pass_view};
 
 use crate::part::{Part, Plan, work};
@@ -15,6 +15,7 @@ use dns_asker::{Clock, Wire};
 use sip_worker::{Gate, Job};
 use std::alloc::AllocError;
 use std::marker::PhantomData;
+use std::snapshot::Snapshot;
 use std::sync::Wait;
 use std::thread::{Promise, PromisedHandle, Scope, Threads};
 
@@ -24,6 +25,7 @@ pub(crate) struct Promised<'a, J: Dealt, W: Wire, C: Clock> {
     queue: &'a Queue<J>,
     jobs: &'a [Job],
     cache: &'a SharedCache,
+    first: Snapshot<Seat>,
     over: PhantomData<(W, C)>,
 }
 
@@ -31,21 +33,21 @@ impl<'a, J: Dealt, W: Wire, C: Clock> Promise<Part<'a, W>> for Promised<'a, J, W
     ghost use Rattle.std.specs.Prelude.{IfOk, IsSomeAnd, OnOk};
     ghost use Rattle.crossbeam_channel.specs.Claims.{IsSeatAt, view};
     ghost use Rattle.crossbeam_channel.specs.Ends.{sends_on};
-    ghost use Rattle.answer_cache.specs.Shared.{Belongs};
-    ghost use Rattle.sip_workers.specs.Deals.{AreTaken, IsTaken};
+    ghost use Rattle.sip_workers.specs.Deals.{AreTaken, ComesHome, IsTaken};
 
     ghost kept_by = { λ it part. IsSeatAt (sends_on it.queue.now.sender) part.right
         × IsTaken (view part.right) part.ended
         × IfOk part.made (λ all.
         AreTaken W.gives C.shows it.cache.now it.jobs.now (view part.right) all.items)
-        × OnOk part.made (IsSomeAnd part.seat (Belongs it.cache.now)) };
+        × OnOk part.made (IsSomeAnd part.seat
+        (ComesHome W.gives C.shows it.cache.now it.first.value)) };
 }
 
-/// What the workers brought home: their reports, and the seat of the one joined last.
+/// What the workers brought home: their reports and their seats.
 #[derive(Drop)]
 pub(crate) struct Home<'a> {
     pub(crate) reports: Vec<Report<'a>>,
-    pub(crate) seat: Option<Seat>,
+    pub(crate) seats: Vec<Seat>,
 }
 
 /// The thread of a worker.
@@ -75,11 +77,13 @@ fn start<
     ensures promised { IfSome result (λ thread.
         IsPromise plan.now.queue.now thread.promise.queue.now plan.now.jobs.now
         thread.promise.jobs.now plan.now.cache.now thread.promise.cache.now) }
+    ensures first { IfSome result (λ thread. thread.promise.first.value ≡ seat) }
 {
     let promise = Promised {
         queue: plan.queue,
         jobs: plan.jobs,
         cache: plan.cache,
+        first: Snapshot::of(&seat),
         over: PhantomData,
     };
     scope
@@ -101,7 +105,7 @@ pub(crate) fn start_all<
     rt: &'s R,
     plan: &'s Plan<'s, J, C, G>,
     own: &mut Right,
-    mut seats: Vec<Seat>,
+    seats: Vec<Seat>,
     mut wires: Vec<W>,
 ) -> Result<(Vec<Running<'s, J, W, C>>, bool), AllocError>
     requires made_here { All (Belongs plan.now.cache.now) seats.items }
@@ -117,9 +121,11 @@ pub(crate) fn start_all<
         thread.promise.jobs.now plan.now.cache.now thread.promise.cache.now) it.0.items) }
     ensures all { IfOk result (λ it. IsTrue it.1 → (length it.0.items ≡ length seats.items)
         × ((view own.new).parts + length it.0.items ≡ (view own.old).parts)) }
+    ensures firsts { IfOk result (λ it. IsTrue it.1
+        → map (λ thread. thread.promise.first.value) it.0.items ≡ seats.items) }
 {
     let mut threads = Vec::with_capacity(plan.alloc, seats.len())?;
-    'seats: while let Some(seat) = seats.pop() {
+    'seats: for seat in seats {
         let Some(wire) = wires.pop() else {
             unreachable!()
         };
@@ -132,7 +138,7 @@ pub(crate) fn start_all<
     Ok((threads, true))
 }
 
-/// Joins a worker, adds what it made to the rest, keeps its seat, and tells whether it took an end.
+/// Joins a worker, adds what it made and its seat to the rest, and tells whether it took an end.
 fn join_one<'s, J: Dealt, R: Threads, W: Wire + Drop, C: Clock, G>(
     rt: &R,
     plan: &Plan<'s, J, C, G>,
@@ -152,16 +158,24 @@ fn join_one<'s, J: Dealt, R: Threads, W: Wire + Drop, C: Clock, G>(
     ensures made { OnOk result
         (AreTaken W.gives C.shows plan.now.cache.now plan.now.jobs.now
         (view own.new) home.new.reports.items) }
-    ensures seat { OnOk result (IsSomeAnd home.new.seat (Belongs plan.now.cache.now)) }
+    ensures seat { OnOk result (BringsHome W.gives C.shows plan.now.cache.now
+        thread.entry.promise.first.value home.old.seats.items home.new.seats.items) }
     ensures ended { IfOk result (λ ended. IsTrue ended
         → sum_by end_of (view own.old).taken + 1 ≤ sum_by end_of (view own.new).taken) }
 {
-    let part = thread.join(rt);
-    plan.queue.take_in(own, part.right);
-    let mut made = part.made?;
+    let Part {
+        right,
+        made,
+        ended,
+        seat,
+        ..
+    } = thread.join(rt);
+    plan.queue.take_in(own, right);
+    let mut made = made?;
     home.reports.append(&mut made)?;
-    home.seat = part.seat;
-    Ok(part.ended)
+    let Some(seat) = seat else { unreachable!() };
+    home.seats.push(seat)?;
+    Ok(ended)
 }
 
 /// What all workers brought home, and whether each took an end.
@@ -184,17 +198,17 @@ pub(crate) fn join_all<'s, J: Dealt, R: Threads, W: Wire + Drop, C: Clock, G>(
     ensures made { IfOk result (λ it.
         AreTaken W.gives C.shows plan.now.cache.now plan.now.jobs.now
         (view own.new) it.0.reports.items) }
-    ensures seat { IfOk result (λ it. 0 < length threads.entry.items
-        → IsSomeAnd it.0.seat (Belongs plan.now.cache.now)) }
+    ensures seats { IfOk result (λ it. AllZip (ComesHome W.gives C.shows plan.now.cache.now)
+        (map (λ thread. thread.promise.first.value) threads.entry.items) it.0.seats.items) }
     ensures ended { IfOk result (λ it. IsTrue it.1
         → length threads.entry.items ≤ sum_by end_of (view own.new).taken) }
 {
     let mut home = Home {
         reports: Vec::new(plan.alloc),
-        seat: None,
+        seats: Vec::with_capacity(plan.alloc, threads.len())?,
     };
     let mut ended = true;
-    'threads: while let Some(thread) = threads.pop() {
+    'threads: for thread in threads {
         ended &= join_one(rt, plan, own, thread, &mut home)?;
     }
     Ok((home, ended))

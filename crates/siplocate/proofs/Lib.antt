@@ -2,4 +2,5 @@ mod Commands
 mod Counts
 mod Onward
 mod Parts
+mod Replies
 mod Runs

@@ -1,14 +1,15 @@
 -- Many requests at once: what stands in their lines, and what becomes of each.
 use Rattle.std.specs.Prelude.{◌≡◌, ◌≢◌, ◌+◌, ◌<◌, ◌⊎◌, ◌++◌, ⊤, ℕ, zero, suc, List, [], ◌∷◌, replicate}
+use Rattle.std.specs.List.{All}
 use Rattle.std.specs.Str.Lines.{lines}
 use Rattle.answer_log.specs.declared.store.Store.{Store}
-use Rattle.answer_cache.specs.Shared.{CacheView, NoticeView}
+use Rattle.answer_cache.specs.Shared.{CacheView, NoticeView, SharedView}
 use Rattle.sip_selection.specs.declared.caps.Families.TheVariants.{V4ThenV6}
 use Rattle.sip_selection.specs.declared.request.Request.{Request}
 use Rattle.sip_uri.specs.declared.refusal.UriRefusal.{UriRefusal}
 use Rattle.sip_uri.specs.declared.refusal.UriRefusal.TheVariants as uri
 use Rattle.sip_worker.specs.Outcomes.{IsOutcome}
-use Rattle.sip_workers.specs.Runs.{IsHistoryOf}
+use Rattle.sip_workers.specs.Runs.{HasStoresOf, IsHistoryOf}
 use Rattle.sip_worker.specs.declared.job.Job.{Job}
 use Rattle.sip_resolver.specs.Draws.{drawn}
 use Rattle.sip_resolver.specs.declared.outcome.Outcome.{Outcome}
@@ -112,12 +113,14 @@ module _ (gives : List ℕ → Type 0) (shows : ℕ → Type 0) (history : List 
   AreLineOutcomes number lines line_outcomes = ⊥
 
 -- What is printed of the requests of a text, whose lines are numbered from 1, and the status. There
--- is one history of the cache. By that each line has a fate (`AreLineOutcomes`): an outcome as
--- `run_workers` gives it (`IsLocated`), or that it is no request (`IsNoRequest`).
+-- is one history of the cache, which has what each seat stored (`HasStoresOf`). By that each line
+-- has a fate (`AreLineOutcomes`): an outcome as `run_workers` gives it (`IsLocated`), or that it is
+-- no request (`IsNoRequest`).
 pub record IsRun (gives : List ℕ → Type 0) (shows : ℕ → Type 0) (cache : CacheView)
-    (text printed : List ℕ) (status : ℕ) : Type 0 where
+    (seats : List SharedView) (text printed : List ℕ) (status : ℕ) : Type 0 where
   pub history : List Store
   pub is : IsHistoryOf cache history
+  pub stores : All (λ seat. HasStoresOf gives shows history seat.seat) seats
   pub line_outcomes : List LineOutcome
   pub are : AreLineOutcomes gives shows history 1 (lines text) line_outcomes
   pub shown : printed ≡ shown_from 1 line_outcomes

@@ -1,10 +1,11 @@
 -- A run to a server on this host, which answers from a zone.
 use Rattle.std.specs.Prelude.{◌≡◌, ◌≢◌, ◌≤◌, ◌⊎◌, ⊤, ℕ, List, [], ◌∷◌, ◌++◌, codes}
 use Rattle.std.specs.Fmt.{decimal}
+use Rattle.std.specs.List.{All}
 use Rattle.std.specs.Str.Lines.{lines}
 use Rattle.std.specs.declared.io.ErrorKind.{ErrorKind}
 use Rattle.std.specs.declared.io.ErrorKind.TheVariants.{OutOfMemory}
-use Rattle.answer_cache.specs.Shared.{CacheView}
+use Rattle.answer_cache.specs.Shared.{CacheView, SharedView}
 use Rattle.answer_cache.specs.declared.refusal.CacheRefusal.{CacheRefusal}
 use Rattle.answer_cache.specs.declared.refusal.CacheRefusal.TheVariants as cache
 use Rattle.dns_message.specs.declared.resource.Record.{Record}
@@ -14,6 +15,7 @@ use Rattle.dns_zone.specs.declared.refusal.ZoneRefusal.{ZoneRefusal}
 use Rattle.dns_zone.specs.declared.refusal.ZoneRefusal.TheVariants as zone
 use Rattle.sip_workers.specs.declared.refusal.RunRefusal.{RunRefusal}
 use Rattle.sip_workers.specs.declared.refusal.RunRefusal.TheVariants as run
+use Rattle.sip_workers.specs.Runs.{IsOfReply}
 use Rattle.siplocate.specs.Parts.{AreParts}
 use Rattle.siplocate.specs.Runs.{HasTooMany, IsRun}
 use Rattle.siplocate.specs.declared.server.RunFault.{RunFault}
@@ -50,12 +52,14 @@ Faults workers requests Net = ⊤
 
 -- ---- what is printed
 
--- what is printed of requests, over one history of a cache of their own and a network of which
--- nothing is known
+-- What is printed of requests, over one history of a cache of their own and a network of which
+-- nothing is known. Each store of that history is the answer that a reply has to its question.
 pub record IsAsked (requests printed : List ℕ) (status : ℕ) : Type 0 where
   pub few : HasTooMany requests → ⊥
   pub cache : CacheView
-  pub run : IsRun (λ _. ⊤) (λ _. ⊤) cache requests printed status
+  pub seats : List SharedView
+  pub run : IsRun (λ _. ⊤) (λ _. ⊤) cache seats requests printed status
+  pub replies : All (IsOfReply (λ _. ⊤) (λ _. ⊤)) run.history
 
 -- the requests of a text are too many
 pub record IsOverfull (text : List ℕ) : Type 0 where

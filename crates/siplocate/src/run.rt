@@ -35,7 +35,7 @@ pub fn run_text<R: Threads + Wait + Sync, W: Wire + Drop + Send, C: Clock + Sync
 ) -> Result<(String, u8), RunRefusal>
     requires made_here { All (Belongs cache.now) seats.items }
     ensures run { IfOk result (λ told.
-        IsRun W.gives C.shows cache.now text.now (string_bytes told.0) told.1) }
+        IsRun W.gives C.shows cache.now seats.items text.now (string_bytes told.0) told.1) }
     ensures range { IfOk result (λ told. told.1 ≤ 5) }
     ensures good { OnOk result (FitsSeats (length seats.items) (length wires.items)) }
     ensures few { IfOk result (λ _. HasTooMany text.now → ⊥) }

@@ -1,9 +1,20 @@
-use Rattle.std.proofs.Common.{◌≡◌, [], ◌∷◌, ◌++◌, ◌∙◌, ap}
+use Rattle.std.proofs.Common.{◌≡◌, [], ◌∷◌, ◌++◌, ◌∙◌, ap, refl, rules}
 use Rattle.crossbeam_channel.specs.Claims.{view}
+use Rattle.sip_workers.proofs.Storing.{stores-more, stores-none}
 use Rattle.sip_workers.proofs.Taking.{taken-end, taken-more}
 use Rattle.sip_workers.specs.declared.queue.PassView.{PassView}
 use Rattle.sip_workers.proofs.part.work_off.Goals.{in-None, in-Some+in_default, in-Some+in-Some-take+then-batch-eq0}
 use Rattle.sip_workers.proofs.part.work_off.Goals as goal
+
+pub batches-init : goal.batches-init
+batches-init g c = record {
+  queue = c.requires.queue;
+  one = ap (λ (v : PassView). v.parts) c.requires.fresh;
+  made_here = c.requires.made_here;
+  stored = stores-none g.W.Wire.gives g.C.Clock.shows c.args.worker.seat;
+  made = search rules;
+  none = refl;
+}
 
 pub batches-preserved : goal.batches-preserved
 batches-preserved g c =
@@ -18,6 +29,8 @@ batches-preserved g c =
       queue = c.take.ensures.queue;
       one = parts ∙ l.invariant.one;
       made_here = c.more-made.ensures.made_here;
+      stored = stores-more g.W.Wire.gives g.C.Clock.shows c.args.worker.seat l.worker.seat c.more-made.new.worker.seat
+          l.invariant.stored c.more-made.ensures.stored;
       made = taken-more g.W.Wire.gives g.C.Clock.shows plan.cache.now plan.jobs.now (λ all. all.items) known now batch took
           c.jobs_at.result.now c.jobs_at.ensures l.made c.more-made.result l.invariant.made c.more-made.ensures.jobs
           c.more-made.ensures.here;

@@ -2,7 +2,7 @@ use Rattle.std.proofs.Common.{◌≡◌, false, IfOk}
 use Rattle.answer_cache.specs.Shared.{Belongs}
 use Rattle.crossbeam_channel.specs.Claims.{IsSeatAt, view}
 use Rattle.crossbeam_channel.specs.Ends.{sends_on}
-use Rattle.sip_workers.specs.Deals.{AreTaken}
+use Rattle.sip_workers.specs.Deals.{AreTaken, StoresReplies}
 use Rattle.sip_workers.proofs.part.work_off.Given as goal
 
 abbrev pub invariant-batches : goal.invariant-batches
@@ -10,6 +10,7 @@ invariant-batches g l = record {
   queue : IsSeatAt (sends_on l.plan.queue.now.sender) l.right;
   one : (view l.right).parts ≡ 1;
   made_here : Belongs l.plan.cache.now l.worker;
+  stored : StoresReplies g.W.Wire.gives g.C.Clock.shows l.fn.worker.seat l.worker.seat;
   made : IfOk l.made (λ all. AreTaken g.W.Wire.gives g.C.Clock.shows l.plan.cache.now l.plan.jobs.now (view l.right) all.items);
   none : l.ended ≡ false;
 }

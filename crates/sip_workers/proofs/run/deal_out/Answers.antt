@@ -29,3 +29,8 @@ returns-clause-once g c = λ all.
     let took : count ≤ sum_by end_of known.taken = omega (arith, same, taken) in
     each-once jobs batches known.put known.taken c.tell_whole.ensures.whole.0 count (map job_in c.in_ok-home.home.reports.items)
     put some c.requires.cut.some whole took c.tell_whole.ensures.whole.1 c.in_ok-home.ensures.made.made_of)
+
+pub returns-clause-seats : goal.returns-clause-seats
+returns-clause-seats g c =
+    let started : c.in_ok-threads.started ≡ true = search rules in
+    rw (c.in_ok-threads.ensures.firsts started) at c.in_ok-home.ensures.seats

@@ -1,6 +1,7 @@
 use Rattle.std.proofs.Common.{◌≡◌, ap, rules}
 use Rattle.sip_workers.proofs.Learning.{made-here}
 use Rattle.sip_workers.proofs.Once.{gathered-made, only-memory}
+use Rattle.sip_workers.proofs.Storing.{all-have-stores}
 use Rattle.sip_workers.specs.Deals.{EachOnce}
 use Rattle.sip_workers.specs.Runs.{of_gather}
 use Rattle.sip_workers.specs.declared.gather_refusal.GatherRefusal.TheVariants as gather
@@ -34,3 +35,14 @@ see_one_history-requires-clause-told_here g c =
     (made-here gives shows cache jobs made
     (gathered-made gives shows cache c.in_ok-results.results.items (rw c.in_ok-results.ensures c.requires.told) jobs made
     c.in_ok-made.ensures.made))
+
+pub returns-clause-one_history : goal.returns-clause-one_history
+returns-clause-one_history g c = λ firsts come.
+    (let it = c.see_one_history.ensures in
+    record {
+      history = it.history;
+      is = it.is;
+      begin = rw c.as_slice.ensures.value at it.begin;
+      stores = all-have-stores g.W.Wire.gives g.C.Clock.shows c.args.plan.now.cache.now it.history firsts
+          c.args.home.seats.items come it.whole;
+    })

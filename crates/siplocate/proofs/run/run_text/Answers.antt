@@ -13,6 +13,7 @@ returns-clause-run g c =
     record {
       history = one.history;
       is = one.is;
+      stores = one.stores;
       line_outcomes = c.in_ok-line_outcomes.line_outcomes.items;
       are = rw c.in_ok-line_outcomes.ensures
           (line_outcomes_are g.W.Wire.gives g.C.Clock.shows c.args.cache.now one.history 1 (lines c.args.text.now)
