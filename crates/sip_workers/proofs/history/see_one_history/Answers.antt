@@ -1,4 +1,3 @@
-use Rattle.std.proofs.Common.{[], ◌∷◌}
 use Rattle.std.proofs.lemmas.List.Elements.{All-push}
 use Rattle.sip_workers.proofs.Learning.{learned-on, told_by}
 use Rattle.sip_workers.proofs.Storing.{IsWhole, stays-through, whole-own}

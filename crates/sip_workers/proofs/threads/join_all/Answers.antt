@@ -1,7 +1,7 @@
 use Rattle.std.proofs.Common.{◌≡◌, ◌∙◌, ◌+◌, length, ap, arith, rules}
 use Rattle.std.proofs.lemmas.Bool.{and_parts}
 use Rattle.std.proofs.lemmas.List.Elements.{All-tail}
-use Rattle.sip_workers.proofs.Storing.{joined-all, joined-more, joined-none}
+use Rattle.sip_workers.proofs.Storing.{joined-all, joined-more}
 use Rattle.sip_workers.specs.Deals.{IsPromise}
 use Rattle.sip_workers.proofs.threads.join_all.Goals as goal
 
