@@ -1,5 +1,5 @@
 -- That a run over a cache of its own has a history of replies alone.
-use Rattle.std.proofs.Common.{◌≡◌, ℕ, ◌+◌, ◌<◌, ◌==◌, Bool, true, false, cond, List, [], ◌∷◌, length, map, refl, sym, subst, arith}
+use Rattle.std.proofs.Common.{◌≡◌, ℕ, ◌+◌, ◌<◌, ◌==◌, Bool, true, false, cond, List, [], ◌∷◌, length, map, subst, arith, rules, zero-add}
 use Rattle.std.specs.List.{All, range_with_len}
 use Rattle.std.proofs.lemmas.List.Elements.{All-cons, All-get_or, All-head, All-nil, All-tail}
 use Rattle.std.proofs.lemmas.List.FromFn.{get_or-map-range_with_len, length-map-range_with_len}
@@ -16,7 +16,7 @@ rest-of P true x us all = All-tail P x us all
 rest-of P false x us all = all
 
 is-itself : (n : ℕ) → (n == n) ≡ true
-is-itself n = search (eq-eqb)
+is-itself n = search rules
 
 module _ (gives : List ℕ → Type 0) (shows : ℕ → Type 0) where
   abbrev pub Replied : Store → Type 0
@@ -45,5 +45,5 @@ module _ (gives : List ℕ → Type 0) (shows : ℕ → Type 0) where
       let inside : number < length (map (new_seat cache) (range_with_len 0 count)) = omega (arith, long, below) in
       let all : All P (map (new_seat cache) (range_with_len 0 count)) = rw are at stores in
       let at = All-get_or P (map (new_seat cache) (range_with_len 0 count)) number other inside all in
-      let it = subst P (get_or-map-range_with_len (new_seat cache) 0 count number number other below refl) at in
+      let it = subst P (get_or-map-range_with_len (new_seat cache) 0 count number number other below (zero-add number)) at in
       rw it.are it.replies))
