@@ -1,5 +1,5 @@
 -- What contracts see of a resolver.
-use Rattle.std.specs.Prelude.{◌≡◌, ℕ, ◌<◌, Bool, true, false, List, [], ◌∷◌, ◌++◌, Option, IfNone}
+use Rattle.std.specs.Prelude.{◌≡◌, ⊤, ℕ, ◌<◌, Bool, true, false, List, [], ◌∷◌, ◌++◌, Option, IfNone}
 use Rattle.std.specs.List.{Contains}
 use Rattle.dns_message.specs.Messages.{Begins}
 use Rattle.dns_message.specs.declared.message.Message.{Message}
@@ -119,6 +119,13 @@ Hears old new over octets Cut =
     × IsCut old over ending
 Hears old new over octets (Ignored why) =
     Means (asking_over over old.questions) octets (incoming.Ignored why) × (new ≡ old)
+
+-- a seat is as it was where the octets are a reply that was cut, or no reply to a question that is
+-- out
+abbrev pub LeavesSeat : {Seat : Type 0} → Seat → Seat → Heard → Type 0
+LeavesSeat old new Reply = ⊤
+LeavesSeat old new Cut = new ≡ old
+LeavesSeat old new (Ignored why) = new ≡ old
 
 -- What octets that came in over datagrams or a stream hand to the book at a moment: nothing, or the
 -- answer that they have to a question that is out over it, under the id of the message. The book

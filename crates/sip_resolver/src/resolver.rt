@@ -15,7 +15,7 @@ ghost use Rattle.sip_resolver.specs.Idle.{AreAwaited, CannotAsk, IsIdle, IsOut};
 ghost use Rattle.sip_resolver.specs.Outcomes.{IsOutcome, Sought};
 ghost use Rattle.sip_resolver.specs.Questions.{IsLeast, schedule_of};
 ghost use Rattle.sip_resolver.specs.Requests.{AreSame, IsAwaitedBy, IsBack, Stand, count_of, numbers_of, weight};
-ghost use Rattle.sip_resolver.specs.Resolvers.{Closes, Expires, HandsIn, HasRoomFor, Hears, IsCut, IsEnded, IsTaken, Polls, RefusesSubmit, begun_of, with_request};
+ghost use Rattle.sip_resolver.specs.Resolvers.{Closes, Expires, HandsIn, HasRoomFor, Hears, IsCut, IsEnded, IsTaken, LeavesSeat, Polls, RefusesSubmit, begun_of, with_request};
 ghost use Rattle.sip_resolver.specs.Sends.{GivesUpBoth, IsInTime, SendsAfter, SendsFirst, tickets_of};
 ghost use Rattle.sip_resolver.specs.Settles.{GetsAnswer, GoesByReply, SettlesAll};
 ghost use Rattle.sip_resolver.specs.Tasks.{IsCounted, sought_of};
@@ -258,6 +258,7 @@ impl<B: AnswerBook, F: Origin, I: Ids + Drop> Resolver<B, F, I> {
         ensures awaited { AreAwaited self.old.requests self.old.questions
             → AreAwaited self.new.requests self.new.questions }
         ensures hears { IfOk result (Hears self.old self.new over octets.now) }
+        ensures untouched { IfOk result (LeavesSeat seat.old seat.new) }
         ensures unchanged { OnErr result ((self.new ≡ self.old) × (seat.new ≡ seat.old)) }
     {
         match self.questions.incoming(over, octets)? {
