@@ -1,9 +1,8 @@
 -- Questions that no request waits for any more.
-use Rattle.std.proofs.Common.{◌≡◌, ◌+◌, take, Some, ◌≢◌, ℕ, ◌<◌, ◌&&◌, ◌||◌, Bool, eq-eqb, true, false, not, nat_eq, List, [], ◌∷◌, ◌++◌, length, get_or, refl, sym, ap, rules}
-use Rattle.std.specs.List.{All, filter, find, slice_get}
+use Rattle.std.proofs.Common.{◌≡◌, ℕ, ◌&&◌, ◌||◌, Bool, eq-eqb, true, false, not, nat_eq, List, [], ◌∷◌, ◌++◌, get_or, refl, sym, ap, rules}
+use Rattle.std.specs.List.{All, filter, find}
 use Rattle.std.proofs.lemmas.List.Elements.{filter_agree}
-use Rattle.std.proofs.lemmas.List.Folds.{list_any-append, list_any_at, list_any_more}
-use Rattle.std.proofs.lemmas.Option.{get_or_from_slice_get}
+use Rattle.std.proofs.lemmas.List.Folds.{list_any-append, list_any_at}
 use Rattle.dns_asker.specs.Tickets.{Asking, Ticket, has_id}
 use Rattle.sip_resolver.specs.Cancels.{is_abandoned, is_awaited, questions_left, without_abandoned}
 use Rattle.sip_resolver.specs.Questions.{QuestionsView, closed_both}
@@ -204,18 +203,3 @@ module _ (questions : QuestionsView) where
       → closed_both it.id questions ≡ questions_left (it ∷ waiting) waiting questions
   questions-alone it waiting alone =
       rw (← left-alone it waiting questions.datagrams alone, ← left-alone it waiting questions.streams alone) refl
-
--- ---- a search along those that wait
-
-module _ (waiting : List WaitingView) (id at : ℕ) (it : WaitingView) (within : at < length waiting)
-    (here : slice_get waiting at ≡ Some it) where
-  pub awaited-at : it.id ≡ id → true ≡ is_awaited waiting id
-  awaited-at same =
-      sym
-      (list_any_at (waits_for id) waiting at it within
-      (rw (get_or_from_slice_get waiting at it it here) (eq-eqb it.id id same)))
-
-  pub awaited-on : it.id ≢ id → is_awaited (take at waiting) id ≡ false → is_awaited (take (at + 1) waiting) id ≡ false
-  awaited-on other before =
-      let no : nat_eq it.id id ≡ false = search rules in
-      rw (list_any_more (waits_for id) waiting at it within, before, get_or_from_slice_get waiting at it it here) no

@@ -3,8 +3,9 @@ use Rattle.std.proofs.Common.{◌≡◌, ℕ, List, [], ◌∷◌, ◌++◌, Opt
 use Rattle.std.specs.Option.{IfSome}
 use Rattle.std.proofs.lemmas.List.Elements.{All-head, All-push, All-tail}
 use Rattle.answer_cache.specs.Seats.{SeatView}
+use Rattle.sip_resolver.proofs.Waiters.{all-of}
 use Rattle.sip_resolver.specs.Outcomes.{Ended, IsOutcome}
-use Rattle.sip_resolver.specs.Requests.{IsWithoutEnded, IsWithoutHeld, IsWithoutReady, IsWithoutWaiting, RequestsView, Stand}
+use Rattle.sip_resolver.specs.Requests.{IsWithoutEnded, IsWithoutHeld, IsWithoutReady, IsWithoutWaiting, IsWithoutWaitingFor, RequestsView, Stand}
 use Rattle.sip_resolver.specs.Tasks.{IsCounted, Lacks, TaskView, WaitingView}
 
 module _ (gives : List ℕ → Type 0) (shows : ℕ → Type 0) (seat : SeatView) where
@@ -92,6 +93,21 @@ module _ (gives : List ℕ → Type 0) (shows : ℕ → Type 0) (seat : SeatView
           ended = stand.ended;
         }),
         All-head waits waiting new.waiting all,
+      )
+
+  pub waiting-for-out : (id : ℕ) (old new : RequestsView) (task : TaskView) → IsWithoutWaitingFor id task old new
+      → Stand gives shows seat old
+      → Stand gives shows seat new × (IsCounted gives shows seat task × Lacks shows seat task)
+  waiting-for-out id old new task out stand =
+      let all = rw out.was at stand.waiting in
+      let parts = all-of (record { id = id; task = task }) out.later waits out.first all in (
+        rw out.others (record {
+          ready = stand.ready;
+          held = stand.held;
+          waiting = parts.0;
+          ended = stand.ended;
+        }),
+        parts.1,
       )
 
   pub ended-out : (old new : RequestsView) (ended : Ended) → IsWithoutEnded ended old new → Stand gives shows seat old

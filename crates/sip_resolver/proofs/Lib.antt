@@ -4,6 +4,7 @@ pub mod Going
 pub mod Weighing
 pub mod Storing
 pub mod Inside
+pub mod Waiters
 pub mod Settling
 pub mod Apart
 pub mod Deadlines

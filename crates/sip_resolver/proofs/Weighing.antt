@@ -3,7 +3,7 @@ use Rattle.std.proofs.Common.{◌≡◌, ℕ, ◌+◌, List, [], ◌∷◌, ◌+
 use Rattle.std.proofs.lemmas.List.Sums.{sum_by-append, sum_by-cons}
 use Rattle.std.specs.List.{sum_by}
 use Rattle.sip_resolver.specs.Outcomes.{Ended, Sought}
-use Rattle.sip_resolver.specs.Requests.{AreSame, IsBack, IsWithoutHeld, IsWithoutReady, IsWithoutWaiting, RequestsView, weight}
+use Rattle.sip_resolver.specs.Requests.{AreSame, IsBack, IsWithoutHeld, IsWithoutReady, IsWithoutWaiting, IsWithoutWaitingFor, RequestsView, weight}
 use Rattle.sip_resolver.specs.Tasks.{TaskView, WaitingView, sought_of}
 
 -- one more at the end
@@ -72,6 +72,15 @@ module _ (h : Sought → ℕ) where
       rw out.first first in
       rw out.others omega (arith, here)
 
+  out-of-waiting-for : (id : ℕ) (old middle : RequestsView) (task : TaskView) → IsWithoutWaitingFor id task old middle
+      → weight h old ≡ weight h middle + h (sought_of task)
+  out-of-waiting-for id old middle task out =
+      let it : WaitingView = record { id = id; task = task } in
+      let parts = sum_by-append (of-waiting h) out.first (it ∷ out.later) in
+      let one = sum_by-cons (of-waiting h) it out.later in
+      let left = sum_by-append (of-waiting h) out.first out.later in
+      rw (out.others, out.was) omega (arith, parts, one, left)
+
 pub ready-back : (old middle new : RequestsView) (task : TaskView) → IsWithoutReady task old middle → IsBack (sought_of task) middle new
     → AreSame old new
 ready-back old middle new task out back =
@@ -86,6 +95,13 @@ pub waiting-back : (old middle new : RequestsView) (waiting : WaitingView) → I
     → IsBack (sought_of waiting.task) middle new → AreSame old new
 waiting-back old middle new waiting out back =
     (back.limit ∙ ap (λ (it : RequestsView). it.limit) out.others, (λ h. back.weighs h ∙ sym (out-of-waiting h old middle waiting out)))
+
+pub waiting-for-back : (id : ℕ) (old middle new : RequestsView) (task : TaskView) → IsWithoutWaitingFor id task old middle
+    → IsBack (sought_of task) middle new → AreSame old new
+waiting-for-back id old middle new task out back = (
+  back.limit ∙ ap (λ (it : RequestsView). it.limit) out.others,
+  (λ h. back.weighs h ∙ sym (out-of-waiting-for h id old middle task out)),
+)
 
 pub same-not : (it : RequestsView) → AreSame it it
 same-not it = (refl, (λ h. refl))

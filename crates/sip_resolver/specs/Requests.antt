@@ -1,5 +1,5 @@
 -- The requests inside a resolver.
-use Rattle.std.specs.Prelude.{◌≡◌, ◌==◌, ℕ, ◌+◌, ◌<◌, ◌≤◌, Bool, not, List, ◌∷◌, ◌++◌, length, map}
+use Rattle.std.specs.Prelude.{◌≡◌, ◌==◌, ℕ, ◌+◌, ◌<◌, ◌≤◌, Bool, not, List, [], ◌∷◌, ◌++◌, length, map}
 use Rattle.std.specs.List.{All, Contains, filter, sum_by}
 use Rattle.answer_cache.specs.Seats.{SeatView}
 use Rattle.sip_resolver.specs.Outcomes.{Ended, IsOutcome, Sought}
@@ -78,6 +78,15 @@ waits_for_other id waiting = not (waits_for id waiting)
 abbrev pub waiting_without : ℕ → List WaitingView → List WaitingView
 waiting_without id waiting = filter (waits_for_other id) waiting
 
+-- this is the place of the first request that waits for the reply to the question of this id
+pub record IsFirstFor (id place : ℕ) (waiting : List WaitingView) : Type 0 where
+  pub first : List WaitingView
+  pub task : TaskView
+  pub later : List WaitingView
+  pub are : waiting ≡ first ++ record { id = id; task = task } ∷ later
+  pub is_first : waiting_for id first ≡ []
+  pub place_is : length first ≡ place
+
 -- ---- one is taken out
 
 pub record IsWithoutReady (task : TaskView) (old new : RequestsView) : Type 0 where
@@ -93,6 +102,15 @@ pub record IsWithoutHeld (task : TaskView) (old new : RequestsView) : Type 0 whe
 pub record IsWithoutWaiting (waiting : WaitingView) (old new : RequestsView) : Type 0 where
   pub first : old.waiting ≡ waiting ∷ new.waiting
   pub others : new ≡ record old { waiting = new.waiting }
+  pub room : count_of new < new.limit
+
+-- the first one that waits for the reply to the question of this id is taken out from its place
+pub record IsWithoutWaitingFor (id : ℕ) (task : TaskView) (old new : RequestsView) : Type 0 where
+  pub first : List WaitingView
+  pub later : List WaitingView
+  pub was : old.waiting ≡ first ++ record { id = id; task = task } ∷ later
+  pub is_first : waiting_for id first ≡ []
+  pub others : new ≡ record old { waiting = first ++ later }
   pub room : count_of new < new.limit
 
 pub record IsWithoutEnded (ended : Ended) (old new : RequestsView) : Type 0 where

@@ -15,7 +15,7 @@ use Rattle.sip_resolver.specs.Outcomes.{Counts, IsFaulty, IsOutcome}
 use Rattle.sip_resolver.specs.Requests.{RequestsView}
 use Rattle.sip_resolver.specs.Sends.{GivesUp, IsOverdue}
 use Rattle.sip_resolver.specs.Settles.{GetsAnswer, GoesOverStream, NeedsOther}
-use Rattle.sip_resolver.specs.Tasks.{IsCounted, TaskView, WaitingView, sought_of}
+use Rattle.sip_resolver.specs.Tasks.{IsCounted, TaskView, sought_of}
 use Rattle.sip_resolver.specs.declared.outcome.Outcome.{Outcome}
 use Rattle.sip_resolver.specs.declared.outcome.Outcome.TheVariants.{Targets, Refused, NoAnswer, NoServer, BadReply, Memory}
 use Rattle.sip_resolver.specs.declared.waits.WaitOutcome.{WaitOutcome}
@@ -102,19 +102,16 @@ abbrev pub EndsAs : WaitEnd → WaitOutcome → Type 0
 EndsAs end Ready = ⊤
 EndsAs end (Ended outcome) = MayEnd end outcome
 
--- A request that was taken out of those that wait is put back: it waits on for another reply, it
--- goes on, or it ended.
-pub data SettlesOne (id : ℕ) (goes : TaskView → TaskView → Type 0) (kind : Outcome → Type 0)
-    (waiting : WaitingView) (old new : RequestsView) : Type 0 where
-  waits_on : waiting.id ≢ id → new ≡ record old { waiting = old.waiting ++ waiting ∷ [] }
-      → SettlesOne id goes kind waiting old new
-  goes_on : waiting.id ≡ id → (task : TaskView) → goes waiting.task task
+-- A request that was taken out of those that wait is put back: it goes on, or it ended.
+pub data SettlesOne (goes : TaskView → TaskView → Type 0) (kind : Outcome → Type 0)
+    (waited : TaskView) (old new : RequestsView) : Type 0 where
+  goes_on : (task : TaskView) → goes waited task
       → new ≡ record old { ready = old.ready ++ task ∷ [] }
-      → SettlesOne id goes kind waiting old new
-  ends : waiting.id ≡ id → (outcome : Outcome) → kind outcome
+      → SettlesOne goes kind waited old new
+  ends : (outcome : Outcome) → kind outcome
       → new ≡ record old {
-        ended = old.ended ++ record { sought = sought_of waiting.task; outcome = outcome } ∷ [];
-      } → SettlesOne id goes kind waiting old new
+        ended = old.ended ++ record { sought = sought_of waited; outcome = outcome } ∷ [];
+      } → SettlesOne goes kind waited old new
 
 -- some are given up, and then the question of this id is sent once more, as its deadline is over
 pub record Resends (now sent id : ℕ) (old new : Asking) : Type 0 where

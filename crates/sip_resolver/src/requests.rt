@@ -5,7 +5,7 @@ ghost use Rattle.sip_resolver.specs.Cancels.{is_awaited, others_by};
 ghost use Rattle.sip_resolver.specs.Expiries.{HaveTime, untils_of};
 ghost use Rattle.sip_resolver.specs.Outcomes.{Ended};
 ghost use Rattle.sip_resolver.specs.Questions.{IsLeast};
-ghost use Rattle.sip_resolver.specs.Requests.{IsAwaitedBy, IsWithoutEnded, IsWithoutHeld, IsWithoutReady, IsWithoutWaiting, count_of, number_of_ended, numbers_of, requests_of};
+ghost use Rattle.sip_resolver.specs.Requests.{IsAwaitedBy, IsFirstFor, IsWithoutEnded, IsWithoutHeld, IsWithoutReady, IsWithoutWaiting, IsWithoutWaitingFor, count_of, number_of_ended, numbers_of, requests_of, waiting_for};
 ghost use Rattle.sip_resolver.specs.Tasks.{sought_of};
 
 use crate::outcome::{Outcome, Resolved};
@@ -124,12 +124,20 @@ impl<B> Requests<B> {
     pub(crate) fn is_awaited(&self, id: u16) -> bool
         ensures { result ≡ is_awaited self.now.waiting id }
     {
+        self.first_for(id).is_some()
+    }
+
+    /// The place of the first one that waits for the reply to the message of this id, if one waits.
+    fn first_for(&self, id: u16) -> Option<usize>
+        ensures { MatchOption result (waiting_for id self.now.waiting ≡ [])
+            (λ place. IsFirstFor id place self.now.waiting) }
+    {
         'waits: for at in 0..self.waiting.len() {
             if self.waiting.at(at).id == id {
-                return true;
+                return Some(at);
             }
         }
-        false
+        None
     }
 
     /// The id of the message whose reply a request of this number waits for, if one waits.
@@ -244,6 +252,18 @@ impl<B> Requests<B> {
             (λ waiting. IsWithoutWaiting waiting self.old self.new) }
     {
         self.waiting.pop()
+    }
+
+    /// Takes the first one out that waits for the reply to the message of this id. The others stay
+    /// in their order.
+    pub(crate) fn next_waiting_for(&mut self, id: u16) -> Option<Task<B>>
+        ensures { MatchOption result
+            ((waiting_for id self.old.waiting ≡ []) × (self.new ≡ self.old))
+            (λ task. IsWithoutWaitingFor id task self.old self.new) }
+    {
+        let place = self.first_for(id)?;
+        let waiting = self.waiting.remove(place)?;
+        Some(waiting.task)
     }
 
     /// Takes the first one out that ended.

@@ -17,7 +17,7 @@ ghost use Rattle.sip_resolver.specs.Waits.{EndsAs, Fits, GoesAs, IsClosed, IsFai
 
 use crate::origin::Origin;
 use crate::outcome::Outcome;
-use crate::requests::{Requests, Waiting};
+use crate::requests::Requests;
 use crate::task::Task;
 use answer_cache::AnswerBook;
 use dns_answers::{Answer, Moment, ReplyRefusal};
@@ -116,36 +116,25 @@ pub(crate) fn settle_all<B: AnswerBook, F: Origin>(
     ensures same { AreSame requests.old requests.new }
     ensures settles { SettlesAll id (MayGoOn end.now) (MayEnd end.now) requests.old requests.new }
 {
-    'waits: for _wait in 0..requests.waiting_len() {
-        match requests.next_waiting() {
-            None => return,
-            Some(waiting) => settle::<B, F>(requests, waiting, id, end),
-        }
+    'waits: while let Some(task) = requests.next_waiting_for(id) {
+        settle::<B, F>(requests, task, end);
     }
 }
 
-/// Puts a request back that was taken out of those that wait, as the wait for the reply to the
-/// message of this id ended so.
+/// Puts a request back that was taken out of those that wait, as its wait ended so.
 fn settle<B: AnswerBook, F: Origin>(
     requests: &mut Requests<B>,
-    waiting: Waiting<B>,
-    id: u16,
+    mut task: Task<B>,
     end: &WaitEnd<'_>,
 )
     requires room { count_of requests.old < requests.old.limit }
     ensures stand { (seat : SeatView) → IsKnown F.gives F.shows seat end.now
-        → IsCounted F.gives F.shows seat waiting.task
-        → Lacks F.shows seat waiting.task
+        → IsCounted F.gives F.shows seat task → Lacks F.shows seat task
         → Stand F.gives F.shows seat requests.old → Stand F.gives F.shows seat requests.new }
-    ensures back { IsBack (sought_of waiting.task) requests.old requests.new }
-    ensures settles { SettlesOne id (MayGoOn end.now) (MayEnd end.now) waiting
+    ensures back { IsBack (sought_of task) requests.old requests.new }
+    ensures settles { SettlesOne (MayGoOn end.now) (MayEnd end.now) task
         requests.old requests.new }
 {
-    let Waiting { id: own, mut task } = waiting;
-    if own != id {
-        requests.wait(own, task);
-        return;
-    }
     match wait_outcome_of::<B, F>(&mut task, end) {
         WaitOutcome::Ready => requests.add(task),
         WaitOutcome::Ended(outcome) => requests.end(task, outcome),

@@ -1,3 +1,4 @@
+use Rattle.std.proofs.Common.{length}
 use Rattle.answer_cache.specs.Seats.{SeatView}
 use Rattle.sip_resolver.proofs.Settling.{Settling}
 use Rattle.sip_resolver.specs.Requests.{AreSame, Stand}
@@ -9,5 +10,8 @@ invariant-waits g l = record {
   stand : (seat : SeatView) → IsKnown g.F.Origin.gives g.F.Origin.shows seat l.end
       → Stand g.F.Origin.gives g.F.Origin.shows seat l.fn.requests → Stand g.F.Origin.gives g.F.Origin.shows seat l.requests;
   same : AreSame l.fn.requests l.requests;
-  settling : Settling l.id (MayGoOn l.end) (MayEnd l.end) l.fn.requests l.requests l._wait;
+  settling : Settling l.id (MayGoOn l.end) (MayEnd l.end) l.fn.requests l.requests;
 }
+
+abbrev pub decreases-waits : goal.decreases-waits
+decreases-waits g l = length l.requests.waiting

@@ -1,0 +1,16 @@
+use Rattle.std.proofs.Common.{ap}
+use Rattle.sip_resolver.proofs.Waiters.{out-of-place}
+use Rattle.sip_resolver.specs.Queues.{Queued}
+use Rattle.sip_resolver.specs.Requests.{requests_of}
+use Rattle.sip_resolver.specs.Tasks.{WaitingView}
+use Rattle.sip_resolver.proofs.requests.Requests.next_waiting_for.Goals as goal
+
+pub returns : goal.returns
+returns g c =
+    let it = c.self.inside in
+    let found = rw (← c.self.view_is) at c.in_ok-place.ensures in
+    let out = c.in_ok-waiting.ensures in
+    rw (← c.self.view_is, ap (λ (w : WaitingView). w.task) c.waiting.view_is)
+    (out-of-place c.args.id c.in_ok-place.place _ _ c.in_ok-waiting.waiting found out.there
+    (ap (λ (q : Queued WaitingView). requests_of it.ready.items it.held.items q.items it.ended.items it.limit) out.left)
+    c.self.invariant.few)
