@@ -4,7 +4,6 @@ use Rattle.std.specs.List.{All, Contains, filter, find}
 use Rattle.std.specs.Option.{IsSome}
 use Rattle.std.proofs.lemmas.List.{append-nil}
 use Rattle.std.proofs.lemmas.List.Elements.{All-filter}
-use Rattle.std.proofs.lemmas.List.Filters.{length-filter_both}
 use Rattle.answer_cache.specs.Seats.{SeatView}
 use Rattle.dns_asker.specs.Tickets.{Asking, Ticket, has_id}
 use Rattle.sip_resolver.proofs.Abandoned.{awaited-behind, awaited-left, awaited-self, awaited-turned, questions-not, questions-through}
@@ -14,17 +13,8 @@ use Rattle.sip_resolver.specs.Cancels.{is_awaited, others_by, questions_left, re
 use Rattle.sip_resolver.specs.Idle.{AreAwaited, IsIn}
 use Rattle.sip_resolver.specs.Outcomes.{Ended, IsOutcome}
 use Rattle.sip_resolver.specs.Questions.{QuestionsView}
-use Rattle.sip_resolver.specs.Queues.{Queued}
-use Rattle.sip_resolver.specs.Requests.{HaveRoom, IsWithoutWaiting, RequestsView, Stand, number_of_ended, number_of_waiting, numbers_of, requests_of}
+use Rattle.sip_resolver.specs.Requests.{IsWithoutEnded, IsWithoutHeld, IsWithoutReady, IsWithoutWaiting, RequestsView, Stand, number_of_ended, number_of_waiting, numbers_of, requests_of}
 use Rattle.sip_resolver.specs.Tasks.{IsCounted, Lacks, TaskView, WaitingView}
-
--- they are no more than before
-pub others-few : {X : Type 0} (numbered : X → ℕ) (number : ℕ) (items : List X)
-    → length (others_by numbered number items) ≤ length items
-others-few numbered number items =
-    let all = length-filter_both (λ it. not (nat_eq (numbered it) number)) (λ it. not (not (nat_eq (numbered it) number)))
-    (λ _. refl) items in
-    omega (arith, all)
 
 module _ (number : ℕ) (it : RequestsView) where
   abbrev readies : List ℕ
@@ -181,22 +171,39 @@ turned-over number old now asked asks count so all =
     ∙ ap (λ l. requests_of old.ready old.held l old.ended old.limit)
     (circled-over (λ it. not (nat_eq (number_of_waiting it) number)) old.waiting now.waiting count so.circled all)
 
--- ---- room
+-- ---- a turn of those that do not wait
 
-pub room-left : (first second third : ℕ) (ready held : Queued TaskView) (waiting : Queued WaitingView) (ended : Queued Ended) (limit : ℕ)
-    → HaveRoom ready held waiting ended limit
-    → HaveRoom (record ready { items = others_by (λ task. task.number) first ready.items })
-    (record held { items = others_by (λ task. task.number) second held.items }) waiting
-    (record ended { items = others_by number_of_ended third ended.items }) limit
-room-left first second third ready held waiting ended limit it = record {
-  ready_room = it.ready_room;
-  held_room = it.held_room;
-  waiting_room = it.waiting_room;
-  ended_room = it.ended_room;
-  few =
-      let few = it.few in
-      let one = others-few (λ (task : TaskView). task.number) first ready.items in
-      let two = others-few (λ (task : TaskView). task.number) second held.items in
-      let three = others-few number_of_ended third ended.items in
-      omega (arith, few, one, two, three);
-}
+module _ (number : ℕ) (old now middle new : RequestsView) where
+  -- only one queue changes
+  pub only-ready : (task : TaskView) → now ≡ record old { ready = now.ready } → IsWithoutReady task now middle
+      → new ≡ record middle { ready = middle.ready ++ others_by (λ task. task.number) number (task ∷ []) }
+      → new ≡ record old { ready = new.ready }
+  only-ready task so out back =
+      let last = middle.ready ++ others_by (λ (it : TaskView). it.number) number (task ∷ []) in
+      let is : new.ready ≡ last = ap (λ (v : RequestsView). v.ready) back in
+      back
+      ∙ ap (λ (v : RequestsView). record v { ready = last }) out.others
+      ∙ ap (λ (v : RequestsView). record v { ready = last }) so
+      ∙ ap (λ l. requests_of l old.held old.waiting old.ended old.limit) (sym is)
+
+  pub only-held : (task : TaskView) → now ≡ record old { held = now.held } → IsWithoutHeld task now middle
+      → new ≡ record middle { held = middle.held ++ others_by (λ task. task.number) number (task ∷ []) }
+      → new ≡ record old { held = new.held }
+  only-held task so out back =
+      let last = middle.held ++ others_by (λ (it : TaskView). it.number) number (task ∷ []) in
+      let is : new.held ≡ last = ap (λ (v : RequestsView). v.held) back in
+      back
+      ∙ ap (λ (v : RequestsView). record v { held = last }) out.others
+      ∙ ap (λ (v : RequestsView). record v { held = last }) so
+      ∙ ap (λ l. requests_of old.ready l old.waiting old.ended old.limit) (sym is)
+
+  pub only-ended : (ended : Ended) → now ≡ record old { ended = now.ended } → IsWithoutEnded ended now middle
+      → new ≡ record middle { ended = middle.ended ++ others_by number_of_ended number (ended ∷ []) }
+      → new ≡ record old { ended = new.ended }
+  only-ended ended so out back =
+      let last = middle.ended ++ others_by number_of_ended number (ended ∷ []) in
+      let is : new.ended ≡ last = ap (λ (v : RequestsView). v.ended) back in
+      back
+      ∙ ap (λ (v : RequestsView). record v { ended = last }) out.others
+      ∙ ap (λ (v : RequestsView). record v { ended = last }) so
+      ∙ ap (λ l. requests_of old.ready old.held old.waiting l old.limit) (sym is)

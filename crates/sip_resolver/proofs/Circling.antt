@@ -4,7 +4,6 @@ use Rattle.std.specs.List.{Contains, filter}
 use Rattle.std.proofs.lemmas.List.{append-nil, length-append}
 use Rattle.std.proofs.lemmas.List.Elements.{All-contains, All-map, All-weaker, Contains-append_right, filter-append, filter_passes}
 use Rattle.sip_resolver.specs.Cancels.{others_by}
-use Rattle.sip_resolver.specs.Queues.{Queued}
 
 module _ {X : Type 0} (p : X → Bool) where
   -- so many of the items were taken, and those that pass stand behind the others
@@ -114,44 +113,3 @@ module _ {X : Type 0} (numbered : X → ℕ) (number : ℕ) where
       (All-map (λ n. n ≢ number) numbered (others_by numbered number xs)
       (All-weaker (λ it. is-other it ≡ true) (λ it. numbered it ≢ number) (λ it e. other-than (numbered it) number e)
       (others_by numbered number xs) (filter_passes is-other xs))) there refl
-
--- ---- a queue
-
-module _ {X : Type 0} (p : X → Bool) where
-  -- and there is room for all
-  pub record Circling (old now : Queued X) (count : ℕ) : Type 0 where
-    pub circled : Circled p old.items now.items count
-    pub room : now.room ≡ old.room
-    pub fits : length now.items ≤ now.room
-
-  pub circling-not : (old : Queued X) → length old.items ≤ old.room → Circling old old 0
-  circling-not old fits = record { circled = circled-not p old.items; room = refl; fits = fits }
-
-  few-by : (x : X) (is : Bool) → p x ≡ is → length (filter p (x ∷ [])) ≤ 1
-  few-by x true is = rw is omega arith
-  few-by x false is = rw is omega arith
-
-  pub circling-on : (old now middle new : Queued X) (x : X) (count : ℕ) → Circling old now count → now.items ≡ x ∷ middle.items
-      → middle.room ≡ now.room → count < length old.items
-      → new ≡ record middle { items = middle.items ++ filter p (x ∷ []) } → Circling old new (count + 1)
-  circling-on old now middle new x count it first room less back =
-      let items : new.items ≡ middle.items ++ filter p (x ∷ []) = ap (λ (q : Queued X). q.items) back in
-      let same : new.room ≡ middle.room = ap (λ (q : Queued X). q.room) back in
-      let one = few-by x (p x) refl in
-      let long = ap length items ∙ length-append middle.items (filter p (x ∷ [])) in
-      let before : length now.items ≡ suc (length middle.items) = ap length first in
-      let fits = it.fits in
-      record {
-        circled = circled-on p old.items now.items middle.items new.items x count it.circled first less items;
-        room = same ∙ room ∙ it.room;
-        fits = omega (arith, one, long, before, fits, room, same);
-      }
-
-  abbrev queued : List X → ℕ → Queued X
-  queued items room = record { items = items; room = room }
-
-  pub circling-over : (old now : Queued X) (count : ℕ) → Circling old now count → length old.items ≤ count
-      → now ≡ record old { items = filter p old.items }
-  circling-over old now count it all =
-      ap (λ i. queued i now.room) (circled-over p old.items now.items count it.circled all)
-      ∙ ap (λ r. queued (filter p old.items) r) it.room

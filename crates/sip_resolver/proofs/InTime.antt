@@ -1,16 +1,18 @@
--- That no request inside is late, by the first moment by which one ends.
-use Rattle.std.proofs.Common.{◌≡◌, ℕ, ◌<◌, ◌≤◌, nat_le, Bool, true, not, List, [], ◌∷◌, ◌++◌, Option, Some, None, refl, ap, arith}
-use Rattle.std.specs.List.{All, filter, filter_map}
-use Rattle.std.proofs.lemmas.Bool.{lt-leb}
+-- That no request inside is late, by the moment before which none ends.
+use Rattle.std.proofs.Common.{◌≡◌, ℕ, ◌<◌, ◌≤◌, nat_le, Bool, true, false, not, List, [], ◌∷◌, ◌++◌, Option, Some, None, refl, ap, arith}
+use Rattle.std.specs.List.{All, filter, filter_map, sum_by}
+use Rattle.std.proofs.lemmas.Bool.{leb-false, lt-leb}
 use Rattle.std.proofs.lemmas.List.Elements.{All-cons, All-head, All-nil, All-tail, All-weaker}
 use Rattle.sip_resolver.proofs.Abandoned.{questions-not}
+use Rattle.sip_resolver.proofs.Earlier.{moments, moments-in, never-any, none-sooner}
 use Rattle.sip_resolver.proofs.Expiring.{late-not}
 use Rattle.sip_resolver.proofs.Weighing.{same-not}
+use Rattle.sip_resolver.specs.Earliest.{IsEarliest, ends_before, untils_in}
 use Rattle.sip_resolver.specs.Expiries.{AreExpired, HaveTime, has_time, is_expired, untils_of, waits_in_time}
-use Rattle.sip_resolver.specs.Questions.{IsLeast}
 use Rattle.sip_resolver.specs.Requests.{RequestsView}
 use Rattle.sip_resolver.specs.Resolvers.{Expires, ResolverView}
 use Rattle.sip_resolver.specs.Tasks.{TaskView, WaitingView}
+use Rattle.sip_resolver.specs.declared.earliest.Earliest.{Earliest}
 
 keep-all : {X : Type 0} (p : X → Bool) (items : List X) → All (λ it. p it ≡ true) items → filter p items ≡ items
 keep-all p [] all = refl
@@ -57,13 +59,19 @@ module _ (now : ℕ) where
         waiting = all-later (λ (one : WaitingView). one.task.until) it.waiting one.1;
       }
 
-  pub have-time : (it : RequestsView) (first : Option ℕ) → IsLeast (untils_of it) first
-      → ((until : ℕ) → first ≡ Some until → now < until) → HaveTime now it
-  have-time it None is later = all-have it (rw is (All-nil (λ until. now < until)))
-  have-time it (Some first) is later =
-      let after = later first refl in
-      all-have it (All-weaker (λ until. first ≤ until) (λ until. now < until) (λ until least. omega (arith, least, after))
-      (untils_of it) is.1)
+  later-than : (first : Option ℕ) (untils : List (Option ℕ)) → sum_by (ends_before first) untils ≡ 0 → is_expired now first ≡ false
+      → All (λ until. now < until) (moments untils)
+  later-than None untils none not-yet = rw (never-any untils none) (All-nil (λ until. now < until))
+  later-than (Some first) untils none not-yet =
+      let after = leb-false first now not-yet in
+      All-weaker (λ until. first ≤ until) (λ until. now < until) (λ until least. omega (arith, least, after)) (moments untils)
+      (none-sooner first untils none)
+
+  pub have-time : (it : RequestsView) (first : Earliest) → IsEarliest (untils_in it.ready it.held it.waiting) first
+      → is_expired now first.moment ≡ false → HaveTime now it
+  have-time it first so not-yet =
+      let all = later-than first.moment (untils_in it.ready it.held it.waiting) so.none_before not-yet in
+      all-have it (rw (moments-in it.ready it.held it.waiting) at all)
 
   expired-not : (it : RequestsView) → HaveTime now it → AreExpired now it it
   expired-not it have = record {

@@ -1,4 +1,6 @@
 pub mod Queues
+pub mod Earlier
+pub mod Kept
 pub mod Standing
 pub mod Going
 pub mod Weighing

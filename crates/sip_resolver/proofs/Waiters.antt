@@ -133,22 +133,31 @@ module _ {X : Type 0} (x : X) (later : List X) where
       let k = all-of P first (All-tail P y (first ++ x ∷ later) all) in
       (All-cons P y (first ++ later) (All-head P y (first ++ x ∷ later) all) k.0, k.1)
 
+module _ (id place : ℕ) (waiting : List WaitingView) (it : WaitingView) (found : IsFirstFor id place waiting)
+    (there : slice_get waiting place ≡ Some it) where
+  its-self : it ≡ waiter id found.task
+  its-self =
+      let there' : slice_get (found.first ++ waiter id found.task ∷ found.later) (length found.first) ≡ Some it =
+      rw (found.place_is, ← found.are) there in
+      taken-of (waiter id found.task) found.later found.first it there'
+
+  -- it stands between the others, which are left
+  pub place-is : waiting ≡ found.first ++ it ∷ found.later
+  place-is = rw its-self found.are
+
+  pub left-is : remove waiting place ≡ found.first ++ found.later
+  left-is = rw (found.are, ← found.place_is) (left-of (waiter id found.task) found.later found.first)
+
 module _ (id place : ℕ) (old new : RequestsView) (it : WaitingView) (found : IsFirstFor id place old.waiting)
     (there : slice_get old.waiting place ≡ Some it) where
   its-task : it.task ≡ found.task
-  its-task =
-      let there' : slice_get (found.first ++ waiter id found.task ∷ found.later) (length found.first) ≡ Some it =
-      rw (found.place_is, ← found.are) there in
-      ap (λ (w : WaitingView). w.task) (taken-of (waiter id found.task) found.later found.first it there')
-
-  left-is : remove old.waiting place ≡ found.first ++ found.later
-  left-is = rw (found.are, ← found.place_is) (left-of (waiter id found.task) found.later found.first)
+  its-task = ap (λ (w : WaitingView). w.task) (its-self id place old.waiting it found there)
 
   pub out-of-place : new ≡ record old { waiting = remove old.waiting place } → count_of old ≤ old.limit
       → IsWithoutWaitingFor id it.task old new
   out-of-place is few =
       let others : new ≡ record old { waiting = found.first ++ found.later } =
-      is ∙ ap (λ l. requests_of old.ready old.held l old.ended old.limit) left-is in
+      is ∙ ap (λ l. requests_of old.ready old.held l old.ended old.limit) (left-is id place old.waiting it found there) in
       record {
         first = found.first;
         later = found.later;

@@ -5,6 +5,7 @@ pub mod Ends
 pub mod Tasks
 pub mod Sends
 pub mod Queues
+pub mod Earliest
 pub mod Requests
 pub mod Cancels
 pub mod Expiries

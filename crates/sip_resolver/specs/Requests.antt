@@ -1,10 +1,12 @@
 -- The requests inside a resolver.
-use Rattle.std.specs.Prelude.{◌≡◌, ◌==◌, ℕ, ◌+◌, ◌<◌, ◌≤◌, Bool, not, List, [], ◌∷◌, ◌++◌, length, map}
+use Rattle.std.specs.Prelude.{◌≡◌, ◌==◌, ℕ, ◌+◌, ◌^◌, ◌<◌, ◌≤◌, Bool, not, List, [], ◌∷◌, ◌++◌, length, map}
 use Rattle.std.specs.List.{All, Contains, filter, sum_by}
 use Rattle.answer_cache.specs.Seats.{SeatView}
+use Rattle.sip_resolver.specs.Earliest.{IsEarliest, untils_in}
 use Rattle.sip_resolver.specs.Outcomes.{Ended, IsOutcome, Sought}
 use Rattle.sip_resolver.specs.Queues.{Queued}
 use Rattle.sip_resolver.specs.Tasks.{IsCounted, Lacks, TaskView, WaitingView, sought_of}
+use Rattle.sip_resolver.specs.declared.earliest.Earliest.{Earliest}
 
 -- the requests inside: those that can go on, those held because no other question can be asked,
 -- those that wait for replies, and those that ended and were not taken; and how many there can be
@@ -116,6 +118,7 @@ pub record IsWithoutWaitingFor (id : ℕ) (task : TaskView) (old new : RequestsV
 pub record IsWithoutEnded (ended : Ended) (old new : RequestsView) : Type 0 where
   pub first : old.ended ≡ ended ∷ new.ended
   pub others : new ≡ record old { ended = new.ended }
+  pub room : count_of new < new.limit
 
 -- ---- room
 
@@ -128,6 +131,13 @@ pub record HaveRoom (ready held : Queued TaskView) (waiting : Queued WaitingView
   pub ended_room : ended.room ≡ limit
   pub few : length ready.items + length held.items + length waiting.items + length ended.items
       ≤ limit
+
+-- each queue has room for all, and what is known of the first moment by which one ends is so
+pub record AreKept (ready held : Queued TaskView) (waiting : Queued WaitingView)
+    (ended : Queued Ended) (limit : ℕ) (earliest : Earliest) : Type 0 where
+  pub room : HaveRoom ready held waiting ended limit
+  pub fits : limit < 2 ^ 64
+  pub earliest_is : IsEarliest (untils_in ready.items held.items waiting.items) earliest
 
 -- ---- what is so of them, at a seat
 

@@ -64,6 +64,7 @@ mod asks;
 mod cancels;
 mod draw;
 mod drive;
+mod earliest;
 mod expiries;
 mod id_streams;
 mod ids;

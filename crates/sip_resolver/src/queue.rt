@@ -1,7 +1,7 @@
 //! A queue whose room is taken once.
 ghost use Rattle.std.specs.Prelude.{◌≡◌, ◌↔◌, ◌<◌, ◌≤◌, ℕ, List, [], ◌∷◌, ◌++◌, Option, Some, IfOk, IsSomeAnd, IsTrue, MatchOption, length, map, slice_get};
-ghost use Rattle.std.specs.List.{Contains, filter_map};
-ghost use Rattle.sip_resolver.specs.Cancels.{others_by};
+ghost use Rattle.std.specs.List.{Contains, filter_map, sum_by};
+ghost use Rattle.sip_resolver.specs.Earliest.{ends_at};
 ghost use Rattle.sip_resolver.specs.Questions.{IsLeast};
 ghost use Rattle.sip_resolver.specs.Queues.{IsWithoutAt};
 
@@ -122,6 +122,30 @@ impl<T: Timed> Queue<T> {
         }
         least
     }
+
+    /// How many of them end at this moment.
+    pub(crate) fn count_at(&self, moment: u64) -> usize
+        ensures count { result
+            ≡ sum_by (λ it. ends_at (Some moment) (T.until_of it)) self.now.items }
+        ensures few { result ≤ length self.now.items }
+    {
+        let mut count = 0;
+        'items: for at in 0..self.items.len() {
+            let item = &self.items[at];
+            count += one_at(moment, item.its_until());
+        }
+        count
+    }
+}
+
+/// 1 where the second moment is the first one, and else 0.
+fn one_at(moment: u64, until: Option<u64>) -> usize
+    ensures { result ≡ ends_at (Some moment) until }
+{
+    match until {
+        Some(until) if until == moment => 1,
+        _ => 0,
+    }
 }
 
 /// The least of two numbers, if there are any.
@@ -139,33 +163,5 @@ pub(crate) fn least_of(one: Option<u64>, other: Option<u64>) -> Option<u64>
         Some(first)
     } else {
         Some(second)
-    }
-}
-
-impl<T: Numbered + Drop> Queue<T> {
-    /// Takes all out that have this number.
-    pub(crate) fn remove_all(&mut self, number: u64)
-        requires { length self.old.items ≤ self.old.room }
-        ensures { self.new
-            ≡ record self.old { items = others_by T.numbered number self.old.items } }
-    {
-        'items: for _item in 0..self.len() {
-            match self.pop() {
-                None => return,
-                Some(item) => self.push_other(item, number),
-            }
-        }
-    }
-
-    /// One more, which comes last, unless it has this number.
-    fn push_other(&mut self, item: T, number: u64)
-        requires { length self.old.items < self.old.room }
-        ensures { self.new ≡ record self.old {
-          items = self.old.items ++ others_by T.numbered number (item ∷ []);
-        } }
-    {
-        if item.its_number() != number {
-            self.push(item);
-        }
     }
 }

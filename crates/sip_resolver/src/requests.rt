@@ -1,13 +1,15 @@
 //! The requests inside a resolver, by how far they are.
 ghost use Rattle.std.specs.Prelude.{◌≡◌, ◌↔◌, ◌<◌, ◌≤◌, [], ◌∷◌, ◌++◌, IfOk, IfSome, IsFalse, IsTrue, MatchOption, length, map};
 ghost use Rattle.std.specs.List.{All, Contains};
-ghost use Rattle.sip_resolver.specs.Cancels.{is_awaited, others_by};
+ghost use Rattle.sip_resolver.specs.Cancels.{is_awaited};
+ghost use Rattle.sip_resolver.specs.Earliest.{IsEarliest, untils_in};
 ghost use Rattle.sip_resolver.specs.Expiries.{HaveTime, untils_of};
 ghost use Rattle.sip_resolver.specs.Outcomes.{Ended};
 ghost use Rattle.sip_resolver.specs.Questions.{IsLeast};
 ghost use Rattle.sip_resolver.specs.Requests.{IsAwaitedBy, IsFirstFor, IsWithoutEnded, IsWithoutHeld, IsWithoutReady, IsWithoutWaiting, IsWithoutWaitingFor, count_of, number_of_ended, numbers_of, requests_of, waiting_for};
 ghost use Rattle.sip_resolver.specs.Tasks.{sought_of};
 
+use crate::earliest::Earliest;
 use crate::outcome::{Outcome, Resolved};
 use crate::queue::{Numbered, Queue, Timed, least_of};
 use crate::task::Task;
@@ -59,17 +61,20 @@ pub(crate) struct Requests<B> {
     ended: Queue<Resolved<B>>,
     /// How many there can be.
     limit: usize,
+    /// The first moment by which one ends that has not ended.
+    earliest: Earliest,
 }
 
 impl<B> Model for Requests<B> {
-    ghost use Rattle.sip_resolver.specs.Requests.{RequestsView, HaveRoom, requests_of};
+    ghost use Rattle.sip_resolver.specs.Requests.{RequestsView, AreKept, requests_of};
 
     ghost Value = { RequestsView };
 
     ghost view = { λ it. requests_of it.ready.items it.held.items it.waiting.items
         it.ended.items it.limit };
 
-    ghost invariant = { λ it. HaveRoom it.ready it.held it.waiting it.ended it.limit };
+    ghost invariant = { λ it.
+        AreKept it.ready it.held it.waiting it.ended it.limit it.earliest };
 }
 
 impl<B> Requests<B> {
@@ -83,6 +88,7 @@ impl<B> Requests<B> {
             waiting: Queue::new(alloc, limit)?,
             ended: Queue::new(alloc, limit)?,
             limit,
+            earliest: Earliest::never(),
         })
     }
 
@@ -159,18 +165,48 @@ impl<B> Requests<B> {
     pub(crate) fn next_until(&self) -> Option<u64>
         ensures { IsLeast (untils_of self.now) result }
     {
+        if self.earliest.is_past() {
+            return self.find_until();
+        }
+        self.earliest.moment()
+    }
+
+    /// Looks along all that have not ended for the first moment by which one ends.
+    fn find_until(&self) -> Option<u64>
+        ensures { IsLeast (untils_of self.now) result }
+    {
         let can_go_on = least_of(self.ready.next_until(), self.held.next_until());
         least_of(can_go_on, self.waiting.next_until())
     }
 
-    /// Whether the time of one that has not ended is over.
-    pub(crate) fn has_late(&self, now: Moment) -> bool
-        ensures { IsFalse result → HaveTime now self.now }
+    /// The first moment by which one ends, and how many end at it.
+    fn find_earliest(&self) -> Earliest
+        ensures { IsEarliest (untils_in self.now.ready self.now.held self.now.waiting) result }
     {
-        match self.next_until() {
-            None => false,
-            Some(until) => until <= now.get(),
+        let Some(moment) = self.find_until() else {
+            return Earliest::never();
+        };
+        let can_go_on = self.ready.count_at(moment) + self.held.count_at(moment);
+        Earliest::at(moment, can_go_on + self.waiting.count_at(moment))
+    }
+
+    /// Looks for the first moment by which one ends, where none ends any more at the one that is
+    /// known.
+    fn refresh_earliest(&mut self)
+        ensures { self.new ≡ self.old }
+    {
+        if self.earliest.is_past() {
+            self.earliest = self.find_earliest();
         }
+    }
+
+    /// Whether the time of one that has not ended is over.
+    pub(crate) fn has_late(&mut self, now: Moment) -> bool
+        ensures late { IsFalse result → HaveTime now self.new }
+        ensures unchanged { self.new ≡ self.old }
+    {
+        self.refresh_earliest();
+        self.earliest.has_come(now.get())
     }
 
     /// How many can go on.
@@ -194,11 +230,19 @@ impl<B> Requests<B> {
         self.waiting.len()
     }
 
+    /// How many ended.
+    pub(crate) fn ended_len(&self) -> usize
+        ensures { result ≡ length self.now.ended }
+    {
+        self.ended.len()
+    }
+
     /// One more that can go on.
     pub(crate) fn add(&mut self, task: Task<B>)
         requires { count_of self.old < self.old.limit }
         ensures { self.new ≡ record self.old { ready = self.old.ready ++ task ∷ [] } }
     {
+        self.earliest.add(task.its_until());
         self.ready.push(task);
     }
 
@@ -207,6 +251,7 @@ impl<B> Requests<B> {
         requires { count_of self.old < self.old.limit }
         ensures { self.new ≡ record self.old { held = self.old.held ++ task ∷ [] } }
     {
+        self.earliest.add(task.its_until());
         self.held.push(task);
     }
 
@@ -217,6 +262,7 @@ impl<B> Requests<B> {
           waiting = self.old.waiting ++ record { id = id; task = task } ∷ [];
         } }
     {
+        self.earliest.add(task.its_until());
         self.waiting.push(Waiting { id, task });
     }
 
@@ -227,7 +273,15 @@ impl<B> Requests<B> {
           ended = self.old.ended ++ record { sought = sought_of task; outcome = outcome } ∷ [];
         } }
     {
-        self.ended.push(Resolved::new(task, outcome));
+        self.put_ended(Resolved::new(task, outcome));
+    }
+
+    /// One more that ended.
+    pub(crate) fn put_ended(&mut self, ended: Resolved<B>)
+        requires { count_of self.old < self.old.limit }
+        ensures { self.new ≡ record self.old { ended = self.old.ended ++ ended ∷ [] } }
+    {
+        self.ended.push(ended);
     }
 
     /// Takes the first one out that can go on.
@@ -235,7 +289,9 @@ impl<B> Requests<B> {
         ensures { MatchOption result ((self.old.ready ≡ []) × (self.new ≡ self.old))
             (λ task. IsWithoutReady task self.old self.new) }
     {
-        self.ready.pop()
+        let task = self.ready.pop()?;
+        self.earliest.remove(task.its_until());
+        Some(task)
     }
 
     /// Takes the first one out that is held.
@@ -243,7 +299,9 @@ impl<B> Requests<B> {
         ensures { MatchOption result ((self.old.held ≡ []) × (self.new ≡ self.old))
             (λ task. IsWithoutHeld task self.old self.new) }
     {
-        self.held.pop()
+        let task = self.held.pop()?;
+        self.earliest.remove(task.its_until());
+        Some(task)
     }
 
     /// Takes the first one out that waits.
@@ -251,7 +309,9 @@ impl<B> Requests<B> {
         ensures { MatchOption result ((self.old.waiting ≡ []) × (self.new ≡ self.old))
             (λ waiting. IsWithoutWaiting waiting self.old self.new) }
     {
-        self.waiting.pop()
+        let waiting = self.waiting.pop()?;
+        self.earliest.remove(waiting.its_until());
+        Some(waiting)
     }
 
     /// Takes the first one out that waits for the reply to the message of this id. The others stay
@@ -263,6 +323,7 @@ impl<B> Requests<B> {
     {
         let place = self.first_for(id)?;
         let waiting = self.waiting.remove(place)?;
+        self.earliest.remove(waiting.its_until());
         Some(waiting.task)
     }
 
@@ -272,18 +333,5 @@ impl<B> Requests<B> {
             (λ ended. IsWithoutEnded ended self.old self.new) }
     {
         self.ended.pop()
-    }
-
-    /// Takes all out that have this number and do not wait.
-    pub(crate) fn remove_not_waiting(&mut self, number: u64)
-        ensures { self.new ≡ record self.old {
-          ready = others_by (λ task. task.number) number self.old.ready;
-          held = others_by (λ task. task.number) number self.old.held;
-          ended = others_by number_of_ended number self.old.ended;
-        } }
-    {
-        self.ready.remove_all(number);
-        self.held.remove_all(number);
-        self.ended.remove_all(number);
     }
 }

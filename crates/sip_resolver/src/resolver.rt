@@ -22,7 +22,7 @@ ghost use Rattle.sip_resolver.specs.Tasks.{IsCounted, sought_of};
 ghost use Rattle.sip_resolver.specs.Works.{HandsBy, IsAtMostOne, MayHand, Works};
 
 use crate::asks::wait_for_answer;
-use crate::cancels::remove_waiting;
+use crate::cancels::{remove_not_waiting, remove_waiting};
 use crate::expiries::{expire_held, expire_ready, expire_waiting};
 use crate::ids::Ids;
 use crate::origin::Origin;
@@ -313,7 +313,7 @@ impl<B: AnswerBook, F: Origin, I: Ids + Drop> Resolver<B, F, I> {
             return false;
         }
         remove_waiting(&mut self.requests, &mut self.questions, number);
-        self.requests.remove_not_waiting(number);
+        remove_not_waiting(&mut self.requests, number);
         true
     }
 

@@ -1,13 +1,8 @@
-use Rattle.std.proofs.Common.{◌≡◌, ◌<◌, Some, None, subst}
-use Rattle.std.proofs.lemmas.Bool.{leb-false}
+use Rattle.std.proofs.Common.{sym, ◌∙◌}
 use Rattle.sip_resolver.proofs.InTime.{have-time}
 use Rattle.sip_resolver.proofs.requests.Requests.has_late.Goals as goal
 
-pub returns-in-None : goal.returns-in-None
-returns-in-None g c = λ no. have-time c.args.now c.args.self.now None (rw c.in-None.is at c.next_until.ensures) (λ until is. absurd cc)
-
-pub returns-in-Some : goal.returns-in-Some
-returns-in-Some g c = λ no.
-    have-time c.args.now c.args.self.now (Some c.in-Some.until) (rw c.in-Some.is at c.next_until.ensures)
-    (λ until is. let same : c.in-Some.until ≡ until = cc in
-    subst (λ it. c.args.now < it) same (leb-false c.in-Some.until c.args.now (rw c.get.ensures.seconds at no)))
+pub returns-clause-late : goal.returns-clause-late
+returns-clause-late g c = λ no.
+    let come = rw c.get.ensures.seconds at c.has_come.ensures in
+    rw (← c.self.view_is) (have-time c.args.now _ c.self.inside.earliest c.self.invariant.earliest_is (sym come ∙ no))

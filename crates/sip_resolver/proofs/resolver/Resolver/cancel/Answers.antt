@@ -26,13 +26,13 @@ returns-then-not-has-clause-questions g c = questions-not c.args.self.now.questi
 
 pub returns-clause-gone : goal.returns-clause-gone
 returns-clause-gone g c =
-    let left : c.remove_not_waiting.new.self ≡ requests_without c.args.number c.self.inside.requests =
+    let left : c.remove_not_waiting.new.requests ≡ requests_without c.args.number c.self.inside.requests =
     c.remove_not_waiting.ensures ∙ ap (rest c.args.number) c.remove_waiting.ensures.requests in
     rw left (without-lacks c.args.number c.self.inside.requests)
 
 pub returns-clause-stand : goal.returns-clause-stand
 returns-clause-stand g c =
-    let left : c.remove_not_waiting.new.self ≡ requests_without c.args.number c.self.inside.requests =
+    let left : c.remove_not_waiting.new.requests ≡ requests_without c.args.number c.self.inside.requests =
     c.remove_not_waiting.ensures ∙ ap (rest c.args.number) c.remove_waiting.ensures.requests in
     rw (← c.self.view_is)
     (λ seat it.
@@ -40,7 +40,7 @@ returns-clause-stand g c =
 
 pub returns-clause-awaited : goal.returns-clause-awaited
 returns-clause-awaited g c =
-    let left : c.remove_not_waiting.new.self ≡ requests_without c.args.number c.self.inside.requests =
+    let left : c.remove_not_waiting.new.requests ≡ requests_without c.args.number c.self.inside.requests =
     c.remove_not_waiting.ensures ∙ ap (rest c.args.number) c.remove_waiting.ensures.requests in
     let questions : c.remove_waiting.new.questions
     ≡ questions_left c.self.inside.requests.waiting (requests_without c.args.number c.self.inside.requests).waiting
@@ -63,6 +63,6 @@ returns-then-not-has-clause-kept g c =
 
 pub returns-clause-kept : goal.returns-clause-kept
 returns-clause-kept g c =
-    let left : c.remove_not_waiting.new.self ≡ requests_without c.args.number c.self.inside.requests =
+    let left : c.remove_not_waiting.new.requests ≡ requests_without c.args.number c.self.inside.requests =
     c.remove_not_waiting.ensures ∙ ap (rest c.args.number) c.remove_waiting.ensures.requests in
     rw (← c.self.view_is) (λ h. rw left (out-of-all h c.args.number c.self.inside.requests))
