@@ -228,7 +228,8 @@ counted until untils it so =
 abbrev pub moments : List (Option ℕ) → List ℕ
 moments untils = filter_map (λ until. until) untils
 
-none-by : (first : Option ℕ) (untils : List (Option ℕ)) → sum_by (ends_before first) untils ≡ 0 → All (λ it. ends_before first it ≡ 0) untils
+none-by : (first : Option ℕ) (untils : List (Option ℕ)) → sum_by (ends_before first) untils ≡ 0
+    → All (λ it. ends_before first it ≡ 0) untils
 none-by first [] none = All-nil (λ it. ends_before first it ≡ 0)
 none-by first (x ∷ xs) none =
     let all = sum_by-cons (ends_before first) x xs in

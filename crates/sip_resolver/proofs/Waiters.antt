@@ -68,7 +68,8 @@ module _ (id : ℕ) where
 
   there-awaited : (task : TaskView) (first later : List WaitingView) → is_awaited (first ++ waiter task ∷ later) id ≡ true
   there-awaited task [] later = rw (eq-eqb id id refl) refl
-  there-awaited task (x ∷ first) later = either-by (nat_eq x.id id) (is_awaited (first ++ waiter task ∷ later) id) (there-awaited task first later)
+  there-awaited task (x ∷ first) later = either-by (nat_eq x.id id) (is_awaited (first ++ waiter task ∷ later) id)
+      (there-awaited task first later)
 
   -- one waits where there is a first one
   pub awaited-where : (waiting : List WaitingView) (found : Option ℕ)

@@ -19,7 +19,8 @@ tasks-preserved g c =
     let new = c.add_other.new.requests in
     let less = rw c.ready_len-task-end.ensures at c.tasks-test.true in
     record {
-      circled = circled-on (λ (it : TaskView). not (nat_eq it.number c.args.number)) first.ready old.ready middle.ready new.ready c.in-Some.task c.tasks._task c.tasks.invariant.circled
+      circled = circled-on (λ (it : TaskView). not (nat_eq it.number c.args.number)) first.ready old.ready middle.ready
+          new.ready c.in-Some.task c.tasks._task c.tasks.invariant.circled
           c.in-Some.ensures.first less (ap (λ (v : RequestsView). v.ready) c.add_other.ensures);
       others = only-ready c.args.number first old middle new c.in-Some.task c.tasks.invariant.others c.in-Some.ensures c.add_other.ensures;
     }
@@ -28,7 +29,8 @@ pub returns-in-None : goal.returns-in-None
 returns-in-None g c =
     let less = rw c.ready_len-task-end.ensures at c.tasks-test.true in
     absurd
-    (circled-early (λ (it : TaskView). not (nat_eq it.number c.args.number)) c.args.requests.now.ready c.tasks.requests.ready c.tasks._task c.tasks.invariant.circled c.in-None.ensures.0 less)
+    (circled-early (λ (it : TaskView). not (nat_eq it.number c.args.number)) c.args.requests.now.ready c.tasks.requests.ready
+    c.tasks._task c.tasks.invariant.circled c.in-None.ensures.0 less)
 
 pub returns : goal.returns
 returns g c =
@@ -36,4 +38,5 @@ returns g c =
     let all = rw c.ready_len-task-end.ensures at c.tasks-test.false in
     c.tasks.invariant.others
     ∙ ap (λ l. requests_of l first.held first.waiting first.ended first.limit)
-    (circled-over (λ (it : TaskView). not (nat_eq it.number c.args.number)) first.ready c.tasks.requests.ready c.tasks._task c.tasks.invariant.circled all)
+    (circled-over (λ (it : TaskView). not (nat_eq it.number c.args.number)) first.ready c.tasks.requests.ready c.tasks._task
+    c.tasks.invariant.circled all)

@@ -12,5 +12,6 @@ invariant_of-self g c =
     let it = c.self.inside in
     let room = rw (← c.self.view_is) at c.requires in
     let added = rw c.its_until.ensures at c.add.ensures in
-    waiting-more it.ready it.held it.waiting it.ended it.limit it.earliest c.self.invariant (record { id = c.args.id; task = c.args.task }) c.push.new.self c.add.new.self
+    waiting-more it.ready it.held it.waiting it.ended it.limit it.earliest c.self.invariant
+    (record { id = c.args.id; task = c.args.task }) c.push.new.self c.add.new.self
     c.push.ensures room added
