@@ -1,5 +1,9 @@
+pub mod Cancelling
+pub mod Choosing
 pub mod HeldSteps
 pub mod LooseValues
 pub mod Receiving
+pub mod Resting
+pub mod Seating
 pub mod Soundness
 pub mod Transmitting

@@ -1,53 +1,78 @@
 -- Octets that came in, and the generations that take them.
-use Rattle.std.proofs.Common.{◌≡◌, ◌≢◌, inl, inr, List, Option, Some, None, ℕ, refl, sym, ap, ◌∙◌, subst, Result, Ok, Err}
-use Rattle.std.specs.Result.{IfOk, OnOk}
+use Rattle.std.proofs.Common.{◌≡◌, ◌≢◌, inl, inr, List, Option, Some, ℕ, refl, sym, ap, ◌∙◌, subst, Result, Ok, Err}
+use Rattle.std.specs.Result.{IfOk, OnErr, OnOk}
 use Rattle.dns_asker.specs.declared.incoming.Why.{Why}
-use Rattle.sip_resolver.specs.Resolvers.{Hears, ResolverView}
 use Rattle.sip_resolver.specs.declared.resolver.Heard.{Heard}
 use Rattle.sip_resolver.specs.declared.resolver.Heard.TheVariants.{Ignored}
 use Rattle.sip_resolver.specs.declared.transmit.Over.{Over}
 use Rattle.wokhleas.specs.Numbers.{number_of_over}
-use Rattle.wokhleas.specs.States.{GoesBy, IsReceived, Receives, ReceivesOlder, StateView, older, younger}
+use Rattle.wokhleas.specs.States.{GenerationView, IsReceived, Learns, Receives, ReceivesOlder, StateView, older, younger}
 
-module _ (over : Over) (octets : List ℕ) (old : StateView) where
-  -- the younger generation takes them
-  pub younger-takes : (heard : Heard) (after : ResolverView) → Hears old.current after over octets heard
-      → Receives over octets heard old (record old { current = after })
-  younger-takes heard after it = younger after it refl
+module _ (over : Over) (octets : List ℕ) (now : ℕ) where
+  -- a generation that ignores octets is as it was
+  ignores : (why : Why) (old new : GenerationView) → Learns over octets now (Ignored why) old new → new ≡ old
+  ignores why old new it = λ j. record { core = it.hears.1 j; seat = it.leaves j }
 
-  -- the younger one ignored them, and the older one took them, or none is there
-  older-by : (why : Why) (heard : Heard) (after : ResolverView) (new : StateView) → Hears old.current after over octets (Ignored why)
-      → ReceivesOlder over octets why heard (record old { current = after }) new → Receives over octets heard old new
-  older-by why heard after new it (inl (none, is, same)) =
-      subst (λ (h : Heard). Receives over octets h old new) (sym is) (younger after it same)
-  older-by why heard after new it (inr (before, last, was, its, same)) =
-      older before last was its (same ∙ ap (λ (c : ResolverView). record old { current = c; draining = Some last }) it.1)
+  module _ (old : StateView) where
+    -- the younger generation takes them
+    pub younger-takes : (heard : Heard) (after : GenerationView) → Learns over octets now heard old.current after
+        → Receives over octets now heard old (record old { current = after })
+    younger-takes heard after it = younger after it refl
 
-  pub older-takes : {E : Type 0} (why : Why) (result : Result Heard E) (after : ResolverView) (new : StateView)
-      → Hears old.current after over octets (Ignored why)
-      → IfOk result (λ heard. ReceivesOlder over octets why heard (record old { current = after }) new)
-      → IfOk result (λ heard. Receives over octets heard old new)
-  older-takes why (Ok heard) after new it its = older-by why heard after new it its
-  older-takes why (Err e) after new it its = tt
+    -- the older generation takes them
+    pub older-receives : {E : Type 0} (why : Why) (result : Result Heard E) (before after : GenerationView) → old.draining ≡ Some before
+        → IfOk result (λ heard. Learns over octets now heard before after)
+        → IfOk result (λ heard. ReceivesOlder over octets now why heard old (record old { draining = Some after }))
+    older-receives why (Ok heard) before after was it = inr (before, after, was, it, refl)
+    older-receives why (Err e) before after was it = tt
 
-  -- octets that were ignored leave all as it was
-  pub ignored-leaves : (why : Why) (new : StateView) → Receives over octets (Ignored why) old new → new ≡ old
-  ignored-leaves why new (younger after hears is) = is ∙ ap (λ (c : ResolverView). record old { current = c }) hears.1
-  ignored-leaves why new (older before after was hears is) =
-      is ∙ ap (λ (c : ResolverView). record old { draining = Some c }) hears.1
-      ∙ ap (λ (d : Option ResolverView). record old { draining = d }) (sym was)
+    -- the younger one ignored them, and the older one took them, or none is there
+    older-by : (why : Why) (heard : Heard) (after : GenerationView) (new : StateView)
+        → Learns over octets now (Ignored why) old.current after
+        → ReceivesOlder over octets now why heard (record old { current = after }) new → Receives over octets now heard old new
+    older-by why heard after new it (inl (none, is, same)) =
+        subst (λ (h : Heard). Receives over octets now h old new) (sym is) (younger after it same)
+    older-by why heard after new it (inr (before, last, was, its, same)) =
+        older before last was its
+        (same ∙ ap (λ (c : GenerationView). record old { current = c; draining = Some last }) (ignores why old.current after it))
 
--- what a handle has goes on otherwise
-pub goes-as : {P Q : StateView → StateView → Type 0} → ((old new : StateView) → P old new → Q old new)
-    → (old new : Option StateView) → GoesBy P old new → GoesBy Q old new
-goes-as f (Some old) (Some new) it = f old new it
-goes-as f (Some old) None it = it
-goes-as f None new it = it
+    pub older-takes : {E : Type 0} (why : Why) (result : Result Heard E) (after : GenerationView) (new : StateView)
+        → Learns over octets now (Ignored why) old.current after
+        → IfOk result (λ heard. ReceivesOlder over octets now why heard (record old { current = after }) new)
+        → IfOk result (λ heard. Receives over octets now heard old new)
+    older-takes why (Ok heard) after new it its = older-by why heard after new it its
+    older-takes why (Err e) after new it its = tt
+
+    -- where the older one finds no memory all is as it was
+    pub ignored-by-younger : {E : Type 0} (why : Why) (result : Result Heard E) (after : GenerationView) (new : StateView)
+        → Learns over octets now (Ignored why) old.current after → OnErr result (new ≡ record old { current = after })
+        → OnErr result (new ≡ old)
+    ignored-by-younger why (Ok heard) after new it same = tt
+    ignored-by-younger why (Err e) after new it same =
+        same ∙ ap (λ (c : GenerationView). record old { current = c }) (ignores why old.current after it)
+
+    -- octets that were ignored leave all as it was
+    pub ignored-leaves : (why : Why) (new : StateView) → Receives over octets now (Ignored why) old new → new ≡ old
+    ignored-leaves why new (younger after it is) =
+        is ∙ ap (λ (c : GenerationView). record old { current = c }) (ignores why old.current after it)
+    ignored-leaves why new (older before after was it is) =
+        is ∙ ap (λ (c : GenerationView). record old { draining = Some c }) (ignores why before after it)
+        ∙ ap (λ (d : Option GenerationView). record old { draining = d }) (sym was)
 
 -- octets that were not ignored are received
-pub received-as : {E : Type 0} (over : Over) (octets : List ℕ) (heard : Heard) (result : Result (Unit {0}) E) (old new : StateView)
-    → OnOk result ((why : Why) → heard ≢ Ignored why) → Receives over octets heard old new
-    → OnOk result (IsReceived (number_of_over over) octets old new)
-received-as over octets heard (Ok x) old new reply receives =
+pub received-as : {E : Type 0} (over : Over) (octets : List ℕ) (now : ℕ) (heard : Heard) (result : Result (Unit {0}) E)
+    (old new : StateView) → OnOk result ((why : Why) → heard ≢ Ignored why) → Receives over octets now heard old new
+    → OnOk result (IsReceived (number_of_over over) octets now old new)
+received-as over octets now heard (Ok x) old new reply receives =
     record { over = over; numbered = refl; heard = heard; ends = reply; receives = receives }
-received-as over octets heard (Err e) old new reply receives = tt
+received-as over octets now heard (Err e) old new reply receives = tt
+
+-- octets that were ignored leave all as it was
+pub ignored-same : {E : Type 0} (over : Over) (octets : List ℕ) (now : ℕ) (heard : Heard) (result : Result (Unit {0}) E)
+    (old new : StateView) → OnErr result ((why : Why) × (heard ≡ Ignored why)) → Receives over octets now heard old new
+    → OnErr result (Some new ≡ Some old)
+ignored-same over octets now heard (Ok x) old new ignored receives = tt
+ignored-same over octets now heard (Err e) old new ignored receives =
+    ap (λ (s : StateView). Some s)
+    (ignored-leaves over octets now old ignored.0 new
+    (subst (λ (h : Heard). Receives over octets now h old new) ignored.1 receives))

@@ -1,12 +1,11 @@
 -- Queries of the older generation.
 use Rattle.std.proofs.Common.{◌≡◌, ℕ, List, Option, Some, None, IfSome, take}
-use Rattle.sip_resolver.specs.Resolvers.{ResolverView}
-use Rattle.wokhleas.specs.States.{IsQueryOf, IsWritten, StateView, of_older}
+use Rattle.wokhleas.specs.States.{GenerationView, IsQueryOf, IsWritten, StateView, of_older}
 use Rattle.wokhleas.specs.declared.generation.Sent.{Sent}
 
 -- a query of the older generation is one of a generation
-pub older-sends : (result : Option Sent) (buffer : List ℕ) (after : ResolverView) (it : StateView) → it.draining ≡ Some after
-    → IfSome result (λ sent. IsWritten sent buffer after.questions)
+pub older-sends : (result : Option Sent) (buffer : List ℕ) (after : GenerationView) (it : StateView) → it.draining ≡ Some after
+    → IfSome result (λ sent. IsWritten sent buffer after.core.questions)
     → IfSome result (λ sent. IsQueryOf sent.over sent.send (take sent.length buffer) it)
 older-sends None buffer after it is written = tt
 older-sends (Some sent) buffer after it is written = of_older after is written

@@ -1,15 +1,20 @@
 -- What a resolver of the caller's holds, and what calls leave of it.
-use Rattle.std.specs.Prelude.{⊤, ◌≡◌, ◌≢◌, ◌⊎◌, ◌≤◌, ℕ, List, [], Option, Some, None, IfSome, option_and_then, take}
+use Rattle.std.specs.Prelude.{⊤, ◌≡◌, ◌≢◌, ◌⊎◌, ◌≤◌, ℕ, List, [], Option, Some, None, IfSome, IsSomeAnd, option_and_then, take}
 use Rattle.std.specs.List.{Contains}
-use Rattle.answer_cache.specs.Lists.{IsListSeat}
-use Rattle.answer_cache.specs.Seats.{SeatView}
-use Rattle.dns_asker.specs.Events.{sent_octets}
+use Rattle.std.specs.Option.{option_map}
+use Rattle.answer_cache.specs.Lists.{IsListSeat, offered_too, seat_at, stored_too}
+use Rattle.answer_cache.specs.Seats.{SeatView, offer_of}
+use Rattle.dns_answers.specs.Values.{AnswerValue}
+use Rattle.dns_asker.specs.Events.{Means, sent_octets}
 use Rattle.dns_asker.specs.Tickets.{Ticket, ticket_of, usual}
+use Rattle.dns_asker.specs.declared.incoming.Ending.TheVariants as endings
+use Rattle.dns_asker.specs.declared.incoming.Incoming.TheVariants as incoming
 use Rattle.dns_asker.specs.declared.incoming.Why.{Why}
+use Rattle.dns_message.specs.declared.question.Question.{Question}
 use Rattle.sip_resolver.specs.Outcomes.{Ended, IsOutcome}
 use Rattle.sip_resolver.specs.Questions.{QuestionsView, asking_over}
 use Rattle.sip_resolver.specs.Requests.{Stand, numbers_of}
-use Rattle.sip_resolver.specs.Resolvers.{Hears, IsTaken, ResolverView, begun_of, with_request}
+use Rattle.sip_resolver.specs.Resolvers.{Hears, IsTaken, LeavesSeat, ResolverView, begun_of, with_request}
 use Rattle.sip_resolver.specs.declared.resolver.Heard.{Heard}
 use Rattle.sip_resolver.specs.declared.resolver.Heard.TheVariants.{Ignored}
 use Rattle.sip_resolver.specs.declared.transmit.Over.{Over}
@@ -33,58 +38,89 @@ pub record AreInRange (limits : Limits) : Type 0 where
   pub requests : (1 ≤ limits.requests) × (limits.requests ≤ 1024)
   pub questions : (1 ≤ limits.questions) × (limits.questions ≤ 256)
 
+-- a generation: its core, and the seat of its book
+pub record GenerationView : Type 0 where
+  pub core : ResolverView
+  pub seat : SeatView
+
 -- the request whose outcome was told last, the generation that requests go to, and the one before
 -- it, while requests are inside
 pub record StateView : Type 0 where
   pub told : Option Ended
-  pub current : ResolverView
-  pub draining : Option ResolverView
+  pub current : GenerationView
+  pub draining : Option GenerationView
+
+-- a generation in which no request is, over an empty book
+abbrev pub begun_generation : Limits → GenerationView
+begun_generation limits = record {
+  core = begun_of limits.requests limits.questions limits.streams usual;
+  seat = seat_at [] [];
+}
 
 -- a resolver in which no request is
 abbrev pub begun_state : Limits → StateView
-begun_state limits = record {
-  told = None;
-  current = begun_of limits.requests limits.questions limits.streams usual;
-  draining = None;
-}
+begun_state limits =
+    record { told = None; current = begun_generation limits; draining = None }
 
--- An outcome is sound: it is what RFC 3263 says over answers that some history had, or that octets
--- which came in had; or the question is told whose answer is missing.
-pub record IsSound (ended : Ended) : Type 0 where
-  pub seat : SeatView
-  pub is : IsOutcome (λ _. ⊤) (λ _. ⊤) seat ended.sought ended.outcome
+-- ---- seats
 
--- the first request that ended in the older generation is taken out of it
+-- the seat of the older generation, where that is there
+abbrev pub older_seat : StateView → Option SeatView
+older_seat it = option_map (λ older. older.seat) it.draining
+
+-- the seats of the generations are as they were
+pub record SameSeats (old new : StateView) : Type 0 where
+  pub current : new.current.seat ≡ old.current.seat
+  pub draining : older_seat new ≡ older_seat old
+
+-- ---- requests end
+
+-- The first request that ended in a generation is taken out of it. Its outcome is what RFC 3263
+-- says over answers that the generation's seat had, or was handed; or the question is told whose
+-- answer is missing. The seat is as it was.
+pub record TakesOut (ended : Ended) (old new : GenerationView) : Type 0 where
+  pub taken : IsTaken ended old.core new.core
+  pub sound : IsOutcome (λ _. ⊤) (λ _. ⊤) old.seat ended.sought ended.outcome
+  pub seat : new.seat ≡ old.seat
+
+-- it is taken out of the older generation
 pub record TakesOlder (ended : Ended) (old new : StateView) : Type 0 where
-  pub before : ResolverView
-  pub after : ResolverView
+  pub before : GenerationView
+  pub after : GenerationView
   pub was : old.draining ≡ Some before
-  pub first : IsTaken ended before after
+  pub first : TakesOut ended before after
   pub is : new ≡ record old { draining = Some after }
 
--- the first request that ended in one of the generations is taken out of it
+-- it is taken out of one of the generations
 pub data Takes (ended : Ended) (old new : StateView) : Type 0 where
   older : TakesOlder ended old new → Takes ended old new
-  younger : (after : ResolverView) → IsTaken ended old.current after
+  younger : (after : GenerationView) → TakesOut ended old.current after
       → new ≡ record old { current = after } → Takes ended old new
 
 -- no request of the older generation has ended whose outcome was not taken
 abbrev pub HasNoneOlder : StateView → Type 0
-HasNoneOlder it = IfSome it.draining (λ older. older.requests.ended ≡ [])
+HasNoneOlder it = IfSome it.draining (λ older. older.core.requests.ended ≡ [])
 
 -- nor one of the younger
 abbrev pub HasNone : StateView → Type 0
-HasNone it = HasNoneOlder it × (it.current.requests.ended ≡ [])
+HasNone it = HasNoneOlder it × (it.current.core.requests.ended ≡ [])
 
 -- The first request that ended in one of the generations is taken out and told: its number is that
--- under which it was taken in, and its outcome is sound.
+-- under which it was taken in, and its outcome is sound (`TakesOut`).
 pub record Tells (told : ToldOutcome) (old new : StateView) : Type 0 where
   pub ended : Ended
   pub middle : StateView
   pub takes : Takes ended old middle
   pub is : new ≡ record middle { told = Some ended }
-  pub sound : IsSound ended
   pub told_is : told ≡ outcome_told ended
+
+-- ---- requests come in, and are cancelled
+
+-- a request of this number is inside, or has an outcome that was not taken
+abbrev pub HasRequest : ℕ → StateView → Type 0
+HasRequest number it =
+    Contains (numbers_of it.current.core.requests) number
+    ⊎ IsSomeAnd it.draining (λ older. Contains (numbers_of older.core.requests) number)
 
 -- a request was taken in, by the generation that is the younger one then, and none of its number is
 -- inside the older one
@@ -92,8 +128,17 @@ pub record TakesIn (number : ℕ) (request : Request) (caps : Caps) (until : Opt
     (new : StateView) : Type 0 where
   pub words : List ℕ
   pub before : ResolverView
-  pub is : new.current ≡ with_request number request caps words until before
-  pub apart : IfSome new.draining (λ older. Contains (numbers_of older.requests) number → ⊥)
+  pub is : new.current.core ≡ with_request number request caps words until before
+  pub apart : IfSome new.draining (λ older. Contains (numbers_of older.core.requests) number → ⊥)
+
+-- the request of this number, which was inside, is cancelled: none of the number is inside any more,
+-- and the seats are as they were
+pub record Cancels (number : ℕ) (old new : StateView) : Type 0 where
+  pub was : HasRequest number old
+  pub gone : HasRequest number new → ⊥
+  pub seats : SameSeats old new
+
+-- ---- octets go out
 
 -- These octets are the query of a question that is out over this, which was sent so often with it
 -- (RFC 1035 4.1.1).
@@ -110,9 +155,10 @@ IsWritten sent buffer it = IsQuery sent.over sent.send (take sent.length buffer)
 
 -- octets are a query of the younger generation, or of the older one
 pub data IsQueryOf (over : Over) (send : ℕ) (octets : List ℕ) (it : StateView) : Type 0 where
-  of_younger : IsQuery over send octets it.current.questions → IsQueryOf over send octets it
-  of_older : (older : ResolverView) → it.draining ≡ Some older
-      → IsQuery over send octets older.questions → IsQueryOf over send octets it
+  of_younger : IsQuery over send octets it.current.core.questions
+      → IsQueryOf over send octets it
+  of_older : (older : GenerationView) → it.draining ≡ Some older
+      → IsQuery over send octets older.core.questions → IsQueryOf over send octets it
 
 -- a message was told whose octets are in front of the buffer: a query that is out, over what goes
 -- by this number
@@ -122,31 +168,52 @@ pub record IsTransmitted (message : ToldMessage) (buffer : List ℕ) (new : Stat
     pub numbered : number_of_over over ≡ message.over
     pub query : IsQueryOf over message.send (take message.length buffer) new
 
--- What octets that came in over this leave: the younger generation takes them, and where that
--- ignores them the older one. A reply to a question that is out is stored, and given to all that
--- wait for it; octets that are none leave all as it was.
-pub data Receives (over : Over) (octets : List ℕ) (heard : Heard) (old new : StateView) : Type 0
-  where
-    younger : (after : ResolverView) → Hears old.current after over octets heard
-        → new ≡ record old { current = after } → Receives over octets heard old new
-    older : (before after : ResolverView) → old.draining ≡ Some before
-        → Hears before after over octets heard
-        → new ≡ record old { draining = Some after } → Receives over octets heard old new
+-- ---- octets come in
+
+-- What octets that came in over this hand to a generation's book at a moment: nothing, or the
+-- answer that they have to a question that is out. The book stores that or nothing.
+pub data HandsToBook (over : Over) (octets : List ℕ) (now : ℕ) (questions : QuestionsView)
+    (old new : SeatView) : Type 0 where
+  none : new ≡ old → HandsToBook over octets now questions old new
+  reply : (id : ℕ) (question : Question) (found : AnswerValue)
+      → Means (asking_over over questions) octets
+      (incoming.Ended id question (endings.Answered found))
+      → (new ≡ offered_too old (offer_of question found now))
+      ⊎ (new ≡ stored_too old (offer_of question found now))
+      → HandsToBook over octets now questions old new
+
+-- What octets that came in over this leave of a generation. A reply to a question that is out is
+-- stored, and given to all that wait for it; octets that are none leave all as it was.
+pub record Learns (over : Over) (octets : List ℕ) (now : ℕ) (heard : Heard)
+    (old new : GenerationView) : Type 0 where
+  pub hears : Hears old.core new.core over octets heard
+  pub hands : HandsToBook over octets now old.core.questions old.seat new.seat
+  pub leaves : LeavesSeat old.seat new.seat heard
+
+-- the younger generation takes octets, and where that ignores them the older one
+pub data Receives (over : Over) (octets : List ℕ) (now : ℕ) (heard : Heard) (old new : StateView)
+    : Type 0 where
+  younger : (after : GenerationView) → Learns over octets now heard old.current after
+      → new ≡ record old { current = after } → Receives over octets now heard old new
+  older : (before after : GenerationView) → old.draining ≡ Some before
+      → Learns over octets now heard before after
+      → new ≡ record old { draining = Some after } → Receives over octets now heard old new
 
 -- the older generation takes octets that the younger one ignored for this reason, if it is there
-abbrev pub ReceivesOlder : Over → List ℕ → Why → Heard → StateView → StateView → Type 0
-ReceivesOlder over octets why heard old new =
+abbrev pub ReceivesOlder : Over → List ℕ → ℕ → Why → Heard → StateView → StateView → Type 0
+ReceivesOlder over octets now why heard old new =
     ((old.draining ≡ None) × (heard ≡ Ignored why) × (new ≡ old))
-    ⊎ ((before : ResolverView) × (after : ResolverView) × (old.draining ≡ Some before)
-    × Hears before after over octets heard × (new ≡ record old { draining = Some after }))
+    ⊎ ((before : GenerationView) × (after : GenerationView) × (old.draining ≡ Some before)
+    × Learns over octets now heard before after × (new ≡ record old { draining = Some after }))
 
 -- octets were a reply to a question that is out over what this number stands for
-pub record IsReceived (number : ℕ) (octets : List ℕ) (old new : StateView) : Type 0 where
-  pub over : Over
-  pub numbered : number_of_over over ≡ number
-  pub heard : Heard
-  pub ends : (why : Why) → heard ≢ Ignored why
-  pub receives : Receives over octets heard old new
+pub record IsReceived (number : ℕ) (octets : List ℕ) (now : ℕ) (old new : StateView) : Type 0
+  where
+    pub over : Over
+    pub numbered : number_of_over over ≡ number
+    pub heard : Heard
+    pub ends : (why : Why) → heard ≢ Ignored why
+    pub receives : Receives over octets now heard old new
 
 -- ---- handles: what one has is a state, or none where it is closed
 
@@ -156,6 +223,11 @@ abbrev pub GoesBy : (StateView → StateView → Type 0) → Option StateView �
 GoesBy P (Some old) (Some new) = P old new
 GoesBy P (Some old) None = ⊥
 GoesBy P None new = ⊥
+
+-- a call leaves all as it was, or what an open handle has goes on so
+abbrev pub StaysBy : (StateView → StateView → Type 0) → Option StateView → Option StateView
+    → Type 0
+StaysBy P old new = (new ≡ old) ⊎ GoesBy P old new
 
 -- the target at an index of the outcome that was told last
 abbrev pub target_told_at : ℕ → Option StateView → Option ToldTarget

@@ -10,21 +10,21 @@ const SECOND: u64 = 1_000;
 /// A time of the clock, in whole seconds: rounded down, and rounded up.
 #[derive(Clone, Copy)]
 pub(crate) struct Instant {
-    pub(crate) now: Moment,
+    pub(crate) second: Moment,
     pub(crate) asked: Moment,
 }
 
 /// The time at this number of milliseconds, unless that is 2^48 seconds or more.
 pub(crate) fn instant_of(milliseconds: u64) -> Option<Instant>
-    ensures { IfSome result (λ it. it.now ≡ milliseconds / 1000) }
+    ensures { IfSome result (λ it. it.second ≡ milliseconds / 1000) }
 {
-    let now = Moment::new(milliseconds / SECOND)?;
+    let second = Moment::new(milliseconds / SECOND)?;
     let asked = if milliseconds % SECOND == 0 {
-        now
+        second
     } else {
-        rounded_up(now)
+        rounded_up(second)
     };
-    Some(Instant { now, asked })
+    Some(Instant { second, asked })
 }
 
 /// How many milliseconds are left until this second; 0 where it is over.

@@ -3,14 +3,13 @@ ghost use Rattle.std.specs.Prelude.{◌≡◌, [], ◌↔◌, ◌≤◌, ◌%◌
 ghost use Rattle.std.specs.Bool.{OnFalse};
 ghost use Rattle.std.specs.List.{Contains};
 ghost use Rattle.answer_cache.specs.Lists.{IsListSeat};
-ghost use Rattle.dns_asker.specs.Tickets.{usual};
 ghost use Rattle.sip_resolver.specs.Cancels.{requests_without};
 ghost use Rattle.sip_resolver.specs.Expiries.{timeouts_of};
 ghost use Rattle.sip_resolver.specs.Idle.{IsOut};
 ghost use Rattle.sip_resolver.specs.Questions.{IsLeast};
 ghost use Rattle.sip_resolver.specs.Requests.{Stand, count_of, numbers_of};
-ghost use Rattle.sip_resolver.specs.Resolvers.{Hears, IsTaken, RefusesSubmit, begun_of, with_request};
-ghost use Rattle.wokhleas.specs.States.{IsSound, IsWritten};
+ghost use Rattle.sip_resolver.specs.Resolvers.{RefusesSubmit, with_request};
+ghost use Rattle.wokhleas.specs.States.{IsWritten, Learns, TakesOut, begun_generation};
 
 use crate::clock::Instant;
 use answer_cache::{ListCache, ListSeat};
@@ -59,12 +58,11 @@ pub(crate) struct Generation {
 }
 
 impl Model for Generation {
-    ghost use Rattle.sip_resolver.specs.Resolvers.{ResolverView};
-    ghost use Rattle.wokhleas.specs.States.{Holds};
+    ghost use Rattle.wokhleas.specs.States.{GenerationView, Holds};
 
-    ghost Value = { ResolverView };
+    ghost Value = { GenerationView };
 
-    ghost view = { λ it. it.core };
+    ghost view = { λ it. record { core = it.core; seat = it.seat } };
 
     ghost invariant = { λ it. Holds it.seat it.core };
 }
@@ -80,8 +78,7 @@ impl Generation {
     ) -> Result<Generation, AllocError>
         requires requests { (1 ≤ limits.requests) × (limits.requests ≤ 1024) }
         requires questions { (1 ≤ limits.questions) × (limits.questions ≤ 256) }
-        ensures { IfOk result
-            (λ it. it ≡ begun_of limits.requests limits.questions limits.streams usual) }
+        ensures { IfOk result (λ it. it ≡ begun_generation limits) }
     {
         let (book, seat) = ListCache::new(alloc);
         let core = Resolver::new(alloc, limits, random_ids(seed, number))?;
@@ -101,14 +98,14 @@ impl Generation {
 
     /// Whether no request is inside, also none whose outcome was not taken.
     pub(crate) fn is_empty(&self) -> bool
-        ensures { IsTrue result ↔ (count_of self.now.requests ≡ 0) }
+        ensures { IsTrue result ↔ (count_of self.now.core.requests ≡ 0) }
     {
         self.core.is_empty()
     }
 
     /// Whether a request of this number is inside.
     pub(crate) fn has(&self, number: u64) -> bool
-        ensures { IsTrue result ↔ Contains (numbers_of self.now.requests) number }
+        ensures { IsTrue result ↔ Contains (numbers_of self.now.core.requests) number }
     {
         self.core.has(number)
     }
@@ -122,9 +119,10 @@ impl Generation {
         words: Words,
         until: Option<Moment>,
     ) -> Result<(), SubmitRefusal>
-        ensures submitted { OnOk result
-            (self.new ≡ with_request number request caps words.0 until self.old) }
-        ensures refused { IfErr result (RefusesSubmit self.old number) }
+        ensures submitted { OnOk result (self.new ≡ record self.old {
+          core = with_request number request caps words.0 until self.old.core;
+        }) }
+        ensures refused { IfErr result (RefusesSubmit self.old.core number) }
         ensures unchanged { OnErr result (self.new ≡ self.old) }
     {
         self.core.submit(number, request, caps, words, until)
@@ -132,15 +130,21 @@ impl Generation {
 
     /// Cancels the request of this number, and says whether there was one.
     pub(crate) fn cancel(&mut self, number: u64) -> bool
-        ensures found { IsTrue result ↔ Contains (numbers_of self.old.requests) number }
-        ensures requests { self.new.requests ≡ requests_without number self.old.requests }
+        ensures found { IsTrue result ↔ Contains (numbers_of self.old.core.requests) number }
+        ensures requests { self.new.core.requests
+            ≡ requests_without number self.old.core.requests }
+        ensures gone { Contains (numbers_of self.new.core.requests) number → ⊥ }
+        ensures seat { self.new.seat ≡ self.old.seat }
+        ensures unchanged { OnFalse result (self.new ≡ self.old) }
     {
         self.core.cancel(number)
     }
 
     /// Writes what is to be sent next into a buffer, if it has room for it.
     pub(crate) fn transmit(&mut self, at: &Instant, octets: &mut [u8]) -> Option<Sent>
-        ensures written { IfSome result (λ sent. IsWritten sent octets.new self.new.questions) }
+        ensures written { IfSome result
+            (λ sent. IsWritten sent octets.new self.new.core.questions) }
+        ensures seat { self.new.seat ≡ self.old.seat }
     {
         let mark = self.mark;
         transmit(&mut self.core, &self.book, &mut self.seat, at, mark, octets)
@@ -153,12 +157,13 @@ impl Generation {
         over: Over,
         octets: &[u8],
     ) -> Result<Heard, AllocError>
-        ensures hears { IfOk result (Hears self.old self.new over octets.now) }
+        ensures learns { IfOk result
+            (λ heard. Learns over octets.now at.now.second heard self.old self.new) }
         ensures unchanged { OnErr result (self.new ≡ self.old) }
     {
         let heard = self
             .core
-            .handle(&(), &self.book, &mut self.seat, at.now, over, octets)?;
+            .handle(&(), &self.book, &mut self.seat, at.second, over, octets)?;
         if heard == Heard::Reply {
             self.replies = self.replies.saturating_add(1);
         }
@@ -168,7 +173,8 @@ impl Generation {
     /// Ends the wait for the reply to the question of this query, which no server takes, and says
     /// whether one was out.
     pub(crate) fn give_up(&mut self, query: u32) -> bool
-        ensures found { IsTrue result → IsOut (query % 65536) self.old.questions }
+        ensures found { IsTrue result → IsOut (query % 65536) self.old.core.questions }
+        ensures seat { self.new.seat ≡ self.old.seat }
         ensures unchanged { OnFalse result (self.new ≡ self.old) }
     {
         if query - query % IDS != self.mark {
@@ -179,17 +185,16 @@ impl Generation {
 
     /// The second at which there is something to do next, if nothing else happens.
     pub(crate) fn deadline(&self) -> Option<u64>
-        ensures { IsLeast (timeouts_of self.now.requests self.now.questions) result }
+        ensures { IsLeast (timeouts_of self.now.core.requests self.now.core.questions) result }
     {
         self.core.next_timeout()
     }
 
     /// The next request that ended, with what became of it.
     pub(crate) fn next_ended(&mut self) -> Option<Ended>
-        ensures taken { IfSome result (λ ended. IsTaken ended self.old self.new) }
+        ensures taken { IfSome result (λ ended. TakesOut ended self.old self.new) }
         ensures none { IfNone result (self.new ≡ self.old) }
-        ensures empty { IfNone result (self.old.requests.ended ≡ []) }
-        ensures sound { IfSome result (λ ended. IsSound ended) }
+        ensures empty { IfNone result (self.old.core.requests.ended ≡ []) }
     {
         self.core.poll_outcome()
     }
@@ -209,8 +214,9 @@ fn transmit(
     ensures stays { IsListSeat seat.new }
     ensures stand { Stand (λ _. ⊤) (λ _. ⊤) seat.new core.new.requests }
     ensures written { IfSome result (λ sent. IsWritten sent octets.new core.new.questions) }
+    ensures unchanged { seat.new ≡ seat.old }
 {
-    let message = core.poll_transmit(book, seat, at.now, at.asked)?;
+    let message = core.poll_transmit(book, seat, at.second, at.asked)?;
     let length = write_into(octets, message.octets)?;
     let (over, send) = (message.over, message.send);
     let query = mark.wrapping_add(u32::from(id_of(message.octets)));

@@ -1,6 +1,7 @@
 //! A resolver begins and ends.
-ghost use Rattle.std.specs.Prelude.{◌≡◌, ◌≢◌, ◌≤◌, ◌/◌, None, Some, IfSome, OnErr, OnOk, pos};
+ghost use Rattle.std.specs.Prelude.{◌≡◌, ◌≢◌, ◌≤◌, ◌/◌, [], None, Some, IfSome, OnErr, OnOk, pos};
 ghost use Rattle.sip_resolver.specs.declared.resolver.Limits as limits;
+ghost use Rattle.wokhleas.specs.Rests.{AllRestOn};
 ghost use Rattle.wokhleas.specs.States.{AreInRange, begun_state};
 
 use crate::handle::Handle;
@@ -68,6 +69,8 @@ pub extern "C" fn wokhleas_raw_open(
     ensures begun { result ≡ pos 0 → (limits : limits.Limits) × AreInRange limits
         × (limits.requests ≡ requests) × (limits.questions ≡ questions / 2)
         × (limits.streams ≡ streams) × (handle.new.held.state ≡ Some (begun_state limits)) }
+    ensures answers { result ≡ pos 0
+        → IfSome handle.new.held.state (λ state. AllRestOn [] state) }
     ensures unchanged { result ≢ pos 0 → handle.new.held.state ≡ handle.old.held.state }
 {
     let Some(limits) = limits_of(requests, questions, streams) else {

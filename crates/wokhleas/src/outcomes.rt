@@ -1,11 +1,13 @@
 //! What became of requests.
 ghost use Rattle.std.specs.Prelude.{◌≡◌, ◌≢◌, None, Some, IfOk, IfSome, OnErr, pos};
-ghost use Rattle.wokhleas.specs.States.{GoesBy, HasNone, Tells, target_told_at};
+ghost use Rattle.wokhleas.specs.Rests.{KeepsAnswers, TellsOf};
+ghost use Rattle.wokhleas.specs.States.{GoesBy, HasNone, StaysBy, Tells, target_told_at};
 
 use crate::handle::Handle;
 use crate::state::State;
 use crate::status::{DONE, Status};
 use crate::told::{ToldOutcome, ToldTarget, question_of, target_at, told_outcome};
+use dns_message::law_same_questions_are_equal;
 use std::alloc::Global;
 
 /// A question, in numbers.
@@ -69,7 +71,9 @@ fn write_question(state: &State, name: &mut [u8]) -> Result<ToldQuestion, Status
 }
 
 /// Writes the name that the question of the outcome that was told last asks about.
-fn question(alloc: Global, handle: &mut Handle, name: &mut [u8]) -> Result<ToldQuestion, Status> {
+fn question(alloc: Global, handle: &mut Handle, name: &mut [u8]) -> Result<ToldQuestion, Status>
+    ensures same { handle.new.held.state ≡ handle.old.held.state }
+{
     let state = handle.take(alloc)?;
     let told = write_question(&state, name);
     handle.put(state);
@@ -85,10 +89,14 @@ pub extern "C" fn wokhleas_raw_next(
 ) -> i32
     ensures told { result ≡ pos 0
         → GoesBy (Tells outcome.new) handle.old.held.state handle.new.held.state }
+    ensures rests { result ≡ pos 0
+        → GoesBy TellsOf handle.old.held.state handle.new.held.state }
     ensures unchanged { result ≢ pos 0 → (handle.new.held.state ≡ handle.old.held.state)
         × (outcome.new ≡ outcome.old) }
     ensures none { result ≢ pos 0 → IfSome handle.old.held.state (λ state. HasNone state) }
+    ensures answers { StaysBy KeepsAnswers handle.old.held.state handle.new.held.state }
 {
+    law_same_questions_are_equal();
     match next(alloc, handle) {
         Ok(told) => {
             *outcome = told;
@@ -128,7 +136,9 @@ pub extern "C" fn wokhleas_raw_get_question(
     handle: &mut Handle,
     name: &mut [u8],
     question_told: &mut ToldQuestion,
-) -> i32 {
+) -> i32
+    ensures same { handle.new.held.state ≡ handle.old.held.state }
+{
     match question(alloc, handle, name) {
         Ok(told) => {
             *question_told = told;

@@ -1,7 +1,8 @@
 //! Requests come in.
-ghost use Rattle.std.specs.Prelude.{◌≡◌, IfOk, OnOk, pos};
+ghost use Rattle.std.specs.Prelude.{◌≡◌, ◌≢◌, IfOk, IfSome, OnErr, OnOk, pos};
 ghost use Rattle.wokhleas.specs.Requests.{IsRequest, IsSubmitted};
-ghost use Rattle.wokhleas.specs.States.{GoesBy, TakesIn};
+ghost use Rattle.wokhleas.specs.Rests.{KeepsAnswers};
+ghost use Rattle.wokhleas.specs.States.{Cancels, GoesBy, HasRequest, StaysBy, TakesIn};
 
 use crate::clock::instant_of;
 use crate::handle::Handle;
@@ -54,8 +55,9 @@ fn submit(
     caps: Caps,
     until: Option<Moment>,
 ) -> Result<(), Status>
-    ensures { OnOk result (GoesBy (λ old new. TakesIn number request caps until new)
+    ensures taken_in { OnOk result (GoesBy (λ old new. TakesIn number request caps until new)
         handle.old.held.state handle.new.held.state) }
+    ensures answers { StaysBy KeepsAnswers handle.old.held.state handle.new.held.state }
 {
     let mut state = handle.take(alloc)?;
     let submitted = state.submit(alloc, number, request, caps, until);
@@ -76,8 +78,9 @@ fn submit_text(
     families: u8,
     until: u64,
 ) -> Result<(), Status>
-    ensures { OnOk result (GoesBy (λ old new. IsSubmitted number text.now new)
+    ensures submitted { OnOk result (GoesBy (λ old new. IsSubmitted number text.now new)
         handle.old.held.state handle.new.held.state) }
+    ensures answers { StaysBy KeepsAnswers handle.old.held.state handle.new.held.state }
 {
     let Some(caps) = caps_of(transports, families) else {
         return Err(Status::Argument);
@@ -88,7 +91,13 @@ fn submit_text(
 }
 
 /// Cancels the request of a number.
-fn cancel(alloc: Global, handle: &mut Handle, number: u64) -> Result<(), Status> {
+fn cancel(alloc: Global, handle: &mut Handle, number: u64) -> Result<(), Status>
+    ensures cancelled { OnOk result
+        (GoesBy (Cancels number) handle.old.held.state handle.new.held.state) }
+    ensures unchanged { OnErr result (handle.new.held.state ≡ handle.old.held.state) }
+    ensures none { OnErr result
+        (IfSome handle.old.held.state (λ state. HasRequest number state → ⊥)) }
+{
     let mut state = handle.take(alloc)?;
     let found = state.cancel(number);
     handle.put(state);
@@ -106,8 +115,9 @@ pub extern "C" fn wokhleas_raw_submit(
     families: u8,
     until: u64,
 ) -> i32
-    ensures { result ≡ pos 0 → GoesBy (λ old new. IsSubmitted number text.now new)
+    ensures submitted { result ≡ pos 0 → GoesBy (λ old new. IsSubmitted number text.now new)
         handle.old.held.state handle.new.held.state }
+    ensures answers { StaysBy KeepsAnswers handle.old.held.state handle.new.held.state }
 {
     match submit_text(alloc, handle, number, text, transports, families, until) {
         Ok(()) => DONE,
@@ -117,7 +127,14 @@ pub extern "C" fn wokhleas_raw_submit(
 
 /// See `c/wokhleas.h`.
 #[unsafe(no_mangle)]
-pub extern "C" fn wokhleas_raw_cancel(alloc: Global, handle: &mut Handle, number: u64) -> i32 {
+pub extern "C" fn wokhleas_raw_cancel(alloc: Global, handle: &mut Handle, number: u64) -> i32
+    ensures cancelled { result ≡ pos 0
+        → GoesBy (Cancels number) handle.old.held.state handle.new.held.state }
+    ensures unchanged { result ≢ pos 0 → handle.new.held.state ≡ handle.old.held.state }
+    ensures none { result ≢ pos 0
+        → IfSome handle.old.held.state (λ state. HasRequest number state → ⊥) }
+    ensures answers { StaysBy KeepsAnswers handle.old.held.state handle.new.held.state }
+{
     match cancel(alloc, handle, number) {
         Ok(()) => DONE,
         Err(status) => status.code(),

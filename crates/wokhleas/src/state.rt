@@ -1,8 +1,10 @@
 //! What a resolver of the caller's holds.
-ghost use Rattle.std.specs.Prelude.{◌≡◌, ◌↔◌, ◌≤◌, false, IsTrue, MatchOption, Some, IfNone, IfOk, IfSome, OnErr, OnOk, option_and_then, take};
+ghost use Rattle.std.specs.Prelude.{◌≡◌, ◌↔◌, ◌≤◌, false, IsSomeAnd, IsTrue, MatchOption, Some, IfNone, IfOk, IfSome, OnErr, OnOk, option_and_then, take};
+ghost use Rattle.std.specs.Bool.{OnFalse};
 ghost use Rattle.std.specs.List.{Contains};
 ghost use Rattle.sip_resolver.specs.Requests.{numbers_of};
-ghost use Rattle.wokhleas.specs.States.{HasNone, HasNoneOlder, IsQueryOf, IsSound, Receives, ReceivesOlder, Takes, TakesIn, TakesOlder, Tells, begun_state};
+ghost use Rattle.wokhleas.specs.Rests.{KeepsAnswers};
+ghost use Rattle.wokhleas.specs.States.{HasNone, HasNoneOlder, HasRequest, IsQueryOf, Receives, ReceivesOlder, SameSeats, Takes, TakesIn, TakesOlder, Tells, begun_state, older_seat};
 ghost use Rattle.wokhleas.specs.Told.{target_at as target_told_at};
 ghost use Rattle.wokhleas.specs.Told as told;
 
@@ -82,38 +84,46 @@ impl State {
         })
     }
 
+    /// Whether an older generation is there, and no request is inside it.
+    fn is_drained(&self) -> bool {
+        match &self.draining {
+            Some(draining) => draining.is_empty(),
+            None => false,
+        }
+    }
+
     /// Lets go of the older generation, where no request is inside it.
     fn let_go(&mut self)
         ensures told { self.new.told ≡ self.old.told }
+        ensures answers { KeepsAnswers self.old self.new }
     {
-        let is_empty = match &self.draining {
-            Some(draining) => draining.is_empty(),
-            None => false,
-        };
-        if is_empty {
-            self.draining = None;
+        if !self.is_drained() {
+            return;
         }
+        self.draining = None;
     }
 
     /// Begins a generation, where the book of this one may soon be full and no older one is there.
     /// Where memory is refused this one goes on.
     fn renew(&mut self, alloc: Global)
         ensures told { self.new.told ≡ self.old.told }
+        ensures answers { KeepsAnswers self.old self.new }
     {
         self.let_go();
         if !self.current.is_old() || self.draining.is_some() {
             return;
         }
-        if let Ok(next) = Generation::new(alloc, self.limits, self.seed, self.begun) {
-            self.begun = self.begun.wrapping_add(1) % DRAWS;
-            self.draining = Some(std::mem::replace(&mut self.current, next));
-        }
+        let Ok(next) = Generation::new(alloc, self.limits, self.seed, self.begun) else {
+            return;
+        };
+        self.begun = self.begun.wrapping_add(1) % DRAWS;
+        self.draining = Some(std::mem::replace(&mut self.current, next));
     }
 
     /// Whether a request of this number is inside the older generation.
     fn has_older(&self, number: u64) -> bool
         ensures { MatchOption self.now.draining (result ≡ false)
-            (λ older. IsTrue result ↔ Contains (numbers_of older.requests) number) }
+            (λ older. IsTrue result ↔ Contains (numbers_of older.core.requests) number) }
     {
         match &self.draining {
             Some(draining) => draining.has(number),
@@ -132,6 +142,7 @@ impl State {
     ) -> Result<(), SubmitRefusal>
         ensures told { self.new.told ≡ self.old.told }
         ensures taken_in { OnOk result (TakesIn number request caps until self.new) }
+        ensures answers { KeepsAnswers self.old self.new }
     {
         self.renew(alloc);
         if self.inside >= self.limits.requests {
@@ -150,6 +161,13 @@ impl State {
     /// Cancels the request of this number in the older generation, and says whether there was one.
     fn cancel_older(&mut self, number: u64) -> bool
         ensures told { self.new.told ≡ self.old.told }
+        ensures current { self.new.current ≡ self.old.current }
+        ensures found { IsTrue result ↔ IsSomeAnd self.old.draining
+            (λ older. Contains (numbers_of older.core.requests) number) }
+        ensures gone { IfSome self.new.draining
+            (λ older. Contains (numbers_of older.core.requests) number → ⊥) }
+        ensures seat { older_seat self.new ≡ older_seat self.old }
+        ensures unchanged { OnFalse result (self.new ≡ self.old) }
     {
         match &mut self.draining {
             Some(draining) => draining.cancel(number),
@@ -157,11 +175,30 @@ impl State {
         }
     }
 
+    /// Cancels the request of this number in both generations, and says whether there was one.
+    fn cancel_both(&mut self, number: u64) -> bool
+        ensures told { self.new.told ≡ self.old.told }
+        ensures found { IsTrue result ↔ HasRequest number self.old }
+        ensures gone { HasRequest number self.new → ⊥ }
+        ensures seats { SameSeats self.old self.new }
+        ensures unchanged { OnFalse result (self.new ≡ self.old) }
+    {
+        let younger = self.current.cancel(number);
+        if self.cancel_older(number) {
+            return true;
+        }
+        younger
+    }
+
     /// Cancels the request of this number, and says whether there was one.
     pub(crate) fn cancel(&mut self, number: u64) -> bool
         ensures told { self.new.told ≡ self.old.told }
+        ensures found { IsTrue result ↔ HasRequest number self.old }
+        ensures gone { HasRequest number self.new → ⊥ }
+        ensures seats { SameSeats self.old self.new }
+        ensures unchanged { OnFalse result (self.new ≡ self.old) }
     {
-        if !self.current.cancel(number) && !self.cancel_older(number) {
+        if !self.cancel_both(number) {
             return false;
         }
         self.inside = self.inside.saturating_sub(1);
@@ -173,6 +210,7 @@ impl State {
         ensures told { self.new.told ≡ self.old.told }
         ensures query { IfSome result (λ sent.
             IsQueryOf sent.over sent.send (take sent.length octets.new) self.new) }
+        ensures seats { SameSeats self.old self.new }
     {
         let Some(draining) = &mut self.draining else {
             return None;
@@ -185,6 +223,7 @@ impl State {
         ensures told { self.new.told ≡ self.old.told }
         ensures query { IfSome result (λ sent.
             IsQueryOf sent.over sent.send (take sent.length octets.new) self.new) }
+        ensures seats { SameSeats self.old self.new }
     {
         if let Some(sent) = self.transmit_older(at, octets) {
             return Some(sent);
@@ -201,13 +240,13 @@ impl State {
         why: Why,
     ) -> Result<Heard, AllocError>
         ensures receives { IfOk result
-            (λ heard. ReceivesOlder over octets.now why heard self.old self.new) }
+            (λ heard. ReceivesOlder over octets.now at.now.second why heard self.old self.new) }
         ensures unchanged { OnErr result (self.new ≡ self.old) }
     {
-        match &mut self.draining {
-            Some(draining) => draining.receive(at, over, octets),
-            None => Ok(Heard::Ignored(why)),
-        }
+        let Some(draining) = &mut self.draining else {
+            return Ok(Heard::Ignored(why));
+        };
+        draining.receive(at, over, octets)
     }
 
     /// Takes octets that came in.
@@ -217,7 +256,8 @@ impl State {
         over: Over,
         octets: &[u8],
     ) -> Result<Heard, AllocError>
-        ensures receives { IfOk result (λ heard. Receives over octets.now heard self.old self.new) }
+        ensures receives { IfOk result
+            (λ heard. Receives over octets.now at.now.second heard self.old self.new) }
         ensures unchanged { OnErr result (self.new ≡ self.old) }
     {
         match self.current.receive(at, over, octets)? {
@@ -226,18 +266,30 @@ impl State {
         }
     }
 
-    /// Ends the wait for the reply to the question of this query, which no server takes, and says
+    /// Ends the wait for the reply to the question of this query of the older generation, and says
     /// whether one was out.
-    pub(crate) fn give_up(&mut self, query: u32) -> bool
+    fn give_up_older(&mut self, query: u32) -> bool
         ensures told { self.new.told ≡ self.old.told }
+        ensures seats { SameSeats self.old self.new }
+        ensures unchanged { OnFalse result (self.new ≡ self.old) }
     {
-        if self.current.give_up(query) {
-            return true;
-        }
         match &mut self.draining {
             Some(draining) => draining.give_up(query),
             None => false,
         }
+    }
+
+    /// Ends the wait for the reply to the question of this query, which no server takes, and says
+    /// whether one was out.
+    pub(crate) fn give_up(&mut self, query: u32) -> bool
+        ensures told { self.new.told ≡ self.old.told }
+        ensures seats { SameSeats self.old self.new }
+        ensures unchanged { OnFalse result (self.new ≡ self.old) }
+    {
+        if self.current.give_up(query) {
+            return true;
+        }
+        self.give_up_older(query)
     }
 
     /// The second at which there is something to do next, if nothing else happens.
@@ -252,7 +304,6 @@ impl State {
     fn next_older(&mut self) -> Option<Ended>
         ensures none { IfNone result (self.new ≡ self.old) }
         ensures empty { IfNone result (HasNoneOlder self.old) }
-        ensures sound { IfSome result (λ ended. IsSound ended) }
         ensures some { IfSome result (λ ended. TakesOlder ended self.old self.new) }
     {
         let Some(draining) = &mut self.draining else {
@@ -265,7 +316,6 @@ impl State {
     fn next_ended(&mut self) -> Option<Ended>
         ensures none { IfNone result (self.new ≡ self.old) }
         ensures empty { IfNone result (HasNone self.old) }
-        ensures sound { IfSome result (λ ended. IsSound ended) }
         ensures some { IfSome result (λ ended. Takes ended self.old self.new) }
     {
         if let Some(ended) = self.next_older() {

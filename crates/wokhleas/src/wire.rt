@@ -1,9 +1,10 @@
 //! What goes out, what comes in, and when.
-ghost use Rattle.std.specs.Prelude.{◌≡◌, ◌≢◌, IfOk, OnErr, OnOk, pos, take};
+ghost use Rattle.std.specs.Prelude.{◌≡◌, ◌≢◌, ◌/◌, IfOk, OnErr, OnOk, pos, take};
 ghost use Rattle.dns_asker.specs.declared.incoming.Why.{Why};
 ghost use Rattle.sip_resolver.specs.declared.resolver.Heard.TheVariants.{Ignored};
 ghost use Rattle.wokhleas.specs.Numbers.{number_of_over};
-ghost use Rattle.wokhleas.specs.States.{GoesBy, IsQueryOf, IsReceived, IsTransmitted};
+ghost use Rattle.wokhleas.specs.Rests.{GainsFrom, KeepsAnswers};
+ghost use Rattle.wokhleas.specs.States.{GoesBy, IsQueryOf, IsReceived, IsTransmitted, SameSeats, StaysBy};
 
 use crate::clock::{Instant, instant_of, left_until};
 use crate::generation::Sent;
@@ -40,6 +41,7 @@ fn transmit(
     ensures query { IfOk result (λ sent. GoesBy
         (λ old new. IsQueryOf sent.over sent.send (take sent.length octets.new) new)
         handle.old.held.state handle.new.held.state) }
+    ensures seats { StaysBy SameSeats handle.old.held.state handle.new.held.state }
 {
     let mut state = handle.take(alloc)?;
     let sent = state.transmit(&at, octets);
@@ -58,7 +60,7 @@ fn receive(
     over: Over,
     octets: &[u8],
 ) -> Result<(), Status>
-    ensures received { OnOk result (GoesBy (IsReceived (number_of_over over) octets.now)
+    ensures received { OnOk result (GoesBy (IsReceived (number_of_over over) octets.now at.second)
         handle.old.held.state handle.new.held.state) }
     ensures unchanged { OnErr result (handle.new.held.state ≡ handle.old.held.state) }
 {
@@ -83,7 +85,10 @@ fn is_reply(heard: Heard) -> Result<(), Status>
 }
 
 /// Says that no server takes a query.
-fn give_up(alloc: Global, handle: &mut Handle, query: u32) -> Result<(), Status> {
+fn give_up(alloc: Global, handle: &mut Handle, query: u32) -> Result<(), Status>
+    ensures seats { StaysBy SameSeats handle.old.held.state handle.new.held.state }
+    ensures unchanged { OnErr result (handle.new.held.state ≡ handle.old.held.state) }
+{
     let mut state = handle.take(alloc)?;
     let found = state.give_up(query);
     handle.put(state);
@@ -91,7 +96,9 @@ fn give_up(alloc: Global, handle: &mut Handle, query: u32) -> Result<(), Status>
 }
 
 /// The second at which a resolver has something to do next.
-fn deadline(alloc: Global, handle: &mut Handle) -> Result<u64, Status> {
+fn deadline(alloc: Global, handle: &mut Handle) -> Result<u64, Status>
+    ensures same { handle.new.held.state ≡ handle.old.held.state }
+{
     let state = handle.take(alloc)?;
     let second = state.deadline();
     handle.put(state);
@@ -114,6 +121,8 @@ pub extern "C" fn wokhleas_raw_transmit(
         (λ old new. IsTransmitted message.new octets.new new)
         handle.old.held.state handle.new.held.state }
     ensures unchanged { result ≢ pos 0 → message.new ≡ message.old }
+    ensures seats { StaysBy SameSeats handle.old.held.state handle.new.held.state }
+    ensures answers { StaysBy KeepsAnswers handle.old.held.state handle.new.held.state }
 {
     let Some(at) = instant_of(milliseconds) else {
         return Status::Argument.code();
@@ -142,9 +151,12 @@ pub extern "C" fn wokhleas_raw_receive(
     over: u8,
     octets: &[u8],
 ) -> i32
-    ensures received { result ≡ pos 0 → GoesBy (IsReceived over octets.now)
+    ensures received { result ≡ pos 0
+        → GoesBy (IsReceived over octets.now (milliseconds / 1000))
         handle.old.held.state handle.new.held.state }
     ensures unchanged { result ≢ pos 0 → handle.new.held.state ≡ handle.old.held.state }
+    ensures answers { StaysBy (GainsFrom octets.now)
+        handle.old.held.state handle.new.held.state }
 {
     let (Some(at), Some(over)) = (instant_of(milliseconds), over_of(over)) else {
         return Status::Argument.code();
@@ -157,7 +169,11 @@ pub extern "C" fn wokhleas_raw_receive(
 
 /// See `c/wokhleas.h`.
 #[unsafe(no_mangle)]
-pub extern "C" fn wokhleas_raw_give_up(alloc: Global, handle: &mut Handle, query: u32) -> i32 {
+pub extern "C" fn wokhleas_raw_give_up(alloc: Global, handle: &mut Handle, query: u32) -> i32
+    ensures seats { StaysBy SameSeats handle.old.held.state handle.new.held.state }
+    ensures unchanged { result ≢ pos 0 → handle.new.held.state ≡ handle.old.held.state }
+    ensures answers { StaysBy KeepsAnswers handle.old.held.state handle.new.held.state }
+{
     match give_up(alloc, handle, query) {
         Ok(()) => DONE,
         Err(status) => status.code(),
@@ -171,7 +187,9 @@ pub extern "C" fn wokhleas_raw_timeout(
     handle: &mut Handle,
     milliseconds: u64,
     left: &mut u64,
-) -> i32 {
+) -> i32
+    ensures same { handle.new.held.state ≡ handle.old.held.state }
+{
     match deadline(alloc, handle) {
         Ok(second) => {
             *left = left_until(second, milliseconds);

@@ -1,4 +1,4 @@
-use Rattle.wokhleas.proofs.Soundness.{sound}
+use Rattle.wokhleas.proofs.Soundness.{taken-out}
 use Rattle.wokhleas.proofs.generation.Generation.next_ended.Goals as goal
 
 pub invariant_of-self : goal.invariant_of-self
@@ -7,6 +7,8 @@ invariant_of-self c = record {
   stand = c.poll_outcome.ensures.stand c.self.inside.seat c.self.invariant.stand;
 }
 
-pub returns-clause-sound : goal.returns-clause-sound
-returns-clause-sound c =
-    sound c.self.inside.seat c.poll_outcome.result (c.poll_outcome.ensures.outcome c.self.inside.seat c.self.invariant.stand)
+pub returns-clause-taken : goal.returns-clause-taken
+returns-clause-taken c =
+    rw (← c.self.view_is)
+    (taken-out c.self.inside.seat c.self.inside.core c.poll_outcome.new.self c.poll_outcome.result c.poll_outcome.ensures.taken
+    (c.poll_outcome.ensures.outcome c.self.inside.seat c.self.invariant.stand))

@@ -1,0 +1,16 @@
+use Rattle.std.proofs.Common.{ap}
+use Rattle.wokhleas.specs.States.{GenerationView}
+use Rattle.wokhleas.proofs.Resting.{current-keeps}
+use Rattle.wokhleas.proofs.state.State.submit.Goals as goal
+
+pub returns-in_err-submit-clause-answers : goal.returns-in_err-submit-clause-answers
+returns-in_err-submit-clause-answers c =
+    let renewed = rw (← c.self.view_is) at c.renew.ensures.answers in
+    λ given it.
+    current-keeps _ c.submit.new.self (ap (λ (g : GenerationView). g.seat) c.in_err-submit.ensures.unchanged) given (renewed given it)
+
+pub returns-clause-answers : goal.returns-clause-answers
+returns-clause-answers c =
+    let renewed = rw (← c.self.view_is) at c.renew.ensures.answers in
+    λ given it.
+    current-keeps _ c.submit.new.self (ap (λ (g : GenerationView). g.seat) c.in_ok-submit.ensures.submitted) given (renewed given it)
