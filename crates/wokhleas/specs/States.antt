@@ -131,8 +131,8 @@ pub record TakesIn (number : ℕ) (request : Request) (caps : Caps) (until : Opt
   pub is : new.current.core ≡ with_request number request caps words until before
   pub apart : IfSome new.draining (λ older. Contains (numbers_of older.core.requests) number → ⊥)
 
--- the request of this number, which was inside, is cancelled: none of the number is inside any more,
--- and the seats are as they were
+-- the request of this number, which was inside, is cancelled: none of the number is inside any
+-- more, and the seats are as they were
 pub record Cancels (number : ℕ) (old new : StateView) : Type 0 where
   pub was : HasRequest number old
   pub gone : HasRequest number new → ⊥
