@@ -71,12 +71,6 @@ module _ {X : Type 0} (p : X → Bool) where
 differs : (a b : ℕ) → a ≢ b → not (nat_eq a b) ≡ true
 differs a b other = search rules
 
-unlike : (a b : ℕ) → a ≢ b → nat_eq a b ≡ false
-unlike a b other = search rules
-
-alike : (a b : ℕ) → a ≡ b → nat_eq a b ≡ true
-alike a b same = search rules
-
 other-than : (a b : ℕ) → not (nat_eq a b) ≡ true → a ≢ b
 other-than a b e = search rules
 
@@ -91,20 +85,6 @@ module _ {X : Type 0} (numbered : X → ℕ) (number : ℕ) where
       kept-by is-other x xs (is-other x) refl
       (differs (numbered x) number (λ same. none (0, omega arith, same)))
       (others-all xs (λ there. none (Contains-append_right (numbered x ∷ []) (map numbered xs) number there)))
-
-  one-by : (x : X) (is : Bool) → nat_eq (numbered x) number ≡ is → is ≡ false → others_by numbered number (x ∷ []) ≡ x ∷ []
-  one-by x true same other = absurd cc
-  one-by x false same other = rw same refl
-
-  none-by : (x : X) (is : Bool) → nat_eq (numbered x) number ≡ is → is ≡ true → others_by numbered number (x ∷ []) ≡ []
-  none-by x true same its = rw same refl
-  none-by x false same its = absurd cc
-
-  pub other-stays : (x : X) → numbered x ≢ number → others_by numbered number (x ∷ []) ≡ x ∷ []
-  other-stays x other = one-by x (nat_eq (numbered x) number) refl (unlike (numbered x) number other)
-
-  pub this-goes : (x : X) → numbered x ≡ number → others_by numbered number (x ∷ []) ≡ []
-  this-goes x same = none-by x (nat_eq (numbered x) number) refl (alike (numbered x) number same)
 
   -- none of those that stay has it
   pub others-lack : (xs : List X) → Contains (map numbered (others_by numbered number xs)) number → ⊥

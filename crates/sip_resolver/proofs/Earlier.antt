@@ -228,13 +228,6 @@ counted until untils it so =
 abbrev pub moments : List (Option ℕ) → List ℕ
 moments untils = filter_map (λ until. until) untils
 
-none-by : (first : Option ℕ) (untils : List (Option ℕ)) → sum_by (ends_before first) untils ≡ 0
-    → All (λ it. ends_before first it ≡ 0) untils
-none-by first [] none = All-nil (λ it. ends_before first it ≡ 0)
-none-by first (x ∷ xs) none =
-    let all = sum_by-cons (ends_before first) x xs in
-    All-cons (λ it. ends_before first it ≡ 0) x xs (omega (arith, all, none)) (none-by first xs (omega (arith, all, none)))
-
 not-sooner : (first until : ℕ) → ends_before (Some first) (Some until) ≡ 0 → first ≤ until
 not-sooner first until none = grind (arith, nat_tests)
 

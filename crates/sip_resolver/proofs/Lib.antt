@@ -1,5 +1,6 @@
 pub mod Queues
 pub mod Earlier
+pub mod Numbers
 pub mod Kept
 pub mod Standing
 pub mod Going

@@ -6,6 +6,7 @@ pub mod Tasks
 pub mod Sends
 pub mod Queues
 pub mod Earliest
+pub mod NumberFilters
 pub mod Requests
 pub mod Cancels
 pub mod Expiries

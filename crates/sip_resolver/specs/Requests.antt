@@ -3,6 +3,7 @@ use Rattle.std.specs.Prelude.{◌≡◌, ◌==◌, ℕ, ◌+◌, ◌^◌, ◌<�
 use Rattle.std.specs.List.{All, Contains, filter, sum_by}
 use Rattle.answer_cache.specs.Seats.{SeatView}
 use Rattle.sip_resolver.specs.Earliest.{IsEarliest, untils_in}
+use Rattle.sip_resolver.specs.NumberFilters.{Counts, FilterView}
 use Rattle.sip_resolver.specs.Outcomes.{Ended, IsOutcome, Sought}
 use Rattle.sip_resolver.specs.Queues.{Queued}
 use Rattle.sip_resolver.specs.Tasks.{IsCounted, Lacks, TaskView, WaitingView, sought_of}
@@ -132,12 +133,19 @@ pub record HaveRoom (ready held : Queued TaskView) (waiting : Queued WaitingView
   pub few : length ready.items + length held.items + length waiting.items + length ended.items
       ≤ limit
 
--- each queue has room for all, and what is known of the first moment by which one ends is so
+-- the sum of what the numbers of the requests inside weigh
+abbrev pub weigh_numbers : RequestsView → (ℕ → ℕ) → ℕ
+weigh_numbers it h = weight (λ sought. h sought.number) it
+
+-- each queue has room for all, and what is known of the first moment by which one ends and of the
+-- numbers is so
 pub record AreKept (ready held : Queued TaskView) (waiting : Queued WaitingView)
-    (ended : Queued Ended) (limit : ℕ) (earliest : Earliest) : Type 0 where
+    (ended : Queued Ended) (limit : ℕ) (earliest : Earliest) (numbers : FilterView) : Type 0 where
   pub room : HaveRoom ready held waiting ended limit
   pub fits : limit < 2 ^ 64
   pub earliest_is : IsEarliest (untils_in ready.items held.items waiting.items) earliest
+  pub numbers_are : Counts
+      (weigh_numbers (requests_of ready.items held.items waiting.items ended.items limit)) numbers
 
 -- ---- what is so of them, at a seat
 

@@ -70,6 +70,7 @@ mod id_streams;
 mod ids;
 mod key;
 mod laws;
+mod number_filter;
 mod origin;
 mod outcome;
 mod questions;

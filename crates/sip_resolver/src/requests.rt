@@ -10,6 +10,7 @@ ghost use Rattle.sip_resolver.specs.Requests.{IsAwaitedBy, IsFirstFor, IsWithout
 ghost use Rattle.sip_resolver.specs.Tasks.{sought_of};
 
 use crate::earliest::Earliest;
+use crate::number_filter::NumberFilter;
 use crate::outcome::{Outcome, Resolved};
 use crate::queue::{Numbered, Queue, Timed, least_of};
 use crate::task::Task;
@@ -63,6 +64,8 @@ pub(crate) struct Requests<B> {
     limit: usize,
     /// The first moment by which one ends that has not ended.
     earliest: Earliest,
+    /// The numbers of all, those that ended too.
+    numbers: NumberFilter,
 }
 
 impl<B> Model for Requests<B> {
@@ -74,7 +77,7 @@ impl<B> Model for Requests<B> {
         it.ended.items it.limit };
 
     ghost invariant = { λ it.
-        AreKept it.ready it.held it.waiting it.ended it.limit it.earliest };
+        AreKept it.ready it.held it.waiting it.ended it.limit it.earliest it.numbers };
 }
 
 impl<B> Requests<B> {
@@ -89,6 +92,7 @@ impl<B> Requests<B> {
             ended: Queue::new(alloc, limit)?,
             limit,
             earliest: Earliest::never(),
+            numbers: NumberFilter::new(alloc, limit)?,
         })
     }
 
@@ -112,6 +116,16 @@ impl<B> Requests<B> {
 
     /// Whether one of this number is among them.
     pub(crate) fn has(&self, number: u64) -> bool
+        ensures { IsTrue result ↔ Contains (numbers_of self.now) number }
+    {
+        if !self.numbers.may_have(number) {
+            return false;
+        }
+        self.find(number)
+    }
+
+    /// Looks along all of them for one of this number.
+    fn find(&self, number: u64) -> bool
         ensures { IsTrue result ↔ Contains (numbers_of self.now) number }
     {
         if self.ready.has(number) {
@@ -243,6 +257,7 @@ impl<B> Requests<B> {
         ensures { self.new ≡ record self.old { ready = self.old.ready ++ task ∷ [] } }
     {
         self.earliest.add(task.its_until());
+        self.numbers.add(task.number());
         self.ready.push(task);
     }
 
@@ -252,6 +267,7 @@ impl<B> Requests<B> {
         ensures { self.new ≡ record self.old { held = self.old.held ++ task ∷ [] } }
     {
         self.earliest.add(task.its_until());
+        self.numbers.add(task.number());
         self.held.push(task);
     }
 
@@ -263,6 +279,7 @@ impl<B> Requests<B> {
         } }
     {
         self.earliest.add(task.its_until());
+        self.numbers.add(task.number());
         self.waiting.push(Waiting { id, task });
     }
 
@@ -281,6 +298,7 @@ impl<B> Requests<B> {
         requires { count_of self.old < self.old.limit }
         ensures { self.new ≡ record self.old { ended = self.old.ended ++ ended ∷ [] } }
     {
+        self.numbers.add(ended.number());
         self.ended.push(ended);
     }
 
@@ -291,6 +309,7 @@ impl<B> Requests<B> {
     {
         let task = self.ready.pop()?;
         self.earliest.remove(task.its_until());
+        self.numbers.remove(task.number());
         Some(task)
     }
 
@@ -301,6 +320,7 @@ impl<B> Requests<B> {
     {
         let task = self.held.pop()?;
         self.earliest.remove(task.its_until());
+        self.numbers.remove(task.number());
         Some(task)
     }
 
@@ -311,6 +331,7 @@ impl<B> Requests<B> {
     {
         let waiting = self.waiting.pop()?;
         self.earliest.remove(waiting.its_until());
+        self.numbers.remove(waiting.its_number());
         Some(waiting)
     }
 
@@ -324,6 +345,7 @@ impl<B> Requests<B> {
         let place = self.first_for(id)?;
         let waiting = self.waiting.remove(place)?;
         self.earliest.remove(waiting.its_until());
+        self.numbers.remove(waiting.its_number());
         Some(waiting.task)
     }
 
@@ -332,6 +354,8 @@ impl<B> Requests<B> {
         ensures { MatchOption result ((self.old.ended ≡ []) × (self.new ≡ self.old))
             (λ ended. IsWithoutEnded ended self.old self.new) }
     {
-        self.ended.pop()
+        let ended = self.ended.pop()?;
+        self.numbers.remove(ended.number());
+        Some(ended)
     }
 }

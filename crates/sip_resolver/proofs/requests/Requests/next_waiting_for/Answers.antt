@@ -1,5 +1,5 @@
 use Rattle.std.proofs.Common.{ap}
-use Rattle.sip_resolver.proofs.Kept.{taken-counted, waiting-taken}
+use Rattle.sip_resolver.proofs.Kept.{taken-counted, taken-there, waiting-taken}
 use Rattle.sip_resolver.proofs.Waiters.{out-of-place}
 use Rattle.sip_resolver.specs.Queues.{Queued}
 use Rattle.sip_resolver.specs.Requests.{requests_of}
@@ -10,16 +10,24 @@ pub remove-requires-2 : goal.remove-requires-2
 remove-requires-2 g c =
     let it = c.self.inside in
     rw c.its_until.ensures
-    (taken-counted it.ready it.held it.waiting it.ended it.limit it.earliest c.self.invariant c.args.id c.in_ok-place.place
+    (taken-counted it.ready it.held it.waiting it.ended it.limit it.earliest it.numbers c.self.invariant c.args.id c.in_ok-place.place
+    c.in_ok-waiting.waiting c.remove.new.self (rw (← c.self.view_is) at c.in_ok-place.ensures) c.in_ok-waiting.ensures)
+
+pub remove-requires-3 : goal.remove-requires-3
+remove-requires-3 g c =
+    let it = c.self.inside in
+    rw c.its_number.ensures
+    (taken-there it.ready it.held it.waiting it.ended it.limit it.earliest it.numbers c.self.invariant c.args.id c.in_ok-place.place
     c.in_ok-waiting.waiting c.remove.new.self (rw (← c.self.view_is) at c.in_ok-place.ensures) c.in_ok-waiting.ensures)
 
 pub invariant_of-self-2 : goal.invariant_of-self-2
 invariant_of-self-2 g c =
     let it = c.self.inside in
     let removed = rw c.its_until.ensures at c.remove-2.ensures in
-    waiting-taken it.ready it.held it.waiting it.ended it.limit it.earliest c.self.invariant c.args.id c.in_ok-place.place
+    let struck = rw c.its_number.ensures at c.remove-3.ensures in
+    waiting-taken it.ready it.held it.waiting it.ended it.limit it.earliest it.numbers c.self.invariant c.args.id c.in_ok-place.place
     c.in_ok-waiting.waiting c.remove.new.self (rw (← c.self.view_is) at c.in_ok-place.ensures) c.in_ok-waiting.ensures
-    c.remove-2.new.self removed
+    c.remove-2.new.self c.remove-3.new.self removed struck
 
 pub returns : goal.returns
 returns g c =
