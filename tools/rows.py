@@ -7,12 +7,15 @@ tests/rows/CRATE/CALL.txt has the rows of a call. A line is one of
   < TEXT    a line that the program reads
   > TEXT    a line that it has to print, at the end
 
-Each row is a run of its own: of `try_calls`, or of `try_clients` for the crates that `try_calls` does not stand on.
+Each row is a run of its own: of `try_calls`, or of `try_clients` for the crates that `try_calls` does not stand on and for the
+calls of BY_CLIENTS.
 """
 import glob
 import os
 
 NAMES = ("try_calls", "try_clients")
+# calls that wait, of crates that `try_calls` stands on
+BY_CLIENTS = {("dns_zone", "serve")}
 BUILDS = " ".join(f"crates/{name}/out/{name} crates/{name}/out/{name}.by-rattle" for name in NAMES)
 
 
@@ -24,11 +27,16 @@ class Row:
 
     @property
     def call(self):
-        folder, name = os.path.split(self.file)
-        return [os.path.basename(folder), name.removesuffix(".txt")]
+        return call_of(self.file)
 
     def __str__(self):
         return f"{self.file}:{self.number}: {self.why}"
+
+
+def call_of(file):
+    """The crate and the call of a file of rows."""
+    folder, name = os.path.split(file)
+    return os.path.basename(folder), name.removesuffix(".txt")
 
 
 def rows_of(file):
@@ -56,14 +64,16 @@ def files_of(names):
     return [it for it in files if any(f"{it.removesuffix('.txt')}/".startswith(f"tests/rows/{name}/") for name in names)]
 
 
-def program_of(crate):
-    """The name of the program that runs the rows of a crate: the first that stands on it, by crates.txt."""
+def program_of(crate, call):
+    """The name of the program that runs the rows of a call: the first that stands on its crate, by crates.txt."""
+    if (crate, call) in BY_CLIENTS:
+        return "try_clients"
     with open("crates.txt", encoding="utf-8") as lines:
         below = {name: rest.split() for name, _, rest in (line.partition(":") for line in lines)}
     return next((name for name in NAMES if crate in below[name]), None)
 
 
-def builds_of(crate):
+def builds_of(crate, call):
     """The builds of that program: those that `rt ci` leaves, or those that the variable PROGRAMS names in their place."""
     programs = os.environ.get("PROGRAMS", BUILDS).split()
-    return [it for it in programs if os.path.basename(it).split(".")[0] == program_of(crate)]
+    return [it for it in programs if os.path.basename(it).split(".")[0] == program_of(crate, call)]

@@ -1,65 +1,23 @@
-//! Questions to DNS servers until they end, the wires that they go through, and the loop of a small
-//! DNS server.
-//!
-//! Nothing here opens a socket, reads a clock or draws a random number: octets and moments are
-//! handed in, and octets to send are handed out.
-//!
-//! An `Asker` keeps the questions that were sent and have no reply yet, each under the id of its
-//! messages (RFC 1035 4.1.1). `ask` opens a ticket for a question and gives the octets to send.
-//! `incoming` takes octets that came in: it says which question they end, by an answer or by a
-//! fault of the server, or why they are no reply to any. A message whose id fits and whose question
-//! does not is no reply, and the question waits on. `due` says which question is to be sent once
-//! more, and which one is given up; it is called again until it gives nothing. A `Schedule` says
-//! how often a question is sent and how long each send is waited for: three times and one second by
-//! `Asker::new`, what the caller gives by `Asker::with_schedule`.
+//! Questions to DNS servers, and a small DNS server: the names of `dns_queries` and `dns_zone`
+//! under one.
 //!
 //! ```
-//! let mut asker = Asker::new(alloc, 8, 0).ok()?;
-//! // the octets to send, which begin with the id
+//! // a wire in memory to a server of the zone
+//! let mut wire = ZoneWire::new(alloc, zone, &sent);
+//! // what an asker sends for a question goes over the wire
 //! let query = asker.ask(question, 0x1234, now).ok()?;
-//! let sent = query.starts_with(b"\x12\x34");
-//! // a second later nothing came in
-//! let again = matches!(asker.due(later), Some(Due::Resend(0x1234, _)));
-//! // the octets of a reply
-//! let heard = asker.incoming(octets).ok()?;
-//! let answered = matches!(heard, Incoming::Ended(0x1234, _, Ending::Answered(_)));
+//! wire.send(query).ok()?;
+//! // and so does the reply, which the asker hears
+//! let count = wire.receive(&mut buffer).ok()??;
+//! let heard = asker.incoming(&buffer[..count]).ok()?;
 //! ```
-//!
-//! `Wire` and `PeerWire` say what may be known of a wire that carries datagrams, to one server or
-//! to many peers, `MessageWire` of one that gives whole messages of many servers, and `Clock` what
-//! may be known of a clock. `serve` replies from a zone
-//! (`dns_zone`) over a `PeerWire`, until it is told to stop, and gives the count of replies. For
-//! tests and measurements there are a wire in memory to a zone's server (`ZoneWire`) and a clock
-//! that stands (`StandingClock`).
-//!
-//! Read `specs/Tickets.antt` and `specs/Events.antt` first: what waits, and what each event does to
-//! it. Then `specs/Servers.antt`: what a server does.
 #![tactic(auto)]
 
-mod asker;
-mod asker_laws;
-mod clock;
-mod id_table;
-mod incoming;
-mod message_wire;
-mod refusal;
-mod schedule;
-mod server;
-mod ticket;
-mod tickets;
-mod wire;
-mod zone_wire;
-
-pub use asker::Asker;
-pub use asker_laws::law_asking_stays_in_order;
-pub use clock::{Clock, StandingClock};
-pub use dns_zone::{
-    Zone, ZoneEntry, ZoneRefusal, law_zone_follows_cnames, law_zone_names_its_authority,
+pub use dns_queries::{
+    AskRefusal, Asker, Clock, DATAGRAM_LIMIT, Due, Ending, Incoming, MessageWire, PeerWire,
+    Received, Schedule, StandingClock, Why, Wire, WireFault, law_asking_stays_in_order,
 };
-pub use incoming::{Due, Ending, Incoming, Why};
-pub use message_wire::{MessageWire, Received};
-pub use refusal::AskRefusal;
-pub use schedule::Schedule;
-pub use server::serve;
-pub use wire::{DATAGRAM_LIMIT, PeerWire, Wire, WireFault};
-pub use zone_wire::ZoneWire;
+pub use dns_zone::{
+    Zone, ZoneEntry, ZoneRefusal, ZoneWire, law_zone_follows_cnames, law_zone_names_its_authority,
+    serve,
+};

@@ -1,7 +1,7 @@
 -- What a wire of datagrams does over a wire of whole messages.
 use Rattle.std.specs.Prelude.{◌⊎◌, ◌<◌, ℕ, List, length}
-use Rattle.dns_asker.specs.MessageWires as messages
-use Rattle.dns_asker.specs.Wires as datagrams
+use Rattle.dns_queries.specs.MessageWires as messages
+use Rattle.dns_queries.specs.Wires as datagrams
 
 -- What the wire below did at a call. A query that is sent is sent there, and what is given came
 -- there as a message. Nothing is given only where nothing came, or that no server takes a query, or

@@ -2,7 +2,7 @@
 ghost use Rattle.std.specs.Prelude.{◌≡◌, ◌≤◌, ◌<◌, IfNone, IfSome, length, take};
 ghost use Rattle.dns_transport.specs.BufferWires.{Carries};
 
-use dns_asker::{DATAGRAM_LIMIT, MessageWire, Received, Wire, WireFault};
+use dns_queries::{DATAGRAM_LIMIT, MessageWire, Received, Wire, WireFault};
 
 /// A wire of whole messages, which puts what it gives into a buffer of the caller. A message of
 /// more than 4,096 octets is lost. Nor is it told that no server takes a query: the caller waits in

@@ -4,8 +4,8 @@
 //! replies. It retries over TCP what was cut (RFC 1035 4.2.1, RFC 7766), goes on to the next server
 //! where one fails, asks without EDNS where a server refuses that (RFC 6891), and asks CNAME chains
 //! on that a server cut short. `WireOptions`, `QueryForm` and `ReplyTimes` say how it asks;
-//! `WireCounts` and `WireTry` say what went over it. Like any `MessageWire` (`dns_asker`) it gives
-//! whole messages.
+//! `WireCounts` and `WireTry` say what went over it. Like any `MessageWire` (`dns_queries`) it
+//! gives whole messages.
 //!
 //! Below it `Transport` has queries out side by side, and gives for each at most one end: a reply,
 //! silence until its deadline, or that it failed. A query in a datagram has a socket of its own,
@@ -16,7 +16,7 @@
 //! `open_wire` opens a `ServerWire` over the sockets of this host, whose ids and ports are drawn of
 //! a key (`random_draws`, `random_ports`). `RunClock` is a clock that counts from its start, and a
 //! `Timer`; `SystemClock` shows the time of the system. `BufferWire` makes a `MessageWire` a
-//! `Wire` (`dns_asker`), for what takes datagrams. `UdpServerWire` is a `PeerWire` over UDP, as a
+//! `Wire` (`dns_queries`), for what takes datagrams. `UdpServerWire` is a `PeerWire` over UDP, as a
 //! server has it.
 //!
 //! Read `specs/Replies.antt` first: which octets are a reply to a query (RFC 5452 9.1).

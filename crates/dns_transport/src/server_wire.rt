@@ -1,7 +1,7 @@
 //! A wire to DNS servers over sockets.
 ghost use Rattle.std.specs.Prelude.{◌≡◌, ◌↔◌, ◌+◌, ◌%◌, ◌^◌, ℕ, List, false, true, IfOk, IfSome, IsFalse, IsTrue, OnErr, OnOk, length, slice_get};
 ghost use Rattle.std.specs.List.{All};
-ghost use Rattle.dns_asker.specs.MessageWires.{IfMessage};
+ghost use Rattle.dns_queries.specs.MessageWires.{IfMessage};
 ghost use Rattle.dns_transport.specs.CnameChains.{EndsWith, IsHandedOn, OpenValue};
 ghost use Rattle.dns_transport.specs.Deadlines.{IsAfter, time_over};
 ghost use Rattle.dns_transport.specs.Ends.{HasIdOver};
@@ -28,7 +28,7 @@ use crate::transport::Transport;
 use crate::try_log::TryLog;
 use crate::wire_counts::WireCounts;
 use crate::wire_try::{Tracer, TryRoute, WireTry, id_of};
-use dns_asker::{MessageWire, Received};
+use dns_queries::{MessageWire, Received};
 use rand_core::Rng;
 use std::alloc::{AllocError, Global};
 use std::io::ErrorKind;

@@ -4,7 +4,7 @@ ghost use Rattle.std.specs.Time.{system_time_nanos};
 ghost use Rattle.dns_transport.specs.Clocks.{IsMomentOf};
 
 use dns_answers::Moment;
-use dns_asker::Clock;
+use dns_queries::Clock;
 use std::io;
 use std::time::{self, SystemTime};
 

@@ -3,7 +3,7 @@ ghost use Rattle.std.specs.Prelude.{◌≡◌, ◌↔◌, ◌+◌, ◌-◌, ◌^
 ghost use Rattle.std.specs.IoError.{error_kind};
 ghost use Rattle.dns_transport.specs.Datagrams.{IsWait};
 
-use dns_asker::{DATAGRAM_LIMIT, PeerWire, WireFault};
+use dns_queries::{DATAGRAM_LIMIT, PeerWire, WireFault};
 use std::io::{self, ErrorKind};
 use std::marker::Model;
 use std::net::{Net, SocketAddr, UdpSocket};

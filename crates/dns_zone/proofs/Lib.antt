@@ -10,3 +10,4 @@ pub mod Said
 pub mod Cnames
 pub mod Lengths
 pub mod Additions
+pub mod Rounds

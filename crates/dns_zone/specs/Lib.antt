@@ -4,3 +4,5 @@ pub mod Replies
 pub mod Lines
 pub mod Refusals
 pub mod Views
+pub mod Servers
+pub mod ZoneWires

@@ -6,8 +6,8 @@
 #![tactic(auto)]
 
 use answer_cache::{ListCache, Stores};
-use dns_asker as asker;
-use dns_asker::MessageWire;
+use dns_queries as queries;
+use dns_queries::MessageWire;
 use dns_transport::{QueryForm, ReplyTimes, RunClock, WireOptions, open_wire};
 use sip_resolver::{
     Limits, Outcome, Resolved, Resolver, WireOrigin, draw_words, next_outcome, random_ids,
@@ -36,7 +36,7 @@ const LIMITS: Limits = Limits {
 const NUMBER: u64 = 1;
 
 /// Asks for a request over a wire, with a key of its random ids and words, until it ends.
-fn resolve<R: Wait, B: Stores<R> + Drop, W: MessageWire, C: asker::Clock>(
+fn resolve<R: Wait, B: Stores<R> + Drop, W: MessageWire, C: queries::Clock>(
     rt: &R,
     alloc: Global,
     request: Request,
@@ -62,7 +62,7 @@ fn resolve<R: Wait, B: Stores<R> + Drop, W: MessageWire, C: asker::Clock>(
 }
 
 /// The same with a book of its own.
-fn resolve_over<R: Wait, W: MessageWire, C: asker::Clock>(
+fn resolve_over<R: Wait, W: MessageWire, C: queries::Clock>(
     rt: &R,
     alloc: Global,
     request: Request,

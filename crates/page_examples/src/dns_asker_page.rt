@@ -1,55 +1,48 @@
-//! The example of the page of `dns_asker`.
-use crate::answers::{REPLY, question};
+//! The example of the page of `dns_asker`: a question to a server in memory.
+use crate::answers::question;
 use dns_answers::Moment;
-use dns_asker::{Asker, Due, Ending, Incoming};
+use dns_asker::{Asker, DATAGRAM_LIMIT, Ending, Incoming, Wire, Zone, ZoneWire};
 use dns_message::Question;
 use std::alloc::Global;
+use std::sync::atomic::AtomicU64;
 
-/// An asker of at most eight questions at once.
-fn asker_of(alloc: Global) -> Option<Asker> {
+/// A name and its address, as a line of a zone (RFC 1035 5.1).
+const ZONE: &str = "a.example. 300 A 192.0.2.7";
+
+/// Whether a server in memory answers a question from a zone.
+fn is_answered(alloc: Global, zone: &Zone, question: Question) -> Option<bool> {
+    let sent = AtomicU64::new(0);
+    // a wire in memory to a server of the zone
+    let mut wire = ZoneWire::new(alloc, zone, &sent);
     let mut asker = Asker::new(alloc, 8, 0).ok()?;
-    Some(asker)
+    let heard = exchange(&mut wire, &mut asker, question, Moment::new(10)?)?;
+    Some(matches!(heard, Incoming::Ended(0x1234, _, Ending::Answered(_))))
 }
 
-/// Whether the query of a question begins with its id.
-fn is_sent(asker: &mut Asker, question: Question, now: Moment) -> Option<bool> {
-    // the octets to send, which begin with the id
+/// What comes back over a wire for a question that is sent over it, where anything does.
+fn exchange(
+    wire: &mut ZoneWire<'_>,
+    asker: &mut Asker,
+    question: Question,
+    now: Moment,
+) -> Option<Incoming> {
+    let mut buffer = [0; DATAGRAM_LIMIT];
+    // what an asker sends for a question goes over the wire
     let query = asker.ask(question, 0x1234, now).ok()?;
-    let sent = query.starts_with(b"\x12\x34");
-    Some(sent)
-}
-
-/// Whether it is sent again later.
-fn is_resent(asker: &mut Asker, later: Moment) -> bool {
-    // a second later nothing came in
-    let again = matches!(asker.due(later), Some(Due::Resend(0x1234, _)));
-    again
-}
-
-/// Whether octets answer it.
-fn is_answered(asker: &mut Asker, octets: &[u8]) -> Option<bool> {
-    // the octets of a reply
-    let heard = asker.incoming(octets).ok()?;
-    let answered = matches!(heard, Incoming::Ended(0x1234, _, Ending::Answered(_)));
-    Some(answered)
-}
-
-/// Whether a question that was asked is sent again a second later, and then answered by octets,
-/// where there is memory for it.
-fn is_resent_and_answered(alloc: Global, question: Question, octets: &[u8]) -> Option<[bool; 3]> {
-    let mut asker = asker_of(alloc)?;
-    let sent = is_sent(&mut asker, question, Moment::new(10)?)?;
-    let again = is_resent(&mut asker, Moment::new(11)?);
-    let answered = is_answered(&mut asker, octets)?;
-    Some([sent, again, answered])
+    wire.send(query).ok()?;
+    // and so does the reply, which the asker hears
+    let count = wire.receive(&mut buffer).ok()??;
+    let heard = asker.incoming(&buffer[..count]).ok()?;
+    Some(heard)
 }
 
 /// The same of A of a.example.
-fn example(alloc: Global) -> Option<[bool; 3]> {
-    is_resent_and_answered(alloc, question(alloc)?, REPLY)
+fn example(alloc: Global) -> Option<bool> {
+    let zone = Zone::read(alloc, ZONE).ok()?;
+    is_answered(alloc, &zone, question(alloc)?)
 }
 
 #[test]
-fn query_is_resent_and_answered(rt: HostRuntime) {
-    assert_eq!(rt; example(rt.alloc()), Some([true; 3]));
+fn server_in_memory_answers(rt: HostRuntime) {
+    assert_eq!(rt; example(rt.alloc()), Some(true));
 }

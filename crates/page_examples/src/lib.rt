@@ -19,6 +19,8 @@ mod dns_message_page;
 #[cfg(test)]
 mod dns_name_page;
 #[cfg(test)]
+mod dns_queries_page;
+#[cfg(test)]
 mod dns_zone_page;
 #[cfg(test)]
 mod ip_text_page;

@@ -4,7 +4,8 @@ ghost use Rattle.answer_cache.specs.Shared.{Belongs};
 
 use answer_cache::SharedCache;
 use dns_answers::Moment;
-use dns_asker::{StandingClock, Wire, Zone, ZoneWire};
+use dns_queries::{StandingClock, Wire};
+use dns_zone::{Zone, ZoneWire};
 use sip_selection::{Caps, Families, Request};
 use sip_uri::Transport::Udp;
 use sip_uri::read_uri;

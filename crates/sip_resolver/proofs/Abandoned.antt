@@ -3,7 +3,7 @@ use Rattle.std.proofs.Common.{◌≡◌, ℕ, ◌&&◌, ◌||◌, Bool, eq-eqb, 
 use Rattle.std.specs.List.{All, filter, find}
 use Rattle.std.proofs.lemmas.List.Elements.{filter_agree}
 use Rattle.std.proofs.lemmas.List.Folds.{list_any-append, list_any_at}
-use Rattle.dns_asker.specs.Tickets.{Asking, Ticket, has_id}
+use Rattle.dns_queries.specs.Tickets.{Asking, Ticket, has_id}
 use Rattle.sip_resolver.specs.Cancels.{is_abandoned, is_awaited, questions_left, without_abandoned}
 use Rattle.sip_resolver.specs.Questions.{QuestionsView, closed_both}
 use Rattle.sip_resolver.specs.Requests.{waits_for}

@@ -4,14 +4,14 @@ use Rattle.std.specs.List.{All, AllPairs, filter, find}
 use Rattle.std.specs.Result.{IfOk, OnErr}
 use Rattle.std.proofs.lemmas.List.Elements.{All-append, All-cons, All-filter, All-head, All-nil, All-tail}
 use Rattle.std.proofs.lemmas.List.Kept.{AllPairs-cons, AllPairs-filter}
-use Rattle.dns_asker.specs.Events.{Dues, again, asked, left_by}
-use Rattle.dns_asker.specs.Out.{LacksQuestion}
-use Rattle.dns_asker.specs.Tickets.{Asking, Ticket, has_id, ticket_of, waiting_too}
-use Rattle.dns_asker.specs.declared.incoming.Due.{Due}
-use Rattle.dns_asker.specs.declared.incoming.Due.TheVariants.{Resend, GaveUp}
-use Rattle.dns_asker.specs.declared.incoming.Incoming.{Incoming}
-use Rattle.dns_asker.specs.declared.incoming.Incoming.TheVariants.{Ended, Ignored}
-use Rattle.dns_asker.specs.declared.schedule.Schedule.{Schedule}
+use Rattle.dns_queries.specs.Events.{Dues, again, asked, left_by}
+use Rattle.dns_queries.specs.Out.{LacksQuestion}
+use Rattle.dns_queries.specs.Tickets.{Asking, Ticket, has_id, ticket_of, waiting_too}
+use Rattle.dns_queries.specs.declared.incoming.Due.{Due}
+use Rattle.dns_queries.specs.declared.incoming.Due.TheVariants.{Resend, GaveUp}
+use Rattle.dns_queries.specs.declared.incoming.Incoming.{Incoming}
+use Rattle.dns_queries.specs.declared.incoming.Incoming.TheVariants.{Ended, Ignored}
+use Rattle.dns_queries.specs.declared.schedule.Schedule.{Schedule}
 use Rattle.dns_message.specs.declared.question.Question.{Question}
 use Rattle.sip_resolver.specs.Questions.{AreBounded, AreDistinct, Differ, Fewer, Lacks, QuestionsView, asked_over, closed_both, closed_over, left_over}
 use Rattle.sip_resolver.specs.declared.transmit.Over.{Over}

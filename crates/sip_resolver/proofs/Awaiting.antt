@@ -3,10 +3,10 @@ use Rattle.std.proofs.Common.{◌≡◌, ◌≢◌, inl, inr, nat_eq, ℕ, ◌+�
 use Rattle.std.specs.List.{All, filter}
 use Rattle.std.specs.Option.{IfSome, IsSome, MatchOption}
 use Rattle.std.proofs.lemmas.List.Elements.{All-cons, All-head, All-nil, All-push, All-tail, All-weaker}
-use Rattle.dns_asker.specs.Events.{IsGivenUp, IsResent, again}
-use Rattle.dns_asker.specs.Out.{HasQuestion, LacksQuestion}
-use Rattle.dns_asker.specs.Tickets.{Asking, Sent, Ticket, has_id, ticket_of, waiting_too, without}
-use Rattle.dns_asker.specs.declared.schedule.Schedule.{Schedule}
+use Rattle.dns_queries.specs.Events.{IsGivenUp, IsResent, again}
+use Rattle.dns_queries.specs.Out.{HasQuestion, LacksQuestion}
+use Rattle.dns_queries.specs.Tickets.{Asking, Sent, Ticket, has_id, ticket_of, waiting_too, without}
+use Rattle.dns_queries.specs.declared.schedule.Schedule.{Schedule}
 use Rattle.dns_message.specs.declared.question.Question.{Question}
 use Rattle.sip_resolver.proofs.Apart.{none-has}
 use Rattle.sip_resolver.specs.Idle.{AreIn, IsIn, IsOut}

@@ -5,7 +5,7 @@ use Rattle.std.specs.Option.{IsSome}
 use Rattle.std.proofs.lemmas.List.{append-nil}
 use Rattle.std.proofs.lemmas.List.Elements.{All-filter}
 use Rattle.answer_cache.specs.Seats.{SeatView}
-use Rattle.dns_asker.specs.Tickets.{Asking, Ticket, has_id}
+use Rattle.dns_queries.specs.Tickets.{Asking, Ticket, has_id}
 use Rattle.sip_resolver.proofs.Abandoned.{awaited-behind, awaited-left, awaited-self, awaited-turned, questions-not, questions-through}
 use Rattle.sip_resolver.proofs.Circling.{Circled, circled-not, circled-on, circled-over, others-all, others-lack}
 use Rattle.sip_resolver.proofs.Queues.{in-first, in-last, in-second, in-third, only-last}

@@ -4,7 +4,7 @@ use Rattle.std.specs.List.{All, Contains, filter_map}
 use Rattle.std.specs.Option.{IfSome, option_map}
 use Rattle.std.proofs.lemmas.List.Elements.{All-append, All-cons, All-contains, All-contains_itself, All-head, All-map, All-nil, All-tail, All-weaker, Contains-append_left, Contains-append_right, filter_map-append}
 use Rattle.std.proofs.lemmas.List.{append-nil, take_more, take_all}
-use Rattle.dns_asker.specs.Tickets.{Asking, Ticket}
+use Rattle.dns_queries.specs.Tickets.{Asking, Ticket}
 use Rattle.sip_resolver.specs.Idle.{IsInWait}
 use Rattle.sip_resolver.specs.Questions.{IsLeast, QuestionsView, deadlines_of}
 use Rattle.sip_resolver.specs.Sends.{IsOverdue, tickets_of}

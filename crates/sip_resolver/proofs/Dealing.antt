@@ -3,9 +3,9 @@ use Rattle.std.proofs.Common.{◌≡◌, ◌⊎◌, inl, inr, ℕ, ◌+◌, ◌<
 use Rattle.std.proofs.Math.Nat.{le-max_left, le-max_right}
 use Rattle.std.specs.List.{All, Contains}
 use Rattle.std.proofs.lemmas.List.Elements.{All-append, All-cons, All-contains, All-contains_itself, All-tail, All-weaker, Contains-append_left, Contains-append_right}
-use Rattle.dns_asker.specs.Events.{IsResent, again}
-use Rattle.dns_asker.specs.Tickets.{Asking, Ticket, waiting_too}
-use Rattle.dns_asker.specs.declared.schedule.Schedule.{Schedule}
+use Rattle.dns_queries.specs.Events.{IsResent, again}
+use Rattle.dns_queries.specs.Tickets.{Asking, Ticket, waiting_too}
+use Rattle.dns_queries.specs.declared.schedule.Schedule.{Schedule}
 use Rattle.dns_message.specs.declared.question.Question.{Question}
 use Rattle.sip_resolver.proofs.Apart.{all-too}
 use Rattle.sip_resolver.proofs.Awaiting.{of-others, of-ticket, split-back, split-front}

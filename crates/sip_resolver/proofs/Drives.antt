@@ -1,6 +1,6 @@
 -- What is done at a wire, one part after the other.
 use Rattle.std.proofs.Common.{ℕ, List, Some, true, false, sym, subst}
-use Rattle.dns_asker.specs.MessageWires.{Event}
+use Rattle.dns_queries.specs.MessageWires.{Event}
 use Rattle.sip_resolver.specs.Questions.{QuestionsView}
 use Rattle.sip_resolver.specs.Resolvers.{ResolverView}
 use Rattle.sip_resolver.specs.Sends.{Sends}

@@ -4,8 +4,8 @@ use Rattle.std.specs.List.{All, Contains}
 use Rattle.std.proofs.lemmas.List.{append-nil, append_assoc}
 use Rattle.std.proofs.lemmas.List.Elements.{All-append, All-cons, All-head, All-nil}
 use Rattle.dns_answers.specs.declared.refusal.ReplyRefusal.{ReplyRefusal}
-use Rattle.dns_asker.specs.Tickets.{Ticket}
-use Rattle.dns_asker.specs.declared.schedule.Schedule.{Schedule}
+use Rattle.dns_queries.specs.Tickets.{Ticket}
+use Rattle.dns_queries.specs.declared.schedule.Schedule.{Schedule}
 use Rattle.dns_message.specs.declared.question.Question.{Question}
 use Rattle.sip_resolver.specs.Ends.{EndsMore, IsByChoice, IsByClosing, IsByFault, IsBySilence}
 use Rattle.sip_resolver.specs.Outcomes.{Ended}

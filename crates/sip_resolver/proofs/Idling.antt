@@ -4,12 +4,12 @@ use Rattle.std.specs.List.{All}
 use Rattle.std.proofs.lemmas.List.Elements.{All-nil}
 use Rattle.std.specs.Option.{IfNone, IsSome, MatchOption}
 use Rattle.std.specs.Result.{IfErr, IfOk, OnErr}
-use Rattle.dns_asker.specs.Events.{IsGivenUp, IsResent, Refuses, asked, left_by}
-use Rattle.dns_asker.specs.Tickets.{Asking, Ticket, ticket_of}
-use Rattle.dns_asker.specs.declared.incoming.Incoming.{Incoming}
-use Rattle.dns_asker.specs.declared.incoming.Incoming.TheVariants.{Ended, Ignored}
-use Rattle.dns_asker.specs.declared.refusal.AskRefusal.{AskRefusal}
-use Rattle.dns_asker.specs.declared.refusal.AskRefusal.TheVariants.{IdTaken, Full, Spent, Memory}
+use Rattle.dns_queries.specs.Events.{IsGivenUp, IsResent, Refuses, asked, left_by}
+use Rattle.dns_queries.specs.Tickets.{Asking, Ticket, ticket_of}
+use Rattle.dns_queries.specs.declared.incoming.Incoming.{Incoming}
+use Rattle.dns_queries.specs.declared.incoming.Incoming.TheVariants.{Ended, Ignored}
+use Rattle.dns_queries.specs.declared.refusal.AskRefusal.{AskRefusal}
+use Rattle.dns_queries.specs.declared.refusal.AskRefusal.TheVariants.{IdTaken, Full, Spent, Memory}
 use Rattle.dns_message.specs.declared.question.Question.{Question}
 use Rattle.sip_resolver.specs.Idle.{CannotAsk, IsIdle, IsInWait, IsOut, MayRefuse}
 use Rattle.sip_resolver.specs.Questions.{QuestionsView, asking_over}

@@ -2,7 +2,7 @@
 use Rattle.std.proofs.Common.{◌≡◌, ◌⊎◌, inl, inr, ℕ, ◌+◌, ◌<◌, ◌≤◌, nat_eq, ◌&&◌, Bool, true, false, not, List, [], ◌∷◌, ◌++◌, Option, Some, None, refl, ap, arith, rules}
 use Rattle.std.specs.List.{All, Contains, filter, filter_map}
 use Rattle.std.proofs.lemmas.List.Elements.{All-append, All-cons, All-contains, All-contains_itself, All-filter, All-head, All-nil, All-tail, All-weaker, Contains-append_left, Contains-append_right}
-use Rattle.dns_asker.specs.Tickets.{Asking, Ticket}
+use Rattle.dns_queries.specs.Tickets.{Asking, Ticket}
 use Rattle.sip_resolver.proofs.Deadlines.{back-of}
 use Rattle.sip_resolver.specs.Cancels.{is_abandoned, is_awaited, questions_left, without_abandoned}
 use Rattle.sip_resolver.specs.Dues.{IsLetGo}

@@ -6,9 +6,9 @@ use Rattle.std.specs.Option.{option_or}
 use Rattle.std.proofs.lemmas.List.Folds.{find-append}
 use Rattle.std.proofs.lemmas.List.{append_assoc}
 use Rattle.std.proofs.lemmas.List.Elements.{All-append, All-cons, All-nil, Contains-append_right}
-use Rattle.dns_asker.specs.Events.{IsGivenUp, IsResent, again}
-use Rattle.dns_asker.specs.Tickets.{Asking, Ticket, has_id, waiting_too}
-use Rattle.dns_asker.specs.declared.schedule.Schedule.{Schedule}
+use Rattle.dns_queries.specs.Events.{IsGivenUp, IsResent, again}
+use Rattle.dns_queries.specs.Tickets.{Asking, Ticket, has_id, waiting_too}
+use Rattle.dns_queries.specs.declared.schedule.Schedule.{Schedule}
 use Rattle.dns_message.specs.declared.question.Question.{Question}
 use Rattle.sip_resolver.specs.Questions.{IsScheduled, IsSent, QuestionsView, asked_over, asking_over}
 use Rattle.sip_resolver.specs.Sends.{GivesUp, GivesUpBoth, IsInVain, IsOverdue, IsUnanswered, SendsAfter, SendsFirst, SendsOne, Sends, first, again as again-sent, with_over}

@@ -14,10 +14,10 @@ use Rattle.sip_resolver.specs.Works.{HandsBy, IsHeard, MayHand, Works, offer_in}
 use Rattle.sip_resolver.specs.Questions.{QuestionsView, asking_over}
 use Rattle.sip_resolver.specs.Resolvers.{HandsIn, answer, nothing}
 use Rattle.sip_resolver.specs.declared.transmit.Over.{Over}
-use Rattle.dns_asker.specs.Events.{Means}
-use Rattle.dns_asker.specs.declared.incoming.Ending.{Ending}
-use Rattle.dns_asker.specs.declared.incoming.Ending.TheVariants.{Answered, Faulty}
-use Rattle.dns_asker.specs.declared.incoming.Incoming.TheVariants as incoming
+use Rattle.dns_queries.specs.Events.{Means}
+use Rattle.dns_queries.specs.declared.incoming.Ending.{Ending}
+use Rattle.dns_queries.specs.declared.incoming.Ending.TheVariants.{Answered, Faulty}
+use Rattle.dns_queries.specs.declared.incoming.Incoming.TheVariants as incoming
 
 module _ (gives : List ℕ → Type 0) (shows : ℕ → Type 0) (old new : SeatView) (on : GoesOn old new) (octets : List ℕ)
     (given : gives octets) (now : ℕ) (shown : shows now) (question : Question) (answer : AnswerValue)

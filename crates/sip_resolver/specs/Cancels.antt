@@ -1,7 +1,7 @@
 -- What is left after a request was cancelled.
 use Rattle.std.specs.Prelude.{◌==◌, ◌&&◌, ℕ, Bool, not, List, ◌++◌, map}
 use Rattle.std.specs.List.{filter, list_any}
-use Rattle.dns_asker.specs.Tickets.{Asking}
+use Rattle.dns_queries.specs.Tickets.{Asking}
 use Rattle.sip_resolver.specs.Outcomes.{Sought}
 use Rattle.sip_resolver.specs.Questions.{QuestionsView}
 use Rattle.sip_resolver.specs.Requests.{RequestsView, number_of_ended, number_of_waiting, requests_of, waits_for}

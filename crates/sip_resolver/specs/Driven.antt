@@ -2,7 +2,7 @@
 use Rattle.std.specs.Prelude.{◌≡◌, ℕ, Bool, true, false, List, Option, Some, None}
 use Rattle.std.specs.List.{All}
 use Rattle.answer_cache.specs.Seats.{SeatView}
-use Rattle.dns_asker.specs.MessageWires.{Event, closed, left, nothing, received, sent}
+use Rattle.dns_queries.specs.MessageWires.{Event, closed, left, nothing, received, sent}
 use Rattle.dns_message.specs.Written.{plain, query_of}
 use Rattle.dns_message.specs.declared.question.Question.{Question}
 use Rattle.sip_resolver.specs.Idle.{IsOut}

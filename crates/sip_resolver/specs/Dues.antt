@@ -1,9 +1,9 @@
 -- What becomes of the questions that are out, as a moment is polled.
 use Rattle.std.specs.Prelude.{◌≡◌, ℕ, ◌<◌, ◌≤◌, max, false, List, Some, None}
 use Rattle.std.specs.List.{All, Contains}
-use Rattle.dns_asker.specs.Events.{again}
-use Rattle.dns_asker.specs.Tickets.{Ticket}
-use Rattle.dns_asker.specs.declared.schedule.Schedule.{Schedule}
+use Rattle.dns_queries.specs.Events.{again}
+use Rattle.dns_queries.specs.Tickets.{Ticket}
+use Rattle.dns_queries.specs.declared.schedule.Schedule.{Schedule}
 use Rattle.answer_cache.specs.Seats.{SeatView}
 use Rattle.sip_resolver.specs.Expiries.{waits_in_time}
 use Rattle.sip_resolver.specs.Questions.{QuestionsView, schedule_of}

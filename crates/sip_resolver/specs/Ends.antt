@@ -2,8 +2,8 @@
 use Rattle.std.specs.Prelude.{◌≡◌, ⊤, List, ◌++◌}
 use Rattle.std.specs.List.{All}
 use Rattle.dns_answers.specs.declared.refusal.ReplyRefusal.{ReplyRefusal}
-use Rattle.dns_asker.specs.declared.incoming.Ending.{Ending}
-use Rattle.dns_asker.specs.declared.incoming.Ending.TheVariants.{Answered, Faulty}
+use Rattle.dns_queries.specs.declared.incoming.Ending.{Ending}
+use Rattle.dns_queries.specs.declared.incoming.Ending.TheVariants.{Answered, Faulty}
 use Rattle.dns_message.specs.declared.question.Question.{Question}
 use Rattle.sip_resolver.specs.Outcomes.{Ended}
 use Rattle.sip_resolver.specs.declared.outcome.Outcome.{Outcome}

@@ -1,9 +1,9 @@
 -- When nothing is left to send or to give up at a moment.
 use Rattle.std.specs.Prelude.{◌≡◌, ⊤, ℕ, ◌+◌, ◌-◌, ◌^◌, ◌<◌, ◌⊎◌, List, [], length, IsSome}
 use Rattle.std.specs.List.{All}
-use Rattle.dns_asker.specs.Tickets.{Asking, Ticket, ticket_of}
-use Rattle.dns_asker.specs.declared.refusal.AskRefusal.{AskRefusal}
-use Rattle.dns_asker.specs.declared.refusal.AskRefusal.TheVariants.{IdTaken, Full, Spent, Memory}
+use Rattle.dns_queries.specs.Tickets.{Asking, Ticket, ticket_of}
+use Rattle.dns_queries.specs.declared.refusal.AskRefusal.{AskRefusal}
+use Rattle.dns_queries.specs.declared.refusal.AskRefusal.TheVariants.{IdTaken, Full, Spent, Memory}
 use Rattle.sip_resolver.specs.Questions.{QuestionsView}
 use Rattle.sip_resolver.specs.Requests.{RequestsView}
 use Rattle.sip_resolver.specs.Tasks.{WaitingView}

@@ -9,7 +9,7 @@ use Rattle.dns_answers.specs.declared.refusal.ReplyRefusal.{ReplyRefusal}
 use Rattle.dns_message.specs.Messages.{Begins}
 use Rattle.dns_message.specs.declared.message.Message.{Message}
 use Rattle.dns_message.specs.declared.question.Question.{Question}
-use Rattle.dns_asker.specs.Events.{EndsWait}
+use Rattle.dns_queries.specs.Events.{EndsWait}
 use Rattle.answer_log.specs.Histories.{cached}
 use Rattle.answer_log.specs.declared.store.Store.{Store}
 use Rattle.answer_cache.specs.Seats.{Offer, SeatView, offer_of}

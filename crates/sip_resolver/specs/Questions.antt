@@ -2,12 +2,12 @@
 use Rattle.std.specs.Prelude.{◌≡◌, ◌≢◌, ℕ, ◌≤◌, List, [], ◌++◌, map, Option, Some, None}
 use Rattle.std.specs.List.{All, AllPairs, Contains}
 use Rattle.dns_message.specs.declared.question.Question.{Question}
-use Rattle.dns_asker.specs.Events.{asked, closed, sent_octets}
-use Rattle.dns_asker.specs.Out.{LacksQuestion}
-use Rattle.dns_asker.specs.Tickets.{Asking, IsSchedule, Ticket, ticket_of}
-use Rattle.dns_asker.specs.declared.incoming.Incoming.{Incoming}
-use Rattle.dns_asker.specs.declared.incoming.Incoming.TheVariants.{Ended, Ignored}
-use Rattle.dns_asker.specs.declared.schedule.Schedule.{Schedule}
+use Rattle.dns_queries.specs.Events.{asked, closed, sent_octets}
+use Rattle.dns_queries.specs.Out.{LacksQuestion}
+use Rattle.dns_queries.specs.Tickets.{Asking, IsSchedule, Ticket, ticket_of}
+use Rattle.dns_queries.specs.declared.incoming.Incoming.{Incoming}
+use Rattle.dns_queries.specs.declared.incoming.Incoming.TheVariants.{Ended, Ignored}
+use Rattle.dns_queries.specs.declared.schedule.Schedule.{Schedule}
 use Rattle.sip_resolver.specs.declared.transmit.Over.{Over}
 use Rattle.sip_resolver.specs.declared.transmit.Over.TheVariants.{Datagram, Stream}
 use Rattle.sip_resolver.specs.declared.transmit.Transmit.{Transmit}

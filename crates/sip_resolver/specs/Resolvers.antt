@@ -6,12 +6,12 @@ use Rattle.dns_message.specs.declared.message.Message.{Message}
 use Rattle.dns_message.specs.declared.question.Question.{Question}
 use Rattle.dns_answers.specs.Values.{AnswerValue}
 use Rattle.dns_answers.specs.declared.refusal.ReplyRefusal.TheVariants as refusals
-use Rattle.dns_asker.specs.Events.{EndsBy, Means}
-use Rattle.dns_asker.specs.Out.{HasQuestion}
-use Rattle.dns_asker.specs.declared.incoming.Ending.{Ending}
-use Rattle.dns_asker.specs.declared.incoming.Ending.TheVariants as endings
-use Rattle.dns_asker.specs.declared.incoming.Incoming.TheVariants as incoming
-use Rattle.dns_asker.specs.declared.schedule.Schedule.{Schedule}
+use Rattle.dns_queries.specs.Events.{EndsBy, Means}
+use Rattle.dns_queries.specs.Out.{HasQuestion}
+use Rattle.dns_queries.specs.declared.incoming.Ending.{Ending}
+use Rattle.dns_queries.specs.declared.incoming.Ending.TheVariants as endings
+use Rattle.dns_queries.specs.declared.incoming.Incoming.TheVariants as incoming
+use Rattle.dns_queries.specs.declared.schedule.Schedule.{Schedule}
 use Rattle.answer_cache.specs.Seats.{SeatView, StoresNothing}
 use Rattle.sip_selection.specs.Selections.{begun}
 use Rattle.sip_selection.specs.declared.caps.Caps.{Caps}

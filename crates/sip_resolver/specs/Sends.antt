@@ -2,9 +2,9 @@
 use Rattle.std.specs.Prelude.{◌≡◌, ◌⊎◌, ⊤, ℕ, ◌+◌, ◌≤◌, max, List, ◌∷◌, ◌++◌, Option, Some, None}
 use Rattle.std.specs.List.{All, Contains}
 use Rattle.dns_message.specs.declared.question.Question.{Question}
-use Rattle.dns_asker.specs.Events.{IsResent}
-use Rattle.dns_asker.specs.Tickets.{Asking, Ticket}
-use Rattle.dns_asker.specs.declared.schedule.Schedule.{Schedule}
+use Rattle.dns_queries.specs.Events.{IsResent}
+use Rattle.dns_queries.specs.Tickets.{Asking, Ticket}
+use Rattle.dns_queries.specs.declared.schedule.Schedule.{Schedule}
 use Rattle.sip_selection.specs.Choice.{need}
 use Rattle.sip_selection.specs.Selections.{now_of}
 use Rattle.sip_resolver.specs.Questions.{IsMessageOf, QuestionsView, asked_over, asking_over, schedule_of}

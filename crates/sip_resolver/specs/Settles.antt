@@ -1,8 +1,8 @@
 -- What becomes of the requests that waited for one reply.
 use Rattle.std.specs.Prelude.{◌≡◌, ◌≢◌, ℕ, true, false, List, [], ◌∷◌, ◌++◌}
 use Rattle.dns_answers.specs.Values.{AnswerValue}
-use Rattle.dns_asker.specs.declared.incoming.Ending.{Ending}
-use Rattle.dns_asker.specs.declared.incoming.Ending.TheVariants.{Answered, Faulty}
+use Rattle.dns_queries.specs.declared.incoming.Ending.{Ending}
+use Rattle.dns_queries.specs.declared.incoming.Ending.TheVariants.{Answered, Faulty}
 use Rattle.dns_message.specs.declared.question.Question.{Question}
 use Rattle.sip_selection.specs.Choice.{need}
 use Rattle.sip_selection.specs.Selections.{given_too, now_of}

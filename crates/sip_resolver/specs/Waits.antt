@@ -4,8 +4,8 @@ use Rattle.std.specs.Prelude.{◌≡◌, ◌≢◌, ⊤, ℕ, List, [], ◌∷�
 use Rattle.std.specs.Arc.{arc_value}
 use Rattle.dns_answers.specs.Records.{kind_of}
 use Rattle.dns_answers.specs.declared.refusal.ReplyRefusal.{ReplyRefusal}
-use Rattle.dns_asker.specs.Events.{IsResent}
-use Rattle.dns_asker.specs.Tickets.{Asking}
+use Rattle.dns_queries.specs.Events.{IsResent}
+use Rattle.dns_queries.specs.Tickets.{Asking}
 use Rattle.dns_message.specs.declared.question.Question.{Question}
 use Rattle.answer_cache.specs.Seats.{SeatView}
 use Rattle.sip_selection.specs.Choice.{need}

@@ -4,8 +4,8 @@ use Rattle.std.specs.List.{All}
 use Rattle.answer_log.specs.declared.store.Store.{Store}
 use Rattle.answer_cache.specs.Seats.{GoesOn, Offer, SeatView, StoresNothing, offer_of, store_of}
 use Rattle.dns_answers.specs.Values.{AnswerValue}
-use Rattle.dns_asker.specs.declared.incoming.Ending.{Ending}
-use Rattle.dns_asker.specs.declared.incoming.Ending.TheVariants.{Answered, Faulty}
+use Rattle.dns_queries.specs.declared.incoming.Ending.{Ending}
+use Rattle.dns_queries.specs.declared.incoming.Ending.TheVariants.{Answered, Faulty}
 use Rattle.dns_message.specs.declared.question.Question.{Question}
 use Rattle.sip_resolver.specs.Outcomes.{IsReplied}
 

@@ -15,7 +15,7 @@ use crate::requests::Requests;
 use crate::task::Task;
 use answer_cache::AnswerBook;
 use dns_answers::Moment;
-use dns_asker::AskRefusal;
+use dns_queries::AskRefusal;
 
 /// Lets a request wait for the answer that it needs. Where its question is not out it is sent, as
 /// asked at this moment, and the result is its id; where as many are out as can be, the request is

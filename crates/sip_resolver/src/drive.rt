@@ -16,7 +16,7 @@ use crate::rounding::rounded_up;
 use crate::transmit::Over;
 use crate::wire_origin::WireOrigin;
 use answer_cache::{AnswerBook, Stores};
-use dns_asker::{Clock, MessageWire, Received};
+use dns_queries::{Clock, MessageWire, Received};
 use std::sync::Wait;
 
 /// How many queries are sent in one round at most, before something is received.

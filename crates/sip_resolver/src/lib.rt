@@ -47,7 +47,7 @@
 //!
 //! `next_outcome` drives a resolver over a wire to DNS servers until a request ends: it sends what
 //! the resolver has to send, and hands it what comes back; `poll_over` does so once. They work over
-//! any `MessageWire` and any `Clock` of `dns_asker`, of which a `WireOrigin` is the `Origin`.
+//! any `MessageWire` and any `Clock` of `dns_queries`, of which a `WireOrigin` is the `Origin`.
 //!
 //! `random_ids` and `draw_words` make ids of queries and random words of a key, which `random_key`
 //! takes from the system's entropy; `law_id_streams_are_apart` says that they come of streams of
@@ -84,7 +84,7 @@ mod transmit;
 mod waits;
 mod wire_origin;
 
-pub use dns_asker::Schedule;
+pub use dns_queries::Schedule;
 pub use draw::draw_words;
 pub use drive::{cancel_over, next_outcome, poll_over};
 pub use id_streams::{law_id_streams_are_apart, random_ids};

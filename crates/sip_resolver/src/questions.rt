@@ -2,11 +2,11 @@
 ghost use Rattle.std.specs.Prelude.{◌≡◌, ℕ, ◌≤◌, ◌↔◌, [], None, Err, IfErr, IfNone, IfOk, IfSome, IsTrue, MatchOption, OnErr};
 ghost use Rattle.answer_cache.specs.Seats.{SeatView};
 ghost use Rattle.std.specs.List.{All};
-ghost use Rattle.dns_asker.specs.Events.{Means, Refuses, asked as asked_too};
-ghost use Rattle.dns_asker.specs.Out.{HasQuestion};
-ghost use Rattle.dns_asker.specs.Tickets.{ticket_of};
+ghost use Rattle.dns_queries.specs.Events.{Means, Refuses, asked as asked_too};
+ghost use Rattle.dns_queries.specs.Out.{HasQuestion};
+ghost use Rattle.dns_queries.specs.Tickets.{ticket_of};
 ghost use Rattle.sip_resolver.specs.Ends.{EndsMore};
-ghost use Rattle.dns_asker.specs.declared.refusal.AskRefusal.TheVariants as refusals;
+ghost use Rattle.dns_queries.specs.declared.refusal.AskRefusal.TheVariants as refusals;
 ghost use Rattle.sip_resolver.specs.Idle.{AreAwaited, AreTaken, HasNoRoom, IsFull, IsInWait, IsOut, MayRefuse};
 ghost use Rattle.sip_resolver.specs.Questions.{AreDistinct, IsLeast, IsScheduled, IsSent, Lacks, asked_over, asking_over, closed_both, closed_over, deadlines_of, left_over, none_out, schedule_of};
 ghost use Rattle.sip_resolver.specs.Requests.{AreSame, Stand};
@@ -20,8 +20,8 @@ use crate::transmit::{Over, Transmit};
 use crate::waits::next_resend;
 use answer_cache::AnswerBook;
 use dns_answers::Moment;
-use dns_asker::{AskRefusal, Asker, Incoming, Schedule};
 use dns_message::Question;
+use dns_queries::{AskRefusal, Asker, Incoming, Schedule};
 use std::alloc::{AllocError, Global};
 use std::marker::Model;
 

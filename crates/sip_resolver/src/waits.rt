@@ -3,7 +3,7 @@ ghost use Rattle.std.specs.Prelude.{◌≡◌, ◌<◌, ◌≤◌, false, IfNone
 ghost use Rattle.std.specs.Arc.{arc_value};
 ghost use Rattle.std.specs.List.{All};
 ghost use Rattle.answer_cache.specs.Seats.{SeatView};
-ghost use Rattle.dns_asker.specs.Tickets.{Ticket as ticket};
+ghost use Rattle.dns_queries.specs.Tickets.{Ticket as ticket};
 ghost use Rattle.sip_selection.specs.Choice.{need};
 ghost use Rattle.sip_selection.specs.Selections.{now_of};
 ghost use Rattle.sip_resolver.specs.Ends.{EndsMore};
@@ -21,8 +21,8 @@ use crate::requests::Requests;
 use crate::task::Task;
 use answer_cache::AnswerBook;
 use dns_answers::{Answer, Moment, ReplyRefusal};
-use dns_asker::{Asker, Due};
 use dns_message::{Question, law_same_questions_are_equal};
+use dns_queries::{Asker, Due};
 use sip_selection::GiveRefusal;
 use std::alloc::AllocError;
 use std::sync::Arc;

@@ -1,6 +1,6 @@
 //! What may be known of what comes over a wire.
 use crate::origin::Origin;
-use dns_asker::{Clock, MessageWire};
+use dns_queries::{Clock, MessageWire};
 use std::marker::PhantomData;
 
 /// Octets that a wire gives, at moments that a clock shows.

@@ -2,7 +2,7 @@
 -- receives it hands to the resolver. The wire goes from one state to another by what its calls do.
 -- No public clause cites this module.
 use Rattle.std.specs.Prelude.{◌≡◌, ◌⊎◌, ℕ, ◌+◌, ◌-◌, ◌^◌, ◌<◌, ◌≤◌, Bool, true, false, List, Option, Some, None}
-use Rattle.dns_asker.specs.Wires.{Event, fault, nothing, received, sent}
+use Rattle.dns_queries.specs.Wires.{Event, fault, nothing, received, sent}
 use Rattle.answer_cache.specs.Seats.{SeatView}
 use Rattle.sip_resolver.specs.Resolvers.{Hears, Polls, ResolverView}
 use Rattle.sip_resolver.specs.declared.resolver.Heard.{Heard}

@@ -1,13 +1,13 @@
 //! How a resolver is driven over a wire.
 ghost use Rattle.std.specs.Prelude.{IfNone, IfSome, OnErr, OnOk, take};
-ghost use Rattle.dns_asker.specs.Wires.{IsGiven, received};
+ghost use Rattle.dns_queries.specs.Wires.{IsGiven, received};
 ghost use Rattle.sip_resolver.specs.Requests.{AreSame, Stand};
 ghost use Rattle.sip_resolver.specs.Works.{Works};
 ghost use Rattle.sip_worker.specs.Drives.{Gives, HearsNothing, HearsOne, Loses, Sends, SendsAll, SendsNext};
 
 use crate::wire_origin::WireOrigin;
 use answer_cache::{AnswerBook, Stores};
-use dns_asker::{Clock, DATAGRAM_LIMIT, Wire};
+use dns_queries::{Clock, DATAGRAM_LIMIT, Wire};
 use sip_resolver::{Ids, Over, Resolver, rounded_up};
 use std::alloc::AllocError;
 use std::sync::Wait;

@@ -13,7 +13,7 @@ use crate::gate::Gate;
 use crate::job::Job;
 use crate::wire_origin::WireOrigin;
 use answer_cache::{AnswerBook, Seat, SharedCache};
-use dns_asker::{Clock, DATAGRAM_LIMIT, Wire};
+use dns_queries::{Clock, DATAGRAM_LIMIT, Wire};
 use sip_resolver::{CountingIds, Ids, Limits, Origin, Outcome, Resolver};
 use std::alloc::{AllocError, Global};
 use std::marker::Model;

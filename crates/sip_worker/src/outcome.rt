@@ -5,7 +5,7 @@ ghost use Rattle.sip_worker.specs.Outcomes.{IsOutcome};
 
 use crate::job::Job;
 use answer_cache::Notice;
-use dns_asker::{Clock, Wire};
+use dns_queries::{Clock, Wire};
 use sip_resolver::Outcome;
 use std::alloc::{AllocError, Global};
 use std::marker::{Model, PhantomData};

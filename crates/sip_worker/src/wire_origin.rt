@@ -1,5 +1,5 @@
 //! What may be known of what comes over a wire.
-use dns_asker::{Clock, Wire};
+use dns_queries::{Clock, Wire};
 use sip_resolver::Origin;
 use std::marker::PhantomData;
 

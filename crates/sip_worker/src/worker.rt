@@ -11,7 +11,7 @@ use crate::job::Job;
 use crate::open_batch::OpenBatch;
 use crate::outcome::JobResult;
 use answer_cache::{Seat, SharedCache};
-use dns_asker::{Clock, DATAGRAM_LIMIT, Wire};
+use dns_queries::{Clock, DATAGRAM_LIMIT, Wire};
 use sip_resolver::{CountingIds, Outcome};
 use std::alloc::{AllocError, Global};
 use std::marker::Model;

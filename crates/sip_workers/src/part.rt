@@ -13,7 +13,7 @@ use crate::batch::Batch;
 use crate::queue::{Dealt, Queue, Right};
 use crate::report::{Report, reports_of};
 use answer_cache::{Seat, SharedCache};
-use dns_asker::{Clock, Wire};
+use dns_queries::{Clock, Wire};
 use sip_worker::{Gate, Job, Worker};
 use std::alloc::{AllocError, Global};
 use std::marker::PhantomData;

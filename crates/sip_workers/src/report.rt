@@ -4,7 +4,7 @@ ghost use Rattle.std.specs.List.{All};
 ghost use Rattle.sip_workers.specs.Deals.{IsTold};
 
 use answer_cache::Notice;
-use dns_asker::{Clock, Wire};
+use dns_queries::{Clock, Wire};
 use sip_resolver::Outcome;
 use sip_worker::{Job, JobResult};
 use std::alloc::{AllocError, Global};

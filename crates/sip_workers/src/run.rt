@@ -19,7 +19,7 @@ use crate::refusal::RunRefusal;
 use crate::report::results_of;
 use crate::threads::{Home, join_all, join_rest, start_all};
 use answer_cache::{Notice, Seat, SharedCache};
-use dns_asker::{Clock, Wire};
+use dns_queries::{Clock, Wire};
 use sip_resolver::Outcome;
 use sip_worker::{Gate, Job};
 use std::alloc::{AllocError, Global};

@@ -11,7 +11,7 @@ use crate::part::{Part, Plan, work};
 use crate::queue::{Dealt, Queue, Right};
 use crate::report::Report;
 use answer_cache::{Seat, SharedCache};
-use dns_asker::{Clock, Wire};
+use dns_queries::{Clock, Wire};
 use sip_worker::{Gate, Job};
 use std::alloc::AllocError;
 use std::marker::PhantomData;

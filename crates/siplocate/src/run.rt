@@ -8,7 +8,7 @@ ghost use Rattle.siplocate.specs.Runs.{FitsSeats, HasTooMany, IsRun, RefusesText
 use crate::line_outcome::{line_outcomes_of, printed, status};
 use crate::requests::{Requests, read_requests};
 use answer_cache::{Seat, SharedCache};
-use dns_asker::{Clock, Wire};
+use dns_queries::{Clock, Wire};
 use sip_workers::{Gate, RunRefusal, run_workers};
 use std::alloc::Global;
 use std::sync::Wait;

@@ -12,11 +12,11 @@ use crate::job::JobOutput;
 use crate::requests::parts;
 use crate::run::run_text;
 use answer_cache::{CacheRefusal, SharedCache};
-use dns_asker::{PeerWire, serve};
+use dns_queries::PeerWire;
 use dns_transport::{
     BufferWire, HostWire, QueryForm, ReplyTimes, SystemClock, UdpServerWire, WireOptions, open_wire,
 };
-use dns_zone::{Zone, ZoneRefusal};
+use dns_zone::{Zone, ZoneRefusal, serve};
 use sip_resolver::random_key;
 use sip_workers::{OpenGate, RunRefusal};
 use std::alloc::{AllocError, AllocFailed, Global};

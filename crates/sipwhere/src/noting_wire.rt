@@ -3,9 +3,9 @@ ghost use Rattle.std.specs.Prelude.{◌≡◌, ◌⊎◌, ◌++◌, ◌∷◌, [
 ghost use Rattle.std.specs.List.{Contains};
 ghost use Rattle.sipwhere.specs.Denials.{Denies, IsDenial, IsDenied};
 
-use dns_asker::{MessageWire, Received};
 use dns_message::{Message, message_in};
 use dns_name::Name;
+use dns_queries::{MessageWire, Received};
 use dns_transport::{Tracer, WireTry};
 use std::alloc::Global;
 use std::marker::Model;

@@ -13,7 +13,7 @@ use crate::sender::Sender;
 use crate::submitted_lines::{line_outcome_in_vain, line_outcome_of, submit};
 use crate::tell::{NOTHING_TOLD, Told, tell};
 use answer_cache::{AnswerBook, Stores};
-use dns_asker::{Clock, MessageWire, Schedule};
+use dns_queries::{Clock, MessageWire, Schedule};
 use dns_transport::{Timer, Tracer};
 use rand_chacha::ChaCha20Rng;
 use sip_report::{LineOutcome, Style};

@@ -17,7 +17,7 @@ use crate::sender::Sender;
 use crate::stats::tell_stats;
 use crate::tell::{FAULT_TOLD, NOTHING_TOLD, Told};
 use answer_cache::{ListCache, Stores};
-use dns_asker::Clock;
+use dns_queries::Clock;
 use dns_transport::{HostWire, RunClock, Timer, Tracer, WireOptions, open_wire};
 use sip_report::Style;
 use sip_resolver::random_key;

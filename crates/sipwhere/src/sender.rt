@@ -1,5 +1,5 @@
 //! The sender of requests: what it can do.
-use dns_asker::Schedule;
+use dns_queries::Schedule;
 use sip_selection::Caps;
 use sip_tries::Extent;
 use std::time::Duration;

@@ -1,6 +1,6 @@
 -- How often each question is sent, and for how long each query is waited for.
 use Rattle.std.specs.Prelude.{◌≡◌, ◌+◌, ◌*◌, ◌-◌, ◌^◌, ℕ, max, min, Option, Some, None}
-use Rattle.dns_asker.specs.declared.schedule.Schedule.{Schedule}
+use Rattle.dns_queries.specs.declared.schedule.Schedule.{Schedule}
 use Rattle.dns_transport.specs.declared.reply_times.ReplyTimes.{ReplyTimes}
 use Rattle.sipwhere_options.specs.declared.options.Options.{Options}
 

@@ -6,7 +6,7 @@ ghost use Rattle.sipwhere_options.specs.Servers as spec;
 use crate::options::Options;
 use crate::run_fault::RunFault;
 use crate::timing::{schedule_by, sends_of};
-use dns_asker::Schedule;
+use dns_queries::Schedule;
 use resolver_file::{ResolverFile, SERVER_PORT};
 use sip_uri::Address;
 use std::alloc::{AllocError, Global};

@@ -3,7 +3,7 @@ ghost use Rattle.std.specs.Prelude.{◌≡◌, ◌≤◌};
 ghost use Rattle.sipwhere_options.specs.Timings as spec;
 
 use crate::options::Options;
-use dns_asker::Schedule;
+use dns_queries::Schedule;
 use dns_transport::ReplyTimes;
 
 /// The most queries for a question.

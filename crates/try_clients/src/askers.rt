@@ -1,26 +1,18 @@
-//! Calls of `dns_asker`: what happens to an asker, and what it gives.
+//! Calls of `dns_queries`: what happens to an asker, and what it gives.
 use crate::lookups::{
     moment_of, push_answer, push_debug_line, push_number_line, push_question, push_yes, question_of,
 };
 use crate::schedules::{is_in_range, schedule_of};
-use crate::servers;
 use dns_answers::{Answer, Moment, ReplyRefusal};
-use dns_asker::{Asker, Due, Ending, Incoming, Schedule, Why};
 use dns_message::Question;
+use dns_queries::{Asker, Due, Ending, Incoming, Schedule, Why};
 use row_fields::{Fault, Output, first_line, number16, number64, octets, split_word};
 use std::alloc::{AllocError, Global};
-use std::sync::Wait;
 
 /// What a call gives for a row's lines.
-pub(crate) fn told<R: Wait>(
-    rt: &R,
-    output: &mut Output,
-    call: &str,
-    input: &str,
-) -> Result<(), Fault> {
+pub(crate) fn told(output: &mut Output, call: &str, input: &str) -> Result<(), Fault> {
     match call {
         "script" => script(output, input),
-        "serve" => servers::served(rt, output, input),
         _ => Err(Fault::Call),
     }
 }

@@ -1,8 +1,8 @@
 //! What a lookup asks and finds, as text.
 use dns_answers::{Answer, Moment, Records};
-use dns_asker::Zone;
 use dns_message::{CharString, Kind, NaptrRecord, Question, SrvRecord};
 use dns_name::Name;
+use dns_zone::Zone;
 use row_fields::{Fault, Output, number64, octets};
 use sip_uri::{Address, address_text};
 use std::alloc::Global;

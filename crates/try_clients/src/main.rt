@@ -31,8 +31,9 @@ fn told<R: Wait>(
     input: &str,
 ) -> Result<(), Fault> {
     match crate_name {
-        "dns_asker" => askers::told(rt, output, call, input),
+        "dns_queries" => askers::told(output, call, input),
         "dns_transport" | "resolver_file" => clients::told(output, call, input),
+        "dns_zone" => servers::told(rt, output, call, input),
         "sip_ping" => pings::told(rt, output, call, input),
         "sip_resolver" => resolvers::told(rt, output, call, input),
         _ => Err(Fault::Call),

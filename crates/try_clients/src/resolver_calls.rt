@@ -8,7 +8,7 @@ use crate::resolver_lines::{push_heard, push_outcome, push_sent, push_sent_octet
 use crate::resolver_steps::{LineIds, Submitted};
 use answer_cache::{AnswerBook, Stores};
 use dns_answers::Moment;
-use dns_asker::Zone;
+use dns_zone::Zone;
 use row_fields::{Fault, Output};
 use sip_resolver::{Origin, Over, Resolver};
 

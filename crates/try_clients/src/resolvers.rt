@@ -11,7 +11,7 @@ use crate::resolver_calls::{
 use crate::resolver_steps::{LineIds, Setting, Step, setting_of, steps_of, zone_text};
 use crate::schedules::is_in_range;
 use answer_cache::{AnswerBook, ListCache, Stores};
-use dns_asker::Zone;
+use dns_zone::Zone;
 use row_fields::{Fault, Output, first_line, only_line};
 use sip_resolver::{Anything, Limits, Origin, Resolver, Schedule, rounded_up};
 use std::alloc::Global;

@@ -1,7 +1,7 @@
 //! How often questions are sent, as text.
 ghost use Rattle.std.specs.Prelude.{◌≤◌, IsTrue};
 
-use dns_asker::Schedule;
+use dns_queries::Schedule;
 use row_fields::{Fault, number16, split_word};
 
 /// The number of a field, below 256.

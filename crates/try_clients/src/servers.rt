@@ -1,8 +1,9 @@
-//! A server over a wire that gives what lines say.
+//! The server of `dns_zone`, over a wire that gives what lines say.
 ghost use Rattle.std.specs.Prelude.{◌≡◌, ◌+◌, ◌-◌, ◌^◌, ◌<◌, ◌≤◌};
 
 use crate::lookups::{keep, push_line, zone_of};
-use dns_asker::{DATAGRAM_LIMIT, PeerWire, WireFault, Zone, serve};
+use dns_queries::{DATAGRAM_LIMIT, PeerWire, WireFault};
+use dns_zone::{Zone, serve};
 use row_fields::{Fault, Output, number64, octets, split_word};
 use std::alloc::Global;
 use std::sync::Wait;
@@ -176,9 +177,22 @@ impl Setting {
     }
 }
 
+/// What a call gives for a row's lines.
+pub(crate) fn told<R: Wait>(
+    rt: &R,
+    output: &mut Output,
+    call: &str,
+    input: &str,
+) -> Result<(), Fault> {
+    match call {
+        "serve" => served(rt, output, input),
+        _ => Err(Fault::Call),
+    }
+}
+
 /// What a server sends over such a wire, as lines, and in the end how much it says that it sent,
 /// and how often the wire failed.
-pub(crate) fn served<R: Wait>(rt: &R, output: &mut Output, input: &str) -> Result<(), Fault> {
+fn served<R: Wait>(rt: &R, output: &mut Output, input: &str) -> Result<(), Fault> {
     let alloc = output.alloc();
     let setting = Setting::read(alloc, input)?;
     let zone = zone_of(alloc, &setting.zone)?;

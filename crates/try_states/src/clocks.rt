@@ -1,5 +1,5 @@
 //! The clocks of the system.
-use dns_asker::Clock;
+use dns_queries::Clock;
 use dns_transport::{RunClock, SystemClock, Timer};
 use std::test::Fail;
 use std::time::Duration;

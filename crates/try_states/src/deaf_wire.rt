@@ -3,7 +3,7 @@ ghost use Rattle.answer_cache.specs.Shared.{Belongs};
 
 use crate::workers::{one_job, one_worker};
 use answer_cache::SharedCache;
-use dns_asker::{Clock, DATAGRAM_LIMIT, Wire, WireFault};
+use dns_queries::{Clock, DATAGRAM_LIMIT, Wire, WireFault};
 use dns_transport::RunClock;
 use sip_workers::{Gate, Job, Outcome, Worker};
 use std::sync::Wait;

@@ -4,7 +4,7 @@ ghost use Rattle.answer_cache.specs.Shared.{Belongs};
 use crate::worker_jobs::{WORDS, clock_at_100};
 use crate::workers::one_worker;
 use answer_cache::SharedCache;
-use dns_asker::{Zone, ZoneWire};
+use dns_zone::{Zone, ZoneWire};
 use sip_selection::{Caps, Families, Request, Target};
 use sip_uri::Address::{V4, V6};
 use sip_uri::Transport::{Tcp, Tls, Udp};

@@ -2,7 +2,7 @@
 use crate::worker_jobs::{ZONE, clock_at_100};
 use crate::workers_many::{each_goes, jobs_to_ports};
 use answer_cache::{Notice, SharedCache};
-use dns_asker::{Zone, ZoneWire};
+use dns_zone::{Zone, ZoneWire};
 use sip_workers::{OpenGate, Outcome, RunRefusal, run_workers};
 use std::env;
 use std::rt::Env;

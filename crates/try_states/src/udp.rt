@@ -3,11 +3,12 @@ ghost use Rattle.std.specs.Prelude.{◌≤◌};
 
 use crate::seats::question;
 use dns_answers::{Answer, Records, answer_of};
-use dns_asker::{DATAGRAM_LIMIT, PeerWire, Wire, Zone, serve};
 use dns_message::{Kind, Message, Question, read_message};
+use dns_queries::{DATAGRAM_LIMIT, PeerWire, Wire};
 use dns_transport::{
     BufferWire, HostWire, QueryForm, ReplyTimes, UdpServerWire, WireOptions, open_wire,
 };
+use dns_zone::{Zone, serve};
 use std::alloc::Global;
 use std::net::{Ipv4Addr, Ipv6Addr, Net, SocketAddr};
 use std::sync::Arc;

@@ -3,8 +3,9 @@
 use crate::udp::wire_to;
 use crate::worker_jobs::{ZONE, goes_to, jobs_to, made_by};
 use answer_cache::Notice;
-use dns_asker::{DATAGRAM_LIMIT, PeerWire, Zone, serve};
+use dns_queries::{DATAGRAM_LIMIT, PeerWire};
 use dns_transport::{BufferWire, HostWire, SystemClock, UdpServerWire};
+use dns_zone::{Zone, serve};
 use sip_selection::Reason;
 use sip_workers::{OpenGate, Outcome};
 use std::alloc::Global;

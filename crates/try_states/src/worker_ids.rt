@@ -4,7 +4,8 @@ ghost use Rattle.answer_cache.specs.Shared.{Belongs};
 use crate::worker_jobs::{clock_at_100, goes_to, job_of};
 use crate::workers::one_worker;
 use answer_cache::SharedCache;
-use dns_asker::{DATAGRAM_LIMIT, Wire, WireFault, Zone, ZoneWire};
+use dns_queries::{DATAGRAM_LIMIT, Wire, WireFault};
+use dns_zone::{Zone, ZoneWire};
 use sip_workers::{Job, OpenGate, Worker};
 use std::alloc::Global;
 use std::sync::Wait;
@@ -49,7 +50,7 @@ struct CountingWire<'a> {
 }
 
 impl<'a> Wire for CountingWire<'a> {
-    ghost use Rattle.dns_asker.specs.ZoneWires.{IsReply};
+    ghost use Rattle.dns_zone.specs.ZoneWires.{IsReply};
 
     ghost gives = { IsReply };
 

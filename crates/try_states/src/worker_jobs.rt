@@ -6,7 +6,7 @@ ghost use Rattle.answer_cache.specs.Shared.{Belongs};
 
 use answer_cache::{Notice, Seat, SharedCache};
 use dns_answers::Moment;
-use dns_asker::{Clock, StandingClock, Wire};
+use dns_queries::{Clock, StandingClock, Wire};
 use sip_selection::{Caps, Families, Request, Target};
 use sip_uri::Transport::Udp;
 use sip_uri::{Address, read_uri};

@@ -4,7 +4,7 @@ ghost use Rattle.answer_cache.specs.Shared.{Belongs};
 
 use crate::worker_jobs::job_of;
 use answer_cache::SharedCache;
-use dns_asker::Wire;
+use dns_queries::Wire;
 use sip_workers::{Job, Worker};
 use std::alloc::Global;
 

@@ -1,7 +1,8 @@
 //! Many jobs in batches of one, by one worker and by more.
 use crate::worker_jobs::{ZONE, clock_at_100, goes_to, job_of, made_by};
 use answer_cache::Notice;
-use dns_asker::{Wire, Zone, ZoneWire};
+use dns_queries::Wire;
+use dns_zone::{Zone, ZoneWire};
 use sip_workers::{Gate, Job, OpenGate, Outcome};
 use std::alloc::Global;
 use std::sync::Wait;

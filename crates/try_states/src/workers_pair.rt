@@ -1,6 +1,6 @@
 //! Two jobs by one worker, and by two at once, over wires in memory to one zone.
 use crate::worker_jobs::{TO_ADDRESS, TO_NAME, ZONE, all_go_to, clock_at_100, jobs_to, made_by};
-use dns_asker::{Zone, ZoneWire};
+use dns_zone::{Zone, ZoneWire};
 use sip_workers::{Gate, Job};
 use std::sync::Wait;
 use std::sync::atomic::{AtomicU64, Ordering};

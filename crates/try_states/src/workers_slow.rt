@@ -1,6 +1,7 @@
 //! Many jobs by four workers, of which one has a slow wire.
 use crate::workers_many::all_go_over;
-use dns_asker::{DATAGRAM_LIMIT, Wire, WireFault, Zone, ZoneWire};
+use dns_queries::{DATAGRAM_LIMIT, Wire, WireFault};
+use dns_zone::{Zone, ZoneWire};
 use sip_workers::Gate;
 use std::alloc::{AllocError, Global};
 use std::sync::Wait;
@@ -59,7 +60,7 @@ struct CourseWire<'a> {
 }
 
 impl<'a> Wire for CourseWire<'a> {
-    ghost use Rattle.dns_asker.specs.ZoneWires.{IsReply};
+    ghost use Rattle.dns_zone.specs.ZoneWires.{IsReply};
 
     ghost gives = { IsReply };
 

@@ -1,7 +1,7 @@
 -- Octets that came in, and the generations that take them.
 use Rattle.std.proofs.Common.{◌≡◌, ◌≢◌, inl, inr, List, Option, Some, ℕ, refl, sym, ap, ◌∙◌, subst, Result, Ok, Err}
 use Rattle.std.specs.Result.{IfOk, OnErr, OnOk}
-use Rattle.dns_asker.specs.declared.incoming.Why.{Why}
+use Rattle.dns_queries.specs.declared.incoming.Why.{Why}
 use Rattle.sip_resolver.specs.declared.resolver.Heard.{Heard}
 use Rattle.sip_resolver.specs.declared.resolver.Heard.TheVariants.{Ignored}
 use Rattle.sip_resolver.specs.declared.transmit.Over.{Over}

@@ -9,9 +9,9 @@ use Rattle.answer_cache.specs.Seats.{Offer, SeatView, offer_of, store_of}
 use Rattle.dns_answers.specs.Answers.{answer}
 use Rattle.dns_answers.specs.Replies.{reply_refusal}
 use Rattle.dns_answers.specs.Values.{AnswerValue}
-use Rattle.dns_asker.specs.Events.{Means}
-use Rattle.dns_asker.specs.declared.incoming.Ending.TheVariants as endings
-use Rattle.dns_asker.specs.declared.incoming.Incoming.TheVariants as incoming
+use Rattle.dns_queries.specs.Events.{Means}
+use Rattle.dns_queries.specs.declared.incoming.Ending.TheVariants as endings
+use Rattle.dns_queries.specs.declared.incoming.Incoming.TheVariants as incoming
 use Rattle.dns_message.specs.declared.question.Question.{Question}
 use Rattle.sip_resolver.specs.Outcomes.{Ended, IsReplied}
 use Rattle.sip_resolver.specs.Questions.{QuestionsView, asking_over}

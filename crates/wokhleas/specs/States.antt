@@ -5,11 +5,11 @@ use Rattle.std.specs.Option.{option_map}
 use Rattle.answer_cache.specs.Lists.{IsListSeat, offered_too, seat_at, stored_too}
 use Rattle.answer_cache.specs.Seats.{SeatView, offer_of}
 use Rattle.dns_answers.specs.Values.{AnswerValue}
-use Rattle.dns_asker.specs.Events.{Means, sent_octets}
-use Rattle.dns_asker.specs.Tickets.{Ticket, ticket_of, usual}
-use Rattle.dns_asker.specs.declared.incoming.Ending.TheVariants as endings
-use Rattle.dns_asker.specs.declared.incoming.Incoming.TheVariants as incoming
-use Rattle.dns_asker.specs.declared.incoming.Why.{Why}
+use Rattle.dns_queries.specs.Events.{Means, sent_octets}
+use Rattle.dns_queries.specs.Tickets.{Ticket, ticket_of, usual}
+use Rattle.dns_queries.specs.declared.incoming.Ending.TheVariants as endings
+use Rattle.dns_queries.specs.declared.incoming.Incoming.TheVariants as incoming
+use Rattle.dns_queries.specs.declared.incoming.Why.{Why}
 use Rattle.dns_message.specs.declared.question.Question.{Question}
 use Rattle.sip_resolver.specs.Outcomes.{Ended, IsOutcome}
 use Rattle.sip_resolver.specs.Questions.{QuestionsView, asking_over}

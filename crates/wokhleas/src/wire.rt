@@ -1,6 +1,6 @@
 //! What goes out, what comes in, and when.
 ghost use Rattle.std.specs.Prelude.{◌≡◌, ◌≢◌, ◌/◌, IfOk, OnErr, OnOk, pos, take};
-ghost use Rattle.dns_asker.specs.declared.incoming.Why.{Why};
+ghost use Rattle.dns_queries.specs.declared.incoming.Why.{Why};
 ghost use Rattle.sip_resolver.specs.declared.resolver.Heard.TheVariants.{Ignored};
 ghost use Rattle.wokhleas.specs.Numbers.{number_of_over};
 ghost use Rattle.wokhleas.specs.Rests.{GainsFrom, KeepsAnswers};

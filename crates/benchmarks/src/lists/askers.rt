@@ -1,8 +1,8 @@
 //! How long an asker of many open questions takes to hear a reply.
 use dns_answers::Moment;
-use dns_asker::{Asker, Ending, Incoming};
 use dns_message::{Kind, Question};
 use dns_name::Name;
+use dns_queries::{Asker, Ending, Incoming};
 use std::alloc::Global;
 use std::time::{Clock, Instant};
 

@@ -9,7 +9,7 @@ ghost use Rattle.sip_resolver.specs.Requests.{Stand};
 use crate::workers::jobs::job_of;
 use crate::workers::zone_text::DOMAINS;
 use dns_answers::Moment;
-use dns_asker::Zone;
+use dns_zone::Zone;
 use rolling_cache::{RollingCache, RollingSeat};
 use sip_resolver::{Anything, CountingIds, Limits, Outcome, Over, Resolver};
 use sip_workers::Job;

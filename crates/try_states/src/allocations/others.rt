@@ -1,8 +1,8 @@
 //! Calls that are made twice, one after the other: copies of the parts of a message (RFC 1035 4.1),
 //! a name that is read over another one, and an asker with the usual schedule.
-use dns_asker::Asker;
 use dns_message::{Asked, Message, Rdata, Record, read_message};
 use dns_name::{Name, NameReadRefusal, read_name_into};
+use dns_queries::Asker;
 use std::alloc::Global;
 
 /// The calls.

@@ -6,7 +6,8 @@ use crate::worker_jobs::{TO_ADDRESS, TO_NAME, ZONE, goes_to, rises, two_jobs};
 use crate::workers::one_worker;
 use answer_cache::{Notice, SharedCache};
 use dns_answers::Moment;
-use dns_asker::{Clock, Wire, Zone, ZoneWire};
+use dns_queries::{Clock, Wire};
+use dns_zone::{Zone, ZoneWire};
 use sip_workers::{
     GatherRefusal, Job, JobResult, OpenGate, Outcome, RunRefusal, Worker, gather, run_workers,
 };

@@ -1,6 +1,6 @@
 use Rattle.std.proofs.Common.{◌≡◌, ◌+◌, ◌≤◌, List, length}
 use Rattle.answer_cache.specs.Seats.{SeatView}
-use Rattle.dns_asker.specs.Tickets.{Ticket}
+use Rattle.dns_queries.specs.Tickets.{Ticket}
 use Rattle.sip_resolver.specs.Ends.{EndsMore}
 use Rattle.sip_resolver.specs.Idle.{AreIn}
 use Rattle.sip_resolver.specs.Questions.{Fewer}

@@ -1,7 +1,0 @@
-use Rattle.dns_asker.proofs.Listing.{open-told}
-use Rattle.dns_asker.proofs.asker.Asker.is_open.Goals as goal
-
-pub returns : goal.returns
-returns c =
-    rw (c.is_some.ensures, ← c.self.view_is)
-    (open-told c.self.inside.tickets.list c.args.id c.place_of.result _ (λ at it. (it.entry, it.first)) c.place_of.ensures)

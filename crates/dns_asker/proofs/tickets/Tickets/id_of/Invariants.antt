@@ -1,5 +1,0 @@
-use Rattle.dns_asker.proofs.Out.{Searched}
-use Rattle.dns_asker.proofs.tickets.Tickets.id_of.Given as goal
-
-abbrev pub invariant-loop-ticket : goal.invariant-loop-ticket
-invariant-loop-ticket l = Searched l.question l.self.list.entries l.ticket-iterator

@@ -1,4 +1,0 @@
-use Rattle.dns_asker.proofs.tickets.Tickets.law_stands_in_order.Goals as goal
-
-pub returns : goal.returns
-returns c = rw (← c.self.view_is) c.self.invariant.asking

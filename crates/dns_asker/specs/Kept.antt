@@ -1,8 +1,0 @@
--- How a ticket is kept. No public clause cites this module.
-use Rattle.std.specs.Prelude.{◌≡◌}
-use Rattle.dns_asker.specs.Events.{sent_octets}
-use Rattle.dns_asker.specs.declared.ticket.Ticket.TheInside.{Inside}
-
--- its octets are those of its question
-abbrev pub HasItsOctets : Inside → Type 0
-HasItsOctets it = it.octets.items ≡ sent_octets it.id it.question

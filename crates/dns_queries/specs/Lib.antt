@@ -1,0 +1,10 @@
+pub mod Tickets
+pub mod Events
+pub mod Runs
+pub mod Out
+pub mod Kept
+pub mod TicketLists
+pub mod IdTables
+pub mod Listed
+pub mod Wires
+pub mod MessageWires
