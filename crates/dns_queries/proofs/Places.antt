@@ -10,7 +10,7 @@ use Rattle.pending_list.specs.Ids.{Id}
 use Rattle.pending_list.specs.Pending.{IsTakenOut, Pending, entry_of, placed}
 use Rattle.pending_list.specs.declared.entry.Entry.{Entry}
 use Rattle.dns_queries.proofs.Listing.{both, counted-in, found-has, none-found}
-use Rattle.dns_queries.specs.Listed.{Finds, IsKept, asking_of, is_of, place_of, resent}
+use Rattle.dns_queries.specs.Listed.{Finds, IsKept, asking_of, is_of, pending_id_of, resent}
 use Rattle.dns_queries.specs.Tickets.{IsAsking, Sent}
 use Rattle.dns_queries.specs.declared.schedule.Schedule.{Schedule}
 
@@ -83,7 +83,7 @@ single-of schedule list it id = let single = it.single id in rw (counted-in id l
 
 module _ (schedule : Schedule) (list : Pending Sent) (it : IsAsking (asking_of schedule list)) where
   more-by : (entry : Entry Sent) (other : ℕ) (is : Bool) → (entry.item.id == other) ≡ is → find (is_of entry.item.id) list.entries ≡ None
-      → place_of (placed entry list.entries) other ≡ update nat_eq (place_of list.entries) entry.item.id (Some entry.id) other
+      → pending_id_of (placed entry list.entries) other ≡ update nat_eq (pending_id_of list.entries) entry.item.id (Some entry.id) other
   more-by entry other true is free =
       let same = same-id entry.item.id other is in
       let none = none-found (is_of other) list.entries (rw same at free) in
@@ -92,12 +92,12 @@ module _ (schedule : Schedule) (list : Pending Sent) (it : IsAsking (asking_of s
       rw (is, other-put _ (is_of other) entry list.entries is (single-of schedule list it other)) refl
 
   -- an entry more, of an id that has none
-  pub place_of-placed : (entry : Entry Sent) (other : ℕ) → find (is_of entry.item.id) list.entries ≡ None
-      → place_of (placed entry list.entries) other ≡ update nat_eq (place_of list.entries) entry.item.id (Some entry.id) other
-  place_of-placed entry other = more-by entry other (entry.item.id == other) refl
+  pub pending_id_of-placed : (entry : Entry Sent) (other : ℕ) → find (is_of entry.item.id) list.entries ≡ None
+      → pending_id_of (placed entry list.entries) other ≡ update nat_eq (pending_id_of list.entries) entry.item.id (Some entry.id) other
+  pending_id_of-placed entry other = more-by entry other (entry.item.id == other) refl
 
   without-by : (entry : Entry Sent) (left : List (Entry Sent)) (out : IsTakenOut list.entries entry left) (other : ℕ) (is : Bool)
-      → (entry.item.id == other) ≡ is → place_of left other ≡ update nat_eq (place_of list.entries) entry.item.id None other
+      → (entry.item.id == other) ≡ is → pending_id_of left other ≡ update nat_eq (pending_id_of list.entries) entry.item.id None other
   without-by entry left out other true is =
       let single = rw out.whole at (single-of schedule list it other) in
       rw (is, out.left_is, only-out (is_of other) out.front entry out.back is single) refl
@@ -105,13 +105,13 @@ module _ (schedule : Schedule) (list : Pending Sent) (it : IsAsking (asking_of s
       rw (is, out.left_is, out.whole, other-out (is_of other) out.front entry out.back is) refl
 
   -- an entry is taken out
-  pub place_of-out : (entry : Entry Sent) (left : List (Entry Sent)) → IsTakenOut list.entries entry left → (other : ℕ)
-      → place_of left other ≡ update nat_eq (place_of list.entries) entry.item.id None other
-  place_of-out entry left out other = without-by entry left out other (entry.item.id == other) refl
+  pub pending_id_of-out : (entry : Entry Sent) (left : List (Entry Sent)) → IsTakenOut list.entries entry left → (other : ℕ)
+      → pending_id_of left other ≡ update nat_eq (pending_id_of list.entries) entry.item.id None other
+  pending_id_of-out entry left out other = without-by entry left out other (entry.item.id == other) refl
 
   module _ (first : Entry Sent) (others : List (Entry Sent)) (whole : list.entries ≡ first ∷ others) where
     resent-by : (deadline other : ℕ) (is : Bool) → (first.item.id == other) ≡ is
-        → place_of (placed (resent deadline first) others) other ≡ place_of (first ∷ others) other
+        → pending_id_of (placed (resent deadline first) others) other ≡ pending_id_of (first ∷ others) other
     resent-by deadline other true is =
         let single = rw whole at (single-of schedule list it other) in
         let none = rest-fails (is_of other) first others is single in
@@ -121,8 +121,9 @@ module _ (schedule : Schedule) (list : Pending Sent) (it : IsAsking (asking_of s
         rw (is, other-put _ (is_of other) (resent deadline first) others is (rest-single (is_of other) first others is single)) refl
 
     -- the first entry is sent once more
-    pub place_of-resent : (deadline other : ℕ) → place_of (placed (resent deadline first) others) other ≡ place_of list.entries other
-    place_of-resent deadline other = rw whole (resent-by deadline other (first.item.id == other) refl)
+    pub pending_id_of-resent : (deadline other : ℕ) → pending_id_of (placed (resent deadline first) others) other
+        ≡ pending_id_of list.entries other
+    pending_id_of-resent deadline other = rw whole (resent-by deadline other (first.item.id == other) refl)
 
 -- ---- the table, and the list
 
@@ -134,21 +135,21 @@ module _ (schedule : Schedule) (list : Pending Sent) (place : ℕ → Option Id)
   -- an id more
   pub still-put : (entry : Entry Sent) (id : ℕ) → id ≡ entry.item.id → find (is_of entry.item.id) list.entries ≡ None
       → ((other : ℕ) → new other ≡ update nat_eq place id (Some entry.id) other)
-      → (other : ℕ) → new other ≡ place_of (placed entry list.entries) other
+      → (other : ℕ) → new other ≡ pending_id_of (placed entry list.entries) other
   still-put entry id is free changed other =
-      changed other ∙ update-same place (place_of list.entries) id entry.item.id (Some entry.id) other (it.places other) is
-      ∙ sym (place_of-placed schedule list it.asking entry other free)
+      changed other ∙ update-same place (pending_id_of list.entries) id entry.item.id (Some entry.id) other (it.places other) is
+      ∙ sym (pending_id_of-placed schedule list it.asking entry other free)
 
   -- an id less
   pub still-out : (entry : Entry Sent) (left : List (Entry Sent)) → IsTakenOut list.entries entry left → (id : ℕ) → id ≡ entry.item.id
-      → ((other : ℕ) → new other ≡ update nat_eq place id None other) → (other : ℕ) → new other ≡ place_of left other
+      → ((other : ℕ) → new other ≡ update nat_eq place id None other) → (other : ℕ) → new other ≡ pending_id_of left other
   still-out entry left out id is changed other =
-      changed other ∙ update-same place (place_of list.entries) id entry.item.id None other (it.places other) is
-      ∙ sym (place_of-out schedule list it.asking entry left out other)
+      changed other ∙ update-same place (pending_id_of list.entries) id entry.item.id None other (it.places other) is
+      ∙ sym (pending_id_of-out schedule list it.asking entry left out other)
 
   -- the id of the first entry less
   pub still-rest : (first : Entry Sent) (others : List (Entry Sent)) → list.entries ≡ first ∷ others → (id : ℕ) → id ≡ first.item.id
-      → ((other : ℕ) → new other ≡ update nat_eq place id None other) → (other : ℕ) → new other ≡ place_of others other
+      → ((other : ℕ) → new other ≡ update nat_eq place id None other) → (other : ℕ) → new other ≡ pending_id_of others other
   still-rest first others whole = still-out first others (record { front = []; back = others; whole = whole; left_is = refl })
 
 -- what the table says of an id is so of the list
@@ -163,5 +164,5 @@ told-by list id all (Some entry) is = record {
 }
 
 pub place-told : (list : Pending Sent) (id : ℕ) → All (λ it. entry_of it.id list.entries ≡ Some it) list.entries
-    → (at : Option Id) → at ≡ place_of list.entries id → MatchOption at (find (is_of id) list.entries ≡ None) (Finds list.entries id)
+    → (at : Option Id) → at ≡ pending_id_of list.entries id → MatchOption at (find (is_of id) list.entries ≡ None) (Finds list.entries id)
 place-told list id all at is = rw is (told-by list id all (find (is_of id) list.entries) refl)

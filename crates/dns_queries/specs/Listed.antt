@@ -37,14 +37,14 @@ pub record Finds (entries : List (Entry Sent)) (id : ℕ) (at : Id) : Type 0 whe
   pub there : entry_of at entries ≡ Some entry
 
 -- where the entry of an id stands
-abbrev pub place_of : List (Entry Sent) → ℕ → Option Id
-place_of entries id = option_map (λ it. it.id) (find (is_of id) entries)
+abbrev pub pending_id_of : List (Entry Sent) → ℕ → Option Id
+pending_id_of entries id = option_map (λ it. it.id) (find (is_of id) entries)
 
 -- The tickets are as they always are, and a table of places leads from each id to its entry alone.
 pub record IsKept (schedule : Schedule) (list : Pending Sent) (place : ℕ → Option Id) : Type 0
   where
     pub asking : IsAsking (asking_of schedule list)
-    pub places : (id : ℕ) → place id ≡ place_of list.entries id
+    pub places : (id : ℕ) → place id ≡ pending_id_of list.entries id
 
 -- it was sent once more, and has another deadline
 abbrev pub resent : ℕ → Entry Sent → Entry Sent

@@ -83,7 +83,7 @@ impl Asker {
     pub fn is_open(&self, id: u16) -> bool
         ensures { IsTrue result ↔ IsSome (ticket_of id self.now.tickets) }
     {
-        self.tickets.place_of(id).is_some()
+        self.tickets.pending_id_of(id).is_some()
     }
 
     /// Whether as many questions wait as the limit allows.
@@ -109,7 +109,7 @@ impl Asker {
         ensures { MatchOption result (ticket_of id self.now.tickets ≡ None)
             (λ octets. IsOctetsOf octets.now id self.now.tickets) }
     {
-        match self.tickets.place_of(id) {
+        match self.tickets.pending_id_of(id) {
             Some(at) => Some(self.tickets.octets_at(at)),
             None => None,
         }
@@ -120,7 +120,7 @@ impl Asker {
     pub fn sends_of(&self, id: u16) -> u8
         ensures { result ≡ sends_in (ticket_of id self.now.tickets) }
     {
-        match self.tickets.place_of(id) {
+        match self.tickets.pending_id_of(id) {
             Some(at) => self.tickets.sends_at(at),
             None => 0,
         }
@@ -158,7 +158,7 @@ impl Asker {
         let Some(message) = message_in(self.alloc, octets)? else {
             return Ok(Incoming::Ignored(Why::NotSpelled));
         };
-        let Some(at) = self.tickets.place_of(message.header.id) else {
+        let Some(at) = self.tickets.pending_id_of(message.header.id) else {
             return Ok(Incoming::Ignored(Why::UnknownId));
         };
         let ending = match ending_of(self.alloc, self.tickets.question_at(at), &message)? {
@@ -178,7 +178,7 @@ impl Asker {
         ensures left { self.new ≡ closed id self.old }
         ensures unchanged { IfNone result (self.new ≡ self.old) }
     {
-        match self.tickets.place_of(id) {
+        match self.tickets.pending_id_of(id) {
             Some(at) => {
                 let (_, question) = self.tickets.close(at);
                 Some(question)

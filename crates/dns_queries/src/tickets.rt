@@ -88,7 +88,7 @@ impl Tickets {
     }
 
     /// The place of the ticket of an id.
-    pub(crate) fn place_of(&self, id: u16) -> Option<PendingId>
+    pub(crate) fn pending_id_of(&self, id: u16) -> Option<PendingId>
         ensures { MatchOption result (find (is_of id) self.now.list.entries ≡ None)
             (Finds self.now.list.entries id) }
     {
@@ -157,7 +157,7 @@ impl Tickets {
             (now + self.old.schedule.wait) result }
         ensures schedule { self.new.schedule ≡ self.old.schedule }
     {
-        if self.place_of(id).is_some() {
+        if self.pending_id_of(id).is_some() {
             return Err(AskRefusal::IdTaken);
         }
         match self.list.can_insert() {

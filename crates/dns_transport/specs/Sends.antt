@@ -27,7 +27,7 @@ sent_octets form id asked = with_id id (form_octets form asked)
 -- what is asked where a chain is open, if one is
 abbrev pub asked_along : List ℕ → Option OpenValue → List ℕ
 asked_along query None = query
-asked_along query (Some chain) = chain.further_query
+asked_along query (Some chain) = chain.follow_up_query
 
 -- what is asked for a query of the caller: what asks its chain on, or the query itself
 abbrev pub asked_by : Lookup → List ℕ

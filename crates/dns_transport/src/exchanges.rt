@@ -158,7 +158,7 @@ impl Exchanges {
     }
 
     /// The place of a query that is out over the link of a key.
-    fn place_of(&self, key: usize) -> Option<usize>
+    fn place_of_link(&self, key: usize) -> Option<usize>
         ensures { MatchOption result (All (λ it. it.key ≡ key → ⊥) self.now)
             (λ at. (at < length self.now) × HoldsAt (λ it. it.key ≡ key) self.now at) }
     {
@@ -172,7 +172,7 @@ impl Exchanges {
         ensures none { IfNone result (All (λ it. it.key ≡ key → ⊥) self.old) }
         ensures failed { IfSome result (λ end. end.outcome ≡ Failed) }
     {
-        let Some(at) = self.place_of(key) else {
+        let Some(at) = self.place_of_link(key) else {
             return None;
         };
         let Exchange {

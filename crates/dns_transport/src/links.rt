@@ -82,7 +82,7 @@ impl<L: Link + Drop> Links<L> {
     }
 
     /// The place of a key.
-    fn place_of(&self, key: usize) -> Option<usize>
+    fn place_of_key(&self, key: usize) -> Option<usize>
         ensures { IfSome result (λ at. at < length self.now.items.items) }
     {
         self.items.iter().position(|it| it.key == key)
@@ -125,7 +125,7 @@ impl<L: Link + Drop> Links<L> {
 
     /// Notes that the link of a key is ready.
     pub(crate) fn mark_ready(&mut self, key: usize) {
-        if let Some(at) = self.place_of(key) {
+        if let Some(at) = self.place_of_key(key) {
             self.items[at].is_ready = true;
         }
     }
@@ -163,7 +163,7 @@ impl<L: Link + Drop> Links<L> {
     pub(crate) fn step(&mut self, alloc: Global, key: usize) -> Option<(Route, Step)>
         ensures { IfSome result (λ it. IfMessage it.1 (L.hears it.0)) }
     {
-        let at = self.place_of(key)?;
+        let at = self.place_of_key(key)?;
         let it = &mut self.items[at];
         let step = it.link.step(alloc);
         match &step {
@@ -182,21 +182,21 @@ impl<L: Link + Drop> Links<L> {
 
     /// Notes that no other query is to go over the link of a key.
     pub(crate) fn retire(&mut self, key: usize) {
-        if let Some(at) = self.place_of(key) {
+        if let Some(at) = self.place_of_key(key) {
             self.items[at].is_retired = true;
         }
     }
 
     /// Lets the link of a key go.
     pub(crate) fn close(&mut self, key: usize) {
-        if let Some(at) = self.place_of(key) {
+        if let Some(at) = self.place_of_key(key) {
             let _link = self.items.remove(at);
         }
     }
 
     /// Notes that nothing is out over the link of a key: a connection is kept for a while.
     pub(crate) fn rest(&mut self, key: usize, now: u64) {
-        let Some(at) = self.place_of(key) else {
+        let Some(at) = self.place_of_key(key) else {
             return;
         };
         let it = &self.items[at];

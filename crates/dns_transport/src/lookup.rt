@@ -58,7 +58,7 @@ impl Lookup {
         ensures { result.now ≡ asked_by self.now }
     {
         match &self.chain {
-            Some(chain) => chain.further_octets(),
+            Some(chain) => chain.follow_up_octets(),
             None => self.query.as_slice(),
         }
     }

@@ -31,12 +31,12 @@ struct SoFar {
     links: usize,
 }
 
-/// A question on its way: what came of it, and what is asked on.
+/// A question on its way: what came of it, and its follow-up.
 #[derive(Drop)]
 pub(crate) struct OpenChain {
     so_far: SoFar,
-    further: Question,
-    further_octets: Vec<u8>,
+    follow_up: Question,
+    follow_up_octets: Vec<u8>,
 }
 
 impl Model for OpenChain {
@@ -51,8 +51,8 @@ impl Model for OpenChain {
       question = it.so_far.query.question;
       so_far = it.so_far.reply;
       links = it.so_far.links;
-      further = it.further;
-      further_query = it.further_octets.items;
+      follow_up = it.follow_up;
+      follow_up_query = it.follow_up_octets.items;
     } };
 
     ghost invariant = { λ it. it.so_far.reply.header.opcode < 16 };
@@ -61,10 +61,10 @@ impl Model for OpenChain {
 /// What a message means to a question on its way.
 #[derive(Drop)]
 pub(crate) enum Step {
-    /// It is no reply to what is asked on.
+    /// It is no reply to the follow-up.
     Stray(OpenChain),
     /// It is one, and is cut short, too.
-    Further(OpenChain),
+    FollowUp(OpenChain),
     /// It is one, and these are the octets of the replies, put together.
     Ended(Vec<u8>),
 }
@@ -157,37 +157,37 @@ impl SoFar {
         })
     }
 
-    /// What is on its way where this question is asked on.
-    fn ask_on(self, alloc: Global, further: FollowUp) -> Result<OpenChain, AllocError>
+    /// What is on its way where this question follows up.
+    fn ask_follow_up(self, alloc: Global, follow_up: FollowUp) -> Result<OpenChain, AllocError>
         requires opcode { self.reply.header.opcode < 16 }
         ensures began { IfOk result (λ it. it.query ≡ self.octets.items) }
         ensures id { IfOk result (λ it. it.id ≡ self.query.id) }
         ensures question { IfOk result (λ it. it.question ≡ self.query.question) }
         ensures replies { IfOk result (λ it. it.so_far ≡ self.reply) }
-        ensures links { IfOk result (λ it. it.links ≡ further.links) }
-        ensures further { IfOk result (λ it. it.further ≡ further.question) }
+        ensures links { IfOk result (λ it. it.links ≡ follow_up.links) }
+        ensures follow_up { IfOk result (λ it. it.follow_up ≡ follow_up.question) }
         ensures asks { IfOk result
-            (λ it. it.further_query ≡ plain (query_of self.query.id further.question)) }
+            (λ it. it.follow_up_query ≡ plain (query_of self.query.id follow_up.question)) }
     {
-        let further_octets = write_query(alloc, self.query.id, &further.question)?;
+        let follow_up_octets = write_query(alloc, self.query.id, &follow_up.question)?;
         Ok(OpenChain {
             so_far: SoFar {
-                links: further.links,
+                links: follow_up.links,
                 ..self
             },
-            further: further.question,
-            further_octets,
+            follow_up: follow_up.question,
+            follow_up_octets,
         })
     }
 
-    /// What came is asked on by this question.
-    fn step_further(self, alloc: Global, further: FollowUp) -> Result<Step, WriteRefusal>
+    /// What came is followed up by this question.
+    fn step_follow_up(self, alloc: Global, follow_up: FollowUp) -> Result<Step, WriteRefusal>
         requires opcode { self.reply.header.opcode < 16 }
-        requires further { AsksOn self.query.question self.reply self.links further.question
-            further.links }
+        requires follow_up { AsksOn self.query.question self.reply self.links follow_up.question
+            follow_up.links }
         ensures { IfOk result (ComesTo self) }
     {
-        Ok(Step::Further(self.ask_on(alloc, further)?))
+        Ok(Step::FollowUp(self.ask_follow_up(alloc, follow_up)?))
     }
 
     /// What came is the whole reply.
@@ -200,14 +200,14 @@ impl SoFar {
         Ok(Step::Ended(write_message(alloc, &self.reply)?))
     }
 
-    /// What came is asked on, or it is the whole reply.
+    /// What came is followed up, or it is the whole reply.
     fn go_on(self, alloc: Global) -> Result<Step, WriteRefusal>
         requires opcode { self.reply.header.opcode < 16 }
         requires rcode { self.reply.header.rcode < 16 }
         ensures { IfOk result (ComesTo self) }
     {
         match follow_up(alloc, &self.query.question, &self.reply, self.links)? {
-            Some(further) => self.step_further(alloc, further),
+            Some(follow_up) => self.step_follow_up(alloc, follow_up),
             None => self.end(alloc),
         }
     }
@@ -220,16 +220,16 @@ impl OpenChain {
     ghost use Rattle.dns_transport.specs.CnameChains.{Begun, IsNext, IsNotCut, IsStray};
     ghost use Rattle.dns_transport.specs.Steps.{GoesOn, Steps};
 
-    /// What a query and this reply to it begin, where this question is asked on.
+    /// What a query and this reply to it begin, where this question follows up.
     fn begin_with(
         alloc: Global,
         octets: &[u8],
         query: Query,
         so_far: Message,
-        further: FollowUp,
+        follow_up: FollowUp,
     ) -> Result<Option<OpenChain>, AllocError>
         requires opcode { so_far.header.opcode < 16 }
-        requires further { AsksOn query.question so_far 0 further.question further.links }
+        requires follow_up { AsksOn query.question so_far 0 follow_up.question follow_up.links }
         ensures { IfOk result (λ it. MatchOption it ⊥
             (GoesOn octets.now query.id query.question so_far 0)) }
     {
@@ -240,7 +240,7 @@ impl OpenChain {
             reply: so_far,
             links: 0,
         };
-        Ok(Some(so_far.ask_on(alloc, further)?))
+        Ok(Some(so_far.ask_follow_up(alloc, follow_up)?))
     }
 
     /// What a query and this reply to it begin, if that is cut short.
@@ -255,7 +255,7 @@ impl OpenChain {
             (GoesOn octets.now query.id query.question so_far 0)) }
     {
         match follow_up(alloc, &query.question, &so_far, 0)? {
-            Some(further) => OpenChain::begin_with(alloc, octets, query, so_far, further),
+            Some(follow_up) => OpenChain::begin_with(alloc, octets, query, so_far, follow_up),
             None => Ok(None),
         }
     }
@@ -286,21 +286,21 @@ impl OpenChain {
         self.so_far.octets.as_slice() == query
     }
 
-    /// Whether this query is what is asked on.
+    /// Whether this query is the follow-up.
     pub(crate) fn asks(&self, query: &[u8]) -> bool
-        ensures { result ≡ bytes_eq self.now.further_query query.now }
+        ensures { result ≡ bytes_eq self.now.follow_up_query query.now }
     {
-        self.further_octets.as_slice() == query
+        self.follow_up_octets.as_slice() == query
     }
 
-    /// The octets of the query that is asked on.
-    pub(crate) fn further_octets(&self) -> &[u8]
-        ensures { result.now ≡ self.now.further_query }
+    /// The octets of the follow-up.
+    pub(crate) fn follow_up_octets(&self) -> &[u8]
+        ensures { result.now ≡ self.now.follow_up_query }
     {
-        self.further_octets.as_slice()
+        self.follow_up_octets.as_slice()
     }
 
-    /// The message in front of these octets, if it is a reply to what is asked on.
+    /// The message in front of these octets, if it is a reply to the follow-up.
     fn next_in(&self, alloc: Global, octets: &[u8]) -> Result<Option<Message>, AllocError>
         ensures { IfOk result (λ it. MatchOption it (IsStray self.now octets.now)
             (IsNext self.now octets.now)) }
@@ -309,14 +309,14 @@ impl OpenChain {
         let Some(reply) = message_in(alloc, octets)? else {
             return Ok(None);
         };
-        if is_reply_to(&self.further, &reply) {
+        if is_reply_to(&self.follow_up, &reply) {
             Ok(Some(reply))
         } else {
             Ok(None)
         }
     }
 
-    /// What a reply to what is asked on means to it.
+    /// What a reply to the follow-up means to it.
     fn take(self, alloc: Global, reply: Message) -> Result<Step, WriteRefusal>
         requires rcode { reply.header.rcode < 16 }
         ensures { (octets : List ℕ) → IsNext self octets reply → IfOk result (Steps self octets) }

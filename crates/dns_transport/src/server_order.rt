@@ -28,7 +28,7 @@ pub(crate) fn turn_of(number: u64, servers: usize) -> usize
 }
 
 /// How many servers come before this one, where a query goes to that one first.
-pub(crate) fn place_of(first: usize, server: usize, servers: usize) -> usize
+pub(crate) fn servers_before(first: usize, server: usize, servers: usize) -> usize
     requires { server < servers }
     ensures { IsPlace first server servers result }
 {

@@ -575,8 +575,8 @@ impl<S: System + Drop, G: Rng + Drop> ServerWire<S, G> {
         self.go_on(lookup, server, None)
     }
 
-    /// Asks a chain on.
-    fn ask_on(&mut self, lookup: &mut Lookup, chain: OpenChain) -> Course
+    /// Asks the follow-up of a chain.
+    fn ask_follow_up(&mut self, lookup: &mut Lookup, chain: OpenChain) -> Course
         ensures servers { self.new.servers ≡ self.old.servers }
         ensures first { lookup.new.first ≡ orders.first_for self.old.options.rotates
             self.old.first lookup.old.number (length self.old.servers.items) }
@@ -600,7 +600,7 @@ impl<S: System + Drop, G: Rng + Drop> ServerWire<S, G> {
             return Course::Replied(reply);
         }
         match OpenChain::begin(self.alloc, lookup.query.as_slice(), reply.as_slice()) {
-            Ok(Some(chain)) => self.ask_on(lookup, chain),
+            Ok(Some(chain)) => self.ask_follow_up(lookup, chain),
             Ok(None) | Err(_) => Course::Replied(reply),
         }
     }
@@ -613,7 +613,7 @@ impl<S: System + Drop, G: Rng + Drop> ServerWire<S, G> {
     {
         match step {
             Step::Ended(octets) => Course::Replied(octets),
-            Step::Further(chain) => self.ask_on(lookup, chain),
+            Step::FollowUp(chain) => self.ask_follow_up(lookup, chain),
             Step::Stray(chain) => {
                 drop(chain);
                 Course::Over

@@ -4,6 +4,7 @@ ghost use Rattle.std.specs.Prelude.{◌≡◌, ◌≤◌, ◌+◌, ◌%◌};
 use crate::framing::{Framing, Heard, Part, would_wait};
 use crate::link::{Link, Step, System};
 use crate::route::Route;
+use dns_queries::DATAGRAM_LIMIT;
 use mio::net::{TcpStream, UdpSocket};
 use mio::{Events, Interest, Poll, Token};
 use rand_core::Rng;
@@ -14,9 +15,6 @@ use std::time::{Clock, Duration, Instant};
 
 /// How many links that are ready are told at one wait.
 const EVENT_LIMIT: usize = 256;
-
-/// The most octets of a datagram.
-const DATAGRAM_LIMIT: usize = 4_096;
 
 /// The first port that is drawn: those before it are the system's (RFC 6056 3.2).
 const FIRST_PORT: u16 = 1_024;

@@ -116,7 +116,7 @@ impl TryLog {
     }
 
     /// The last try to which a message of this id may be the reply.
-    fn place_of(&self, id: u16, server: SocketAddr, over_tcp: bool) -> Option<usize>
+    fn place_awaiting(&self, id: u16, server: SocketAddr, over_tcp: bool) -> Option<usize>
         ensures inside { IfSome result (λ at. at < length self.now.tries) }
         ensures of_id { IfSome result (HoldsAt (λ one. one.id ≡ id) self.now.tries) }
     {
@@ -148,7 +148,7 @@ impl TryLog {
         ensures { self.new.counts ≡ with_reply self.old.counts }
     {
         self.counts = self.counts.with_reply();
-        if let Some(at) = self.place_of(id_of(message), server, over_tcp) {
+        if let Some(at) = self.place_awaiting(id_of(message), server, over_tcp) {
             let _ = self.keep_reply(at, came_at, message);
         }
     }

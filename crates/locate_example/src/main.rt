@@ -10,7 +10,7 @@ use dns_queries as queries;
 use dns_queries::MessageWire;
 use dns_transport::{QueryForm, ReplyTimes, RunClock, WireOptions, open_wire};
 use sip_resolver::{
-    Limits, Outcome, Resolved, Resolver, WireOrigin, draw_words, next_outcome, random_ids,
+    Limits, Outcome, Resolved, Resolver, WireFacts, draw_words, next_outcome, random_ids,
     random_key,
 };
 use sip_selection::{Caps, Families, Request};
@@ -50,7 +50,7 @@ fn resolve<R: Wait, B: Stores<R> + Drop, W: MessageWire, C: queries::Clock>(
 {
     let caps = Caps::new(&[Udp, Tcp, Tls], Families::V4ThenV6)?;
     let ids = random_ids(key, NUMBER);
-    let Ok(mut resolver) = Resolver::<B, WireOrigin<W, C>, _>::new(alloc, LIMITS, ids) else {
+    let Ok(mut resolver) = Resolver::<B, WireFacts<W, C>, _>::new(alloc, LIMITS, ids) else {
         return None;
     };
     let ended = match resolver.submit(NUMBER, request, caps, draw_words(key, NUMBER), None) {

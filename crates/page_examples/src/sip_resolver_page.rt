@@ -7,7 +7,7 @@ use crate::answers::request;
 use answer_cache::{AnswerBook, ListCache, Stores};
 use dns_answers::Moment;
 use sip_resolver::{
-    Anything, CountingIds, Heard, Limits, Origin, Outcome, Over, Resolver, rounded_up,
+    CountingIds, DnsTransport, Facts, Limits, NoFacts, Outcome, ReplyOutcome, Resolver, rounded_up,
 };
 use sip_selection::{Caps, Families, Request};
 use sip_uri::Transport::Udp;
@@ -22,7 +22,7 @@ const REPLY: [u8; 43] = [
 ];
 
 /// A resolver that has the request inside, where there is memory for both.
-fn resolver_of<B: AnswerBook, F: Origin>(
+fn resolver_of<B: AnswerBook, F: Facts>(
     alloc: Global,
     request: Request,
     until: Option<Moment>,
@@ -46,7 +46,7 @@ fn resolver_of<B: AnswerBook, F: Origin>(
 }
 
 /// Whether the octets that are sent next are a query of id 0; None where none are.
-fn sends<B: AnswerBook, F: Origin>(
+fn sends<B: AnswerBook, F: Facts>(
     resolver: &mut Resolver<B, F, CountingIds>,
     book: &B,
     seat: &mut B::Seat,
@@ -65,13 +65,13 @@ fn sends<B: AnswerBook, F: Origin>(
 }
 
 /// Hands its reply in; None where memory is refused.
-fn hears<R, B: Stores<R>, F: Origin>(
+fn hears<R, B: Stores<R>, F: Facts>(
     rt: &R,
     resolver: &mut Resolver<B, F, CountingIds>,
     book: &B,
     seat: &mut B::Seat,
     now: Moment,
-) -> Option<Heard>
+) -> Option<ReplyOutcome>
     requires made_here { B.belongs book.now seat.old }
     requires given { (octets : List ℕ) → F.gives octets }
     requires shown { F.shows now }
@@ -80,19 +80,19 @@ fn hears<R, B: Stores<R>, F: Origin>(
     ensures stand { Stand F.gives F.shows (B.shown seat.new) resolver.new.requests }
 {
     // the octets of its reply, and what they meant
-    let heard = resolver.handle(rt, book, seat, now, Over::Datagram, &REPLY);
+    let heard = resolver.handle(rt, book, seat, now, DnsTransport::Datagram, &REPLY);
     heard.ok()
 }
 
 /// Whether the request that ended next goes to one target; None where none ended.
-fn goes<B: AnswerBook, F: Origin>(resolver: &mut Resolver<B, F, CountingIds>) -> Option<bool> {
+fn goes<B: AnswerBook, F: Facts>(resolver: &mut Resolver<B, F, CountingIds>) -> Option<bool> {
     // the request's number, and what became of it
     let ended = resolver.poll_outcome()?;
     Some(matches!(ended.outcome(), Outcome::Targets(list) if list.as_slice().len() == 1))
 }
 
 /// Whether a query is sent, nothing more after its reply, and the request then goes to a target.
-fn sends_and_goes<R, B: Stores<R>, F: Origin>(
+fn sends_and_goes<R, B: Stores<R>, F: Facts>(
     rt: &R,
     resolver: &mut Resolver<B, F, CountingIds>,
     book: &B,
@@ -114,7 +114,7 @@ fn sends_and_goes<R, B: Stores<R>, F: Origin>(
 /// The same of a request, over a book of its own.
 fn with_book(rt: &impl Wait, alloc: Global, request: Request) -> Option<[bool; 3]> {
     let now = Moment::new(100)?;
-    let mut resolver = resolver_of::<ListCache, Anything>(alloc, request, Moment::new(105))?;
+    let mut resolver = resolver_of::<ListCache, NoFacts>(alloc, request, Moment::new(105))?;
     let (book, mut seat) = ListCache::new(alloc);
     sends_and_goes(rt, &mut resolver, &book, &mut seat, now)
 }

@@ -14,8 +14,8 @@ use Rattle.dns_queries.specs.declared.incoming.Incoming.TheVariants.{Ended, Igno
 use Rattle.dns_queries.specs.declared.schedule.Schedule.{Schedule}
 use Rattle.dns_message.specs.declared.question.Question.{Question}
 use Rattle.sip_resolver.specs.Questions.{AreBounded, AreDistinct, Differ, Fewer, Lacks, QuestionsView, asked_over, closed_both, closed_over, left_over}
-use Rattle.sip_resolver.specs.declared.transmit.Over.{Over}
-use Rattle.sip_resolver.specs.declared.transmit.Over.TheVariants.{Datagram, Stream}
+use Rattle.sip_resolver.specs.declared.transmit.DnsTransport.{DnsTransport}
+use Rattle.sip_resolver.specs.declared.transmit.DnsTransport.TheVariants.{Datagram, Stream}
 
 turned : (one other : Ticket) → Differ one other → Differ other one
 turned one other it = ((λ e. it.0 (sym e)), (λ e. it.1 (sym e)))
@@ -133,7 +133,8 @@ distinct-fewer old new datagrams streams it = record {
 }
 
 -- a reply leaves no others
-pub distinct-left : (over : Over) (incoming : Incoming) (old : QuestionsView) → AreDistinct old → AreDistinct (left_over over incoming old)
+pub distinct-left : (over : DnsTransport) (incoming : Incoming) (old : QuestionsView) → AreDistinct old → AreDistinct
+    (left_over over incoming old)
 distinct-left Datagram (Ended id question ending) old it =
     distinct-fewer old (closed_over Datagram id old) (fewer-kept (λ ticket. not (has_id id ticket)) old.datagrams.tickets)
     (fewer-not old.streams.tickets) it
@@ -144,7 +145,7 @@ distinct-left Datagram (Ignored why) old it = it
 distinct-left Stream (Ignored why) old it = it
 
 -- one is closed over one of both
-pub closed-one : (over : Over) (id : ℕ) (it : QuestionsView) → AreBounded it → AreBounded (closed_over over id it)
+pub closed-one : (over : DnsTransport) (id : ℕ) (it : QuestionsView) → AreBounded it → AreBounded (closed_over over id it)
 closed-one Datagram id it bounded = record {
   distinct = distinct-fewer it (closed_over Datagram id it) (fewer-kept (λ ticket. not (has_id id ticket)) it.datagrams.tickets)
       (fewer-not it.streams.tickets) bounded.distinct;
@@ -191,7 +192,7 @@ module _ (id : ℕ) (question : Question) (now : ℕ) where
       → All (Differ (ticket schedule)) tickets
   apart-from schedule tickets lacks none = λ k d small. ((λ e. none-has id tickets none k d small (sym e)), (λ e. lacks k d small (sym e)))
 
-  pub distinct-asked : (over : Over) (old : QuestionsView) → AreDistinct old → Lacks question old
+  pub distinct-asked : (over : DnsTransport) (old : QuestionsView) → AreDistinct old → Lacks question old
       → ticket_of id old.datagrams.tickets ≡ None
       → ticket_of id old.streams.tickets ≡ None → AreDistinct (asked_over over id question now old)
   distinct-asked Datagram old it lacks none other =

@@ -13,8 +13,8 @@ use Rattle.sip_resolver.specs.Idle.{AreIn, IsIn, IsOut}
 use Rattle.sip_resolver.specs.Questions.{QuestionsView, asked_over, closed_over}
 use Rattle.sip_resolver.specs.Requests.{waiting_without}
 use Rattle.sip_resolver.specs.Tasks.{TaskView, WaitingView}
-use Rattle.sip_resolver.specs.declared.transmit.Over.{Over}
-use Rattle.sip_resolver.specs.declared.transmit.Over.TheVariants.{Datagram, Stream}
+use Rattle.sip_resolver.specs.declared.transmit.DnsTransport.{DnsTransport}
+use Rattle.sip_resolver.specs.declared.transmit.DnsTransport.TheVariants.{Datagram, Stream}
 
 some-unless : {X : Type 0} (found : Option X) → (found ≡ None → ⊥) → IsSome found
 some-unless None not-none = absurd (not-none refl)
@@ -195,7 +195,7 @@ given-up-in now id question old new others waiting is it =
     (in-without (is.ticket ∷ is.others) is.others others is.ticket.sent.id
     (λ other differs some. stays-rest other is.ticket is.others differs some) waiting first)
 
-pub asked-in : (over : Over) (id : ℕ) (question : Question) (now : ℕ) (old : QuestionsView) (waiting : List WaitingView)
+pub asked-in : (over : DnsTransport) (id : ℕ) (question : Question) (now : ℕ) (old : QuestionsView) (waiting : List WaitingView)
     (task : TaskView) → AreIn old.datagrams.tickets old.streams.tickets waiting
     → AreIn (asked_over over id question now old).datagrams.tickets (asked_over over id question now old).streams.tickets
     (waiting ++ record { id = id; task = task } ∷ [])
@@ -215,7 +215,7 @@ asked-in Stream id question now old waiting task it =
     (in-still old.streams.tickets streams old.datagrams.tickets (λ other some. stays-asked other ticket old.streams.tickets some)
     waiting (in-flipped old.datagrams.tickets old.streams.tickets waiting it)) (inl (has-asked ticket old.streams.tickets)))
 
-pub closed-in : (over : Over) (id : ℕ) (old : QuestionsView) (waiting : List WaitingView)
+pub closed-in : (over : DnsTransport) (id : ℕ) (old : QuestionsView) (waiting : List WaitingView)
     → AreIn old.datagrams.tickets old.streams.tickets waiting
     → AreIn (closed_over over id old).datagrams.tickets (closed_over over id old).streams.tickets (waiting_without id waiting)
 closed-in Datagram id old waiting it =

@@ -20,8 +20,8 @@ use Rattle.sip_resolver.specs.Questions.{IsLeast, IsScheduled, QuestionsView, as
 use Rattle.sip_resolver.specs.Resolvers.{Expires, ResolverView}
 use Rattle.sip_resolver.specs.Sends.{AreSpaced, GivesUp, GivesUpBoth, IsInVain, IsOverdue, SendsAfter, SendsOne, first, again as again-sent, tickets_of, with_over}
 use Rattle.sip_resolver.specs.Tasks.{WaitingView, over_of}
-use Rattle.sip_resolver.specs.declared.transmit.Over.{Over}
-use Rattle.sip_resolver.specs.declared.transmit.Over.TheVariants.{Datagram, Stream}
+use Rattle.sip_resolver.specs.declared.transmit.DnsTransport.{DnsTransport}
+use Rattle.sip_resolver.specs.declared.transmit.DnsTransport.TheVariants.{Datagram, Stream}
 
 -- ---- what is so of those over datagrams and of those over streams
 
@@ -61,7 +61,7 @@ module _ (ticket : Ticket) (tickets many : List Ticket) (all : All (Contains man
 abbrev HaveSchedule : Schedule → QuestionsView → Type 0
 HaveSchedule schedule it = (it.datagrams.schedule ≡ schedule) × (it.streams.schedule ≡ schedule)
 
-have-over : (schedule : Schedule) (it : QuestionsView) → HaveSchedule schedule it → (over : Over)
+have-over : (schedule : Schedule) (it : QuestionsView) → HaveSchedule schedule it → (over : DnsTransport)
     → (asking_over over it).schedule ≡ schedule
 have-over schedule it have Datagram = have.0
 have-over schedule it have Stream = have.1
@@ -127,7 +127,7 @@ module _ (now asked : ℕ) where
           both (is-spaced (tickets_of old)) new (rw others (spaced-as (tickets_of old) middle.datagrams.tickets datagrams-were))
           (rw is (spaced-too (tickets_of old) ticket tickets late were))
 
-      spaced-first : (over : Over) (question : Question) → new ≡ asked_over over id question asked middle → is-so
+      spaced-first : (over : DnsTransport) (question : Question) → new ≡ asked_over over id question asked middle → is-so
       spaced-first Datagram question is =
           spaced-datagrams (ticket-of middle.datagrams.schedule id question) middle.datagrams.tickets
           (late-first middle.datagrams.schedule have.0) datagrams-were (rw is refl) (rw is refl)
@@ -135,7 +135,7 @@ module _ (now asked : ℕ) where
           spaced-streams (ticket-of middle.streams.schedule id question) middle.streams.tickets
           (late-first middle.streams.schedule have.1) streams-were (rw is refl) (rw is refl)
 
-      spaced-again : (over : Over) (asking : Asking) (octets : List ℕ)
+      spaced-again : (over : DnsTransport) (asking : Asking) (octets : List ℕ)
           → IsResent (asking_over over middle) asking (max now asked) id octets → new ≡ with_over over asking middle → is-so
       spaced-again Datagram asking octets it is =
           let front : All (Contains (tickets_of old)) (it.ticket ∷ it.others) = rw it.first at datagrams-were in
@@ -201,7 +201,7 @@ module _ (now asked : ℕ) (schedule : Schedule) (some : 1 ≤ schedule.wait) (w
     on-way-all : (tickets : List Ticket) → is-there tickets → All (IsOnWay (tickets_of new)) tickets
     on-way-all tickets there = All-weaker (Contains (tickets_of new)) (IsOnWay (tickets_of new)) (λ ticket is. stays is) tickets there
 
-    on-way-first : (over : Over) (question : Question) → new ≡ asked_over over id question asked old
+    on-way-first : (over : DnsTransport) (question : Question) → new ≡ asked_over over id question asked old
         → All (IsOnWay (tickets_of new)) (tickets_of old)
     on-way-first Datagram question is =
         let ticket = ticket-of now asked old.datagrams.schedule id question in

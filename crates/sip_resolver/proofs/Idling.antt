@@ -15,14 +15,14 @@ use Rattle.sip_resolver.specs.Idle.{CannotAsk, IsIdle, IsInWait, IsOut, MayRefus
 use Rattle.sip_resolver.specs.Questions.{QuestionsView, asking_over}
 use Rattle.sip_resolver.specs.Requests.{RequestsView}
 use Rattle.sip_resolver.specs.Tasks.{TaskView}
-use Rattle.sip_resolver.specs.declared.transmit.Over.{Over}
-use Rattle.sip_resolver.specs.declared.transmit.Over.TheVariants.{Datagram, Stream}
+use Rattle.sip_resolver.specs.declared.transmit.DnsTransport.{DnsTransport}
+use Rattle.sip_resolver.specs.declared.transmit.DnsTransport.TheVariants.{Datagram, Stream}
 
 -- ---- a question that can't be asked
 
 module _ {I : Type 0} (draws : I → ℕ → I → Type 0) (it : QuestionsView) (id : ℕ) where
   -- under an id that is free
-  pub may-refuse : (over : Over) (refusal : AskRefusal) → Refuses (asking_over over it) id refusal
+  pub may-refuse : (over : DnsTransport) (refusal : AskRefusal) → Refuses (asking_over over it) id refusal
       → ticket_of id it.datagrams.tickets ≡ None → ticket_of id it.streams.tickets ≡ None → MayRefuse draws it refusal
   may-refuse Datagram IdTaken refuses none other = absurd (let it = rw none at refuses in cc)
   may-refuse Stream IdTaken refuses none other = absurd (let it = rw other at refuses in cc)
@@ -33,7 +33,7 @@ module _ {I : Type 0} (draws : I → ℕ → I → Type 0) (it : QuestionsView) 
   may-refuse Datagram Memory refuses none other = tt
   may-refuse Stream Memory refuses none other = tt
 
-  pub may-refuse-all : (over : Over) (result : Result ℕ AskRefusal) → IfErr result (Refuses (asking_over over it) id)
+  pub may-refuse-all : (over : DnsTransport) (result : Result ℕ AskRefusal) → IfErr result (Refuses (asking_over over it) id)
       → ticket_of id it.datagrams.tickets ≡ None → ticket_of id it.streams.tickets ≡ None → IfErr result (MayRefuse draws it)
   may-refuse-all over (Ok found) refuses none other = tt
   may-refuse-all over (Err refusal) refuses none other = may-refuse over refusal refuses none other

@@ -14,8 +14,8 @@ use Rattle.sip_resolver.specs.Questions.{IsScheduled, IsSent, QuestionsView, ask
 use Rattle.sip_resolver.specs.Sends.{GivesUp, GivesUpBoth, IsInVain, IsOverdue, IsUnanswered, SendsAfter, SendsFirst, SendsOne, Sends, first, again as again-sent, with_over}
 use Rattle.sip_resolver.specs.Tasks.{WaitingView, over_of}
 use Rattle.sip_resolver.specs.Waits.{Resends}
-use Rattle.sip_resolver.specs.declared.transmit.Over.{Over}
-use Rattle.sip_resolver.specs.declared.transmit.Over.TheVariants.{Datagram, Stream}
+use Rattle.sip_resolver.specs.declared.transmit.DnsTransport.{DnsTransport}
+use Rattle.sip_resolver.specs.declared.transmit.DnsTransport.TheVariants.{Datagram, Stream}
 use Rattle.sip_resolver.specs.declared.transmit.Transmit.{Transmit}
 
 pub gives-up-not : (now : ℕ) (asking : Asking) → GivesUp now asking asking
@@ -125,12 +125,12 @@ pub same-given : (now : ℕ) (old new : QuestionsView) → GivesUpBoth now old n
 same-given now old new it =
     (schedule-left now old.datagrams new.datagrams it.datagrams, schedule-left now old.streams new.streams it.streams)
 
-same-first : (over : Over) (id : ℕ) (question : Question) (asked : ℕ) (old new : QuestionsView)
+same-first : (over : DnsTransport) (id : ℕ) (question : Question) (asked : ℕ) (old new : QuestionsView)
     → new ≡ asked_over over id question asked old → HaveSame old new
 same-first Datagram id question asked old new is = rw is (refl, refl)
 same-first Stream id question asked old new is = rw is (refl, refl)
 
-same-again : (over : Over) (asking : Asking) (octets : List ℕ) (now id : ℕ) (old new : QuestionsView)
+same-again : (over : DnsTransport) (asking : Asking) (octets : List ℕ) (now id : ℕ) (old new : QuestionsView)
     → IsResent (asking_over over old) asking now id octets → new ≡ with_over over asking old → HaveSame old new
 same-again Datagram asking octets now id old new it is = rw is (rw it.left refl, refl)
 same-again Stream asking octets now id old new it is = rw is (refl, rw it.left refl)
@@ -173,20 +173,20 @@ module _ (p : Ticket → Bool) (ticket : Ticket) (back : List Ticket) (is : p ti
 
 module _ (now asked id : ℕ) (waiting : List WaitingView) (old new : QuestionsView) (none : IsSent id new None) where
   -- a ticket of this id is among these
-  is-there : (over : Over) (ticket : Ticket) (others : List Ticket) → has_id id ticket ≡ true
+  is-there : (over : DnsTransport) (ticket : Ticket) (others : List Ticket) → has_id id ticket ≡ true
       → (asking_over over new).tickets ≡ waiting_too ticket others → ⊥
   is-there Datagram ticket others is there =
       found-in (has_id id) ticket _ is _ (rw there at none.0)
   is-there Stream ticket others is there =
       found-in (has_id id) ticket _ is _ (rw there at none.1)
 
-  asked-there : (over : Over) (question : Question) → new ≡ asked_over over id question asked old → ⊥
+  asked-there : (over : DnsTransport) (question : Question) → new ≡ asked_over over id question asked old → ⊥
   asked-there Datagram question is =
       is-there Datagram (ticket-of old.datagrams.schedule id question asked) old.datagrams.tickets (search rules) (rw is refl)
   asked-there Stream question is =
       is-there Stream (ticket-of old.streams.schedule id question asked) old.streams.tickets (search rules) (rw is refl)
 
-  again-there : (over : Over) (asking : Asking) (octets : List ℕ) → IsResent (asking_over over old) asking (max now asked) id octets
+  again-there : (over : DnsTransport) (asking : Asking) (octets : List ℕ) → IsResent (asking_over over old) asking (max now asked) id octets
       → new ≡ with_over over asking old → ⊥
   again-there Datagram asking octets it is =
       is-there Datagram (again old.datagrams.schedule (max now asked) it.ticket) it.others (search rules) (rw is (rw it.left refl))

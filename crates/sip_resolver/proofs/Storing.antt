@@ -13,7 +13,7 @@ use Rattle.sip_resolver.specs.Outcomes.{Counts, IsReplied}
 use Rattle.sip_resolver.specs.Works.{HandsBy, IsHeard, MayHand, Works, offer_in}
 use Rattle.sip_resolver.specs.Questions.{QuestionsView, asking_over}
 use Rattle.sip_resolver.specs.Resolvers.{HandsIn, answer, nothing}
-use Rattle.sip_resolver.specs.declared.transmit.Over.{Over}
+use Rattle.sip_resolver.specs.declared.transmit.DnsTransport.{DnsTransport}
 use Rattle.dns_queries.specs.Events.{Means}
 use Rattle.dns_queries.specs.declared.incoming.Ending.{Ending}
 use Rattle.dns_queries.specs.declared.incoming.Ending.TheVariants.{Answered, Faulty}
@@ -68,8 +68,8 @@ module _ (gives : List ℕ → Type 0) (shows : ℕ → Type 0) (old new : SeatV
   counts = inr (replied, record { now = now; stands = rw offered (Contains-push old.offered (offer_of question answer now)) })
 
 -- what octets that mean the end of a wait hand in
-pub hands-in : (over : Over) (octets : List ℕ) (now : ℕ) (questions : QuestionsView) (old new : SeatView) (id : ℕ) (question : Question)
-    (ending : Ending) → Means (asking_over over questions) octets (incoming.Ended id question ending)
+pub hands-in : (over : DnsTransport) (octets : List ℕ) (now : ℕ) (questions : QuestionsView) (old new : SeatView) (id : ℕ)
+    (question : Question) (ending : Ending) → Means (asking_over over questions) octets (incoming.Ended id question ending)
     → HandsBy question ending now old new → HandsIn over octets now questions old new
 hands-in over octets now questions old new id question (Answered found) means (inl quiet) = nothing quiet
 hands-in over octets now questions old new id question (Answered found) means (inr hands) = answer id question found means hands

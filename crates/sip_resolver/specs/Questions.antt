@@ -8,8 +8,8 @@ use Rattle.dns_queries.specs.Tickets.{Asking, IsSchedule, Ticket, ticket_of}
 use Rattle.dns_queries.specs.declared.incoming.Incoming.{Incoming}
 use Rattle.dns_queries.specs.declared.incoming.Incoming.TheVariants.{Ended, Ignored}
 use Rattle.dns_queries.specs.declared.schedule.Schedule.{Schedule}
-use Rattle.sip_resolver.specs.declared.transmit.Over.{Over}
-use Rattle.sip_resolver.specs.declared.transmit.Over.TheVariants.{Datagram, Stream}
+use Rattle.sip_resolver.specs.declared.transmit.DnsTransport.{DnsTransport}
+use Rattle.sip_resolver.specs.declared.transmit.DnsTransport.TheVariants.{Datagram, Stream}
 use Rattle.sip_resolver.specs.declared.transmit.Transmit.{Transmit}
 
 -- the questions that are out: those over datagrams, and those over streams (RFC 1035 4.2)
@@ -34,18 +34,18 @@ abbrev pub IsScheduled : QuestionsView → Type 0
 IsScheduled it = (it.streams.schedule ≡ schedule_of it) × IsSchedule (schedule_of it)
 
 -- the questions that are out over datagrams, or over streams
-abbrev pub asking_over : Over → QuestionsView → Asking
+abbrev pub asking_over : DnsTransport → QuestionsView → Asking
 asking_over Datagram it = it.datagrams
 asking_over Stream it = it.streams
 
 -- the questions that are out after one more was asked over datagrams, or over streams
-abbrev pub asked_over : Over → ℕ → Question → ℕ → QuestionsView → QuestionsView
+abbrev pub asked_over : DnsTransport → ℕ → Question → ℕ → QuestionsView → QuestionsView
 asked_over Datagram id question now it =
     record it { datagrams = asked id question now it.datagrams }
 asked_over Stream id question now it = record it { streams = asked id question now it.streams }
 
 -- the questions that are out after one was closed over datagrams, or over streams
-abbrev pub closed_over : Over → ℕ → QuestionsView → QuestionsView
+abbrev pub closed_over : DnsTransport → ℕ → QuestionsView → QuestionsView
 closed_over Datagram id it = record it { datagrams = closed id it.datagrams }
 closed_over Stream id it = record it { streams = closed id it.streams }
 
@@ -54,7 +54,7 @@ abbrev pub closed_both : ℕ → QuestionsView → QuestionsView
 closed_both id it = record { datagrams = closed id it.datagrams; streams = closed id it.streams }
 
 -- what is left after octets that came in over this
-abbrev pub left_over : Over → Incoming → QuestionsView → QuestionsView
+abbrev pub left_over : DnsTransport → Incoming → QuestionsView → QuestionsView
 left_over over (Ended id question ending) it = closed_over over id it
 left_over over (Ignored why) it = it
 

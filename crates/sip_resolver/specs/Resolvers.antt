@@ -28,10 +28,10 @@ use Rattle.sip_resolver.specs.Settles.{GoesByReply, GoesOverStream, NeedsOther, 
 use Rattle.sip_resolver.specs.Tasks.{TaskView}
 use Rattle.sip_resolver.specs.Works.{Hands}
 use Rattle.sip_resolver.specs.declared.outcome.Outcome.{Outcome}
-use Rattle.sip_resolver.specs.declared.resolver.Heard.{Heard}
-use Rattle.sip_resolver.specs.declared.resolver.Heard.TheVariants.{Reply, Cut, Ignored}
-use Rattle.sip_resolver.specs.declared.transmit.Over.{Over}
-use Rattle.sip_resolver.specs.declared.transmit.Over.TheVariants.{Datagram}
+use Rattle.sip_resolver.specs.declared.resolver.ReplyOutcome.{ReplyOutcome}
+use Rattle.sip_resolver.specs.declared.resolver.ReplyOutcome.TheVariants.{Reply, Cut, Ignored}
+use Rattle.sip_resolver.specs.declared.transmit.DnsTransport.{DnsTransport}
+use Rattle.sip_resolver.specs.declared.transmit.DnsTransport.TheVariants.{Datagram}
 use Rattle.sip_resolver.specs.declared.transmit.Transmit.{Transmit}
 use Rattle.sip_resolver.specs.declared.refusal.SubmitRefusal.{SubmitRefusal}
 use Rattle.sip_resolver.specs.declared.refusal.SubmitRefusal.TheVariants.{Full, NumberTaken, Memory}
@@ -89,13 +89,14 @@ pub record IsEnded (question : Question) (octets : List ℕ) (ending : Ending) :
   pub ends : EndsBy question it ending
 
 -- a reply in a datagram was cut, and its question can go on over a stream (RFC 7766 5)
-abbrev pub IsCut : ResolverView → Over → Ending → Type 0
+abbrev pub IsCut : ResolverView → DnsTransport → Ending → Type 0
 IsCut it over ending =
     (it.streams ≡ true) × (over ≡ Datagram) × (ending ≡ endings.Faulty refusals.Truncated)
 
 -- A reply to a question that is out closes it, and no request waits for it any more: all that did
 -- go on or end so, in the order in which they came to wait.
-pub record IsClosed (old new : ResolverView) (over : Over) (octets : List ℕ) (ending : Ending)
+pub record IsClosed (old new : ResolverView) (over : DnsTransport) (octets : List ℕ)
+    (ending : Ending)
     (goes : Question → TaskView → TaskView → Type 0) (kind : Question → Outcome → Type 0)
     : Type 0 where
   pub id : ℕ
@@ -108,7 +109,7 @@ pub record IsClosed (old new : ResolverView) (over : Over) (octets : List ℕ) (
 -- its answer, but where memory is refused, or end by its fault. A reply that was cut ends none: the
 -- question goes over a stream next (RFC 2181 9). Octets that are no reply to a question that is out
 -- over it leave all as it was.
-abbrev pub Hears : ResolverView → ResolverView → Over → List ℕ → Heard → Type 0
+abbrev pub Hears : ResolverView → ResolverView → DnsTransport → List ℕ → ReplyOutcome → Type 0
 Hears old new over octets Reply =
     (ending : Ending)
     × IsClosed old new over octets ending (λ question. GoesByReply question ending)
@@ -122,7 +123,7 @@ Hears old new over octets (Ignored why) =
 
 -- a seat is as it was where the octets are a reply that was cut, or no reply to a question that is
 -- out
-abbrev pub LeavesSeat : {Seat : Type 0} → Seat → Seat → Heard → Type 0
+abbrev pub LeavesSeat : {Seat : Type 0} → Seat → Seat → ReplyOutcome → Type 0
 LeavesSeat old new Reply = ⊤
 LeavesSeat old new Cut = new ≡ old
 LeavesSeat old new (Ignored why) = new ≡ old
@@ -130,7 +131,7 @@ LeavesSeat old new (Ignored why) = new ≡ old
 -- What octets that came in over datagrams or a stream hand to the book at a moment: nothing, or the
 -- answer that they have to a question that is out over it, under the id of the message. The book
 -- stores that or nothing.
-pub data HandsIn (over : Over) (octets : List ℕ) (now : ℕ) (questions : QuestionsView)
+pub data HandsIn (over : DnsTransport) (octets : List ℕ) (now : ℕ) (questions : QuestionsView)
     (old new : SeatView) : Type 0 where
   nothing : StoresNothing old new → HandsIn over octets now questions old new
   answer : (id : ℕ) (question : Question) (found : AnswerValue)
@@ -141,7 +142,7 @@ pub data HandsIn (over : Over) (octets : List ℕ) (now : ℕ) (questions : Ques
 -- The question that is out under an id is closed, as no server takes it, and no request waits for
 -- it any more: each that needs it ends for that, or for want of memory, and each other one goes on.
 pub record Closes (id : ℕ) (old new : ResolverView) : Type 0 where
-  pub over : Over
+  pub over : DnsTransport
   pub question : Question
   pub was : HasQuestion question id (asking_over over old.questions).tickets
   pub left : new.questions ≡ closed_over over id old.questions

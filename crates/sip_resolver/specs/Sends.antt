@@ -11,8 +11,8 @@ use Rattle.sip_resolver.specs.Questions.{IsMessageOf, QuestionsView, asked_over,
 use Rattle.sip_resolver.specs.Tasks.{TaskView, WaitingView, over_of}
 use Rattle.sip_resolver.specs.declared.outcome.Outcome.{Outcome}
 use Rattle.sip_resolver.specs.declared.outcome.Outcome.TheVariants.{Targets, Refused, NoAnswer, NoServer, BadReply, Memory}
-use Rattle.sip_resolver.specs.declared.transmit.Over.{Over}
-use Rattle.sip_resolver.specs.declared.transmit.Over.TheVariants.{Datagram, Stream}
+use Rattle.sip_resolver.specs.declared.transmit.DnsTransport.{DnsTransport}
+use Rattle.sip_resolver.specs.declared.transmit.DnsTransport.TheVariants.{Datagram, Stream}
 use Rattle.sip_resolver.specs.declared.transmit.Transmit.{Transmit}
 
 -- ---- what is given up
@@ -58,7 +58,7 @@ IsInTime schedule tickets now Memory = ⊤
 
 -- the questions that are out, with these over datagrams or over streams, and the others as they
 -- were
-abbrev pub with_over : Over → Asking → QuestionsView → QuestionsView
+abbrev pub with_over : DnsTransport → Asking → QuestionsView → QuestionsView
 with_over Datagram asking it = record it { datagrams = asking }
 with_over Stream asking it = record it { streams = asking }
 
@@ -86,7 +86,7 @@ pub record IsOverdue (now : ℕ) (asking : Asking) : Type 0 where
 pub data SendsOne (now asked id : ℕ) (waiting : List WaitingView) (old new : QuestionsView)
     : Type 0 where
   first : SendsFirst asked id waiting old new → SendsOne now asked id waiting old new
-  again : (over : Over) (asking : Asking) (octets : List ℕ)
+  again : (over : DnsTransport) (asking : Asking) (octets : List ℕ)
       → IsOverdue now (asking_over over old)
       → IsResent (asking_over over old) asking (max now asked) id octets
       → new ≡ with_over over asking old → SendsOne now asked id waiting old new

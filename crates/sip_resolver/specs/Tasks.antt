@@ -9,8 +9,8 @@ use Rattle.sip_uri.specs.declared.host.Host.{Host}
 use Rattle.sip_resolver.specs.Ends.{IsByChoice}
 use Rattle.sip_resolver.specs.Outcomes.{Counts, IsLacking, IsOutcome, Sought}
 use Rattle.sip_resolver.specs.declared.outcome.Outcome.TheVariants.{Targets, Refused, NoAnswer, NoServer, BadReply, Memory}
-use Rattle.sip_resolver.specs.declared.transmit.Over.{Over}
-use Rattle.sip_resolver.specs.declared.transmit.Over.TheVariants.{Datagram, Stream}
+use Rattle.sip_resolver.specs.declared.transmit.DnsTransport.{DnsTransport}
+use Rattle.sip_resolver.specs.declared.transmit.DnsTransport.TheVariants.{Datagram, Stream}
 use Rattle.sip_resolver.specs.declared.task.Progress.{Progress}
 use Rattle.sip_resolver.specs.declared.task.Progress.TheVariants.{Asks, Ended}
 
@@ -25,7 +25,7 @@ pub record TaskView : Type 0 where
 
 -- over what the question of a request goes: over a stream where the reply in a datagram was cut
 -- (RFC 2181 9)
-abbrev pub over_of : TaskView → Over
+abbrev pub over_of : TaskView → DnsTransport
 over_of task = if task.cut then Stream else Datagram
 
 -- a request that waits for the reply to the question of this id

@@ -7,8 +7,8 @@ ghost use Rattle.sip_resolver.specs.Requests.{IsBack, Stand, count_of};
 ghost use Rattle.sip_resolver.specs.Sends.{SendsFirst};
 ghost use Rattle.sip_resolver.specs.Tasks.{IsCounted, Lacks, sought_of};
 
+use crate::facts::Facts;
 use crate::ids::Ids;
-use crate::origin::Origin;
 use crate::outcome::Outcome;
 use crate::questions::Questions;
 use crate::requests::Requests;
@@ -20,7 +20,7 @@ use dns_queries::AskRefusal;
 /// Lets a request wait for the answer that it needs. Where its question is not out it is sent, as
 /// asked at this moment, and the result is its id; where as many are out as can be, the request is
 /// held.
-pub(crate) fn wait_for_answer<B: AnswerBook, F: Origin, I: Ids>(
+pub(crate) fn wait_for_answer<B: AnswerBook, F: Facts, I: Ids>(
     requests: &mut Requests<B>,
     questions: &mut Questions,
     ids: &mut I,

@@ -13,8 +13,8 @@ use crate::ids::Ids;
 use crate::outcome::Resolved;
 use crate::resolver::Resolver;
 use crate::rounding::rounded_up;
-use crate::transmit::Over;
-use crate::wire_origin::WireOrigin;
+use crate::transmit::DnsTransport;
+use crate::wire_facts::WireFacts;
 use answer_cache::{AnswerBook, Stores};
 use dns_queries::{Clock, MessageWire, Received};
 use std::sync::Wait;
@@ -24,7 +24,7 @@ const SEND_LIMIT: usize = 1_024;
 
 /// Sends the query that is to be sent next, and tells whether there was one.
 fn send_next<B: AnswerBook, W: MessageWire, C: Clock, I: Ids + Drop>(
-    resolver: &mut Resolver<B, WireOrigin<W, C>, I>,
+    resolver: &mut Resolver<B, WireFacts<W, C>, I>,
     book: &B,
     seat: &mut B::Seat,
     wire: &mut W,
@@ -51,7 +51,7 @@ fn send_next<B: AnswerBook, W: MessageWire, C: Clock, I: Ids + Drop>(
 
 /// Sends what there is to send.
 fn send_all<B: AnswerBook, W: MessageWire, C: Clock, I: Ids + Drop>(
-    resolver: &mut Resolver<B, WireOrigin<W, C>, I>,
+    resolver: &mut Resolver<B, WireFacts<W, C>, I>,
     book: &B,
     seat: &mut B::Seat,
     wire: &mut W,
@@ -74,7 +74,7 @@ fn send_all<B: AnswerBook, W: MessageWire, C: Clock, I: Ids + Drop>(
 
 /// Sends what there is to send, and gives the next request that ended, with what became of it.
 fn send_and_poll<B: AnswerBook, W: MessageWire, C: Clock, I: Ids + Drop>(
-    resolver: &mut Resolver<B, WireOrigin<W, C>, I>,
+    resolver: &mut Resolver<B, WireFacts<W, C>, I>,
     book: &B,
     seat: &mut B::Seat,
     wire: &mut W,
@@ -99,7 +99,7 @@ fn send_and_poll<B: AnswerBook, W: MessageWire, C: Clock, I: Ids + Drop>(
 /// is refused for a message, it is lost.
 fn receive_once<R, B: Stores<R>, W: MessageWire, C: Clock, I: Ids + Drop>(
     rt: &R,
-    resolver: &mut Resolver<B, WireOrigin<W, C>, I>,
+    resolver: &mut Resolver<B, WireFacts<W, C>, I>,
     book: &B,
     seat: &mut B::Seat,
     wire: &mut W,
@@ -120,7 +120,7 @@ fn receive_once<R, B: Stores<R>, W: MessageWire, C: Clock, I: Ids + Drop>(
                 book,
                 seat,
                 clock.now(),
-                Over::Datagram,
+                DnsTransport::Datagram,
                 message.as_slice(),
             );
         }
@@ -139,7 +139,7 @@ fn receive_once<R, B: Stores<R>, W: MessageWire, C: Clock, I: Ids + Drop>(
 /// or counts the time of each by itself.
 pub fn poll_over<R, B: Stores<R>, W: MessageWire, C: Clock, I: Ids + Drop>(
     rt: &R,
-    resolver: &mut Resolver<B, WireOrigin<W, C>, I>,
+    resolver: &mut Resolver<B, WireFacts<W, C>, I>,
     book: &B,
     seat: &mut B::Seat,
     wire: &mut W,
@@ -172,7 +172,7 @@ pub fn poll_over<R, B: Stores<R>, W: MessageWire, C: Clock, I: Ids + Drop>(
 /// all that ended came out.
 pub fn next_outcome<R: Wait, B: Stores<R>, W: MessageWire, C: Clock, I: Ids + Drop>(
     rt: &R,
-    resolver: &mut Resolver<B, WireOrigin<W, C>, I>,
+    resolver: &mut Resolver<B, WireFacts<W, C>, I>,
     book: &B,
     seat: &mut B::Seat,
     wire: &mut W,
@@ -209,7 +209,7 @@ pub fn next_outcome<R: Wait, B: Stores<R>, W: MessageWire, C: Clock, I: Ids + Dr
 /// Cancels the request of this number, and says whether there was one (`Resolver::cancel`). Where
 /// no other request waits for the reply to its question, the wire lets the query go.
 pub fn cancel_over<B: AnswerBook, W: MessageWire, C: Clock, I: Ids + Drop>(
-    resolver: &mut Resolver<B, WireOrigin<W, C>, I>,
+    resolver: &mut Resolver<B, WireFacts<W, C>, I>,
     wire: &mut W,
     number: u64,
 ) -> bool

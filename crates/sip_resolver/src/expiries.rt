@@ -7,7 +7,7 @@ ghost use Rattle.sip_resolver.specs.Expiries.{EndsLate, IsUnanswered, has_time, 
 ghost use Rattle.sip_resolver.specs.Requests.{AreSame, IsBack, Stand, count_of};
 ghost use Rattle.sip_resolver.specs.Tasks.{IsCounted, Lacks, sought_of};
 
-use crate::origin::Origin;
+use crate::facts::Facts;
 use crate::outcome::Outcome;
 use crate::questions::Questions;
 use crate::requests::{Requests, Waiting};
@@ -31,7 +31,7 @@ fn unanswered<B: AnswerBook>(task: &Task<B>) -> Outcome
 
 /// Ends a request that was taken out and whose time is over: by what the book has, or without the
 /// answer that it needs then.
-fn end_late<B: AnswerBook, F: Origin>(
+fn end_late<B: AnswerBook, F: Facts>(
     requests: &mut Requests<B>,
     alloc: Global,
     book: &B,
@@ -64,7 +64,7 @@ fn end_late<B: AnswerBook, F: Origin>(
 
 /// Puts a request back that was taken out of those that can go on, or ends it where its time is
 /// over.
-fn turn_ready<B: AnswerBook, F: Origin>(
+fn turn_ready<B: AnswerBook, F: Facts>(
     requests: &mut Requests<B>,
     alloc: Global,
     book: &B,
@@ -97,7 +97,7 @@ fn turn_ready<B: AnswerBook, F: Origin>(
 
 /// Puts a request back that was taken out of those that are held, or ends it where its time is
 /// over.
-fn turn_held<B: AnswerBook, F: Origin>(
+fn turn_held<B: AnswerBook, F: Facts>(
     requests: &mut Requests<B>,
     alloc: Global,
     book: &B,
@@ -130,7 +130,7 @@ fn turn_held<B: AnswerBook, F: Origin>(
 
 /// Puts a request back that was taken out of those that wait, or ends it where its time is over.
 /// Then its question is closed where none waits for it any more.
-fn turn_waiting<B: AnswerBook, F: Origin>(
+fn turn_waiting<B: AnswerBook, F: Facts>(
     requests: &mut Requests<B>,
     questions: &mut Questions,
     waiting: Waiting<B>,
@@ -163,7 +163,7 @@ fn turn_waiting<B: AnswerBook, F: Origin>(
 
 /// Ends the requests that wait and whose time is over, and closes the questions that none waits for
 /// any more.
-pub(crate) fn expire_waiting<B: AnswerBook, F: Origin>(
+pub(crate) fn expire_waiting<B: AnswerBook, F: Facts>(
     requests: &mut Requests<B>,
     questions: &mut Questions,
     now: Moment,
@@ -188,7 +188,7 @@ pub(crate) fn expire_waiting<B: AnswerBook, F: Origin>(
 }
 
 /// Ends the requests that can go on and whose time is over.
-pub(crate) fn expire_ready<B: AnswerBook, F: Origin>(
+pub(crate) fn expire_ready<B: AnswerBook, F: Facts>(
     requests: &mut Requests<B>,
     alloc: Global,
     book: &B,
@@ -218,7 +218,7 @@ pub(crate) fn expire_ready<B: AnswerBook, F: Origin>(
 }
 
 /// Ends the requests that are held and whose time is over.
-pub(crate) fn expire_held<B: AnswerBook, F: Origin>(
+pub(crate) fn expire_held<B: AnswerBook, F: Facts>(
     requests: &mut Requests<B>,
     alloc: Global,
     book: &B,

@@ -7,8 +7,8 @@ ghost use Rattle.sip_resolver.specs.Questions.{IsLeast, deadlines_of};
 ghost use Rattle.sip_resolver.specs.Resolvers.{ResolverView};
 ghost use Rattle.sip_resolver.specs.Runs.{AreKept, Event, Runs};
 
+use crate::facts::Facts;
 use crate::ids::Ids;
-use crate::origin::Origin;
 
 /// Along any calls no request is lost, and none ends twice: the requests that are inside at last,
 /// with those whose outcomes were taken and those that were cancelled, are those that were inside
@@ -31,7 +31,7 @@ pub fn law_requests_are_awaited()
 /// request waited for whose time is over may be let go. So before the second that `next_timeout`
 /// named, nothing is sent again, given up or let go. From the least deadline of a question on, a
 /// question whose deadline it was is sent again, given up or let go.
-pub fn law_questions_are_dealt_with<F: Origin, I: Ids>()
+pub fn law_questions_are_dealt_with<F: Facts, I: Ids>()
     ensures dealt { (now asked : ℕ) (first last : ResolverView)
         → PollsAll F.gives F.shows I.draws now asked first last
         → AreDealtWith now asked first last }

@@ -17,7 +17,7 @@
 //! let asked = rounded_up(now);
 //! let query = resolver.poll_transmit(book, seat, now, asked)?.octets;
 //! // the octets of its reply, and what they meant
-//! let heard = resolver.handle(rt, book, seat, now, Over::Datagram, &REPLY);
+//! let heard = resolver.handle(rt, book, seat, now, DnsTransport::Datagram, &REPLY);
 //! // the request's number, and what became of it
 //! let ended = resolver.poll_outcome()?;
 //! ```
@@ -47,7 +47,7 @@
 //!
 //! `next_outcome` drives a resolver over a wire to DNS servers until a request ends: it sends what
 //! the resolver has to send, and hands it what comes back; `poll_over` does so once. They work over
-//! any `MessageWire` and any `Clock` of `dns_queries`, of which a `WireOrigin` is the `Origin`.
+//! any `MessageWire` and any `Clock` of `dns_queries`; what is known of these are `WireFacts`.
 //!
 //! `random_ids` and `draw_words` make ids of queries and random words of a key, which `random_key`
 //! takes from the system's entropy; `law_id_streams_are_apart` says that they come of streams of
@@ -66,12 +66,12 @@ mod draw;
 mod drive;
 mod earliest;
 mod expiries;
+mod facts;
 mod id_streams;
 mod ids;
 mod key;
 mod laws;
 mod number_filter;
-mod origin;
 mod outcome;
 mod questions;
 mod queue;
@@ -82,19 +82,19 @@ mod rounding;
 mod task;
 mod transmit;
 mod waits;
-mod wire_origin;
+mod wire_facts;
 
 pub use dns_queries::Schedule;
 pub use draw::draw_words;
 pub use drive::{cancel_over, next_outcome, poll_over};
+pub use facts::{Facts, NoFacts};
 pub use id_streams::{law_id_streams_are_apart, random_ids};
 pub use ids::{CountingIds, Ids, RandomIds};
 pub use key::random_key;
 pub use laws::{law_questions_are_dealt_with, law_requests_are_awaited, law_requests_are_kept};
-pub use origin::{Anything, Origin};
 pub use outcome::{Outcome, Resolved, TargetList};
 pub use refusal::SubmitRefusal;
-pub use resolver::{Heard, Limits, Resolver};
+pub use resolver::{Limits, ReplyOutcome, Resolver};
 pub use rounding::rounded_up;
-pub use transmit::{Over, Transmit};
-pub use wire_origin::WireOrigin;
+pub use transmit::{DnsTransport, Transmit};
+pub use wire_facts::WireFacts;

@@ -186,7 +186,7 @@ impl<B> Resolved<B> {
 impl<B> Numbered for Resolved<B> {
     ghost numbered = { λ it. it.sought.number };
 
-    fn its_number(&self) -> u64 {
+    fn number(&self) -> u64 {
         self.task.number()
     }
 }

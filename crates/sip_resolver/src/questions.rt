@@ -12,11 +12,11 @@ ghost use Rattle.sip_resolver.specs.Questions.{AreDistinct, IsLeast, IsScheduled
 ghost use Rattle.sip_resolver.specs.Requests.{AreSame, Stand};
 ghost use Rattle.sip_resolver.specs.Sends.{GivesUpBoth, IsInTime, SendsAfter, tickets_of};
 
+use crate::facts::Facts;
 use crate::ids::Ids;
-use crate::origin::Origin;
 use crate::requests::Requests;
 use crate::rounding::later_of;
-use crate::transmit::{Over, Transmit};
+use crate::transmit::{DnsTransport, Transmit};
 use crate::waits::next_resend;
 use answer_cache::AnswerBook;
 use dns_answers::Moment;
@@ -84,12 +84,12 @@ impl Questions {
     }
 
     /// Whether as many are out over this as can be.
-    fn is_full_over(&self, over: Over) -> bool
+    fn is_full_over(&self, over: DnsTransport) -> bool
         ensures { IsTrue result ↔ HasNoRoom (asking_over over self.now) }
     {
         match over {
-            Over::Datagram => self.datagrams.is_full(),
-            Over::Stream => self.streams.is_full(),
+            DnsTransport::Datagram => self.datagrams.is_full(),
+            DnsTransport::Stream => self.streams.is_full(),
         }
     }
 
@@ -115,7 +115,7 @@ impl Questions {
     /// drawn.
     pub(crate) fn ask<I: Ids>(
         &mut self,
-        over: Over,
+        over: DnsTransport,
         ids: &mut I,
         question: &Question,
         now: Moment,
@@ -138,8 +138,8 @@ impl Questions {
             return Err(AskRefusal::IdTaken);
         };
         match over {
-            Over::Datagram => asked(&mut self.datagrams, question, id, now),
-            Over::Stream => asked(&mut self.streams, question, id, now),
+            DnsTransport::Datagram => asked(&mut self.datagrams, question, id, now),
+            DnsTransport::Stream => asked(&mut self.streams, question, id, now),
         }
     }
 
@@ -163,29 +163,33 @@ impl Questions {
     }
 
     /// Takes octets that came in over this.
-    pub(crate) fn incoming(&mut self, over: Over, octets: &[u8]) -> Result<Incoming, AllocError>
+    pub(crate) fn incoming(
+        &mut self,
+        over: DnsTransport,
+        octets: &[u8],
+    ) -> Result<Incoming, AllocError>
         ensures means { IfOk result (Means (asking_over over self.old) octets.now) }
         ensures left { IfOk result (λ it. self.new ≡ left_over over it self.old) }
         ensures unchanged { OnErr result (self.new ≡ self.old) }
     {
         match over {
-            Over::Datagram => self.datagrams.incoming(octets),
-            Over::Stream => self.streams.incoming(octets),
+            DnsTransport::Datagram => self.datagrams.incoming(octets),
+            DnsTransport::Stream => self.streams.incoming(octets),
         }
     }
 
     /// Closes the question of this id, if one is out under it, and gives it, and over what it was
     /// out.
-    pub(crate) fn take(&mut self, id: u16) -> Option<(Over, Question)>
+    pub(crate) fn take(&mut self, id: u16) -> Option<(DnsTransport, Question)>
         ensures { MatchOption result ((self.new ≡ self.old) × (IsOut id self.old → ⊥))
             (λ taken. (self.new ≡ closed_over taken.0 id self.old)
             × HasQuestion taken.1 id (asking_over taken.0 self.old).tickets) }
     {
         if let Some(question) = self.datagrams.cancel(id) {
-            return Some((Over::Datagram, question));
+            return Some((DnsTransport::Datagram, question));
         }
         match self.streams.cancel(id) {
-            Some(question) => Some((Over::Stream, question)),
+            Some(question) => Some((DnsTransport::Stream, question)),
             None => None,
         }
     }
@@ -201,7 +205,7 @@ impl Questions {
     /// Gives up the questions that were sent as often as the schedule says and whose replies did
     /// not come in time, until one is to be sent once more, and gives its id. It counts as sent at
     /// the later one of the moments.
-    pub(crate) fn next_resend<B: AnswerBook, F: Origin>(
+    pub(crate) fn next_resend<B: AnswerBook, F: Facts>(
         &mut self,
         requests: &mut Requests<B>,
         now: Moment,
@@ -234,14 +238,14 @@ impl Questions {
         if let Some(octets) = self.datagrams.octets_of(id) {
             return Some(Transmit {
                 octets,
-                over: Over::Datagram,
+                over: DnsTransport::Datagram,
                 send: self.datagrams.sends_of(id),
             });
         }
         let octets = self.streams.octets_of(id)?;
         Some(Transmit {
             octets,
-            over: Over::Stream,
+            over: DnsTransport::Stream,
             send: self.streams.sends_of(id),
         })
     }

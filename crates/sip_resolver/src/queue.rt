@@ -81,7 +81,7 @@ pub(crate) trait Numbered {
     ghost numbered: { Self → ℕ };
 
     /// Its number.
-    fn its_number(&self) -> u64
+    fn number(&self) -> u64
         ensures { result ≡ numbered self.now };
 }
 
@@ -92,7 +92,7 @@ impl<T: Numbered> Queue<T> {
     {
         'items: for at in 0..self.items.len() {
             let item = &self.items[at];
-            if item.its_number() == number {
+            if item.number() == number {
                 return true;
             }
         }

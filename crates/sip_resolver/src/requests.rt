@@ -36,7 +36,7 @@ impl<B> Model for Waiting<B> {
 impl<B> Numbered for Waiting<B> {
     ghost numbered = { λ it. it.task.number };
 
-    fn its_number(&self) -> u64 {
+    fn number(&self) -> u64 {
         self.task.number()
     }
 }
@@ -331,7 +331,7 @@ impl<B> Requests<B> {
     {
         let waiting = self.waiting.pop()?;
         self.earliest.remove(waiting.its_until());
-        self.numbers.remove(waiting.its_number());
+        self.numbers.remove(waiting.number());
         Some(waiting)
     }
 
@@ -345,7 +345,7 @@ impl<B> Requests<B> {
         let place = self.first_for(id)?;
         let waiting = self.waiting.remove(place)?;
         self.earliest.remove(waiting.its_until());
-        self.numbers.remove(waiting.its_number());
+        self.numbers.remove(waiting.number());
         Some(waiting.task)
     }
 

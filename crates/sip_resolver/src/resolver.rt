@@ -24,15 +24,15 @@ ghost use Rattle.sip_resolver.specs.Works.{HandsBy, IsAtMostOne, MayHand, Works}
 use crate::asks::wait_for_answer;
 use crate::cancels::{remove_not_waiting, remove_waiting};
 use crate::expiries::{expire_held, expire_ready, expire_waiting};
+use crate::facts::Facts;
 use crate::ids::Ids;
-use crate::origin::Origin;
 use crate::outcome::Resolved;
 use crate::questions::Questions;
 use crate::queue::least_of;
 use crate::refusal::SubmitRefusal;
 use crate::requests::Requests;
 use crate::task::{Progress, Task};
-use crate::transmit::{Over, Transmit};
+use crate::transmit::{DnsTransport, Transmit};
 use crate::waits::{WaitEnd, settle_all};
 use answer_cache::{AnswerBook, Stores};
 use dns_answers::{Answer, Moment, ReplyRefusal, law_answers_are_bounded};
@@ -59,7 +59,7 @@ pub struct Limits {
 
 /// What octets that came in meant.
 #[derive(Clone, Copy, Debug, PartialEq, Eq)]
-pub enum Heard {
+pub enum ReplyOutcome {
     /// The octets ended the wait for the reply to a question.
     Reply,
     /// The octets are a reply that was cut: its question goes over a stream next.
@@ -83,7 +83,7 @@ pub struct Resolver<B, F, I> {
     ids: I,
     requests: Requests<B>,
     streams: bool,
-    origin: PhantomData<F>,
+    facts: PhantomData<F>,
 }
 
 impl<B, F, I> Model for Resolver<B, F, I> {
@@ -98,7 +98,7 @@ impl<B, F, I> Model for Resolver<B, F, I> {
     } };
 }
 
-impl<B: AnswerBook, F: Origin, I: Ids + Drop> Resolver<B, F, I> {
+impl<B: AnswerBook, F: Facts, I: Ids + Drop> Resolver<B, F, I> {
     ghost use Rattle.std.specs.Borrow.{sem};
     ghost use Rattle.std.specs.Io.BufRead.{Rests};
     ghost use Rattle.sip_resolver.specs.contracts.resolver.Resolver.{the_row};
@@ -134,7 +134,7 @@ impl<B: AnswerBook, F: Origin, I: Ids + Drop> Resolver<B, F, I> {
             ids,
             requests: Requests::new(alloc, limits.requests)?,
             streams: limits.streams,
-            origin: PhantomData,
+            facts: PhantomData,
         })
     }
 
@@ -239,9 +239,9 @@ impl<B: AnswerBook, F: Origin, I: Ids + Drop> Resolver<B, F, I> {
         book: &B,
         seat: &mut B::Seat,
         now: Moment,
-        over: Over,
+        over: DnsTransport,
         octets: &[u8],
-    ) -> Result<Heard, AllocError>
+    ) -> Result<ReplyOutcome, AllocError>
     where
         B: Stores<R>,
         requires made_here { B.belongs book.now seat.old }
@@ -262,14 +262,14 @@ impl<B: AnswerBook, F: Origin, I: Ids + Drop> Resolver<B, F, I> {
         ensures unchanged { OnErr result ((self.new ≡ self.old) × (seat.new ≡ seat.old)) }
     {
         match self.questions.incoming(over, octets)? {
-            Incoming::Ignored(why) => Ok(Heard::Ignored(why)),
+            Incoming::Ignored(why) => Ok(ReplyOutcome::Ignored(why)),
             Incoming::Ended(id, question, ending) => {
-                if self.goes_on(over, &ending) {
+                if self.retries_over_stream(over, &ending) {
                     settle_all::<B, F>(&mut self.requests, id, &WaitEnd::Cut);
-                    return Ok(Heard::Cut);
+                    return Ok(ReplyOutcome::Cut);
                 }
                 self.hear(rt, book, seat, now, octets, id, &question, ending);
-                Ok(Heard::Reply)
+                Ok(ReplyOutcome::Reply)
             }
         }
     }
@@ -367,12 +367,12 @@ impl<B: AnswerBook, F: Origin, I: Ids + Drop> Resolver<B, F, I> {
     }
 
     /// Whether the question of a reply that ends so and came over this goes over a stream next.
-    fn goes_on(&self, over: Over, ending: &Ending) -> bool
+    fn retries_over_stream(&self, over: DnsTransport, ending: &Ending) -> bool
         ensures { IsTrue result ↔ IsCut self.now over ending.now }
     {
         match over {
-            Over::Datagram => self.streams && is_cut(ending),
-            Over::Stream => false,
+            DnsTransport::Datagram => self.streams && is_cut(ending),
+            DnsTransport::Stream => false,
         }
     }
 

@@ -10,10 +10,10 @@ ghost use Rattle.sip_selection.specs.Selections.{begun, given_too, now_of};
 ghost use Rattle.sip_resolver.specs.Expiries.{is_expired};
 ghost use Rattle.sip_resolver.specs.Tasks.{EndsByChoice, IsCounted, Leaves, Progresses, over_of, sought_of};
 
-use crate::origin::Origin;
+use crate::facts::Facts;
 use crate::outcome::{Outcome, TargetList};
 use crate::queue::{Numbered, Timed};
-use crate::transmit::Over;
+use crate::transmit::DnsTransport;
 use answer_cache::AnswerBook;
 use dns_answers::{Answer, Moment};
 use dns_message::Question;
@@ -73,13 +73,13 @@ impl<B> Task<B> {
     }
 
     /// Over what its question goes: over a stream where the reply over a datagram was cut.
-    pub(crate) fn over(&self) -> Over
+    pub(crate) fn over(&self) -> DnsTransport
         ensures { result ≡ over_of self.now }
     {
         if self.cut {
-            Over::Stream
+            DnsTransport::Stream
         } else {
-            Over::Datagram
+            DnsTransport::Datagram
         }
     }
 
@@ -104,7 +104,7 @@ impl<B> Task<B> {
 impl<B> Numbered for Task<B> {
     ghost numbered = { λ it. it.number };
 
-    fn its_number(&self) -> u64 {
+    fn number(&self) -> u64 {
         self.number
     }
 }
@@ -164,7 +164,7 @@ impl<B: AnswerBook> Task<B> {
     }
 
     /// Lets its choice go on by what the book has.
-    pub(crate) fn step<F: Origin>(
+    pub(crate) fn step<F: Facts>(
         &mut self,
         alloc: Global,
         book: &B,

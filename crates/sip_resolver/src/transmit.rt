@@ -2,7 +2,7 @@
 
 /// What octets go over: a datagram or a stream.
 #[derive(Clone, Copy, Debug, PartialEq, Eq)]
-pub enum Over {
+pub enum DnsTransport {
     /// A datagram, which is these octets (RFC 1035 4.2.1).
     Datagram,
     /// A stream. In front of these octets are two with their length, which the caller writes and
@@ -16,7 +16,7 @@ pub struct Transmit<'a> {
     /// The message, which begins with its id.
     pub octets: &'a [u8],
     /// What the message goes over.
-    pub over: Over,
+    pub over: DnsTransport,
     /// Which send of its question it is over this: 1 for the first.
     pub send: u8,
 }

@@ -15,7 +15,7 @@ ghost use Rattle.sip_resolver.specs.Tasks.{IsCounted, Lacks, sought_of};
 ghost use Rattle.sip_resolver.specs.Settles.{SettlesAll};
 ghost use Rattle.sip_resolver.specs.Waits.{EndsAs, Fits, GoesAs, IsClosed, IsFailed, IsGivenUp, IsKnown, MayEnd, MayGoOn, Resends, SettlesOne};
 
-use crate::origin::Origin;
+use crate::facts::Facts;
 use crate::outcome::Outcome;
 use crate::requests::Requests;
 use crate::task::Task;
@@ -69,7 +69,7 @@ fn is_overdue(asker: &Asker, now: Moment) -> bool
 
 /// Gives up the questions that were sent as often as the schedule says and whose replies did not
 /// come in time, until one is to be sent once more, and gives its id. It counts as sent at `sent`.
-pub(crate) fn next_resend<B: AnswerBook, F: Origin>(
+pub(crate) fn next_resend<B: AnswerBook, F: Facts>(
     asker: &mut Asker,
     requests: &mut Requests<B>,
     now: Moment,
@@ -106,7 +106,7 @@ pub(crate) fn next_resend<B: AnswerBook, F: Origin>(
 }
 
 /// Lets all requests go on or end that wait for the reply to the message of this id.
-pub(crate) fn settle_all<B: AnswerBook, F: Origin>(
+pub(crate) fn settle_all<B: AnswerBook, F: Facts>(
     requests: &mut Requests<B>,
     id: u16,
     end: &WaitEnd<'_>,
@@ -122,11 +122,7 @@ pub(crate) fn settle_all<B: AnswerBook, F: Origin>(
 }
 
 /// Puts a request back that was taken out of those that wait, as its wait ended so.
-fn settle<B: AnswerBook, F: Origin>(
-    requests: &mut Requests<B>,
-    mut task: Task<B>,
-    end: &WaitEnd<'_>,
-)
+fn settle<B: AnswerBook, F: Facts>(requests: &mut Requests<B>, mut task: Task<B>, end: &WaitEnd<'_>)
     requires room { count_of requests.old < requests.old.limit }
     ensures stand { (seat : SeatView) → IsKnown F.gives F.shows seat end.now
         → IsCounted F.gives F.shows seat task → Lacks F.shows seat task
@@ -142,7 +138,7 @@ fn settle<B: AnswerBook, F: Origin>(
 }
 
 /// What becomes of a request whose wait ended so.
-fn wait_outcome_of<B: AnswerBook, F: Origin>(task: &mut Task<B>, end: &WaitEnd<'_>) -> WaitOutcome
+fn wait_outcome_of<B: AnswerBook, F: Facts>(task: &mut Task<B>, end: &WaitEnd<'_>) -> WaitOutcome
     ensures request { sought_of task.new ≡ sought_of task.old }
     ensures fits { (seat : SeatView) → IsKnown F.gives F.shows seat end.now
         → IsCounted F.gives F.shows seat task.old → Lacks F.shows seat task.old

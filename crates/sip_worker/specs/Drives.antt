@@ -5,8 +5,8 @@ use Rattle.std.specs.Prelude.{◌≡◌, ◌⊎◌, ℕ, ◌+◌, ◌-◌, ◌^�
 use Rattle.dns_queries.specs.Wires.{Event, fault, nothing, received, sent}
 use Rattle.answer_cache.specs.Seats.{SeatView}
 use Rattle.sip_resolver.specs.Resolvers.{Hears, Polls, ResolverView}
-use Rattle.sip_resolver.specs.declared.resolver.Heard.{Heard}
-use Rattle.sip_resolver.specs.declared.transmit.Over.TheVariants.{Datagram}
+use Rattle.sip_resolver.specs.declared.resolver.ReplyOutcome.{ReplyOutcome}
+use Rattle.sip_resolver.specs.declared.transmit.DnsTransport.TheVariants.{Datagram}
 use Rattle.sip_resolver.specs.declared.transmit.Transmit.{Transmit}
 
 -- ---- one call of the wire
@@ -83,7 +83,7 @@ pub record HandsOn {Wire : Type 0} (does : Wire → Event (Unit {0}) → Wire �
     (before after : Wire) (old new : ResolverView) : Type 0 where
   pub octets : List ℕ
   pub came : does before (received octets tt) after
-  pub heard : Heard
+  pub heard : ReplyOutcome
   pub hears : Hears old new Datagram octets heard
 
 -- what the wire received is lost, and the resolver is as it was

@@ -5,10 +5,10 @@ ghost use Rattle.sip_resolver.specs.Requests.{AreSame, Stand};
 ghost use Rattle.sip_resolver.specs.Works.{Works};
 ghost use Rattle.sip_worker.specs.Drives.{Gives, HearsNothing, HearsOne, Loses, Sends, SendsAll, SendsNext};
 
-use crate::wire_origin::WireOrigin;
+use crate::wire_facts::WireFacts;
 use answer_cache::{AnswerBook, Stores};
 use dns_queries::{Clock, DATAGRAM_LIMIT, Wire};
-use sip_resolver::{Ids, Over, Resolver, rounded_up};
+use sip_resolver::{DnsTransport, Ids, Resolver, rounded_up};
 use std::alloc::AllocError;
 use std::sync::Wait;
 use std::thread::Parker;
@@ -62,7 +62,7 @@ fn receive<R: Wait, W: Wire>(
 
 /// Sends the query that is to be sent next, and tells whether there was one.
 fn send_next<B: AnswerBook, W: Wire, C: Clock, I: Ids + Drop>(
-    resolver: &mut Resolver<B, WireOrigin<W, C>, I>,
+    resolver: &mut Resolver<B, WireFacts<W, C>, I>,
     book: &B,
     seat: &mut B::Seat,
     wire: &mut W,
@@ -89,7 +89,7 @@ fn send_next<B: AnswerBook, W: Wire, C: Clock, I: Ids + Drop>(
 
 /// Sends what there is to send.
 pub(crate) fn send_all<B: AnswerBook, W: Wire, C: Clock, I: Ids + Drop>(
-    resolver: &mut Resolver<B, WireOrigin<W, C>, I>,
+    resolver: &mut Resolver<B, WireFacts<W, C>, I>,
     book: &B,
     seat: &mut B::Seat,
     wire: &mut W,
@@ -114,7 +114,7 @@ pub(crate) fn send_all<B: AnswerBook, W: Wire, C: Clock, I: Ids + Drop>(
 /// Receives once, and hands on what came. Where memory is refused for that, it is lost.
 pub(crate) fn receive_once<R: Wait, B: Stores<R>, W: Wire, C: Clock, I: Ids + Drop>(
     rt: &R,
-    resolver: &mut Resolver<B, WireOrigin<W, C>, I>,
+    resolver: &mut Resolver<B, WireFacts<W, C>, I>,
     book: &B,
     seat: &mut B::Seat,
     wire: &mut W,
@@ -133,7 +133,7 @@ pub(crate) fn receive_once<R: Wait, B: Stores<R>, W: Wire, C: Clock, I: Ids + Dr
 {
     if let Some(count) = receive(rt, wire, buffer) {
         let octets = &buffer[..count];
-        resolver.handle(rt, book, seat, clock.now(), Over::Datagram, octets)?;
+        resolver.handle(rt, book, seat, clock.now(), DnsTransport::Datagram, octets)?;
     }
     Ok(())
 }

@@ -35,7 +35,7 @@ mod gate;
 mod job;
 mod open_batch;
 mod outcome;
-mod wire_origin;
+mod wire_facts;
 mod worker;
 
 pub use gate::{Gate, OpenGate};

@@ -11,10 +11,10 @@ ghost use Rattle.sip_worker.specs.Batches.{Stands, sought_at};
 use crate::drive::{receive_once, send_all};
 use crate::gate::Gate;
 use crate::job::Job;
-use crate::wire_origin::WireOrigin;
+use crate::wire_facts::WireFacts;
 use answer_cache::{AnswerBook, Seat, SharedCache};
 use dns_queries::{Clock, DATAGRAM_LIMIT, Wire};
-use sip_resolver::{CountingIds, Ids, Limits, Origin, Outcome, Resolver};
+use sip_resolver::{CountingIds, Facts, Ids, Limits, Outcome, Resolver};
 use std::alloc::{AllocError, Global};
 use std::marker::Model;
 use std::sync::Wait;
@@ -57,7 +57,7 @@ fn number_at(jobs: &[Job], place: usize) -> u64
 
 /// Hands the request of a job to a resolver, under the place of the job, and tells whether it took
 /// it: nothing but memory can be wanting.
-fn submit<B: AnswerBook, F: Origin, I: Ids + Drop>(
+fn submit<B: AnswerBook, F: Facts, I: Ids + Drop>(
     resolver: &mut Resolver<B, F, I>,
     place: usize,
     job: &Job,
@@ -82,7 +82,7 @@ pub(crate) struct OpenBatch<'a, W, C> {
     jobs: &'a [Job],
     /// How many of the jobs were begun.
     begun: usize,
-    resolver: Resolver<SharedCache, WireOrigin<W, C>, &'a mut CountingIds>,
+    resolver: Resolver<SharedCache, WireFacts<W, C>, &'a mut CountingIds>,
     /// What became of each job: want of memory, as long as nothing else did.
     outcomes: Vec<Outcome>,
 }

@@ -14,35 +14,35 @@ use Rattle.sip_workers.specs.declared.refusal.RunRefusal.{RunRefusal}
 use Rattle.sip_workers.specs.declared.refusal.RunRefusal.TheVariants.{BadCount, NoThread, Memory, Gathering}
 use Rattle.std.specs.Str.Lines.{lines}
 use Rattle.sip_workers.specs.Runs.{IsMade, MayRun, RefusesRun, Rises}
-use Rattle.siplocate.specs.Runs.{AreEntries, AreLineOutcomes, FitsSeats, HasRequests, HasTooMany, IsEntry, IsRequest, RefusesText, line_outcomes_of}
+use Rattle.siplocate.specs.Runs.{AreRequestLines, AreLineOutcomes, FitsSeats, HasRequests, HasTooMany, IsRequestLine, IsRequest, RefusesText, line_outcomes_of}
 use Rattle.siplocate.specs.Jobs.{IsRunOutput, faulted}
 use Rattle.siplocate.proofs.Onward.{outcome-on}
 use Rattle.siplocate.specs.Served.{Faults, IsCountOfWorkers, IsOverfull, of_run}
 use Rattle.siplocate.specs.declared.server.RunFault.{RunFault}
 use Rattle.siplocate.specs.declared.server.RunFault.TheVariants as fault
-use Rattle.siplocate.specs.declared.requests.Entry.{Entry}
-use Rattle.siplocate.specs.declared.requests.Entry.TheVariants as entry
+use Rattle.siplocate.specs.declared.requests.RequestLine.{RequestLine}
+use Rattle.siplocate.specs.declared.requests.RequestLine.TheVariants as entry
 
 -- ---- reading
 
 -- so many lines have been read: with what stands in the others it is what stands in all
-abbrev pub HasRead : List (List ℕ) → ℕ → List Entry → List Job → Type 0
-HasRead lines count entries jobs = (more : List Entry) (others : List Job)
-    → AreEntries (count + 1) (drop count lines) more others → AreEntries 1 lines (entries ++ more) (jobs ++ others)
+abbrev pub HasRead : List (List ℕ) → ℕ → List RequestLine → List Job → Type 0
+HasRead lines count entries jobs = (more : List RequestLine) (others : List Job)
+    → AreRequestLines (count + 1) (drop count lines) more others → AreRequestLines 1 lines (entries ++ more) (jobs ++ others)
 
 pub nothing_read : (lines : List (List ℕ)) → HasRead lines 0 [] []
 nothing_read lines = λ more others are. are
 
-pub all_read : (lines : List (List ℕ)) (count : ℕ) (entries : List Entry) (jobs : List Job)
-    → count ≡ length lines → HasRead lines count entries jobs → AreEntries 1 lines entries jobs
+pub all_read : (lines : List (List ℕ)) (count : ℕ) (entries : List RequestLine) (jobs : List Job)
+    → count ≡ length lines → HasRead lines count entries jobs → AreRequestLines 1 lines entries jobs
 all_read lines count entries jobs all has =
     let none : drop count lines ≡ [] = rw all (drop-length lines) in
     let are = has [] [] (rw none tt) in
     rw (append-nil entries, append-nil jobs) at are
 
-pub one_more : (lines : List (List ℕ)) (count : ℕ) (line : List ℕ) (entries : List Entry) (jobs after : List Job) (one : Entry)
+pub one_more : (lines : List (List ℕ)) (count : ℕ) (line : List ℕ) (entries : List RequestLine) (jobs after : List Job) (one : RequestLine)
     → count < length lines → line ≡ get_or lines count line → HasRead lines count entries jobs
-    → IsEntry (count + 1) line jobs after one → HasRead lines (count + 1) (entries ++ one ∷ []) after
+    → IsRequestLine (count + 1) line jobs after one → HasRead lines (count + 1) (entries ++ one ∷ []) after
 one_more lines count line entries jobs after entry.Request l is has (job, job_is, after_is) = λ more others are.
     let rest : drop count lines ≡ line ∷ drop (count + 1) lines =
     drop_more lines count line l ∙ ap (λ (x : List ℕ). x ∷ drop (count + 1) lines) (sym is) in
@@ -75,8 +75,8 @@ passed line lines zero has = tt
 passed line lines (suc count) has = inr has
 
 -- the jobs of lines are as many as their requests
-pub no_more : (number : ℕ) (lines : List (List ℕ)) (entries : List Entry) (jobs : List Job) (count : ℕ)
-    → AreEntries number lines entries jobs → HasRequests count lines → count ≤ length jobs
+pub no_more : (number : ℕ) (lines : List (List ℕ)) (entries : List RequestLine) (jobs : List Job) (count : ℕ)
+    → AreRequestLines number lines entries jobs → HasRequests count lines → count ≤ length jobs
 no_more number lines entries jobs zero are has = omega (arith)
 no_more number [] entries jobs (suc count) are has = elim has [ ]
 no_more number (line ∷ lines) [] jobs (suc count) are has = elim are [ ]
@@ -92,8 +92,8 @@ no_more number (line ∷ lines) (entry.Bad refusal ∷ entries) jobs (suc count)
 no_more number (line ∷ lines) (entry.Bad refusal ∷ entries) jobs (suc count) are (inr others) =
     no_more (number + 1) lines entries jobs (suc count) are.1 others
 
-pub not_too_many : (text : List ℕ) (entries : List Entry) (jobs : List Job)
-    → AreEntries 1 (lines text) entries jobs → length jobs ≤ 10000 → HasTooMany text → ⊥
+pub not_too_many : (text : List ℕ) (entries : List RequestLine) (jobs : List Job)
+    → AreRequestLines 1 (lines text) entries jobs → length jobs ≤ 10000 → HasTooMany text → ⊥
 not_too_many text entries jobs are few many =
     let less = no_more 1 (lines text) entries jobs 10001 are many in
     omega (arith, few, less)
@@ -108,9 +108,9 @@ add_zero_left n = omega (arith)
 pub nothing_counted : (lines : List (List ℕ)) → HasCounted lines 0 []
 nothing_counted lines = λ more has. rw (add_zero_left more) has
 
-pub one_more_counted : (lines : List (List ℕ)) (count number : ℕ) (line : List ℕ) (jobs after : List Job) (one : Entry)
+pub one_more_counted : (lines : List (List ℕ)) (count number : ℕ) (line : List ℕ) (jobs after : List Job) (one : RequestLine)
     → count < length lines → line ≡ get_or lines count line → HasCounted lines count jobs
-    → IsEntry number line jobs after one → HasCounted lines (count + 1) after
+    → IsRequestLine number line jobs after one → HasCounted lines (count + 1) after
 one_more_counted lines count number line jobs after entry.Request l is has (job, job_is, after_is) = λ more others.
     let rest : drop count lines ≡ line ∷ drop (count + 1) lines =
     drop_more lines count line l ∙ ap (λ (x : List ℕ). x ∷ drop (count + 1) lines) (sym is) in
@@ -135,8 +135,8 @@ one_too_many lines count line jobs l is has request =
 -- ---- the numbers of the jobs
 
 -- they are no less than that of the first line
-pub begins : (number : ℕ) (lines : List (List ℕ)) (entries : List Entry) (jobs : List Job) (other : Job)
-    → AreEntries number lines entries jobs → 0 < length jobs → number ≤ (slice_index_or jobs 0 other).number
+pub begins : (number : ℕ) (lines : List (List ℕ)) (entries : List RequestLine) (jobs : List Job) (other : Job)
+    → AreRequestLines number lines entries jobs → 0 < length jobs → number ≤ (slice_index_or jobs 0 other).number
 begins number [] [] [] other are l = elim (none_of_none l) [ ]
 begins number [] [] (job ∷ jobs) other are l = elim are [ ]
 begins number [] (one ∷ entries) jobs other are l = elim are [ ]
@@ -151,8 +151,8 @@ not_below : (k : ℕ) → k + 1 < 0 → ⊥
 not_below k l = omega (arith, l)
 
 -- they rise
-pub rise : (number : ℕ) (lines : List (List ℕ)) (entries : List Entry) (jobs : List Job)
-    → AreEntries number lines entries jobs → Rises jobs
+pub rise : (number : ℕ) (lines : List (List ℕ)) (entries : List RequestLine) (jobs : List Job)
+    → AreRequestLines number lines entries jobs → Rises jobs
 rise number [] [] [] are k other l = elim (not_below k l) [ ]
 rise number [] [] (job ∷ jobs) are k other l = elim are [ ]
 rise number [] (one ∷ entries) jobs are k other l = elim are [ ]
@@ -176,8 +176,8 @@ refuses_reading text seats wires NoThread full never = elim (never refl) [ ]
 refuses_reading text seats wires Memory full never = tt
 refuses_reading text seats wires (Gathering refusal) full never = tt
 
-pub refuses_running : (text : List ℕ) (seats wires : ℕ) (entries : List Entry) (jobs : List Job)
-    → AreEntries 1 (lines text) entries jobs → length jobs ≤ 10000
+pub refuses_running : (text : List ℕ) (seats wires : ℕ) (entries : List RequestLine) (jobs : List Job)
+    → AreRequestLines 1 (lines text) entries jobs → length jobs ≤ 10000
     → (refusal : RunRefusal) → RefusesRun (MayRun seats wires jobs 8) refusal → RefusesText text seats wires refusal
 refuses_running text seats wires entries jobs are few BadCount refused = inr (λ fits. refused (record {
   some = fits.0;
@@ -219,8 +219,9 @@ module _ (gives : List ℕ → Type 0) (shows : ℕ → Type 0) (cache : CacheVi
   abbrev pub BeginsIt : Outcome × NoticeView → Type 0
   BeginsIt made = IsPrefix made.1.seen history
 
-  pub line_outcomes_are : (number : ℕ) (lines : List (List ℕ)) (entries : List Entry) (jobs : List Job) (made : List (Outcome × NoticeView))
-      → AreEntries number lines entries jobs → AllZip (IsMade gives shows cache) jobs made → All BeginsIt made
+  pub line_outcomes_are : (number : ℕ) (lines : List (List ℕ)) (entries : List RequestLine) (jobs : List Job)
+      (made : List (Outcome × NoticeView))
+      → AreRequestLines number lines entries jobs → AllZip (IsMade gives shows cache) jobs made → All BeginsIt made
       → AreLineOutcomes gives shows history number lines (line_outcomes_of entries made)
   line_outcomes_are number [] [] [] made are all begin = tt
   line_outcomes_are number [] [] (job ∷ jobs) made are all begin = elim are [ ]

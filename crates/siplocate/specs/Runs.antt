@@ -20,8 +20,8 @@ use Rattle.sip_selection.specs.RequestLines.{RequestText}
 use Rattle.siplocate_one.specs.Talks.{own_caps}
 use Rattle.siplocate.specs.declared.line_outcome.LineOutcome.{LineOutcome}
 use Rattle.siplocate.specs.declared.line_outcome.LineOutcome.TheVariants as line_outcome
-use Rattle.siplocate.specs.declared.requests.Entry.{Entry}
-use Rattle.siplocate.specs.declared.requests.Entry.TheVariants as entry
+use Rattle.siplocate.specs.declared.requests.RequestLine.{RequestLine}
+use Rattle.siplocate.specs.declared.requests.RequestLine.TheVariants as entry
 
 -- ---- what a line of the requests is
 
@@ -38,19 +38,19 @@ pub record IsNoRequest (line : List ℕ) (refusal : UriRefusal) : Type 0 where
   pub said : refusal ≢ uri.Memory
 
 -- what stands in the line of this number, and the jobs before and after it
-abbrev pub IsEntry : ℕ → List ℕ → List Job → List Job → Entry → Type 0
-IsEntry number line jobs after entry.Request = (job : Job) × IsJob number line job
+abbrev pub IsRequestLine : ℕ → List ℕ → List Job → List Job → RequestLine → Type 0
+IsRequestLine number line jobs after entry.Request = (job : Job) × IsJob number line job
     × (after ≡ jobs ++ job ∷ [])
-IsEntry number line jobs after (entry.Bad refusal) = IsNoRequest line refusal × (after ≡ jobs)
+IsRequestLine number line jobs after (entry.Bad refusal) = IsNoRequest line refusal × (after ≡ jobs)
 
 -- what lines are that are numbered from this number on, and the jobs of those that are requests
-abbrev pub AreEntries : ℕ → List (List ℕ) → List Entry → List Job → Type 0
-AreEntries number [] [] [] = ⊤
-AreEntries number (line ∷ lines) (entry.Request ∷ entries) (job ∷ jobs) =
-    IsJob number line job × AreEntries (number + 1) lines entries jobs
-AreEntries number (line ∷ lines) (entry.Bad refusal ∷ entries) jobs =
-    IsNoRequest line refusal × AreEntries (number + 1) lines entries jobs
-AreEntries number lines entries jobs = ⊥
+abbrev pub AreRequestLines : ℕ → List (List ℕ) → List RequestLine → List Job → Type 0
+AreRequestLines number [] [] [] = ⊤
+AreRequestLines number (line ∷ lines) (entry.Request ∷ entries) (job ∷ jobs) =
+    IsJob number line job × AreRequestLines (number + 1) lines entries jobs
+AreRequestLines number (line ∷ lines) (entry.Bad refusal ∷ entries) jobs =
+    IsNoRequest line refusal × AreRequestLines (number + 1) lines entries jobs
+AreRequestLines number lines entries jobs = ⊥
 
 -- ---- how many requests there are
 
@@ -83,7 +83,7 @@ RefusesText text seats wires (Gathering refusal) = ⊤
 -- ---- what becomes of it
 
 -- what becomes of lines, by what they are and by what became of the requests among them, in order
-abbrev pub line_outcomes_of : List Entry → List (Outcome × NoticeView) → List LineOutcome
+abbrev pub line_outcomes_of : List RequestLine → List (Outcome × NoticeView) → List LineOutcome
 line_outcomes_of [] made = []
 line_outcomes_of (entry.Bad refusal ∷ entries) made = line_outcome.Bad refusal ∷ line_outcomes_of
     entries made

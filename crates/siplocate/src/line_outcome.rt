@@ -6,7 +6,7 @@ ghost use Rattle.siplocate.specs.Outcomes as spec;
 ghost use Rattle.siplocate.specs.Runs.{line_outcomes_of};
 ghost use Rattle.siplocate_one.specs.Words.{target_line};
 
-use crate::requests::Entry;
+use crate::requests::RequestLine;
 use answer_cache::Notice;
 use sip_report::{question_words, reason_word, request_word};
 use sip_selection::Target;
@@ -43,7 +43,7 @@ impl LineOutcome {
 /// What becomes of each line, by what became of the requests among them, in order.
 pub fn line_outcomes_of(
     alloc: Global,
-    entries: Vec<Entry>,
+    entries: Vec<RequestLine>,
     made: Vec<(Outcome, Notice)>,
 ) -> Result<Vec<LineOutcome>, AllocError>
     ensures { IfOk result (λ line_outcomes. line_outcomes.items
@@ -53,8 +53,8 @@ pub fn line_outcomes_of(
     let mut made = made.into_iter();
     'entries: for entry in entries {
         let line_outcome = match entry {
-            Entry::Bad(refusal) => LineOutcome::Bad(refusal),
-            Entry::Request => match made.next() {
+            RequestLine::Bad(refusal) => LineOutcome::Bad(refusal),
+            RequestLine::Request => match made.next() {
                 Some((outcome, _)) => LineOutcome::Became(outcome),
                 None => break,
             },

@@ -3,7 +3,7 @@ ghost use Rattle.std.specs.Prelude.{◌≡◌, ◌<◌, ◌≤◌, ◌≢◌, �
 ghost use Rattle.std.specs.List.{after_first, before_first, position_or_len};
 ghost use Rattle.std.specs.Str.Lines.{lines};
 ghost use Rattle.siplocate.specs.Parts.{AreParts};
-ghost use Rattle.siplocate.specs.Runs.{AreEntries, HasTooMany, IsEntry, IsJob, IsRequest};
+ghost use Rattle.siplocate.specs.Runs.{AreRequestLines, HasTooMany, IsRequestLine, IsJob, IsRequest};
 ghost use Rattle.sip_selection.specs.RequestLines.{RequestText};
 ghost use Rattle.sip_workers.specs.declared.refusal.RunRefusal.TheVariants.{BadCount, NoThread};
 
@@ -49,7 +49,7 @@ pub fn parts(text: &str) -> (&str, &str)
 
 /// What a line of the requests is.
 #[derive(Clone, Copy, Debug, PartialEq, Eq)]
-pub enum Entry {
+pub enum RequestLine {
     /// A request: the next one of the jobs.
     Request,
     /// No request.
@@ -60,7 +60,7 @@ pub enum Entry {
 #[derive(Drop)]
 pub struct Requests {
     /// What each line is.
-    pub entries: Vec<Entry>,
+    pub entries: Vec<RequestLine>,
     /// The jobs of the lines that are requests.
     pub jobs: Vec<Job>,
 }
@@ -78,13 +78,13 @@ fn job_of(number: u64, request: Request) -> Job
 }
 
 /// What stands in the line of this number. The job of a request is added to the others.
-fn read_entry(
+fn read_request_line(
     alloc: Global,
     number: u64,
     line: &str,
     jobs: &mut Vec<Job>,
-) -> Result<Entry, RunRefusal>
-    ensures entry { IfOk result (IsEntry number line.now jobs.old.items jobs.new.items) }
+) -> Result<RequestLine, RunRefusal>
+    ensures entry { IfOk result (IsRequestLine number line.now jobs.old.items jobs.new.items) }
     ensures limit { IfOk result (λ _.
         length jobs.old.items ≤ 10000 → length jobs.new.items ≤ 10000) }
     ensures refused { IfErr result (λ refusal. refusal ≢ NoThread) }
@@ -94,11 +94,11 @@ fn read_entry(
     match read_request(alloc, line) {
         Ok(request) if jobs.len() < REQUEST_LIMIT => {
             jobs.push(job_of(number, request))?;
-            Ok(Entry::Request)
+            Ok(RequestLine::Request)
         }
         Ok(_) => Err(RunRefusal::BadCount),
         Err(UriRefusal::Memory) => Err(RunRefusal::Memory),
-        Err(refusal) => Ok(Entry::Bad(refusal)),
+        Err(refusal) => Ok(RequestLine::Bad(refusal)),
     }
 }
 
@@ -108,7 +108,7 @@ fn read_entry(
 /// where it was.
 pub fn read_requests(alloc: Global, text: &str) -> Result<Requests, RunRefusal>
     ensures entries { IfOk result (λ requests.
-        AreEntries 1 (lines text.now) requests.entries.items requests.jobs.items) }
+        AreRequestLines 1 (lines text.now) requests.entries.items requests.jobs.items) }
     ensures few { IfOk result (λ requests. length requests.jobs.items ≤ 10000) }
     ensures full { IfErr result (λ refusal. refusal ≡ BadCount → HasTooMany text.now) }
     ensures refused { IfErr result (λ refusal. refusal ≢ NoThread) }
@@ -116,7 +116,7 @@ pub fn read_requests(alloc: Global, text: &str) -> Result<Requests, RunRefusal>
     let mut entries = Vec::new(alloc);
     let mut jobs = Vec::new(alloc);
     'lines: for (at, line) in text.lines().enumerate() {
-        entries.push(read_entry(alloc, at as u64 + 1, line, &mut jobs)?)?;
+        entries.push(read_request_line(alloc, at as u64 + 1, line, &mut jobs)?)?;
     }
     Ok(Requests { entries, jobs })
 }

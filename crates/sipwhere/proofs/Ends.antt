@@ -5,12 +5,12 @@ use Rattle.sip_selection.specs.declared.request.Request.{Request}
 use Rattle.sip_report.specs.declared.line_outcome.LineOutcome.{LineOutcome}
 use Rattle.sip_report.specs.declared.line_outcome.LineOutcome.TheVariants.{Became, Tried, NoSuchName, TimeOver, Bad, NotText, Memory}
 use Rattle.sipwhere.specs.LineOutcomes.{EndsAs, EndsSo, IsOnlyLocated, IsReady}
-use Rattle.sipwhere.specs.declared.sender.Sender.{Sender}
+use Rattle.sipwhere.specs.declared.locate_settings.LocateSettings.{LocateSettings}
 
-module _ (gives : List ℕ → Type 0) (sender : Sender) (text : List ℕ) (outcome : Outcome) where
+module _ (gives : List ℕ → Type 0) (settings : LocateSettings) (text : List ℕ) (outcome : Outcome) where
   -- its request was located
-  pub ends-located : (request : Request) → IsOnlyLocated sender text request → (it : LineOutcome)
-      → EndsSo gives sender.extent request outcome it → EndsAs gives sender text outcome it
+  pub ends-located : (request : Request) → IsOnlyLocated settings text request → (it : LineOutcome)
+      → EndsSo gives settings.extent request outcome it → EndsAs gives settings text outcome it
   ends-located request only (Became it) ends = inl (record { request = request; only = only; ends = ends })
   ends-located request only (Tried tries) ends = record { request = request; only = only; ends = ends }
   ends-located request only (NoSuchName name) ends = record { request = request; only = only; ends = ends }
@@ -20,7 +20,7 @@ module _ (gives : List ℕ → Type 0) (sender : Sender) (text : List ℕ) (outc
   ends-located request only Memory ends = record { request = only.is.request; is = only.is.is }
 
   -- no request was located for it
-  pub ends-ready : (it : LineOutcome) → IsReady sender text it → EndsAs gives sender text outcome it
+  pub ends-ready : (it : LineOutcome) → IsReady settings text it → EndsAs gives settings text outcome it
   ends-ready (Became it) ready = inr ready
   ends-ready (Tried tries) ready = absurd ready
   ends-ready (NoSuchName name) ready = absurd ready

@@ -16,7 +16,7 @@ use Rattle.sipwhere.specs.OpenLines.{IsLineOutcomeOf}
 use Rattle.sip_report.specs.declared.line_outcome.LineOutcome.{LineOutcome}
 use Rattle.sip_report.specs.declared.line_outcome.LineOutcome.TheVariants.{Became, Tried, NoSuchName, TimeOver, Bad, NotText, Memory}
 use Rattle.sipwhere.specs.declared.line.Line.{Line}
-use Rattle.sipwhere.specs.declared.sender.Sender.{Sender}
+use Rattle.sipwhere.specs.declared.locate_settings.LocateSettings.{LocateSettings}
 
 prefix-through : {X : Type 0} (first middle last : List X) → IsPrefix first middle → IsPrefix middle last → IsPrefix first last
 prefix-through first middle last front back =
@@ -47,10 +47,10 @@ zip-at R (x ∷ xs) (z ∷ zs) (suc k) d y inside all at = zip-at R xs zs k d y 
 
 module _ (gives : List ℕ → Type 0) (shows : ℕ → Type 0) where
   -- nothing is known of any line
-  pub line_outcomes-not : (seat : SeatView) (sender : Sender) (lines : List Line)
-      → AllZip (IsLineOutcomeOf gives shows seat sender) lines (replicate (length lines) None)
-  line_outcomes-not seat sender [] = tt
-  line_outcomes-not seat sender (line ∷ lines) = (tt, line_outcomes-not seat sender lines)
+  pub line_outcomes-not : (seat : SeatView) (settings : LocateSettings) (lines : List Line)
+      → AllZip (IsLineOutcomeOf gives shows seat settings) lines (replicate (length lines) None)
+  line_outcomes-not seat settings [] = tt
+  line_outcomes-not seat settings (line ∷ lines) = (tt, line_outcomes-not seat settings lines)
 
   module _ (old new : SeatView) (works : Works gives shows old new) where
     cached-later : (given : Given) → IsCached shows old.seen given → IsCached shows new.seen given
@@ -100,9 +100,9 @@ module _ (gives : List ℕ → Type 0) (shows : ℕ → Type 0) where
     outcome-later sought (outcomes.BadReply question refusal) it = (chosen-later sought (need question) it.0, it.1)
     outcome-later sought outcomes.Memory it = it
 
-    module _ (sender : Sender) where
-      pub line_outcome-later : (line : Line) (line_outcome : LineOutcome) → IsLineOutcome gives shows old sender line line_outcome
-          → IsLineOutcome gives shows new sender line line_outcome
+    module _ (settings : LocateSettings) where
+      pub line_outcome-later : (line : Line) (line_outcome : LineOutcome) → IsLineOutcome gives shows old settings line line_outcome
+          → IsLineOutcome gives shows new settings line line_outcome
       line_outcome-later line (Became outcome) (inl it) = inl (record {
         request = it.request;
         is = it.is;
@@ -138,14 +138,14 @@ module _ (gives : List ℕ → Type 0) (shows : ℕ → Type 0) where
       line_outcome-later line NotText it = it
       line_outcome-later line Memory it = it
 
-      line_outcome-of-later : (line : Line) (line_outcome : Option LineOutcome) → IsLineOutcomeOf gives shows old sender line line_outcome
-          → IsLineOutcomeOf gives shows new sender line line_outcome
+      line_outcome-of-later : (line : Line) (line_outcome : Option LineOutcome) → IsLineOutcomeOf gives shows old settings line line_outcome
+          → IsLineOutcomeOf gives shows new settings line line_outcome
       line_outcome-of-later line None it = tt
       line_outcome-of-later line (Some line_outcome) it = line_outcome-later line line_outcome it
 
       pub line_outcomes-later : (lines : List Line) (line_outcomes : List (Option LineOutcome))
-          → AllZip (IsLineOutcomeOf gives shows old sender) lines line_outcomes
-          → AllZip (IsLineOutcomeOf gives shows new sender) lines line_outcomes
+          → AllZip (IsLineOutcomeOf gives shows old settings) lines line_outcomes
+          → AllZip (IsLineOutcomeOf gives shows new settings) lines line_outcomes
       line_outcomes-later lines line_outcomes all =
-          zip-weaker (IsLineOutcomeOf gives shows old sender) (IsLineOutcomeOf gives shows new sender) line_outcome-of-later lines
+          zip-weaker (IsLineOutcomeOf gives shows old settings) (IsLineOutcomeOf gives shows new settings) line_outcome-of-later lines
           line_outcomes all

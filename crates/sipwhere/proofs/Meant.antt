@@ -20,7 +20,7 @@ use Rattle.sipwhere.specs.OpenLines.{AreMeant, IsLineOutcomeOf, IsMeant, IsOwn}
 use Rattle.sip_report.specs.declared.line_outcome.LineOutcome.{LineOutcome}
 use Rattle.sip_report.specs.declared.line_outcome.LineOutcome.TheVariants.{Became, Tried, NoSuchName, TimeOver, Bad, NotText, Memory}
 use Rattle.sipwhere.specs.declared.line.Line.{Line}
-use Rattle.sipwhere.specs.declared.sender.Sender.{Sender}
+use Rattle.sipwhere.specs.declared.locate_settings.LocateSettings.{LocateSettings}
 
 -- ---- numbers that are 0
 
@@ -60,18 +60,19 @@ weighs-more h old new number request caps words is =
 
 -- ---- what is inside
 
-module _ (sender : Sender) (lines : List Line) where
-  pub meant-same : (old new : RequestsView) → AreSame old new → AreMeant sender lines old → AreMeant sender lines new
+module _ (settings : LocateSettings) (lines : List Line) where
+  pub meant-same : (old new : RequestsView) → AreSame old new → AreMeant settings lines old → AreMeant settings lines new
   meant-same old new same own h none = same.1 h ∙ own h none
 
-  pub meant-one : (ended : Sought) (old new : RequestsView) → IsBack ended new old → AreMeant sender lines old → IsMeant sender lines ended
+  pub meant-one : (ended : Sought) (old new : RequestsView) → IsBack ended new old → AreMeant settings lines old
+      → IsMeant settings lines ended
   meant-one ended old new back own h none =
       let all = own h none in
       let weighs = back.weighs h in
       omega (arith, all, weighs)
 
-  pub meant-others : (ended : Sought) (old new : RequestsView) → IsBack ended new old → AreMeant sender lines old
-      → AreMeant sender lines new
+  pub meant-others : (ended : Sought) (old new : RequestsView) → IsBack ended new old → AreMeant settings lines old
+      → AreMeant settings lines new
   meant-others ended old new back own h none =
       let all = own h none in
       let weighs = back.weighs h in
@@ -79,30 +80,30 @@ module _ (sender : Sender) (lines : List Line) where
 
   -- one more is submitted, of the line at a place
   pub meant-more : (place : ℕ) (line : Line) → place < length lines → line ≡ get_or lines place line → (old new : RequestsView)
-      → ((h : Sought → ℕ) → ((it : Sought) → it.number ≡ place → IsOfLine sender line it → h it ≡ 0) → weight h new ≡ weight h old)
-      → AreMeant sender lines old → AreMeant sender lines new
+      → ((h : Sought → ℕ) → ((it : Sought) → it.number ≡ place → IsOfLine settings line it → h it ≡ 0) → weight h new ≡ weight h old)
+      → AreMeant settings lines old → AreMeant settings lines new
   meant-more place line inside at old new weighs own h none =
       weighs h (λ it number of. none it (record {
         inside = omega (arith, inside, number);
-        of = λ d. subst (λ n. IsOfLine sender (get_or lines n d) it) (sym number)
-            (at_read lines (λ l. IsOfLine sender l it) place line inside at of d);
+        of = λ d. subst (λ n. IsOfLine settings (get_or lines n d) it) (sym number)
+            (at_read lines (λ l. IsOfLine settings l it) place line inside at of d);
       })) ∙ own h none
 
   pub meant-left : (old new : RequestsView) (gone : List Sought)
-      → ((h : Sought → ℕ) → weight h old ≡ weight h new + sum_by h gone) → AreMeant sender lines old
-      → AreMeant sender lines new
+      → ((h : Sought → ℕ) → weight h old ≡ weight h new + sum_by h gone) → AreMeant settings lines old
+      → AreMeant settings lines new
   meant-left old new gone kept own h none =
       let all = own h none in
       let weighs = kept h in
       omega (arith, all, weighs)
 
   pub meant-next : (place : ℕ) (d : Line) → place < length lines → (old new : RequestsView)
-      → ((h : Sought → ℕ) → ((it : Sought) → it.number ≡ place → IsOfLine sender (get_or lines place d) it → h it ≡ 0)
+      → ((h : Sought → ℕ) → ((it : Sought) → it.number ≡ place → IsOfLine settings (get_or lines place d) it → h it ≡ 0)
       → weight h new ≡ weight h old)
-      → AreMeant sender lines old → AreMeant sender lines new
+      → AreMeant settings lines old → AreMeant settings lines new
   meant-next place d inside old new weighs own = meant-more place (get_or lines place d) inside (at-itself lines place d) old new weighs own
 
-  pub meant-inside : (sought : Sought) → IsMeant sender lines sought → sought.number < length lines
+  pub meant-inside : (sought : Sought) → IsMeant settings lines sought → sought.number < length lines
   meant-inside sought meant =
       let none = meant (λ (it : Sought). it.number + 1 - length lines)
       (λ it own. (let inside = own.inside in omega (arith, inside))) in
@@ -110,18 +111,18 @@ module _ (sender : Sender) (lines : List Line) where
 
   -- the one request of a line, under its place
   module _ (place : ℕ) (line : Line) (at : line ≡ get_or lines place line) (request : Request)
-      (only : IsOnlyLocated sender line.text.now request) where
+      (only : IsOnlyLocated settings line.text.now request) where
     abbrev one : Sought
-    one = record { number = place; request = request; caps = sender.caps; words = drawn sender.key line.number; until = None }
+    one = record { number = place; request = request; caps = settings.caps; words = drawn settings.key line.number; until = None }
 
-    is-one : (it : Sought) → IsOwn sender lines it → it.number ≡ place → it ≡ one
+    is-one : (it : Sought) → IsOwn settings lines it → it.number ≡ place → it ≡ one
     is-one it own number =
         let here = ap (λ n. get_or lines n line) number ∙ sym at in
-        let of : IsOfLine sender line it = subst (λ l. IsOfLine sender l it) here (own.of line) in
+        let of : IsOfLine settings line it = subst (λ l. IsOfLine settings l it) here (own.of line) in
         let same = sym (only.only it.request of.is) in
         λ i. record { number = number i; request = same i; caps = of.caps i; words = of.words i; until = of.until i }
 
-    pub meant-alike : (it : Sought) → it.number ≡ place → IsMeant sender lines it → AreAlike it one
+    pub meant-alike : (it : Sought) → it.number ≡ place → IsMeant settings lines it → AreAlike it one
     meant-alike it number meant measure =
         let far = λ (each : Sought). apart each.number place in
         let other = λ (each : Sought). apart (measure each) (measure one) in
@@ -134,9 +135,9 @@ module _ (sender : Sender) (lines : List Line) where
 
 -- ---- what became of a line
 
-module _ (gives : List ℕ → Type 0) (shows : ℕ → Type 0) (seat : SeatView) (sender : Sender) where
-  pub line_outcome-needless : (line : Line) (line_outcome : LineOutcome) → NeedsNoReply sender line.text.now line_outcome
-      → IsLineOutcome gives shows seat sender line line_outcome
+module _ (gives : List ℕ → Type 0) (shows : ℕ → Type 0) (seat : SeatView) (settings : LocateSettings) where
+  pub line_outcome-needless : (line : Line) (line_outcome : LineOutcome) → NeedsNoReply settings line.text.now line_outcome
+      → IsLineOutcome gives shows seat settings line line_outcome
   line_outcome-needless line (Became outcome) it = inr it
   line_outcome-needless line (Tried tries) it = absurd it
   line_outcome-needless line (NoSuchName name) it = absurd it
@@ -146,15 +147,15 @@ module _ (gives : List ℕ → Type 0) (shows : ℕ → Type 0) (seat : SeatView
   line_outcome-needless line Memory it = it
 
   pub line_outcome-ended : (lines : List Line) (line : Line) (ended : Sought) (outcome : Outcome) (line_outcome : LineOutcome)
-      → line ≡ get_or lines ended.number line → IsMeant sender lines ended → EndsAs gives sender line.text.now outcome line_outcome
-      → IsOutcome gives shows seat ended outcome → IsLineOutcome gives shows seat sender line line_outcome
+      → line ≡ get_or lines ended.number line → IsMeant settings lines ended → EndsAs gives settings line.text.now outcome line_outcome
+      → IsOutcome gives shows seat ended outcome → IsLineOutcome gives shows seat settings line line_outcome
   line_outcome-ended lines line ended outcome (Became it) at meant (inl ends) is = inl (record {
     request = ends.request;
     is = ends.only.is;
     place = ended.number;
     became = (
       ended,
-      meant-alike sender lines ended.number line at ends.request ends.only ended refl meant,
+      meant-alike settings lines ended.number line at ends.request ends.only ended refl meant,
       rw ends.ends.0 is,
     );
     tried = ends.ends.1;
@@ -167,7 +168,7 @@ module _ (gives : List ℕ → Type 0) (shows : ℕ → Type 0) (seat : SeatView
     became = (
       ended,
       ends.ends.targets,
-      meant-alike sender lines ended.number line at ends.request ends.only ended refl meant,
+      meant-alike settings lines ended.number line at ends.request ends.only ended refl meant,
       subst (IsOutcome gives shows seat ended) ends.ends.has is,
       ends.ends.so,
     );
@@ -179,7 +180,7 @@ module _ (gives : List ℕ → Type 0) (shows : ℕ → Type 0) (seat : SeatView
     place = ended.number;
     became = (
       ended,
-      meant-alike sender lines ended.number line at ends.request ends.only ended refl meant,
+      meant-alike settings lines ended.number line at ends.request ends.only ended refl meant,
       subst (IsOutcome gives shows seat ended) ends.ends.0 is,
       ends.ends.1,
     );
@@ -193,23 +194,23 @@ module _ (gives : List ℕ → Type 0) (shows : ℕ → Type 0) (seat : SeatView
   -- what became of the line at a place is kept
   pub line_outcomes-set : (lines : List Line) (line_outcomes : List (Option LineOutcome)) (place : ℕ) (line : Line)
       (line_outcome : Option LineOutcome) → place < length lines
-      → line ≡ get_or lines place line → AllZip (IsLineOutcomeOf gives shows seat sender) lines line_outcomes
-      → IsLineOutcomeOf gives shows seat sender line line_outcome
-      → AllZip (IsLineOutcomeOf gives shows seat sender) lines (set line_outcomes place line_outcome)
+      → line ≡ get_or lines place line → AllZip (IsLineOutcomeOf gives shows seat settings) lines line_outcomes
+      → IsLineOutcomeOf gives shows seat settings line line_outcome
+      → AllZip (IsLineOutcomeOf gives shows seat settings) lines (set line_outcomes place line_outcome)
   line_outcomes-set lines line_outcomes place line line_outcome inside at all it =
-      zip-set (IsLineOutcomeOf gives shows seat sender) lines line_outcomes place line_outcome inside all
-      (at_read lines (λ l. IsLineOutcomeOf gives shows seat sender l line_outcome) place line inside at it)
+      zip-set (IsLineOutcomeOf gives shows seat settings) lines line_outcomes place line_outcome inside all
+      (at_read lines (λ l. IsLineOutcomeOf gives shows seat settings l line_outcome) place line inside at it)
 
-  pub line_outcome-submitted : (line : Line) (line_outcome : Option LineOutcome) → IfSome line_outcome (NeedsNoReply sender line.text.now)
-      → IsLineOutcomeOf gives shows seat sender line line_outcome
+  pub line_outcome-submitted : (line : Line) (line_outcome : Option LineOutcome) → IfSome line_outcome (NeedsNoReply settings line.text.now)
+      → IsLineOutcomeOf gives shows seat settings line line_outcome
   line_outcome-submitted line None it = tt
   line_outcome-submitted line (Some line_outcome) it = line_outcome-needless line line_outcome it
 
   pub line_outcomes-submitted : (lines : List Line) (line_outcomes : List (Option LineOutcome)) (place : ℕ) (d : Line)
       (line_outcome : Option LineOutcome) → place < length lines
-      → AllZip (IsLineOutcomeOf gives shows seat sender) lines line_outcomes
-      → IfSome line_outcome (NeedsNoReply sender (get_or lines place d).text.now)
-      → AllZip (IsLineOutcomeOf gives shows seat sender) lines (set line_outcomes place line_outcome)
+      → AllZip (IsLineOutcomeOf gives shows seat settings) lines line_outcomes
+      → IfSome line_outcome (NeedsNoReply settings (get_or lines place d).text.now)
+      → AllZip (IsLineOutcomeOf gives shows seat settings) lines (set line_outcomes place line_outcome)
   line_outcomes-submitted lines line_outcomes place d line_outcome inside all it =
       let line = get_or lines place d in
       line_outcomes-set lines line_outcomes place line line_outcome inside (at-itself lines place d) all
@@ -217,15 +218,15 @@ module _ (gives : List ℕ → Type 0) (shows : ℕ → Type 0) (seat : SeatView
 
   pub line_outcomes-ended : (lines : List Line) (line_outcomes : List (Option LineOutcome)) (place : ℕ) (d : Line) (ended : Sought)
       (outcome got : Outcome)
-      (line_outcome : LineOutcome) → place < length lines → place ≡ ended.number → got ≡ outcome → IsMeant sender lines ended
-      → EndsAs gives sender (get_or lines place d).text.now got line_outcome → IsOutcome gives shows seat ended outcome
-      → AllZip (IsLineOutcomeOf gives shows seat sender) lines line_outcomes
-      → AllZip (IsLineOutcomeOf gives shows seat sender) lines (set line_outcomes place (Some line_outcome))
+      (line_outcome : LineOutcome) → place < length lines → place ≡ ended.number → got ≡ outcome → IsMeant settings lines ended
+      → EndsAs gives settings (get_or lines place d).text.now got line_outcome → IsOutcome gives shows seat ended outcome
+      → AllZip (IsLineOutcomeOf gives shows seat settings) lines line_outcomes
+      → AllZip (IsLineOutcomeOf gives shows seat settings) lines (set line_outcomes place (Some line_outcome))
   line_outcomes-ended lines line_outcomes place d ended outcome got line_outcome inside number same meant ends is all =
       let line = get_or lines place d in
       let at : line ≡ get_or lines place line = at-itself lines place d in
       let here : line ≡ get_or lines ended.number line = subst (λ n. line ≡ get_or lines n line) number at in
-      let so : EndsAs gives sender line.text.now outcome line_outcome =
-      subst (λ o. EndsAs gives sender line.text.now o line_outcome) same ends in
+      let so : EndsAs gives settings line.text.now outcome line_outcome =
+      subst (λ o. EndsAs gives settings line.text.now o line_outcome) same ends in
       line_outcomes-set lines line_outcomes place line (Some line_outcome) inside at all
       (line_outcome-ended lines line ended outcome line_outcome here meant so is)

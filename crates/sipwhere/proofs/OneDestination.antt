@@ -27,7 +27,7 @@ use Rattle.sipwhere.proofs.Colons.{not-both, one-rest}
 use Rattle.sipwhere.specs.Destinations.{IsDestination, IsOfRequest, IsOfVia, IsStep, by_way, target_at, transport_for}
 use Rattle.sipwhere.specs.declared.destination.Destination.{Destination}
 use Rattle.sipwhere.specs.declared.destination.Destination.TheVariants.{Located}
-use Rattle.sipwhere.specs.declared.sender.Sender.{Sender}
+use Rattle.sipwhere.specs.declared.locate_settings.LocateSettings.{LocateSettings}
 
 -- of the parameters of one text there is one value
 abbrev pub OneRoute : Type 0
@@ -119,10 +119,10 @@ module _ (law : OneRoute) (text : List ℕ) where
   one-of-via via None it other is also = is ∙ sym also
   one-of-via via (Some over) it other is also = is.2 ∙ one-step via over text is.0 also.0 law is.1 also.1 ∙ sym also.2
 
-  one-of-request : (sender : Sender) (request : Request) (it other : Destination) → IsOfRequest sender text request it
-      → IsOfRequest sender text request other → it ≡ other
-  one-of-request sender (Uri uri) it other is also = is ∙ sym also
-  one-of-request sender (Via via) it other is also = one-of-via via (transport_for sender via.transport) it other is also
+  one-of-request : (settings : LocateSettings) (request : Request) (it other : Destination) → IsOfRequest settings text request it
+      → IsOfRequest settings text request other → it ≡ other
+  one-of-request settings (Uri uri) it other is also = is ∙ sym also
+  one-of-request settings (Via via) it other is also = one-of-via via (transport_for settings via.transport) it other is also
 
   -- a text spells one request
   one-request : OneUri → OneVia → (request other : Request) → RequestText text request → RequestText text other → request ≡ other
@@ -135,11 +135,11 @@ module _ (law : OneRoute) (text : List ℕ) where
       ap Via (vias is.0 via other is.2 here)
 
   -- what a text asks for goes to one destination
-  pub one-destination : OneUri → OneVia → (sender : Sender) (it other : Destination) → IsDestination sender text it
-      → IsDestination sender text other → it ≡ other
-  one-destination uris vias sender it other is also =
+  pub one-destination : OneUri → OneVia → (settings : LocateSettings) (it other : Destination) → IsDestination settings text it
+      → IsDestination settings text other → it ≡ other
+  one-destination uris vias settings it other is also =
       let same : also.request ≡ is.request = one-request uris vias also.request is.request also.is is.is in
-      one-of-request sender is.request it other is.of (subst (λ r. IsOfRequest sender text r other) same also.of)
+      one-of-request settings is.request it other is.of (subst (λ r. IsOfRequest settings text r other) same also.of)
 
 -- where that is the targets of a request, it is this request
 pub same-located : (request other : Request) → Located request ≡ Located other → request ≡ other

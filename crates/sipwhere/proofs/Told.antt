@@ -11,7 +11,7 @@ use Rattle.sipwhere.specs.OpenLines.{HasTold, OpenView, TellsFirst}
 use Rattle.sipwhere.specs.Runs.{AreRun, AreTold, AreToldFrom, IsGravest, IsOneOf, IsRun, StaysSo, Tells}
 use Rattle.sipwhere.specs.declared.line.Line.{Line}
 use Rattle.sip_report.specs.declared.report.Style.{Style}
-use Rattle.sipwhere.specs.declared.sender.Sender.{Sender}
+use Rattle.sipwhere.specs.declared.locate_settings.LocateSettings.{LocateSettings}
 use Rattle.sipwhere.proofs.Inputs.{numbered-append}
 
 -- ---- the gravest status
@@ -82,16 +82,16 @@ all-told count lines others every same =
     let size = ap (λ (l : List Line). length l) same in
     omega (arith, every, size)
 
-module _ (gives : List ℕ → Type 0) (shows : ℕ → Type 0) (seat : SeatView) (sender : Sender) (style : Style) where
+module _ (gives : List ℕ → Type 0) (shows : ℕ → Type 0) (seat : SeatView) (settings : LocateSettings) (style : Style) where
   -- one line more is told
   pub told-more : (lines : List Line) (line : Line) (old middle new : Option (List ℕ)) (statuses : List ℕ) (status : ℕ)
-      → AreTold gives shows seat sender style lines old middle statuses → Tells gives shows seat sender style line middle new status
-      → AreTold gives shows seat sender style (lines ++ line ∷ []) old new (statuses ++ status ∷ [])
+      → AreTold gives shows seat settings style lines old middle statuses → Tells gives shows seat settings style line middle new status
+      → AreTold gives shows seat settings style (lines ++ line ∷ []) old new (statuses ++ status ∷ [])
   told-more [] line old middle new statuses status told tells = (
     new,
     status,
     [],
-    subst (λ o. Tells gives shows seat sender style line o new status) told.0 tells,
+    subst (λ o. Tells gives shows seat settings style line o new status) told.0 tells,
     (refl, refl),
     ap (λ l. l ++ status ∷ []) told.1,
   )
@@ -106,11 +106,11 @@ module _ (gives : List ℕ → Type 0) (shows : ℕ → Type 0) (seat : SeatView
 
 module _ (gives : List ℕ → Type 0) (shows : ℕ → Type 0) where
   -- what was told at a seat is so when the seat has gone on
-  pub told-later : (before after : SeatView) → StaysSo gives shows before after → (sender : Sender) (style : Style) (lines : List Line)
-      (old new : Option (List ℕ)) (statuses : List ℕ) → AreTold gives shows before sender style lines old new statuses
-      → AreTold gives shows after sender style lines old new statuses
-  told-later before after later sender style [] old new statuses told = told
-  told-later before after later sender style (line ∷ lines) old new statuses told = (
+  pub told-later : (before after : SeatView) → StaysSo gives shows before after → (settings : LocateSettings) (style : Style)
+      (lines : List Line) (old new : Option (List ℕ)) (statuses : List ℕ) → AreTold gives shows before settings style lines old new statuses
+      → AreTold gives shows after settings style lines old new statuses
+  told-later before after later settings style [] old new statuses told = told
+  told-later before after later settings style (line ∷ lines) old new statuses told = (
     told.0,
     told.1,
     told.2,
@@ -118,36 +118,37 @@ module _ (gives : List ℕ → Type 0) (shows : ℕ → Type 0) where
       tries = told.3.tries;
       took = told.3.took;
       line_outcome = told.3.line_outcome;
-      became = later sender line told.3.line_outcome told.3.became;
+      became = later settings line told.3.line_outcome told.3.became;
       told = told.3.told;
     },
-    told-later before after later sender style lines told.0 new told.2 told.4,
+    told-later before after later settings style lines told.0 new told.2 told.4,
     told.5,
   )
 
   -- the first line that was not reported is told, and then it was
   pub told-first : (seat : SeatView) (style : Style) (it next : OpenView) (start old new : Option (List ℕ)) (statuses : List ℕ) (status : ℕ)
       → HasTold gives shows seat style it start old statuses → TellsFirst gives shows seat style it old new status
-      → next.told ≡ it.told + 1 → next.lines ≡ it.lines → next.sender ≡ it.sender
+      → next.told ≡ it.told + 1 → next.lines ≡ it.lines → next.settings ≡ it.settings
       → HasTold gives shows seat style next start new (statuses ++ status ∷ [])
-  told-first seat style it next start old new statuses status told tells count lines sender =
+  told-first seat style it next start old new statuses status told tells count lines settings =
       let none : Line = record { number = 0; text = record { ref_ptr = (0, 0); now = [] } } in
       let line = get_or it.lines it.told none in
       let front = take it.told it.lines in
-      let more = told-more gives shows seat it.sender style front line start old new statuses status told (tells.tells none) in
-      let all = subst (λ l. AreTold gives shows seat it.sender style l start new (statuses ++ status ∷ []))
+      let more = told-more gives shows seat it.settings style front line start old new statuses status told (tells.tells none) in
+      let all = subst (λ l. AreTold gives shows seat it.settings style l start new (statuses ++ status ∷ []))
       (sym (take_more it.lines it.told none tells.inside)) more in
-      rw (count, lines, sender) all
+      rw (count, lines, settings) all
 
   -- the same behind what was told before, and with the gravest status
   pub told-on : (seat : SeatView) (style : Style) (it next : OpenView) (start middle new : Option (List ℕ)) (before more : List ℕ)
       (gravest status : ℕ) → HasTold gives shows seat style it start middle (before ++ more) → IsGravest more gravest
-      → TellsFirst gives shows seat style it middle new status → next.told ≡ it.told + 1 → next.lines ≡ it.lines → next.sender ≡ it.sender
+      → TellsFirst gives shows seat style it middle new status → next.told ≡ it.told + 1 → next.lines ≡ it.lines
+      → next.settings ≡ it.settings
       → (all : List ℕ) × HasTold gives shows seat style next start new (before ++ all) × IsGravest all (graver_of gravest status)
-  told-on seat style it next start middle new before more gravest status told is first count lines sender = (
+  told-on seat style it next start middle new before more gravest status told is first count lines settings = (
     more ++ status ∷ [],
     subst (λ l. HasTold gives shows seat style next start new l) (append_assoc before more (status ∷ []))
-        (told-first seat style it next start middle new (before ++ more) status told first count lines sender),
+        (told-first seat style it next start middle new (before ++ more) status told first count lines settings),
     gravest-more more (status ∷ []) gravest status is (gravest-one status),
   )
 
@@ -158,25 +159,27 @@ module _ (gives : List ℕ → Type 0) (shows : ℕ → Type 0) where
 
   -- what was told stays told while lines are begun and given up
   pub told-same : (seat : SeatView) (style : Style) (it next : OpenView) (start now : Option (List ℕ)) (statuses : List ℕ)
-      → (next.told ≡ it.told) × (next.lines ≡ it.lines) × (next.sender ≡ it.sender) → HasTold gives shows seat style it start now statuses
+      → (next.told ≡ it.told) × (next.lines ≡ it.lines) × (next.settings ≡ it.settings)
+      → HasTold gives shows seat style it start now statuses
       → HasTold gives shows seat style next start now statuses
   told-same seat style it next start now statuses same told = rw (same.0, same.1, same.2) told
 
   -- what was told of lines
-  pub told-of : (seat : SeatView) (style : Style) (it : OpenView) (lines : List Line) (sender : Sender) (start now : Option (List ℕ))
-      (statuses : List ℕ) → it.lines ≡ lines → it.sender ≡ sender → HasTold gives shows seat style it start now statuses
-      → AreTold gives shows seat sender style (take it.told lines) start now statuses
-  told-of seat style it lines sender start now statuses same from told =
+  pub told-of : (seat : SeatView) (style : Style) (it : OpenView) (lines : List Line) (settings : LocateSettings)
+      (start now : Option (List ℕ)) (statuses : List ℕ) → it.lines ≡ lines → it.settings ≡ settings
+      → HasTold gives shows seat style it start now statuses
+      → AreTold gives shows seat settings style (take it.told lines) start now statuses
+  told-of seat style it lines settings start now statuses same from told =
       subst (λ s. AreTold gives shows seat s style (take it.told lines) start now statuses) from
-      (subst (λ l. AreTold gives shows seat it.sender style (take it.told l) start now statuses) same told)
+      (subst (λ l. AreTold gives shows seat it.settings style (take it.told l) start now statuses) same told)
 
-module _ (gives : List ℕ → Type 0) (shows : ℕ → Type 0) (seat : SeatView) (sender : Sender) (style : Style) where
+module _ (gives : List ℕ → Type 0) (shows : ℕ → Type 0) (seat : SeatView) (settings : LocateSettings) (style : Style) where
   told-append : (lines others : List Line) (old middle new : Option (List ℕ)) (statuses more : List ℕ)
-      → AreTold gives shows seat sender style lines old middle statuses → AreTold gives shows seat sender style others middle new more
-      → AreTold gives shows seat sender style (lines ++ others) old new (statuses ++ more)
+      → AreTold gives shows seat settings style lines old middle statuses → AreTold gives shows seat settings style others middle new more
+      → AreTold gives shows seat settings style (lines ++ others) old new (statuses ++ more)
   told-append [] others old middle new statuses more told second =
-      subst (λ o. AreTold gives shows seat sender style others o new (statuses ++ more)) told.0
-      (subst (λ l. AreTold gives shows seat sender style others middle new (l ++ more)) (sym told.1) second)
+      subst (λ o. AreTold gives shows seat settings style others o new (statuses ++ more)) told.0
+      (subst (λ l. AreTold gives shows seat settings style others middle new (l ++ more)) (sym told.1) second)
   told-append (line ∷ lines) others old middle new statuses more told second = (
     told.0,
     told.1,
@@ -187,8 +190,8 @@ module _ (gives : List ℕ → Type 0) (shows : ℕ → Type 0) (seat : SeatView
   )
 
   -- what was told of all lines, but where the status is 5
-  pub run-of : (lines : List Line) (old new : Option (List ℕ)) (status : ℕ) → AreRun gives shows seat sender style lines old new status
-      → IsRun gives shows seat sender style lines old new status
+  pub run-of : (lines : List Line) (old new : Option (List ℕ)) (status : ℕ) → AreRun gives shows seat settings style lines old new status
+      → IsRun gives shows seat settings style lines old new status
   run-of lines old new status it =
       elim it.gravest [
         | inr five ↦ inl five
@@ -196,59 +199,59 @@ module _ (gives : List ℕ → Type 0) (shows : ℕ → Type 0) (seat : SeatView
           | inr five ↦ inl five
           | inl all ↦ inr (
             it.statuses,
-            subst (λ l. AreTold gives shows seat sender style l old new it.statuses) (take_all it.count lines all) it.told,
+            subst (λ l. AreTold gives shows seat settings style l old new it.statuses) (take_all it.count lines all) it.told,
             gravest,
           )
         ]
       ]
 
 -- a run, and one of more lines after it
-pub run-more : (gives : List ℕ → Type 0) (shows : ℕ → Type 0) (before after : SeatView) (sender : Sender) (style : Style)
+pub run-more : (gives : List ℕ → Type 0) (shows : ℕ → Type 0) (before after : SeatView) (settings : LocateSettings) (style : Style)
     (lines others : List Line) (old middle new : Option (List ℕ)) (first second status : ℕ) → StaysSo gives shows before after
     → ((first ≡ 5) ⊎ (second ≡ 5) → status ≡ 5) → status ≡ graver_of first second
-    → IsRun gives shows before sender style lines old middle first → IsRun gives shows after sender style others middle new second
-    → IsRun gives shows after sender style (lines ++ others) old new status
-run-more gives shows before after sender style lines others old middle new first second status later fault is (inl five) more =
+    → IsRun gives shows before settings style lines old middle first → IsRun gives shows after settings style others middle new second
+    → IsRun gives shows after settings style (lines ++ others) old new status
+run-more gives shows before after settings style lines others old middle new first second status later fault is (inl five) more =
     inl (fault (inl five))
-run-more gives shows before after sender style lines others old middle new first second status later fault is (inr told) (inl five) =
+run-more gives shows before after settings style lines others old middle new first second status later fault is (inr told) (inl five) =
     inl (fault (inr five))
-run-more gives shows before after sender style lines others old middle new first second status later fault is (inr told) (inr more) =
-    let there = told-later gives shows before after later sender style lines old middle told.0 told.1 in
+run-more gives shows before after settings style lines others old middle new first second status later fault is (inr told) (inr more) =
+    let there = told-later gives shows before after later settings style lines old middle told.0 told.1 in
     inr (
       told.0 ++ more.0,
-      told-append gives shows after sender style lines others old middle new told.0 more.0 there more.1,
+      told-append gives shows after settings style lines others old middle new told.0 more.0 there more.1,
       rw is (gravest-more told.0 more.0 first second told.2 more.2),
     )
 
 -- ---- texts
 
-module _ (gives : List ℕ → Type 0) (shows : ℕ → Type 0) (sender : Sender) (style : Style) where
+module _ (gives : List ℕ → Type 0) (shows : ℕ → Type 0) (settings : LocateSettings) (style : Style) where
   -- no text was told
-  pub texts-none : (seat : SeatView) (now : Option (List ℕ)) → AreToldFrom gives shows seat sender style 1 [] now now []
+  pub texts-none : (seat : SeatView) (now : Option (List ℕ)) → AreToldFrom gives shows seat settings style 1 [] now now []
   texts-none seat now = record { lines = []; numbered = refl; told = (refl, refl) }
 
   -- texts behind others
   pub texts-append : (before after : SeatView) (first : ℕ) (texts others : List (List ℕ)) (old middle new : Option (List ℕ))
       (statuses more : List ℕ) → StaysSo gives shows before after
-      → AreToldFrom gives shows before sender style first texts old middle statuses
-      → AreToldFrom gives shows after sender style (first + length texts) others middle new more
-      → AreToldFrom gives shows after sender style first (texts ++ others) old new (statuses ++ more)
+      → AreToldFrom gives shows before settings style first texts old middle statuses
+      → AreToldFrom gives shows after settings style (first + length texts) others middle new more
+      → AreToldFrom gives shows after settings style first (texts ++ others) old new (statuses ++ more)
   texts-append before after first texts others old middle new statuses more later told second = record {
     lines = told.lines ++ second.lines;
     numbered = map-append said told.lines second.lines ∙ ap (λ l. l ++ map said second.lines) told.numbered
         ∙ ap (λ l. numbered_from first texts ++ l) second.numbered ∙ sym (numbered-append first texts others);
-    told = told-append gives shows after sender style told.lines second.lines old middle new statuses more
-        (told-later gives shows before after later sender style told.lines old middle statuses told.told) second.told;
+    told = told-append gives shows after settings style told.lines second.lines old middle new statuses more
+        (told-later gives shows before after later settings style told.lines old middle statuses told.told) second.told;
   }
 
   -- what was told of texts, and then of lines behind them
   pub texts-on : (before after : SeatView) (texts others : List (List ℕ)) (lines : List Line) (old middle new : Option (List ℕ))
       (first second status : ℕ) → StaysSo gives shows before after → ((first ≡ 5) ⊎ (second ≡ 5) → status ≡ 5)
       → status ≡ graver_of first second
-      → (first ≡ 5) ⊎ ((statuses : List ℕ) × AreToldFrom gives shows before sender style 1 texts old middle statuses
+      → (first ≡ 5) ⊎ ((statuses : List ℕ) × AreToldFrom gives shows before settings style 1 texts old middle statuses
       × IsGravest statuses first)
-      → map said lines ≡ numbered_from (1 + length texts) others → IsRun gives shows after sender style lines middle new second
-      → (status ≡ 5) ⊎ ((statuses : List ℕ) × AreToldFrom gives shows after sender style 1 (texts ++ others) old new statuses
+      → map said lines ≡ numbered_from (1 + length texts) others → IsRun gives shows after settings style lines middle new second
+      → (status ≡ 5) ⊎ ((statuses : List ℕ) × AreToldFrom gives shows after settings style 1 (texts ++ others) old new statuses
       × IsGravest statuses status)
   texts-on before after texts others lines old middle new first second status later fault is (inl five) numbered run =
       inl (fault (inl five))

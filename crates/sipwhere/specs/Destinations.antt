@@ -22,7 +22,7 @@ use Rattle.sip_selection.specs.declared.request.Request.{Request}
 use Rattle.sip_selection.specs.declared.request.Request.TheVariants.{Uri, Via}
 use Rattle.sipwhere.specs.declared.destination.Destination.{Destination}
 use Rattle.sipwhere.specs.declared.destination.Destination.TheVariants.{Located, Named}
-use Rattle.sipwhere.specs.declared.sender.Sender.{Sender}
+use Rattle.sipwhere.specs.declared.locate_settings.LocateSettings.{LocateSettings}
 
 -- ---- hosts of maddr
 
@@ -48,8 +48,8 @@ offered_in caps spoken.Other = None
 
 -- the transport over which a response goes where the parameters of its Via say: the one that the
 -- Via names, where it is among the sender's and parameters count
-abbrev pub transport_for : Sender → Spoken → Option Transport
-transport_for sender named = if sender.by_sent_by then None else offered_in sender.caps named
+abbrev pub transport_for : LocateSettings → Spoken → Option Transport
+transport_for settings named = if settings.by_sent_by then None else offered_in settings.caps named
 
 -- ---- the way of a response
 
@@ -103,12 +103,13 @@ IsOfVia text via (Some over) it =
 -- ---- the destination of a text
 
 -- where what a text asks for goes, whose request this is
-abbrev pub IsOfRequest : Sender → List ℕ → Request → Destination → Type 0
-IsOfRequest sender text (Uri uri) it = it ≡ Located (Uri uri)
-IsOfRequest sender text (Via via) it = IsOfVia text via (transport_for sender via.transport) it
+abbrev pub IsOfRequest : LocateSettings → List ℕ → Request → Destination → Type 0
+IsOfRequest settings text (Uri uri) it = it ≡ Located (Uri uri)
+IsOfRequest settings text (Via via) it = IsOfVia text via (transport_for settings via.transport) it
 
 -- where what a text asks for goes
-pub record IsDestination (sender : Sender) (text : List ℕ) (it : Destination) : Type 0 where
+pub record IsDestination (settings : LocateSettings) (text : List ℕ) (it : Destination)
+    : Type 0 where
   pub request : Request
   pub is : RequestText text request
-  pub of : IsOfRequest sender text request it
+  pub of : IsOfRequest settings text request it

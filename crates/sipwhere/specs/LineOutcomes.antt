@@ -12,7 +12,7 @@ use Rattle.sip_uri.specs.declared.refusal.UriRefusal.TheVariants as uri
 use Rattle.sip_report.specs.declared.line_outcome.LineOutcome.{LineOutcome}
 use Rattle.sip_report.specs.declared.line_outcome.LineOutcome.TheVariants.{Became, Tried, NoSuchName, TimeOver, Bad, NotText, Memory}
 use Rattle.sipwhere.specs.declared.line.Line.{Line}
-use Rattle.sipwhere.specs.declared.sender.Sender.{Sender}
+use Rattle.sipwhere.specs.declared.locate_settings.LocateSettings.{LocateSettings}
 use Rattle.sip_resolver.specs.declared.outcome.Outcome.{Outcome}
 use Rattle.sip_resolver.specs.declared.outcome.Outcome.TheVariants as outcome
 use Rattle.sip_selection.specs.Requests.{target_of}
@@ -121,20 +121,20 @@ pub record IsRequest (text : List ℕ) : Type 0 where
 -- A text asks for the targets of a request, of which this may become, under whatever number a
 -- resolver had it. Its words are those of its own number.
 pub record IsLocated (gives : List ℕ → Type 0) (shows : ℕ → Type 0) (seat : SeatView)
-    (sender : Sender) (words text : List ℕ) (line_outcome : LineOutcome) : Type 0 where
+    (settings : LocateSettings) (words text : List ℕ) (line_outcome : LineOutcome) : Type 0 where
   pub request : Request
-  pub is : IsDestination sender text (Located request)
+  pub is : IsDestination settings text (Located request)
   pub place : ℕ
   pub became : MayBecome gives shows seat
       (record {
         number = place;
         request = request;
-        caps = sender.caps;
+        caps = settings.caps;
         words = words;
         until = None;
       })
       line_outcome
-  pub tried : IsTriedBy (extent_for sender.extent request) line_outcome
+  pub tried : IsTriedBy (extent_for settings.extent request) line_outcome
 
 -- this target alone, whose certificate has to be of this host
 abbrev pub target_alone : Target → Host → Outcome
@@ -142,33 +142,33 @@ target_alone target host =
     outcome.Targets (record { targets = target ∷ []; certificate_host = host })
 
 -- a text asks for a target that the parameters of its Via name, and the outcome is that target
-pub record IsNamed (sender : Sender) (text : List ℕ) (it : Outcome) : Type 0 where
+pub record IsNamed (settings : LocateSettings) (text : List ℕ) (it : Outcome) : Type 0 where
   pub target : Target
   pub host : Host
-  pub is : IsDestination sender text (Named target host)
+  pub is : IsDestination settings text (Named target host)
   pub only : it ≡ target_alone target host
 
 -- What may become of a line: it is no request; or it asks for the targets of a request, and this is
 -- what becomes of that; or the parameters of its Via name its target. Of a request this may become
 -- too that memory was refused.
-abbrev pub IsLineOutcome : (List ℕ → Type 0) → (ℕ → Type 0) → SeatView → Sender → Line → LineOutcome
-    → Type 0
-IsLineOutcome gives shows seat sender line (Bad refusal) = IsNoRequest line.text.now refusal
-IsLineOutcome gives shows seat sender line NotText = IsNotText line.text.now
-IsLineOutcome gives shows seat sender line Memory = IsRequest line.text.now
-IsLineOutcome gives shows seat sender line (Became it) =
-    IsLocated gives shows seat sender (drawn sender.key line.number) line.text.now (Became it)
-    ⊎ IsNamed sender line.text.now it
-IsLineOutcome gives shows seat sender line line_outcome =
-    IsLocated gives shows seat sender (drawn sender.key line.number) line.text.now line_outcome
+abbrev pub IsLineOutcome : (List ℕ → Type 0) → (ℕ → Type 0) → SeatView → LocateSettings → Line
+    → LineOutcome → Type 0
+IsLineOutcome gives shows seat settings line (Bad refusal) = IsNoRequest line.text.now refusal
+IsLineOutcome gives shows seat settings line NotText = IsNotText line.text.now
+IsLineOutcome gives shows seat settings line Memory = IsRequest line.text.now
+IsLineOutcome gives shows seat settings line (Became it) =
+    IsLocated gives shows seat settings (drawn settings.key line.number) line.text.now (Became it)
+    ⊎ IsNamed settings line.text.now it
+IsLineOutcome gives shows seat settings line line_outcome =
+    IsLocated gives shows seat settings (drawn settings.key line.number) line.text.now line_outcome
 
 -- ---- where a fate comes from
 
 -- the request that is submitted for a line, under whatever number
-pub record IsOfLine (sender : Sender) (line : Line) (sought : Sought) : Type 0 where
-  pub is : IsDestination sender line.text.now (Located sought.request)
-  pub caps : sought.caps ≡ sender.caps
-  pub words : sought.words ≡ drawn sender.key line.number
+pub record IsOfLine (settings : LocateSettings) (line : Line) (sought : Sought) : Type 0 where
+  pub is : IsDestination settings line.text.now (Located sought.request)
+  pub caps : sought.caps ≡ settings.caps
+  pub words : sought.words ≡ drawn settings.key line.number
   pub until : sought.until ≡ None
 
 -- what became of a text of which no request was made: it is none, or memory was refused for it
@@ -182,30 +182,30 @@ IsUnread text NotText = IsNotText text
 IsUnread text Memory = IsRequest text
 
 -- a text asks for the targets of a request
-pub record IsToBeLocated (sender : Sender) (text : List ℕ) : Type 0 where
+pub record IsToBeLocated (settings : LocateSettings) (text : List ℕ) : Type 0 where
   pub request : Request
-  pub is : IsDestination sender text (Located request)
+  pub is : IsDestination settings text (Located request)
 
 -- what became of a text of which no request is located: it is none, its Via names its target, or
 -- memory was refused for it
-abbrev pub IsReady : Sender → List ℕ → LineOutcome → Type 0
-IsReady sender text (Became it) = IsNamed sender text it
-IsReady sender text (Tried tries) = ⊥
-IsReady sender text (NoSuchName name) = ⊥
-IsReady sender text TimeOver = ⊥
-IsReady sender text (Bad refusal) = IsNoRequest text refusal
-IsReady sender text NotText = IsNotText text
-IsReady sender text Memory = IsRequest text
+abbrev pub IsReady : LocateSettings → List ℕ → LineOutcome → Type 0
+IsReady settings text (Became it) = IsNamed settings text it
+IsReady settings text (Tried tries) = ⊥
+IsReady settings text (NoSuchName name) = ⊥
+IsReady settings text TimeOver = ⊥
+IsReady settings text (Bad refusal) = IsNoRequest text refusal
+IsReady settings text NotText = IsNotText text
+IsReady settings text Memory = IsRequest text
 
 -- what became of a text without a reply: the same, or its time was over
-abbrev pub NeedsNoReply : Sender → List ℕ → LineOutcome → Type 0
-NeedsNoReply sender text (Became it) = IsNamed sender text it
-NeedsNoReply sender text (Tried tries) = ⊥
-NeedsNoReply sender text (NoSuchName name) = ⊥
-NeedsNoReply sender text TimeOver = IsToBeLocated sender text
-NeedsNoReply sender text (Bad refusal) = IsNoRequest text refusal
-NeedsNoReply sender text NotText = IsNotText text
-NeedsNoReply sender text Memory = IsRequest text
+abbrev pub NeedsNoReply : LocateSettings → List ℕ → LineOutcome → Type 0
+NeedsNoReply settings text (Became it) = IsNamed settings text it
+NeedsNoReply settings text (Tried tries) = ⊥
+NeedsNoReply settings text (NoSuchName name) = ⊥
+NeedsNoReply settings text TimeOver = IsToBeLocated settings text
+NeedsNoReply settings text (Bad refusal) = IsNoRequest text refusal
+NeedsNoReply settings text NotText = IsNotText text
+NeedsNoReply settings text Memory = IsRequest text
 
 -- a text is this request, and no other (RFC 3261 25.1)
 pub record IsOnly (text : List ℕ) (request : Request) : Type 0 where
@@ -213,9 +213,10 @@ pub record IsOnly (text : List ℕ) (request : Request) : Type 0 where
   pub only : (other : Request) → RequestText text other → request ≡ other
 
 -- a text asks for the targets of this request, and for nothing else
-pub record IsOnlyLocated (sender : Sender) (text : List ℕ) (request : Request) : Type 0 where
-  pub is : IsDestination sender text (Located request)
-  pub only : (other : Request) → IsDestination sender text (Located other) → request ≡ other
+pub record IsOnlyLocated (settings : LocateSettings) (text : List ℕ) (request : Request)
+    : Type 0 where
+  pub is : IsDestination settings text (Located request)
+  pub only : (other : Request) → IsDestination settings text (Located other) → request ≡ other
 
 -- what became of a text whose target this is, where memory was not refused
 abbrev pub IsNamedAs : Target → Host → LineOutcome → Type 0
@@ -264,20 +265,20 @@ EndsSo gives extent request outcome NotText = ⊥
 EndsSo gives extent request outcome Memory = Unit {0}
 
 -- a text asks for the targets of a request that ended so
-pub record IsEnded (gives : List ℕ → Type 0) (sender : Sender) (text : List ℕ)
+pub record IsEnded (gives : List ℕ → Type 0) (settings : LocateSettings) (text : List ℕ)
     (outcome : Outcome) (line_outcome : LineOutcome) : Type 0 where
   pub request : Request
-  pub only : IsOnlyLocated sender text request
-  pub ends : EndsSo gives sender.extent request outcome line_outcome
+  pub only : IsOnlyLocated settings text request
+  pub ends : EndsSo gives settings.extent request outcome line_outcome
 
 -- the request of a text ended so; or no request of the text is located
-abbrev pub EndsAs : (List ℕ → Type 0) → Sender → List ℕ → Outcome → LineOutcome → Type 0
-EndsAs gives sender text outcome (Became it) =
-    IsEnded gives sender text outcome (Became it) ⊎ IsNamed sender text it
-EndsAs gives sender text outcome (Tried tries) = IsEnded gives sender text outcome (Tried tries)
-EndsAs gives sender text outcome (NoSuchName name) =
-    IsEnded gives sender text outcome (NoSuchName name)
-EndsAs gives sender text outcome TimeOver = ⊥
-EndsAs gives sender text outcome (Bad refusal) = IsNoRequest text refusal
-EndsAs gives sender text outcome NotText = IsNotText text
-EndsAs gives sender text outcome Memory = IsRequest text
+abbrev pub EndsAs : (List ℕ → Type 0) → LocateSettings → List ℕ → Outcome → LineOutcome → Type 0
+EndsAs gives settings text outcome (Became it) =
+    IsEnded gives settings text outcome (Became it) ⊎ IsNamed settings text it
+EndsAs gives settings text outcome (Tried tries) = IsEnded gives settings text outcome (Tried tries)
+EndsAs gives settings text outcome (NoSuchName name) =
+    IsEnded gives settings text outcome (NoSuchName name)
+EndsAs gives settings text outcome TimeOver = ⊥
+EndsAs gives settings text outcome (Bad refusal) = IsNoRequest text refusal
+EndsAs gives settings text outcome NotText = IsNotText text
+EndsAs gives settings text outcome Memory = IsRequest text

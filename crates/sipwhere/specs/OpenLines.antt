@@ -9,12 +9,12 @@ use Rattle.sipwhere.specs.Runs.{AreTold, Tells}
 use Rattle.sip_report.specs.declared.line_outcome.LineOutcome.{LineOutcome}
 use Rattle.sipwhere.specs.declared.line.Line.{Line}
 use Rattle.sip_report.specs.declared.report.Style.{Style}
-use Rattle.sipwhere.specs.declared.sender.Sender.{Sender}
+use Rattle.sipwhere.specs.declared.locate_settings.LocateSettings.{LocateSettings}
 
 -- what contracts see of open lines: who sends, the lines, how many of them were reported, the
 -- requests that are inside, and what became of each line, as far as it is known
 pub record OpenView : Type 0 where
-  pub sender : Sender
+  pub settings : LocateSettings
   pub lines : List Line
   pub told : ℕ
   pub requests : RequestsView
@@ -23,57 +23,58 @@ pub record OpenView : Type 0 where
 -- ---- whose request is whose
 
 -- the request that is submitted for a line, under the place of the line
-pub record IsOwn (sender : Sender) (lines : List Line) (sought : Sought) : Type 0 where
+pub record IsOwn (settings : LocateSettings) (lines : List Line) (sought : Sought) : Type 0 where
   pub inside : sought.number < length lines
-  pub of : (line : Line) → IsOfLine sender (slice_index_or lines sought.number line) sought
+  pub of : (line : Line) → IsOfLine settings (slice_index_or lines sought.number line) sought
 
 -- a number that is made of requests is 0 for what is submitted of a line
-abbrev pub VanishesOn : Sender → List Line → (Sought → ℕ) → Type 0
-VanishesOn sender lines h = (sought : Sought) → IsOwn sender lines sought → h sought ≡ 0
+abbrev pub VanishesOn : LocateSettings → List Line → (Sought → ℕ) → Type 0
+VanishesOn settings lines h = (sought : Sought) → IsOwn settings lines sought → h sought ≡ 0
 
 -- A request is that of a line, under the place of the line: no number that is made of requests
 -- tells it from all that are.
-abbrev pub IsMeant : Sender → List Line → Sought → Type 0
-IsMeant sender lines sought = (h : Sought → ℕ) → VanishesOn sender lines h → h sought ≡ 0
+abbrev pub IsMeant : LocateSettings → List Line → Sought → Type 0
+IsMeant settings lines sought = (h : Sought → ℕ) → VanishesOn settings lines h → h sought ≡ 0
 
 -- the same of each request inside
-abbrev pub AreMeant : Sender → List Line → RequestsView → Type 0
-AreMeant sender lines requests =
-    (h : Sought → ℕ) → VanishesOn sender lines h → weight h requests ≡ 0
+abbrev pub AreMeant : LocateSettings → List Line → RequestsView → Type 0
+AreMeant settings lines requests =
+    (h : Sought → ℕ) → VanishesOn settings lines h → weight h requests ≡ 0
 
 -- This number of the lines were begun; each request inside is that of a line; and each line has a
 -- place for what becomes of it.
-pub record Fits (sender : Sender) (lines : List Line) (begun : ℕ) (requests : RequestsView)
-    (line_outcomes : List (Option LineOutcome)) : Type 0 where
+pub record Fits (settings : LocateSettings) (lines : List Line) (begun : ℕ)
+    (requests : RequestsView) (line_outcomes : List (Option LineOutcome)) : Type 0 where
   pub few : begun ≤ length lines
-  pub own : AreMeant sender lines requests
+  pub own : AreMeant settings lines requests
   pub as_many : length line_outcomes ≡ length lines
 
 -- ---- what is so at a seat
 
 -- what became of a line, where it is known
-abbrev pub IsLineOutcomeOf : (List ℕ → Type 0) → (ℕ → Type 0) → SeatView → Sender → Line
+abbrev pub IsLineOutcomeOf : (List ℕ → Type 0) → (ℕ → Type 0) → SeatView → LocateSettings → Line
     → Option LineOutcome
     → Type 0
-IsLineOutcomeOf gives shows seat sender line None = Unit {0}
-IsLineOutcomeOf gives shows seat sender line (Some line_outcome) = IsLineOutcome gives shows seat
-    sender line line_outcome
+IsLineOutcomeOf gives shows seat settings line None = Unit {0}
+IsLineOutcomeOf gives shows seat settings line (Some line_outcome) = IsLineOutcome gives shows seat
+    settings line line_outcome
 
 -- what holds of lines at a seat: the requests inside, and what became of each line (RFC 3263 4, 5)
 pub record Stands (gives : List ℕ → Type 0) (shows : ℕ → Type 0) (seat : SeatView)
     (it : OpenView) : Type 0 where
   pub requests : Stand gives shows seat it.requests
-  pub line_outcomes : AllZip (IsLineOutcomeOf gives shows seat it.sender) it.lines it.line_outcomes
+  pub line_outcomes : AllZip (IsLineOutcomeOf gives shows seat it.settings) it.lines
+      it.line_outcomes
 
 -- what became of the first line that was not reported is printed, with this status
 pub record TellsFirst (gives : List ℕ → Type 0) (shows : ℕ → Type 0) (seat : SeatView)
     (style : Style) (it : OpenView) (old new : Option (List ℕ)) (status : ℕ) : Type 0 where
   pub inside : it.told < length it.lines
-  pub tells : (line : Line) → Tells gives shows seat it.sender style
+  pub tells : (line : Line) → Tells gives shows seat it.settings style
       (slice_index_or it.lines it.told line) old new status
 
 -- what became of each line that was reported is printed, with these statuses
 abbrev pub HasTold : (List ℕ → Type 0) → (ℕ → Type 0) → SeatView → Style → OpenView
     → Option (List ℕ) → Option (List ℕ) → List ℕ → Type 0
 HasTold gives shows seat style it old new statuses =
-    AreTold gives shows seat it.sender style (take it.told it.lines) old new statuses
+    AreTold gives shows seat it.settings style (take it.told it.lines) old new statuses

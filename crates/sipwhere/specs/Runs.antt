@@ -13,7 +13,7 @@ use Rattle.sip_report.specs.declared.line_outcome.LineOutcome.{LineOutcome}
 use Rattle.sipwhere.specs.declared.line.Line.{Line}
 use Rattle.sipwhere_options.specs.declared.options.Options.{Options}
 use Rattle.sip_report.specs.declared.report.Style.{Style}
-use Rattle.sipwhere.specs.declared.sender.Sender.{Sender}
+use Rattle.sipwhere.specs.declared.locate_settings.LocateSettings.{LocateSettings}
 use Rattle.sip_report.specs.declared.verdict.Verdict.{Verdict}
 
 -- the report of a text was printed, with this verdict of a check, and the status is that of what
@@ -46,25 +46,26 @@ IsToldWhole old new style tries text took line_outcome status =
     IsPrinted old new style tries text took line_outcome status ⊎ ((new ≡ old) × (status ≡ 5))
 
 -- what became of a line is printed, after what went over the wire for it
-pub record Tells (gives : List ℕ → Type 0) (shows : ℕ → Type 0) (seat : SeatView) (sender : Sender)
-    (style : Style) (line : Line) (old new : Option (List ℕ)) (status : ℕ) : Type 0 where
+pub record Tells (gives : List ℕ → Type 0) (shows : ℕ → Type 0) (seat : SeatView)
+    (settings : LocateSettings) (style : Style) (line : Line) (old new : Option (List ℕ))
+    (status : ℕ) : Type 0 where
   pub tries : List WireTry
   pub took : ℕ
   pub line_outcome : LineOutcome
-  pub became : IsLineOutcome gives shows seat sender line line_outcome
+  pub became : IsLineOutcome gives shows seat settings line line_outcome
   pub told : IsTold old new style tries line.text.now took line_outcome status
 
 -- ---- many lines
 
 -- What became of these lines is printed, of each after that of those before it, with these
 -- statuses.
-abbrev pub AreTold : (List ℕ → Type 0) → (ℕ → Type 0) → SeatView → Sender → Style → List Line
-    → Option (List ℕ) → Option (List ℕ) → List ℕ → Type 0
-AreTold gives shows seat sender style [] old new statuses = (new ≡ old) × (statuses ≡ [])
-AreTold gives shows seat sender style (line ∷ lines) old new statuses =
+abbrev pub AreTold : (List ℕ → Type 0) → (ℕ → Type 0) → SeatView → LocateSettings → Style
+    → List Line → Option (List ℕ) → Option (List ℕ) → List ℕ → Type 0
+AreTold gives shows seat settings style [] old new statuses = (new ≡ old) × (statuses ≡ [])
+AreTold gives shows seat settings style (line ∷ lines) old new statuses =
     (middle : Option (List ℕ)) × (status : ℕ) × (others : List ℕ)
-    × Tells gives shows seat sender style line old middle status
-    × AreTold gives shows seat sender style lines middle new others
+    × Tells gives shows seat settings style line old middle status
+    × AreTold gives shows seat settings style lines middle new others
     × (statuses ≡ status ∷ others)
 
 -- a status is one of these, or 0
@@ -79,46 +80,48 @@ pub record IsGravest (statuses : List ℕ) (status : ℕ) : Type 0 where
 
 -- What became of lines is printed in their order, of all of them but where the status is 5; and the
 -- status is the gravest, or 5.
-pub record AreRun (gives : List ℕ → Type 0) (shows : ℕ → Type 0) (seat : SeatView) (sender : Sender)
-    (style : Style) (lines : List Line) (old new : Option (List ℕ)) (status : ℕ) : Type 0 where
+pub record AreRun (gives : List ℕ → Type 0) (shows : ℕ → Type 0) (seat : SeatView)
+    (settings : LocateSettings) (style : Style) (lines : List Line) (old new : Option (List ℕ))
+    (status : ℕ) : Type 0 where
   pub count : ℕ
   pub statuses : List ℕ
-  pub told : AreTold gives shows seat sender style (take count lines) old new statuses
+  pub told : AreTold gives shows seat settings style (take count lines) old new statuses
   pub gravest : IsGravest statuses status ⊎ (status ≡ 5)
   pub whole : (length lines ≤ count) ⊎ (status ≡ 5)
 
 -- what may become of a line at a seat may become of it when the seat has gone on
 abbrev pub StaysSo : (List ℕ → Type 0) → (ℕ → Type 0) → SeatView → SeatView → Type 0
 StaysSo gives shows old new =
-    (sender : Sender) (line : Line) (it : LineOutcome)
-    → IsLineOutcome gives shows old sender line it → IsLineOutcome gives shows new sender line it
+    (settings : LocateSettings) (line : Line) (it : LineOutcome)
+    → IsLineOutcome gives shows old settings line it
+    → IsLineOutcome gives shows new settings line it
 
 -- What became of these lines is printed in their order, and the status is the gravest; or the
 -- status is 5, as memory or the output failed.
-abbrev pub IsRun : (List ℕ → Type 0) → (ℕ → Type 0) → SeatView → Sender → Style → List Line
+abbrev pub IsRun : (List ℕ → Type 0) → (ℕ → Type 0) → SeatView → LocateSettings → Style → List Line
     → Option (List ℕ) → Option (List ℕ) → ℕ → Type 0
-IsRun gives shows seat sender style lines old new status =
+IsRun gives shows seat settings style lines old new status =
     (status ≡ 5) ⊎ ((statuses : List ℕ)
-    × AreTold gives shows seat sender style lines old new statuses × IsGravest statuses status)
+    × AreTold gives shows seat settings style lines old new statuses × IsGravest statuses status)
 
 -- ---- texts
 
 -- what became of texts, which are numbered from this number on, is printed in their order, with
 -- these statuses
 pub record AreToldFrom (gives : List ℕ → Type 0) (shows : ℕ → Type 0) (seat : SeatView)
-    (sender : Sender) (style : Style) (first : ℕ) (texts : List (List ℕ))
+    (settings : LocateSettings) (style : Style) (first : ℕ) (texts : List (List ℕ))
     (old new : Option (List ℕ)) (statuses : List ℕ) : Type 0 where
   pub lines : List Line
   pub numbered : map said lines ≡ numbered_from first texts
-  pub told : AreTold gives shows seat sender style lines old new statuses
+  pub told : AreTold gives shows seat settings style lines old new statuses
 
 -- What became of texts is printed in their order, numbered from 1, and the status is the gravest of
 -- theirs.
 pub record IsRunOf (gives : List ℕ → Type 0) (shows : ℕ → Type 0) (seat : SeatView)
-    (sender : Sender) (style : Style) (texts : List (List ℕ)) (old new : Option (List ℕ))
+    (settings : LocateSettings) (style : Style) (texts : List (List ℕ)) (old new : Option (List ℕ))
     (status : ℕ) : Type 0 where
   pub statuses : List ℕ
-  pub told : AreToldFrom gives shows seat sender style 1 texts old new statuses
+  pub told : AreToldFrom gives shows seat settings style 1 texts old new statuses
   pub gravest : IsGravest statuses status
 
 -- the word for the lines of the input
@@ -138,12 +141,12 @@ HasFronts given false = (given ≢ from_input) × (length given ≤ 1)
 -- What became of the texts of the options, or of the lines of the input, is printed in their order,
 -- in the style that the options ask for, and the status is the gravest.
 pub record IsRunBy (gives : List ℕ → Type 0) (shows : ℕ → Type 0) (seat : SeatView)
-    (sender : Sender) (options : Options) (input old new : Option (List ℕ)) (status : ℕ) : Type 0
-  where
-    pub texts : List (List ℕ)
-    pub are : AreTextsOf (map (λ text. text.now) options.texts.items) input texts
-    pub fronts : Bool
-    pub has_fronts : HasFronts (map (λ text. text.now) options.texts.items) fronts
-    pub style : Style
-    pub is_style : IsStyle options fronts style
-    pub run : IsRunOf gives shows seat sender style texts old new status
+    (settings : LocateSettings) (options : Options) (input old new : Option (List ℕ)) (status : ℕ)
+    : Type 0 where
+  pub texts : List (List ℕ)
+  pub are : AreTextsOf (map (λ text. text.now) options.texts.items) input texts
+  pub fronts : Bool
+  pub has_fronts : HasFronts (map (λ text. text.now) options.texts.items) fronts
+  pub style : Style
+  pub is_style : IsStyle options fronts style
+  pub run : IsRunOf gives shows seat settings style texts old new status

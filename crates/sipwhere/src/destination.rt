@@ -8,9 +8,9 @@ ghost use Rattle.sip_selection.specs.declared.request.Request.TheVariants as req
 ghost use Rattle.sip_uri.specs.declared.via.Via.{Via};
 ghost use Rattle.sipwhere.specs.Destinations as spec;
 ghost use Rattle.sipwhere.specs.declared.destination.Destination.{Destination};
-ghost use Rattle.sipwhere.specs.declared.sender.Sender.{Sender};
+ghost use Rattle.sipwhere.specs.declared.locate_settings.LocateSettings.{LocateSettings};
 
-use crate::sender::Sender;
+use crate::locate_settings::LocateSettings;
 use sip_response::{Endpoint, Step, response_route};
 use sip_selection::{Caps, Request, Target};
 use sip_uri::{
@@ -41,13 +41,13 @@ fn offered_in(caps: &Caps, spoken: Spoken) -> Option<Transport>
 
 /// The transport over which a response goes where the parameters of its Via say: the one that the
 /// Via names, where it is among the sender's and parameters count.
-fn transport_for(sender: &Sender, spoken: Spoken) -> Option<Transport>
-    ensures { result ≡ spec.transport_for sender.now spoken }
+fn transport_for(settings: &LocateSettings, spoken: Spoken) -> Option<Transport>
+    ensures { result ≡ spec.transport_for settings.now spoken }
 {
-    if sender.by_sent_by {
+    if settings.by_sent_by {
         return None;
     }
-    offered_in(&sender.caps, spoken)
+    offered_in(&settings.caps, spoken)
 }
 
 /// What stands before and behind the first colon of a line.
@@ -132,12 +132,17 @@ fn by_step(
 }
 
 /// Where the response by the Via of a text goes.
-fn of_via(alloc: Global, sender: &Sender, text: &str, via: Via) -> Result<Destination, AllocError>
+fn of_via(
+    alloc: Global,
+    settings: &LocateSettings,
+    text: &str,
+    via: Via,
+) -> Result<Destination, AllocError>
     requires { RequestText text.now (request.Via via) }
     ensures { IfOk result (spec.IsOfVia text.now via
-        (spec.transport_for sender.now via.transport)) }
+        (spec.transport_for settings.now via.transport)) }
 {
-    let Some(over) = transport_for(sender, via.transport) else {
+    let Some(over) = transport_for(settings, via.transport) else {
         return Ok(Destination::Located(Request::Via(via)));
     };
     match step_of(text, over) {
@@ -149,23 +154,24 @@ fn of_via(alloc: Global, sender: &Sender, text: &str, via: Via) -> Result<Destin
 /// Where what a text asks for goes, whose request this is.
 pub fn destination_of(
     alloc: Global,
-    sender: &Sender,
+    settings: &LocateSettings,
     text: &str,
     request: Request,
 ) -> Result<Destination, AllocError>
     requires { RequestText text.now request }
-    ensures { IfOk result (spec.IsOfRequest sender.now text.now request) }
+    ensures { IfOk result (spec.IsOfRequest settings.now text.now request) }
 {
     match request {
         Request::Uri(uri) => Ok(Destination::Located(Request::Uri(uri))),
-        Request::Via(via) => of_via(alloc, sender, text, via),
+        Request::Via(via) => of_via(alloc, settings, text, via),
     }
 }
 
 /// What a text asks for goes to one destination.
 pub fn law_one_destination_of_a_text()
-    ensures { (sender : Sender) (text : List ℕ) (it other : Destination)
-        → spec.IsDestination sender text it → spec.IsDestination sender text other → it ≡ other }
+    ensures { (settings : LocateSettings) (text : List ℕ) (it other : Destination)
+        → spec.IsDestination settings text it → spec.IsDestination settings text other
+        → it ≡ other }
 {
     law_one_uri_of_a_text();
     law_one_via_of_a_text();

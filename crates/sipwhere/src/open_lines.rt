@@ -8,9 +8,9 @@ ghost use Rattle.sipwhere.specs.OpenLines.{HasTold, IsMeant, Stands, TellsFirst}
 ghost use Rattle.sipwhere.specs.Runs.{IsGravest, StaysSo};
 
 use crate::line::Line;
+use crate::locate_settings::LocateSettings;
 use crate::noting_wire::NameNotes;
-use crate::sender::Sender;
-use crate::submitted_lines::{line_outcome_in_vain, line_outcome_of, submit};
+use crate::submitted_lines::{line_outcome_of, submit, timed_out};
 use crate::tell::{NOTHING_TOLD, Told, tell};
 use answer_cache::{AnswerBook, Stores};
 use dns_queries::{Clock, MessageWire, Schedule};
@@ -18,7 +18,7 @@ use dns_transport::{Timer, Tracer};
 use rand_chacha::ChaCha20Rng;
 use sip_report::{LineOutcome, Style};
 use sip_resolver::{
-    Limits, RandomIds, Resolved, Resolver, WireOrigin, cancel_over, poll_over, random_ids,
+    Limits, RandomIds, Resolved, Resolver, WireFacts, cancel_over, poll_over, random_ids,
 };
 use sip_tries::Pinger;
 use std::alloc::{AllocError, Global};
@@ -96,7 +96,7 @@ fn put<T: Drop>(items: &mut Vec<T>, place: usize, item: T)
 #[derive(Drop)]
 pub struct OpenLines<'a, B, W, C> {
     alloc: Global,
-    sender: Sender,
+    settings: LocateSettings,
     lines: &'a [Line<'a>],
     /// The times of each line that was begun.
     times: Vec<LineTimes>,
@@ -104,7 +104,7 @@ pub struct OpenLines<'a, B, W, C> {
     late: usize,
     /// How many of the lines were reported.
     told: usize,
-    resolver: Resolver<B, WireOrigin<W, C>, RandomIds<ChaCha20Rng>>,
+    resolver: Resolver<B, WireFacts<W, C>, RandomIds<ChaCha20Rng>>,
     /// What became of each line, as far as it is known.
     line_outcomes: Vec<Option<LineOutcome>>,
 }
@@ -116,7 +116,7 @@ impl<'a, B, W, C> Model for OpenLines<'a, B, W, C> {
     ghost Value = { OpenView };
 
     ghost view = { λ it. record {
-      sender = it.sender;
+      settings = it.settings;
       lines = it.lines.now;
       told = it.told;
       requests = it.resolver.requests;
@@ -124,7 +124,7 @@ impl<'a, B, W, C> Model for OpenLines<'a, B, W, C> {
     } };
 
     ghost invariant = { λ it.
-        Fits it.sender it.lines.now (length it.times.items) it.resolver.requests
+        Fits it.settings it.lines.now (length it.times.items) it.resolver.requests
         it.line_outcomes.items };
 }
 
@@ -132,20 +132,20 @@ impl<'a, B: AnswerBook + Drop, W: MessageWire, C: Clock> OpenLines<'a, B, W, C> 
     /// Lines of which none was begun.
     pub fn new(
         alloc: Global,
-        sender: Sender,
+        settings: LocateSettings,
         lines: &'a [Line<'a>],
     ) -> Result<OpenLines<'a, B, W, C>, AllocError>
         ensures made { IfOk result (λ it.
-            (it.told ≡ 0) × (it.lines ≡ lines.now) × (it.sender ≡ sender)) }
+            (it.told ≡ 0) × (it.lines ≡ lines.now) × (it.settings ≡ settings)) }
         ensures stands { IfOk result (λ it. (seat : SeatView) → Stands W.gives C.shows seat it) }
     {
         let first = lines.first().map_or(0, |line| line.number);
-        let ids = random_ids(sender.key, first);
+        let ids = random_ids(settings.key, first);
         let limits = limits_for(lines.len());
-        let schedule = bounded(sender.schedule);
+        let schedule = bounded(settings.schedule);
         Ok(OpenLines {
             alloc,
-            sender,
+            settings,
             lines,
             times: Vec::with_capacity(alloc, lines.len())?,
             late: 0,
@@ -173,7 +173,7 @@ impl<'a, B: AnswerBook + Drop, W: MessageWire, C: Clock> OpenLines<'a, B, W, C> 
     /// there was.
     fn begin_next(&mut self, now: Duration) -> Result<bool, AllocError>
         ensures same { (self.new.told ≡ self.old.told) × (self.new.lines ≡ self.old.lines)
-            × (self.new.sender ≡ self.old.sender) }
+            × (self.new.settings ≡ self.old.settings) }
         ensures stands { (seat : SeatView) → Stands W.gives C.shows seat self.old
             → Stands W.gives C.shows seat self.new }
     {
@@ -190,7 +190,7 @@ impl<'a, B: AnswerBook + Drop, W: MessageWire, C: Clock> OpenLines<'a, B, W, C> 
             self.alloc,
             &mut self.resolver,
             place as u64,
-            &self.sender,
+            &self.settings,
             &lines[place],
         );
         put(&mut self.line_outcomes, place, line_outcome);
@@ -200,7 +200,7 @@ impl<'a, B: AnswerBook + Drop, W: MessageWire, C: Clock> OpenLines<'a, B, W, C> 
     /// Begins as many lines as there is room for.
     pub fn begin_all(&mut self, now: Duration) -> Result<(), AllocError>
         ensures same { (self.new.told ≡ self.old.told) × (self.new.lines ≡ self.old.lines)
-            × (self.new.sender ≡ self.old.sender) }
+            × (self.new.settings ≡ self.old.settings) }
         ensures stands { (seat : SeatView) → Stands W.gives C.shows seat self.old
             → Stands W.gives C.shows seat self.new }
     {
@@ -226,20 +226,20 @@ impl<'a, B: AnswerBook + Drop, W: MessageWire, C: Clock> OpenLines<'a, B, W, C> 
     fn give_up(&mut self, wire: &mut W, place: usize)
         requires inside { place < length self.old.lines }
         ensures same { (self.new.told ≡ self.old.told) × (self.new.lines ≡ self.old.lines)
-            × (self.new.sender ≡ self.old.sender) }
+            × (self.new.settings ≡ self.old.settings) }
         ensures stands { (seat : SeatView) → Stands W.gives C.shows seat self.old
             → Stands W.gives C.shows seat self.new }
     {
         let _was_inside = cancel_over(&mut self.resolver, wire, place as u64);
         let text = self.lines[place].text;
-        let line_outcome = line_outcome_in_vain(self.alloc, &self.sender, text);
+        let line_outcome = timed_out(self.alloc, &self.settings, text);
         put(&mut self.line_outcomes, place, Some(line_outcome));
     }
 
     /// Whether the time of the line at a place is over by now.
     fn is_over(&self, place: usize, now: Duration) -> bool {
         match self.times.get(place) {
-            Some(times) => times.begun.saturating_add(self.sender.total) <= now,
+            Some(times) => times.begun.saturating_add(self.settings.total) <= now,
             None => false,
         }
     }
@@ -248,7 +248,7 @@ impl<'a, B: AnswerBook + Drop, W: MessageWire, C: Clock> OpenLines<'a, B, W, C> 
     /// where it is not known what became of it.
     fn give_next_up(&mut self, wire: &mut W, now: Duration) -> bool
         ensures same { (self.new.told ≡ self.old.told) × (self.new.lines ≡ self.old.lines)
-            × (self.new.sender ≡ self.old.sender) }
+            × (self.new.settings ≡ self.old.settings) }
         ensures stands { (seat : SeatView) → Stands W.gives C.shows seat self.old
             → Stands W.gives C.shows seat self.new }
     {
@@ -268,7 +268,7 @@ impl<'a, B: AnswerBook + Drop, W: MessageWire, C: Clock> OpenLines<'a, B, W, C> 
     /// them. The time of a line that was begun later is over later.
     pub fn give_late_up(&mut self, wire: &mut W, now: Duration)
         ensures same { (self.new.told ≡ self.old.told) × (self.new.lines ≡ self.old.lines)
-            × (self.new.sender ≡ self.old.sender) }
+            × (self.new.settings ≡ self.old.settings) }
         ensures stands { (seat : SeatView) → Stands W.gives C.shows seat self.old
             → Stands W.gives C.shows seat self.new }
     {
@@ -285,9 +285,9 @@ impl<'a, B: AnswerBook + Drop, W: NameNotes, C: Clock + Timer> OpenLines<'a, B, 
     /// then, where they are to be.
     fn settle<P: Pinger>(&mut self, wire: &W, pinger: &mut P, ended: Resolved<B>)
         requires inside { ended.sought.number < length self.old.lines }
-        requires own { IsMeant self.old.sender self.old.lines ended.sought }
+        requires own { IsMeant self.old.settings self.old.lines ended.sought }
         ensures same { (self.new.told ≡ self.old.told) × (self.new.lines ≡ self.old.lines)
-            × (self.new.sender ≡ self.old.sender) }
+            × (self.new.settings ≡ self.old.settings) }
         ensures stands { (seat : SeatView) → Stands W.gives C.shows seat self.old
             → IsOutcome W.gives C.shows seat ended.sought ended.outcome
             → Stands W.gives C.shows seat self.new }
@@ -299,7 +299,7 @@ impl<'a, B: AnswerBook + Drop, W: NameNotes, C: Clock + Timer> OpenLines<'a, B, 
             return;
         }
         let text = self.lines[place].text;
-        let line_outcome = line_outcome_of(self.alloc, wire, pinger, &self.sender, text, outcome);
+        let line_outcome = line_outcome_of(self.alloc, wire, pinger, &self.settings, text, outcome);
         put(&mut self.line_outcomes, place, Some(line_outcome));
     }
 
@@ -321,7 +321,7 @@ impl<'a, B: AnswerBook + Drop, W: NameNotes, C: Clock + Timer> OpenLines<'a, B, 
         ensures stays { B.belongs book.now seat.new }
         ensures stands { Stands W.gives C.shows (B.shown seat.new) self.new }
         ensures same { (self.new.told ≡ self.old.told) × (self.new.lines ≡ self.old.lines)
-            × (self.new.sender ≡ self.old.sender) }
+            × (self.new.settings ≡ self.old.settings) }
         ensures later { StaysSo W.gives C.shows (B.shown seat.old) (B.shown seat.new) }
     {
         if let Some(ended) = poll_over(rt, &mut self.resolver, book, seat, wire, clock) {
@@ -346,7 +346,7 @@ impl<'a, B: AnswerBook + Drop, W: MessageWire + Tracer, C: Clock> OpenLines<'a, 
             → IfSome result (λ told. TellsFirst W.gives C.shows seat style.entry self.old
             (O.contents output.old) (O.contents output.new) told.status) }
         ensures next { IfSome result (λ told. self.new.told ≡ self.old.told + 1) }
-        ensures same { (self.new.lines ≡ self.old.lines) × (self.new.sender ≡ self.old.sender) }
+        ensures same { (self.new.lines ≡ self.old.lines) × (self.new.settings ≡ self.old.settings) }
         ensures none { result ≡ None → (O.contents output.new ≡ O.contents output.old)
             × (self.new.told ≡ self.old.told) }
         ensures range { IfSome result (λ told. told.status ≤ 5) }
@@ -374,7 +374,7 @@ impl<'a, B: AnswerBook + Drop, W: MessageWire + Tracer, C: Clock> OpenLines<'a, 
     pub fn tell_all<O: Write>(&mut self, style: Style<'_>, wire: &mut W, output: &mut O) -> Told
         ensures stands { (seat : SeatView) → Stands W.gives C.shows seat self.old
             → Stands W.gives C.shows seat self.new }
-        ensures same { (self.new.lines ≡ self.old.lines) × (self.new.sender ≡ self.old.sender) }
+        ensures same { (self.new.lines ≡ self.old.lines) × (self.new.settings ≡ self.old.settings) }
         ensures tells { (seat : SeatView) → Stands W.gives C.shows seat self.old
             → (start : Option (List ℕ)) (before : List ℕ)
             → HasTold W.gives C.shows seat style.entry self.old start (O.contents output.old)

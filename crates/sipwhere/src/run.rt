@@ -10,10 +10,10 @@ ghost use Rattle.sipwhere.specs.Runs.{AreRun, IsRun, IsRunBy, IsRunOf, StaysSo, 
 use crate::counting_book::CountingBook;
 use crate::line::{Line, lines_of, numbered};
 use crate::line_input::LineInput;
+use crate::locate_settings::LocateSettings;
 use crate::noting_wire::{NameNotes, NotingWire};
 use crate::open_lines::OpenLines;
 use crate::progress::Progress;
-use crate::sender::Sender;
 use crate::stats::tell_stats;
 use crate::tell::{FAULT_TOLD, NOTHING_TOLD, Told};
 use answer_cache::{ListCache, Stores};
@@ -56,7 +56,7 @@ fn locate_open<
     requires stands { Stands W.gives C.shows (B.shown seat.old) lines.old }
     requires told { lines.old.told ≡ 0 }
     ensures stays { B.belongs book.now seat.new }
-    ensures run { AreRun W.gives C.shows (B.shown seat.new) lines.old.sender style.entry
+    ensures run { AreRun W.gives C.shows (B.shown seat.new) lines.old.settings style.entry
         lines.old.lines (O.contents output.old) (O.contents output.new) result.status }
     ensures later { StaysSo W.gives C.shows (B.shown seat.old) (B.shown seat.new) }
     ensures range { result.status ≤ 5 }
@@ -91,7 +91,7 @@ fn locate_side_by_side<
 >(
     rt: &R,
     alloc: Global,
-    sender: &Sender,
+    settings: &LocateSettings,
     style: Style<'_>,
     lines: &[Line<'_>],
     book: &B,
@@ -104,14 +104,14 @@ fn locate_side_by_side<
 ) -> Told
     requires made_here { B.belongs book.now seat.old }
     ensures stays { B.belongs book.now seat.new }
-    ensures run { AreRun W.gives C.shows (B.shown seat.new) sender.now style.entry lines.now
+    ensures run { AreRun W.gives C.shows (B.shown seat.new) settings.now style.entry lines.now
         (O.contents output.old) (O.contents output.new) result.status }
     ensures later { StaysSo W.gives C.shows (B.shown seat.old) (B.shown seat.new) }
     ensures range { result.status ≤ 5 }
     ensures closed { IsTrue result.is_closed → result.status ≡ 5 }
 {
     progress.begin(lines.len());
-    let Ok(mut open) = OpenLines::<B, W, C>::new(alloc, *sender, lines) else {
+    let Ok(mut open) = OpenLines::<B, W, C>::new(alloc, *settings, lines) else {
         return FAULT_TOLD;
     };
     let told = locate_open(
@@ -134,7 +134,7 @@ fn locate_in_turn<
 >(
     rt: &R,
     alloc: Global,
-    sender: &Sender,
+    settings: &LocateSettings,
     style: Style<'_>,
     lines: &[Line<'_>],
     book: &B,
@@ -147,7 +147,7 @@ fn locate_in_turn<
 ) -> Told
     requires made_here { B.belongs book.now seat.old }
     ensures stays { B.belongs book.now seat.new }
-    ensures run { IsRun W.gives C.shows (B.shown seat.new) sender.now style.entry lines.now
+    ensures run { IsRun W.gives C.shows (B.shown seat.new) settings.now style.entry lines.now
         (O.contents output.old) (O.contents output.new) result.status }
     ensures later { StaysSo W.gives C.shows (B.shown seat.old) (B.shown seat.new) }
     ensures range { result.status ≤ 5 }
@@ -157,7 +157,7 @@ fn locate_in_turn<
     'lines: for line in lines {
         let part = [*line];
         told = told.and(locate_side_by_side(
-            rt, alloc, sender, style, &part, book, seat, wire, clock, pinger, progress, output,
+            rt, alloc, settings, style, &part, book, seat, wire, clock, pinger, progress, output,
         ));
         if told.is_closed {
             break;
@@ -177,7 +177,7 @@ pub fn locate_lines<
 >(
     rt: &R,
     alloc: Global,
-    sender: &Sender,
+    settings: &LocateSettings,
     style: Style<'_>,
     lines: &[Line<'_>],
     book: &B,
@@ -190,19 +190,19 @@ pub fn locate_lines<
 ) -> Told
     requires made_here { B.belongs book.now seat.old }
     ensures stays { B.belongs book.now seat.new }
-    ensures run { IsRun W.gives C.shows (B.shown seat.new) sender.now style.entry lines.now
+    ensures run { IsRun W.gives C.shows (B.shown seat.new) settings.now style.entry lines.now
         (O.contents output.old) (O.contents output.new) result.status }
     ensures later { StaysSo W.gives C.shows (B.shown seat.old) (B.shown seat.new) }
     ensures range { result.status ≤ 5 }
     ensures closed { IsTrue result.is_closed → result.status ≡ 5 }
 {
-    if style.traced || sender.extent.is_some() {
+    if style.traced || settings.extent.is_some() {
         return locate_in_turn(
-            rt, alloc, sender, style, lines, book, seat, wire, clock, pinger, progress, output,
+            rt, alloc, settings, style, lines, book, seat, wire, clock, pinger, progress, output,
         );
     }
     locate_side_by_side(
-        rt, alloc, sender, style, lines, book, seat, wire, clock, pinger, progress, output,
+        rt, alloc, settings, style, lines, book, seat, wire, clock, pinger, progress, output,
     )
 }
 
@@ -218,7 +218,7 @@ fn locate_input<
 >(
     rt: &R,
     alloc: Global,
-    sender: &Sender,
+    settings: &LocateSettings,
     style: Style<'_>,
     book: &B,
     seat: &mut B::Seat,
@@ -232,7 +232,7 @@ fn locate_input<
     requires made_here { B.belongs book.now seat.old }
     ensures run { (result.status ≡ 5) ⊎ ((texts : List (List ℕ))
         × AreInputTexts (I.remaining input) texts
-        × IsRunOf W.gives C.shows (B.shown seat.new) sender.now style.entry texts
+        × IsRunOf W.gives C.shows (B.shown seat.new) settings.now style.entry texts
         (O.contents output.old) (O.contents output.new) result.status) }
     ensures range { result.status ≤ 5 }
 {
@@ -254,7 +254,7 @@ fn locate_input<
         let lines = lines.as_slice();
         first = first.saturating_add(lines.len() as u64);
         told = told.and(locate_lines(
-            rt, alloc, sender, style, lines, book, seat, wire, clock, pinger, progress, output,
+            rt, alloc, settings, style, lines, book, seat, wire, clock, pinger, progress, output,
         ));
         if told.is_closed {
             return told;
@@ -291,8 +291,8 @@ fn form_of(pinging: Option<Pinging>) -> PingForm {
     }
 }
 
-/// The sender of the requests.
-fn sender_of(options: &Options<'_>, plan: &Plan, key: [u8; 32]) -> Sender
+/// The settings by which the texts are located.
+fn settings_of(options: &Options<'_>, plan: &Plan, key: [u8; 32]) -> LocateSettings
     ensures caps { result.caps ≡ options.now.caps }
     ensures key { result.key ≡ key }
     ensures schedule { result.schedule ≡ plan.now.schedule }
@@ -300,7 +300,7 @@ fn sender_of(options: &Options<'_>, plan: &Plan, key: [u8; 32]) -> Sender
     ensures extent { result.extent ≡ extent_of options.now.pinging }
     ensures sent_by { result.by_sent_by ≡ options.now.by_sent_by }
 {
-    Sender {
+    LocateSettings {
         caps: options.caps,
         key,
         schedule: plan.schedule,
@@ -340,7 +340,7 @@ fn locate_texts<
 >(
     rt: &R,
     alloc: Global,
-    sender: &Sender,
+    settings: &LocateSettings,
     style: Style<'_>,
     texts: &[&str],
     book: &B,
@@ -352,7 +352,7 @@ fn locate_texts<
     output: &mut O,
 ) -> Told
     requires made_here { B.belongs book.now seat.old }
-    ensures run { (result.status ≡ 5) ⊎ IsRunOf W.gives C.shows (B.shown seat.new) sender.now
+    ensures run { (result.status ≡ 5) ⊎ IsRunOf W.gives C.shows (B.shown seat.new) settings.now
         style.entry (map (λ text. text.now) texts.now) (O.contents output.old)
         (O.contents output.new) result.status }
     ensures range { result.status ≤ 5 }
@@ -363,7 +363,7 @@ fn locate_texts<
     locate_lines(
         rt,
         alloc,
-        sender,
+        settings,
         style,
         lines.as_slice(),
         book,
@@ -399,7 +399,7 @@ fn locate_all<
     rt: &R,
     alloc: Global,
     options: &Options<'_>,
-    sender: &Sender,
+    settings: &LocateSettings,
     book: &B,
     seat: &mut B::Seat,
     wire: &mut W,
@@ -410,7 +410,7 @@ fn locate_all<
     output: &mut O,
 ) -> Told
     requires made_here { B.belongs book.now seat.old }
-    ensures run { (result.status ≡ 5) ⊎ IsRunBy W.gives C.shows (B.shown seat.new) sender.now
+    ensures run { (result.status ≡ 5) ⊎ IsRunBy W.gives C.shows (B.shown seat.new) settings.now
         options.now (I.remaining input) (O.contents output.old) (O.contents output.new)
         result.status }
     ensures range { result.status ≤ 5 }
@@ -419,12 +419,12 @@ fn locate_all<
     if is_from_input(texts) {
         let style = options.style(true);
         return locate_input(
-            rt, alloc, sender, style, book, seat, wire, clock, pinger, progress, input, output,
+            rt, alloc, settings, style, book, seat, wire, clock, pinger, progress, input, output,
         );
     }
     let style = options.style(texts.len() > 1);
     locate_texts(
-        rt, alloc, sender, style, texts, book, seat, wire, clock, pinger, progress, output,
+        rt, alloc, settings, style, texts, book, seat, wire, clock, pinger, progress, output,
     )
 }
 
@@ -433,7 +433,7 @@ fn run_wire<R: Wait + Input + Print + Eprint + Net + time::Clock>(
     rt: &R,
     alloc: Global,
     options: &Options<'_>,
-    sender: &Sender,
+    settings: &LocateSettings,
     wire: &mut NotingWire<HostWire<'_, R>>,
     clock: &RunClock<'_, R>,
 ) -> u8
@@ -441,13 +441,13 @@ fn run_wire<R: Wait + Input + Print + Eprint + Net + time::Clock>(
 {
     let (book, seat) = ListCache::new(alloc);
     let (book, mut seat) = CountingBook::new(book, seat);
-    let mut pinger = ServerPinger::new(rt, random_pings(sender.key), form_of(options.pinging));
+    let mut pinger = ServerPinger::new(rt, random_pings(settings.key), form_of(options.pinging));
     let mut progress = Progress::new(options.shows_progress);
     let told = locate_all(
         rt,
         alloc,
         options,
-        sender,
+        settings,
         &book,
         &mut seat,
         wire,
@@ -479,8 +479,8 @@ fn run_over<R: Wait + Input + Print + Eprint + Net + time::Clock>(
     let clock = RunClock::start(rt)?;
     let wire = open_wire(rt, alloc, servers, options.local, asks, key)?;
     let mut wire = NotingWire::new(alloc, wire);
-    let sender = sender_of(options, plan, key);
-    let status = run_wire(rt, alloc, options, &sender, &mut wire, &clock);
+    let settings = settings_of(options, plan, key);
+    let status = run_wire(rt, alloc, options, &settings, &mut wire, &clock);
     drop(wire);
     Ok(status)
 }

@@ -11,12 +11,12 @@ ghost use Rattle.sipwhere.specs.LineOutcomes.{EndsAs, EndsSo, IsMissing, IsOfLin
 
 use crate::destination::{Destination, destination_of, law_one_destination_of_a_text};
 use crate::line::Line;
+use crate::locate_settings::LocateSettings;
 use crate::noting_wire::NameNotes;
-use crate::sender::Sender;
 use answer_cache::AnswerBook;
 use dns_name::Name;
 use sip_report::LineOutcome;
-use sip_resolver::{Ids, Origin, Outcome, Resolver, TargetList, draw_words};
+use sip_resolver::{Facts, Ids, Outcome, Resolver, TargetList, draw_words};
 use sip_selection::{Reason, Request, Target, read_request};
 use sip_tries::{Extent, Pinger, try_targets};
 use sip_uri::{Host, UriRefusal};
@@ -57,13 +57,13 @@ fn named(alloc: Global, target: Target, host: Host) -> LineOutcome
 
 /// The request that is located for a text, or what became of the text already: it is none, it asks
 /// for a target that the parameters of its Via name, or memory was refused for it.
-fn located_of(alloc: Global, sender: &Sender, text: &str) -> Result<Request, LineOutcome>
-    ensures found { IfOk result (spec.IsOnlyLocated sender.now text.now) }
-    ensures ready { IfErr result (spec.IsReady sender.now text.now) }
+fn located_of(alloc: Global, settings: &LocateSettings, text: &str) -> Result<Request, LineOutcome>
+    ensures found { IfOk result (spec.IsOnlyLocated settings.now text.now) }
+    ensures ready { IfErr result (spec.IsReady settings.now text.now) }
 {
     law_one_destination_of_a_text();
     let request = request_of(alloc, text)?;
-    match destination_of(alloc, sender, text, request) {
+    match destination_of(alloc, settings, text, request) {
         Ok(Destination::Located(request)) => Ok(request),
         Ok(Destination::Named(target, host)) => Err(named(alloc, target, host)),
         Err(_) => Err(LineOutcome::Memory),
@@ -72,28 +72,28 @@ fn located_of(alloc: Global, sender: &Sender, text: &str) -> Result<Request, Lin
 
 /// Hands the request of a text to a resolver, under this number, or gives what became of the text
 /// already: it is no request, it asks for a target that its Via names, or memory was refused.
-pub fn submit<B: AnswerBook, F: Origin, I: Ids + Drop>(
+pub fn submit<B: AnswerBook, F: Facts, I: Ids + Drop>(
     alloc: Global,
     resolver: &mut Resolver<B, F, I>,
     number: u64,
-    sender: &Sender,
+    settings: &LocateSettings,
     line: &Line<'_>,
 ) -> Option<LineOutcome>
     ensures stand { (seat : SeatView) → Stand F.gives F.shows seat resolver.old.requests
         → Stand F.gives F.shows seat resolver.new.requests }
     // The request that is inside after it is that of the text.
     ensures weighs { (h : Sought → ℕ)
-        → ((sought : Sought) → sought.number ≡ number → IsOfLine sender.now line.now sought
+        → ((sought : Sought) → sought.number ≡ number → IsOfLine settings.now line.now sought
         → h sought ≡ 0)
         → weight h resolver.new.requests ≡ weight h resolver.old.requests }
-    ensures line_outcome { IfSome result (NeedsNoReply sender.now line.now.text.now) }
+    ensures line_outcome { IfSome result (NeedsNoReply settings.now line.now.text.now) }
 {
-    let request = match located_of(alloc, sender, line.text) {
+    let request = match located_of(alloc, settings, line.text) {
         Ok(request) => request,
         Err(line_outcome) => return Some(line_outcome),
     };
-    let words = draw_words(sender.key, line.number);
-    match resolver.submit(number, request, sender.caps, words, None) {
+    let words = draw_words(settings.key, line.number);
+    match resolver.submit(number, request, settings.caps, words, None) {
         Ok(()) => None,
         Err(_) => Some(LineOutcome::Memory),
     }
@@ -199,23 +199,23 @@ pub fn line_outcome_of<W: NameNotes, P: Pinger>(
     alloc: Global,
     wire: &W,
     pinger: &mut P,
-    sender: &Sender,
+    settings: &LocateSettings,
     text: &str,
     outcome: Outcome,
 ) -> LineOutcome
-    ensures { EndsAs W.gives sender.now text.now outcome result }
+    ensures { EndsAs W.gives settings.now text.now outcome result }
 {
-    match located_of(alloc, sender, text) {
-        Ok(request) => became(alloc, wire, pinger, sender.extent, &request, outcome),
+    match located_of(alloc, settings, text) {
+        Ok(request) => became(alloc, wire, pinger, settings.extent, &request, outcome),
         Err(line_outcome) => line_outcome,
     }
 }
 
 /// What became of a text whose time is over.
-pub fn line_outcome_in_vain(alloc: Global, sender: &Sender, text: &str) -> LineOutcome
-    ensures { NeedsNoReply sender.now text.now result }
+pub fn timed_out(alloc: Global, settings: &LocateSettings, text: &str) -> LineOutcome
+    ensures { NeedsNoReply settings.now text.now result }
 {
-    match located_of(alloc, sender, text) {
+    match located_of(alloc, settings, text) {
         Ok(_) => LineOutcome::TimeOver,
         Err(line_outcome) => line_outcome,
     }

@@ -10,13 +10,13 @@ use answer_cache::{AnswerBook, Stores};
 use dns_answers::Moment;
 use dns_zone::Zone;
 use row_fields::{Fault, Output};
-use sip_resolver::{Origin, Over, Resolver};
+use sip_resolver::{DnsTransport, Facts, Resolver};
 
 /// How many queries are answered at one moment at most.
 const SERVE_LIMIT: usize = 1_000;
 
 /// Submits a request.
-pub(crate) fn submit<B: AnswerBook, F: Origin>(
+pub(crate) fn submit<B: AnswerBook, F: Facts>(
     output: &mut Output,
     resolver: &mut Resolver<B, F, LineIds>,
     submitted: Submitted,
@@ -38,7 +38,7 @@ pub(crate) fn submit<B: AnswerBook, F: Origin>(
 }
 
 /// Polls what is to be sent.
-pub(crate) fn poll<B: AnswerBook, F: Origin>(
+pub(crate) fn poll<B: AnswerBook, F: Facts>(
     output: &mut Output,
     resolver: &mut Resolver<B, F, LineIds>,
     book: &B,
@@ -59,7 +59,7 @@ pub(crate) fn poll<B: AnswerBook, F: Origin>(
 }
 
 /// Polls what is to be sent, and shows its octets.
-pub(crate) fn poll_octets<B: AnswerBook, F: Origin>(
+pub(crate) fn poll_octets<B: AnswerBook, F: Facts>(
     output: &mut Output,
     resolver: &mut Resolver<B, F, LineIds>,
     book: &B,
@@ -80,7 +80,7 @@ pub(crate) fn poll_octets<B: AnswerBook, F: Origin>(
 }
 
 /// Polls what is to be sent, and shows which send of its question it is.
-pub(crate) fn poll_send<B: AnswerBook, F: Origin>(
+pub(crate) fn poll_send<B: AnswerBook, F: Facts>(
     output: &mut Output,
     resolver: &mut Resolver<B, F, LineIds>,
     book: &B,
@@ -105,14 +105,14 @@ pub(crate) fn poll_send<B: AnswerBook, F: Origin>(
 }
 
 /// Hands octets in.
-pub(crate) fn hear<B: Stores<R>, F: Origin, R>(
+pub(crate) fn hear<B: Stores<R>, F: Facts, R>(
     rt: &R,
     output: &mut Output,
     resolver: &mut Resolver<B, F, LineIds>,
     book: &B,
     seat: &mut B::Seat,
     now: Moment,
-    over: Over,
+    over: DnsTransport,
     octets: &[u8],
 )
     requires made_here { B.belongs book.now seat.old }
@@ -127,7 +127,7 @@ pub(crate) fn hear<B: Stores<R>, F: Origin, R>(
 }
 
 /// Cancels the request of a number.
-pub(crate) fn cancel<B: AnswerBook, F: Origin>(
+pub(crate) fn cancel<B: AnswerBook, F: Facts>(
     output: &mut Output,
     resolver: &mut Resolver<B, F, LineIds>,
     number: u64,
@@ -139,7 +139,7 @@ pub(crate) fn cancel<B: AnswerBook, F: Origin>(
 }
 
 /// Ends the wait for the reply to the question of an id, which no server takes.
-pub(crate) fn close<B: AnswerBook, F: Origin>(
+pub(crate) fn close<B: AnswerBook, F: Facts>(
     output: &mut Output,
     resolver: &mut Resolver<B, F, LineIds>,
     id: u16,
@@ -151,7 +151,7 @@ pub(crate) fn close<B: AnswerBook, F: Origin>(
 }
 
 /// Writes the id of the question that the request of a number waits for.
-pub(crate) fn push_awaited<B: AnswerBook, F: Origin>(
+pub(crate) fn push_awaited<B: AnswerBook, F: Facts>(
     output: &mut Output,
     resolver: &Resolver<B, F, LineIds>,
     number: u64,
@@ -163,7 +163,7 @@ pub(crate) fn push_awaited<B: AnswerBook, F: Origin>(
 }
 
 /// Polls an outcome.
-pub(crate) fn outcome<B: AnswerBook, F: Origin>(
+pub(crate) fn outcome<B: AnswerBook, F: Facts>(
     output: &mut Output,
     resolver: &mut Resolver<B, F, LineIds>,
 )
@@ -183,9 +183,9 @@ pub(crate) fn outcome<B: AnswerBook, F: Origin>(
 fn take_sent(
     output: &mut Output,
     zone: &Zone,
-    replies: &mut Vec<(Over, Vec<u8>)>,
+    replies: &mut Vec<(DnsTransport, Vec<u8>)>,
     octets: &[u8],
-    over: Over,
+    over: DnsTransport,
 ) {
     push_sent(output, octets, over);
     match zone.answer_datagram(output.alloc(), octets) {
@@ -196,14 +196,14 @@ fn take_sent(
 }
 
 /// Sends what is to be sent next, and keeps the zone's reply. Gives whether there was anything.
-fn send_next<B: AnswerBook, F: Origin>(
+fn send_next<B: AnswerBook, F: Facts>(
     output: &mut Output,
     resolver: &mut Resolver<B, F, LineIds>,
     book: &B,
     seat: &mut B::Seat,
     zone: &Zone,
     now: Moment,
-    replies: &mut Vec<(Over, Vec<u8>)>,
+    replies: &mut Vec<(DnsTransport, Vec<u8>)>,
 ) -> bool
     requires made_here { B.belongs book.now seat.old }
     requires shown { F.shows now }
@@ -221,14 +221,14 @@ fn send_next<B: AnswerBook, F: Origin>(
 }
 
 /// Sends all that is to be sent at a moment, and keeps the zone's replies.
-fn send_all<B: AnswerBook, F: Origin>(
+fn send_all<B: AnswerBook, F: Facts>(
     output: &mut Output,
     resolver: &mut Resolver<B, F, LineIds>,
     book: &B,
     seat: &mut B::Seat,
     zone: &Zone,
     now: Moment,
-) -> Vec<(Over, Vec<u8>)>
+) -> Vec<(DnsTransport, Vec<u8>)>
     requires made_here { B.belongs book.now seat.old }
     requires shown { F.shows now }
     requires stand { Stand F.gives F.shows (B.shown seat.old) resolver.old.requests }
@@ -245,7 +245,7 @@ fn send_all<B: AnswerBook, F: Origin>(
 }
 
 /// Sends all that is to be sent at a moment, and hands in the zone's replies.
-pub(crate) fn serve<B: Stores<R>, F: Origin, R>(
+pub(crate) fn serve<B: Stores<R>, F: Facts, R>(
     rt: &R,
     output: &mut Output,
     resolver: &mut Resolver<B, F, LineIds>,

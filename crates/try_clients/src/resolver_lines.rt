@@ -5,17 +5,17 @@ use crate::lookups::{
 use dns_answers::ReplyRefusal;
 use dns_message::{Asked, Kind, Message, Question, read_message};
 use row_fields::{Fault, Output};
-use sip_resolver::{Heard, Outcome, Over};
+use sip_resolver::{DnsTransport, Outcome, ReplyOutcome};
 use sip_selection::{Reason, Target};
 use sip_uri::Transport;
 use std::alloc::AllocError;
 
 /// Writes what octets meant.
-pub(crate) fn push_heard(output: &mut Output, heard: Result<Heard, AllocError>) {
+pub(crate) fn push_heard(output: &mut Output, heard: Result<ReplyOutcome, AllocError>) {
     match heard {
-        Ok(Heard::Reply) => output.push_line("reply"),
-        Ok(Heard::Cut) => output.push_line("cut"),
-        Ok(Heard::Ignored(why)) => {
+        Ok(ReplyOutcome::Reply) => output.push_line("reply"),
+        Ok(ReplyOutcome::Cut) => output.push_line("cut"),
+        Ok(ReplyOutcome::Ignored(why)) => {
             output.push("ignored ");
             push_debug_line(output, &why);
         }
@@ -24,15 +24,15 @@ pub(crate) fn push_heard(output: &mut Output, heard: Result<Heard, AllocError>) 
 }
 
 /// The word for what octets go over.
-fn over_word(over: Over) -> &'static str {
+fn over_word(over: DnsTransport) -> &'static str {
     match over {
-        Over::Datagram => "datagram ",
-        Over::Stream => "stream ",
+        DnsTransport::Datagram => "datagram ",
+        DnsTransport::Stream => "stream ",
     }
 }
 
 /// Writes octets that are sent.
-pub(crate) fn push_sent_octets(output: &mut Output, octets: &[u8], over: Over) {
+pub(crate) fn push_sent_octets(output: &mut Output, octets: &[u8], over: DnsTransport) {
     output.push(over_word(over));
     output.push_octets_line(octets);
 }
@@ -66,7 +66,7 @@ fn push_asked_of(output: &mut Output, questions: &[Asked]) {
 }
 
 /// Writes a message: what it goes over, its id, and its question.
-fn push_message(output: &mut Output, message: &Message, over: Over) {
+fn push_message(output: &mut Output, message: &Message, over: DnsTransport) {
     output.push(over_word(over));
     output.push_number(u64::from(message.header.id));
     output.push(" ");
@@ -75,7 +75,7 @@ fn push_message(output: &mut Output, message: &Message, over: Over) {
 }
 
 /// Writes the message that is sent in octets.
-pub(crate) fn push_sent(output: &mut Output, octets: &[u8], over: Over) {
+pub(crate) fn push_sent(output: &mut Output, octets: &[u8], over: DnsTransport) {
     match read_message(output.alloc(), octets) {
         Ok(message) => {
             push_message(output, &message, over);

@@ -5,7 +5,7 @@ use dns_answers::Moment;
 use rand_chacha::ChaCha20Rng;
 use rand_core::SeedableRng;
 use row_fields::{Fault, number16, number64, octets, split_word};
-use sip_resolver::{CountingIds, Ids, Limits, Over, RandomIds, Schedule};
+use sip_resolver::{CountingIds, DnsTransport, Ids, Limits, RandomIds, Schedule};
 use sip_selection::{Caps, Families, Request};
 use sip_uri::{Transport, read_uri, read_via};
 use srv_choice::{WORD_COUNT, Words};
@@ -78,7 +78,7 @@ pub(crate) enum Step {
     /// The same, and which send of its question it is is shown.
     PollSend(Moment, Moment),
     /// Octets come in.
-    Hear(Moment, Over, Vec<u8>),
+    Hear(Moment, DnsTransport, Vec<u8>),
     /// Everything that is to be sent is answered by the zone.
     Serve(Moment),
     /// The request of a number is cancelled.
@@ -138,7 +138,7 @@ fn limits_of(requests: &str, questions: &str, over: &str) -> Result<Limits, Faul
     Ok(Limits {
         requests: usize::from(number16(requests)?),
         questions: usize::from(number16(questions)?),
-        streams: over_of(over)? == Over::Stream,
+        streams: over_of(over)? == DnsTransport::Stream,
     })
 }
 
@@ -162,10 +162,10 @@ pub(crate) fn setting_of(alloc: Global, line: &str) -> Result<Setting, Fault> {
 }
 
 /// What octets go over.
-fn over_of(word: &str) -> Result<Over, Fault> {
+fn over_of(word: &str) -> Result<DnsTransport, Fault> {
     match word {
-        "datagram" => Ok(Over::Datagram),
-        "stream" => Ok(Over::Stream),
+        "datagram" => Ok(DnsTransport::Datagram),
+        "stream" => Ok(DnsTransport::Stream),
         _ => Err(Fault::Form),
     }
 }

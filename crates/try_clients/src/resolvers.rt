@@ -13,7 +13,7 @@ use crate::schedules::is_in_range;
 use answer_cache::{AnswerBook, ListCache, Stores};
 use dns_zone::Zone;
 use row_fields::{Fault, Output, first_line, only_line};
-use sip_resolver::{Anything, Limits, Origin, Resolver, Schedule, rounded_up};
+use sip_resolver::{Facts, Limits, NoFacts, Resolver, Schedule, rounded_up};
 use std::alloc::Global;
 use std::sync::Wait;
 
@@ -85,7 +85,7 @@ fn are_limits(limits: Limits) -> bool
 }
 
 /// A resolver in which no request is, where there is memory for it.
-fn empty<B: AnswerBook, F: Origin>(
+fn empty<B: AnswerBook, F: Facts>(
     alloc: Global,
     limits: Limits,
     schedule: Schedule,
@@ -117,7 +117,7 @@ fn play_new<R: Wait>(rt: &R, output: &mut Output, setting: Setting, zone: &Zone,
         schedule,
         ids,
     } = setting;
-    let Some(mut resolver) = empty::<ListCache, Anything>(alloc, limits, schedule, ids) else {
+    let Some(mut resolver) = empty::<ListCache, NoFacts>(alloc, limits, schedule, ids) else {
         output.fail(Fault::Memory);
         return;
     };
@@ -129,7 +129,7 @@ fn play_new<R: Wait>(rt: &R, output: &mut Output, setting: Setting, zone: &Zone,
 }
 
 /// Plays steps to a resolver.
-fn play<B: Stores<R>, F: Origin, R>(
+fn play<B: Stores<R>, F: Facts, R>(
     rt: &R,
     output: &mut Output,
     resolver: &mut Resolver<B, F, LineIds>,
@@ -149,7 +149,7 @@ fn play<B: Stores<R>, F: Origin, R>(
 }
 
 /// What a resolver gives for a step.
-fn does<B: Stores<R>, F: Origin, R>(
+fn does<B: Stores<R>, F: Facts, R>(
     rt: &R,
     output: &mut Output,
     resolver: &mut Resolver<B, F, LineIds>,

@@ -10,7 +10,7 @@ use dns_zone::Zone;
 use rand_chacha::ChaCha20Rng;
 use rand_core::{Rng, SeedableRng};
 use sip_resolver::{
-    Anything, CountingIds, Limits, Origin, Outcome, Over, Resolver, TargetList, rounded_up,
+    CountingIds, DnsTransport, Facts, Limits, NoFacts, Outcome, Resolver, TargetList, rounded_up,
 };
 use sip_selection::{Caps, Families, Request};
 use sip_uri::Transport::Udp;
@@ -86,7 +86,7 @@ impl Wire {
 }
 
 /// A resolver in which no request is, where there is memory for it.
-fn empty<B: AnswerBook, F: Origin>(alloc: Global) -> Option<Resolver<B, F, CountingIds>>
+fn empty<B: AnswerBook, F: Facts>(alloc: Global) -> Option<Resolver<B, F, CountingIds>>
     ensures { (seat : SeatView) → IfSome result
         (λ made. Stand F.gives F.shows seat made.requests) }
 {
@@ -97,7 +97,7 @@ fn empty<B: AnswerBook, F: Origin>(alloc: Global) -> Option<Resolver<B, F, Count
 }
 
 /// Takes a request to this URI in.
-fn add<B: AnswerBook, F: Origin>(
+fn add<B: AnswerBook, F: Facts>(
     resolver: &mut Resolver<B, F, CountingIds>,
     alloc: Global,
     number: u64,
@@ -115,7 +115,7 @@ fn add<B: AnswerBook, F: Origin>(
 }
 
 /// Takes all requests in: request n to domain n modulo a hundred.
-fn add_all<B: AnswerBook, F: Origin>(
+fn add_all<B: AnswerBook, F: Facts>(
     resolver: &mut Resolver<B, F, CountingIds>,
     alloc: Global,
 ) -> Option<()>
@@ -132,7 +132,7 @@ fn add_all<B: AnswerBook, F: Origin>(
 
 /// Sends what is to be sent next, and hears the reply at once if it comes. Whether anything was
 /// sent.
-fn sends_one<R, B: Stores<R>, F: Origin>(
+fn sends_one<R, B: Stores<R>, F: Facts>(
     rt: &R,
     alloc: Global,
     resolver: &mut Resolver<B, F, CountingIds>,
@@ -153,13 +153,20 @@ fn sends_one<R, B: Stores<R>, F: Origin>(
         return false;
     };
     if let Some(reply) = wire.carries(alloc, query.octets) {
-        let _heard = resolver.handle(rt, book, seat, now, Over::Datagram, reply.as_slice());
+        let _heard = resolver.handle(
+            rt,
+            book,
+            seat,
+            now,
+            DnsTransport::Datagram,
+            reply.as_slice(),
+        );
     }
     true
 }
 
 /// Goes on until no question is out.
-fn finish<R, B: Stores<R>, F: Origin>(
+fn finish<R, B: Stores<R>, F: Facts>(
     rt: &R,
     alloc: Global,
     resolver: &mut Resolver<B, F, CountingIds>,
@@ -208,7 +215,7 @@ fn is_right(number: u64, list: &TargetList) -> bool {
 }
 
 /// What became of the requests. That none ends twice is proved (`law_requests_are_kept`).
-fn counted<B: AnswerBook, F: Origin>(resolver: &mut Resolver<B, F, CountingIds>) -> Counts {
+fn counted<B: AnswerBook, F: Facts>(resolver: &mut Resolver<B, F, CountingIds>) -> Counts {
     let mut counts = Counts {
         right: 0,
         gave_up: 0,
@@ -225,7 +232,7 @@ fn counted<B: AnswerBook, F: Origin>(resolver: &mut Resolver<B, F, CountingIds>)
 
 /// What becomes of the requests over this wire.
 fn outcomes(rt: &impl Wait, alloc: Global, wire: &mut Wire) -> Option<Counts> {
-    let mut resolver = empty::<ListCache, Anything>(alloc)?;
+    let mut resolver = empty::<ListCache, NoFacts>(alloc)?;
     add_all(&mut resolver, alloc)?;
     let (book, mut seat) = ListCache::new(alloc);
     finish(rt, alloc, &mut resolver, &book, &mut seat, wire);

@@ -15,9 +15,9 @@ use Rattle.dns_queries.specs.declared.incoming.Incoming.TheVariants as incoming
 use Rattle.dns_message.specs.declared.question.Question.{Question}
 use Rattle.sip_resolver.specs.Outcomes.{Ended, IsReplied}
 use Rattle.sip_resolver.specs.Questions.{QuestionsView, asking_over}
-use Rattle.sip_resolver.specs.declared.resolver.Heard.{Heard}
+use Rattle.sip_resolver.specs.declared.resolver.ReplyOutcome.{ReplyOutcome}
 use Rattle.sip_resolver.specs.declared.resolver.Limits.{Limits}
-use Rattle.sip_resolver.specs.declared.transmit.Over.{Over}
+use Rattle.sip_resolver.specs.declared.transmit.DnsTransport.{DnsTransport}
 use Rattle.wokhleas.specs.Rests.{AllRestOn, GainsFrom, KeepsAnswers, RestsOn}
 use Rattle.wokhleas.specs.States.{Cancels, GenerationView, GoesBy, HandsToBook, IsReceived, Receives, SameSeats, StateView, StaysBy, Takes, Tells, begun_generation, begun_state, none, older, reply, younger}
 use Rattle.wokhleas.specs.declared.told.ToldOutcome.{ToldOutcome}
@@ -65,7 +65,7 @@ module _ (given : List (List ℕ)) (octets : List ℕ) where
   older-rests-too (Some before) it = rests-too before.seat it
 
   -- octets that mean an answer are a reply with it
-  replied-by : (over : Over) (questions : QuestionsView) (id : ℕ) (question : Question) (found : AnswerValue)
+  replied-by : (over : DnsTransport) (questions : QuestionsView) (id : ℕ) (question : Question) (found : AnswerValue)
       → Means (asking_over over questions) octets (incoming.Ended id question (endings.Answered found))
       → IsReplied (Contains more) question found
   replied-by over questions id question found it = record {
@@ -89,7 +89,7 @@ module _ (given : List (List ℕ)) (octets : List ℕ) where
     offered = All-push (Handed more) seat.offered offer it.offered handed;
   }
 
-  handed-rests : (over : Over) (now : ℕ) (questions : QuestionsView) (old new : SeatView)
+  handed-rests : (over : DnsTransport) (now : ℕ) (questions : QuestionsView) (old new : SeatView)
       → HandsToBook over octets now questions old new → RestsOn given old → RestsOn more new
   handed-rests over now questions old new (none same) it = subst (λ (s : SeatView). RestsOn more s) (sym same) (rests-too old it)
   handed-rests over now questions old new (reply id question found means (inl is)) it =
@@ -150,7 +150,7 @@ tells-keeps told old new tells given it =
     subst (λ (s : StateView). AllRestOn given s) (sym tells.is) (record { current = rests.current; draining = rests.draining })
 
 -- octets come in
-pub receives-gains : (over : Over) (octets : List ℕ) (now : ℕ) (heard : Heard) (old new : StateView)
+pub receives-gains : (over : DnsTransport) (octets : List ℕ) (now : ℕ) (heard : ReplyOutcome) (old new : StateView)
     → Receives over octets now heard old new → GainsFrom octets old new
 receives-gains over octets now heard old new (younger after it is) given rests =
     subst (λ (s : StateView). AllRestOn (given ++ octets ∷ []) s) (sym is) (record {

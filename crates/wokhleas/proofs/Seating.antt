@@ -5,8 +5,8 @@ use Rattle.answer_cache.specs.Lists.{IsListSeat}
 use Rattle.answer_cache.specs.Seats.{Offer, SeatView, StoresNothing, offer_of, store_of}
 use Rattle.sip_resolver.specs.Questions.{QuestionsView}
 use Rattle.sip_resolver.specs.Resolvers.{HandsIn, Hears, LeavesSeat, ResolverView, answer, nothing}
-use Rattle.sip_resolver.specs.declared.resolver.Heard.{Heard}
-use Rattle.sip_resolver.specs.declared.transmit.Over.{Over}
+use Rattle.sip_resolver.specs.declared.resolver.ReplyOutcome.{ReplyOutcome}
+use Rattle.sip_resolver.specs.declared.transmit.DnsTransport.{DnsTransport}
 use Rattle.wokhleas.specs.States.{HandsToBook, Learns, none, reply}
 use Rattle.wokhleas.proofs.Soundness.{at_seat}
 
@@ -34,7 +34,7 @@ module _ (old new : SeatView) (was : IsListSeat old) (is : IsListSeat new) (numb
   unchanged it = same-stores old.offered it.own it.offered
 
   -- what octets hand in
-  handed : (over : Over) (octets : List ℕ) (now : ℕ) (questions : QuestionsView)
+  handed : (over : DnsTransport) (octets : List ℕ) (now : ℕ) (questions : QuestionsView)
       → HandsIn over octets now questions old new → HandsToBook over octets now questions old new
   handed over octets now questions (nothing it) = none (unchanged it)
   handed over octets now questions (answer id question found means (offered, inl own)) =
@@ -44,7 +44,7 @@ module _ (old new : SeatView) (was : IsListSeat old) (is : IsListSeat new) (numb
       (inr (more-stores (old.offered ++ offer_of question found now ∷ []) (store_of old (offer_of question found now)) own offered))
 
   -- what they leave of the generation at the seat
-  pub learned : (over : Over) (octets : List ℕ) (now : ℕ) (heard : Heard) (core after : ResolverView)
+  pub learned : (over : DnsTransport) (octets : List ℕ) (now : ℕ) (heard : ReplyOutcome) (core after : ResolverView)
       → Hears core after over octets heard → HandsIn over octets now core.questions old new → LeavesSeat old new heard
       → Learns over octets now heard (at_seat old core) (at_seat new after)
   learned over octets now heard core after hears hands leaves =

@@ -1,7 +1,7 @@
 -- The numbers that stand for choices in C.
 use Rattle.std.specs.Prelude.{ℕ}
-use Rattle.sip_resolver.specs.declared.transmit.Over.{Over}
-use Rattle.sip_resolver.specs.declared.transmit.Over.TheVariants.{Datagram, Stream}
+use Rattle.sip_resolver.specs.declared.transmit.DnsTransport.{DnsTransport}
+use Rattle.sip_resolver.specs.declared.transmit.DnsTransport.TheVariants.{Datagram, Stream}
 use Rattle.sip_uri.specs.declared.transport.Transport.{Transport}
 use Rattle.sip_uri.specs.declared.transport.Transport.TheVariants.{Udp, Tcp, Tls, Sctp}
 
@@ -13,6 +13,6 @@ number_of Tls = 3
 number_of Sctp = 4
 
 -- the number of what a message goes over
-abbrev pub number_of_over : Over → ℕ
+abbrev pub number_of_over : DnsTransport → ℕ
 number_of_over Datagram = 1
 number_of_over Stream = 2

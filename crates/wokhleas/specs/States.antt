@@ -15,9 +15,9 @@ use Rattle.sip_resolver.specs.Outcomes.{Ended, IsOutcome}
 use Rattle.sip_resolver.specs.Questions.{QuestionsView, asking_over}
 use Rattle.sip_resolver.specs.Requests.{Stand, numbers_of}
 use Rattle.sip_resolver.specs.Resolvers.{Hears, IsTaken, LeavesSeat, ResolverView, begun_of, with_request}
-use Rattle.sip_resolver.specs.declared.resolver.Heard.{Heard}
-use Rattle.sip_resolver.specs.declared.resolver.Heard.TheVariants.{Ignored}
-use Rattle.sip_resolver.specs.declared.transmit.Over.{Over}
+use Rattle.sip_resolver.specs.declared.resolver.ReplyOutcome.{ReplyOutcome}
+use Rattle.sip_resolver.specs.declared.resolver.ReplyOutcome.TheVariants.{Ignored}
+use Rattle.sip_resolver.specs.declared.transmit.DnsTransport.{DnsTransport}
 use Rattle.sip_resolver.specs.declared.resolver.Limits.{Limits}
 use Rattle.sip_selection.specs.declared.caps.Caps.{Caps}
 use Rattle.sip_selection.specs.declared.request.Request.{Request}
@@ -142,7 +142,8 @@ pub record Cancels (number : ℕ) (old new : StateView) : Type 0 where
 
 -- These octets are the query of a question that is out over this, which was sent so often with it
 -- (RFC 1035 4.1.1).
-pub record IsQuery (over : Over) (send : ℕ) (octets : List ℕ) (it : QuestionsView) : Type 0 where
+pub record IsQuery (over : DnsTransport) (send : ℕ) (octets : List ℕ) (it : QuestionsView)
+    : Type 0 where
   pub id : ℕ
   pub ticket : Ticket
   pub out : ticket_of id (asking_over over it).tickets ≡ Some ticket
@@ -154,7 +155,8 @@ abbrev pub IsWritten : Sent → List ℕ → QuestionsView → Type 0
 IsWritten sent buffer it = IsQuery sent.over sent.send (take sent.length buffer) it
 
 -- octets are a query of the younger generation, or of the older one
-pub data IsQueryOf (over : Over) (send : ℕ) (octets : List ℕ) (it : StateView) : Type 0 where
+pub data IsQueryOf (over : DnsTransport) (send : ℕ) (octets : List ℕ) (it : StateView)
+    : Type 0 where
   of_younger : IsQuery over send octets it.current.core.questions
       → IsQueryOf over send octets it
   of_older : (older : GenerationView) → it.draining ≡ Some older
@@ -164,7 +166,7 @@ pub data IsQueryOf (over : Over) (send : ℕ) (octets : List ℕ) (it : StateVie
 -- by this number
 pub record IsTransmitted (message : ToldMessage) (buffer : List ℕ) (new : StateView) : Type 0
   where
-    pub over : Over
+    pub over : DnsTransport
     pub numbered : number_of_over over ≡ message.over
     pub query : IsQueryOf over message.send (take message.length buffer) new
 
@@ -172,7 +174,7 @@ pub record IsTransmitted (message : ToldMessage) (buffer : List ℕ) (new : Stat
 
 -- What octets that came in over this hand to a generation's book at a moment: nothing, or the
 -- answer that they have to a question that is out. The book stores that or nothing.
-pub data HandsToBook (over : Over) (octets : List ℕ) (now : ℕ) (questions : QuestionsView)
+pub data HandsToBook (over : DnsTransport) (octets : List ℕ) (now : ℕ) (questions : QuestionsView)
     (old new : SeatView) : Type 0 where
   none : new ≡ old → HandsToBook over octets now questions old new
   reply : (id : ℕ) (question : Question) (found : AnswerValue)
@@ -184,15 +186,15 @@ pub data HandsToBook (over : Over) (octets : List ℕ) (now : ℕ) (questions : 
 
 -- What octets that came in over this leave of a generation. A reply to a question that is out is
 -- stored, and given to all that wait for it; octets that are none leave all as it was.
-pub record Learns (over : Over) (octets : List ℕ) (now : ℕ) (heard : Heard)
+pub record Learns (over : DnsTransport) (octets : List ℕ) (now : ℕ) (heard : ReplyOutcome)
     (old new : GenerationView) : Type 0 where
   pub hears : Hears old.core new.core over octets heard
   pub hands : HandsToBook over octets now old.core.questions old.seat new.seat
   pub leaves : LeavesSeat old.seat new.seat heard
 
 -- the younger generation takes octets, and where that ignores them the older one
-pub data Receives (over : Over) (octets : List ℕ) (now : ℕ) (heard : Heard) (old new : StateView)
-    : Type 0 where
+pub data Receives (over : DnsTransport) (octets : List ℕ) (now : ℕ) (heard : ReplyOutcome)
+    (old new : StateView) : Type 0 where
   younger : (after : GenerationView) → Learns over octets now heard old.current after
       → new ≡ record old { current = after } → Receives over octets now heard old new
   older : (before after : GenerationView) → old.draining ≡ Some before
@@ -200,7 +202,8 @@ pub data Receives (over : Over) (octets : List ℕ) (now : ℕ) (heard : Heard) 
       → new ≡ record old { draining = Some after } → Receives over octets now heard old new
 
 -- the older generation takes octets that the younger one ignored for this reason, if it is there
-abbrev pub ReceivesOlder : Over → List ℕ → ℕ → Why → Heard → StateView → StateView → Type 0
+abbrev pub ReceivesOlder : DnsTransport → List ℕ → ℕ → Why → ReplyOutcome → StateView → StateView
+    → Type 0
 ReceivesOlder over octets now why heard old new =
     ((old.draining ≡ None) × (heard ≡ Ignored why) × (new ≡ old))
     ⊎ ((before : GenerationView) × (after : GenerationView) × (old.draining ≡ Some before)
@@ -209,9 +212,9 @@ ReceivesOlder over octets now why heard old new =
 -- octets were a reply to a question that is out over what this number stands for
 pub record IsReceived (number : ℕ) (octets : List ℕ) (now : ℕ) (old new : StateView) : Type 0
   where
-    pub over : Over
+    pub over : DnsTransport
     pub numbered : number_of_over over ≡ number
-    pub heard : Heard
+    pub heard : ReplyOutcome
     pub ends : (why : Why) → heard ≢ Ignored why
     pub receives : Receives over octets now heard old new
 

@@ -16,7 +16,8 @@ use answer_cache::{ListCache, ListSeat};
 use dns_answers::Moment;
 use rand_chacha::ChaCha20Rng;
 use sip_resolver::{
-    Anything, Heard, Limits, Over, RandomIds, Resolved, Resolver, SubmitRefusal, random_ids,
+    DnsTransport, Limits, NoFacts, RandomIds, ReplyOutcome, Resolved, Resolver, SubmitRefusal,
+    random_ids,
 };
 use sip_selection::{Caps, Request};
 use srv_choice::Words;
@@ -24,7 +25,7 @@ use std::alloc::{AllocError, Global};
 use std::marker::Model;
 
 /// The resolver core over the book of one thread.
-type Core = Resolver<ListCache, Anything, RandomIds<ChaCha20Rng>>;
+type Core = Resolver<ListCache, NoFacts, RandomIds<ChaCha20Rng>>;
 
 /// A request that ended, with what became of it.
 pub(crate) type Ended = Resolved<ListCache>;
@@ -42,7 +43,7 @@ pub(crate) struct Sent {
     pub(crate) length: usize,
     /// What names its query for `give_up`: its id, and the mark of its generation.
     pub(crate) query: u32,
-    pub(crate) over: Over,
+    pub(crate) over: DnsTransport,
     pub(crate) send: u8,
 }
 
@@ -154,9 +155,9 @@ impl Generation {
     pub(crate) fn receive(
         &mut self,
         at: &Instant,
-        over: Over,
+        over: DnsTransport,
         octets: &[u8],
-    ) -> Result<Heard, AllocError>
+    ) -> Result<ReplyOutcome, AllocError>
         ensures learns { IfOk result
             (λ heard. Learns over octets.now at.now.second heard self.old self.new) }
         ensures unchanged { OnErr result (self.new ≡ self.old) }
@@ -164,7 +165,7 @@ impl Generation {
         let heard = self
             .core
             .handle(&(), &self.book, &mut self.seat, at.second, over, octets)?;
-        if heard == Heard::Reply {
+        if heard == ReplyOutcome::Reply {
             self.replies = self.replies.saturating_add(1);
         }
         Ok(heard)

@@ -3,7 +3,7 @@ ghost use Rattle.std.specs.Prelude.{◌≡◌, IfSome};
 ghost use Rattle.wokhleas.specs.Numbers as spec;
 ghost use Rattle.wokhleas.specs.Told as told;
 
-use sip_resolver::Over;
+use sip_resolver::DnsTransport;
 use sip_selection::{Caps, Families, Reason};
 use sip_uri::Transport;
 
@@ -44,23 +44,23 @@ fn families_of(number: u8) -> Option<Families> {
 }
 
 /// What a message goes over, by its number.
-pub(crate) fn over_of(number: u8) -> Option<Over>
+pub(crate) fn over_of(number: u8) -> Option<DnsTransport>
     ensures { IfSome result (λ over. spec.number_of_over over ≡ number) }
 {
     match number {
-        1 => Some(Over::Datagram),
-        2 => Some(Over::Stream),
+        1 => Some(DnsTransport::Datagram),
+        2 => Some(DnsTransport::Stream),
         _ => None,
     }
 }
 
 /// The number of what a message goes over.
-pub(crate) fn number_of_over(over: Over) -> u8
+pub(crate) fn number_of_over(over: DnsTransport) -> u8
     ensures { result ≡ spec.number_of_over over }
 {
     match over {
-        Over::Datagram => 1,
-        Over::Stream => 2,
+        DnsTransport::Datagram => 1,
+        DnsTransport::Stream => 2,
     }
 }
 

@@ -14,7 +14,7 @@ use crate::told::{ToldOutcome, ToldTarget, question_of, target_at, told_outcome}
 use dns_answers::Moment;
 use dns_message::Question;
 use dns_queries::Why;
-use sip_resolver::{Heard, Limits, Over, SubmitRefusal, draw_words};
+use sip_resolver::{DnsTransport, Limits, ReplyOutcome, SubmitRefusal, draw_words};
 use sip_selection::{Caps, Request};
 use std::alloc::{AllocError, Global};
 use std::marker::Model;
@@ -235,16 +235,16 @@ impl State {
     fn receive_older(
         &mut self,
         at: &Instant,
-        over: Over,
+        over: DnsTransport,
         octets: &[u8],
         why: Why,
-    ) -> Result<Heard, AllocError>
+    ) -> Result<ReplyOutcome, AllocError>
         ensures receives { IfOk result
             (λ heard. ReceivesOlder over octets.now at.now.second why heard self.old self.new) }
         ensures unchanged { OnErr result (self.new ≡ self.old) }
     {
         let Some(draining) = &mut self.draining else {
-            return Ok(Heard::Ignored(why));
+            return Ok(ReplyOutcome::Ignored(why));
         };
         draining.receive(at, over, octets)
     }
@@ -253,15 +253,15 @@ impl State {
     pub(crate) fn receive(
         &mut self,
         at: &Instant,
-        over: Over,
+        over: DnsTransport,
         octets: &[u8],
-    ) -> Result<Heard, AllocError>
+    ) -> Result<ReplyOutcome, AllocError>
         ensures receives { IfOk result
             (λ heard. Receives over octets.now at.now.second heard self.old self.new) }
         ensures unchanged { OnErr result (self.new ≡ self.old) }
     {
         match self.current.receive(at, over, octets)? {
-            Heard::Ignored(why) => self.receive_older(at, over, octets, why),
+            ReplyOutcome::Ignored(why) => self.receive_older(at, over, octets, why),
             heard => Ok(heard),
         }
     }

@@ -1,7 +1,7 @@
 //! What goes out, what comes in, and when.
 ghost use Rattle.std.specs.Prelude.{◌≡◌, ◌≢◌, ◌/◌, IfOk, OnErr, OnOk, pos, take};
 ghost use Rattle.dns_queries.specs.declared.incoming.Why.{Why};
-ghost use Rattle.sip_resolver.specs.declared.resolver.Heard.TheVariants.{Ignored};
+ghost use Rattle.sip_resolver.specs.declared.resolver.ReplyOutcome.TheVariants.{Ignored};
 ghost use Rattle.wokhleas.specs.Numbers.{number_of_over};
 ghost use Rattle.wokhleas.specs.Rests.{GainsFrom, KeepsAnswers};
 ghost use Rattle.wokhleas.specs.States.{GoesBy, IsQueryOf, IsReceived, IsTransmitted, SameSeats, StaysBy};
@@ -11,7 +11,7 @@ use crate::generation::Sent;
 use crate::handle::Handle;
 use crate::numbers::{number_of_over, over_of};
 use crate::status::{DONE, Status};
-use sip_resolver::{Heard, Over};
+use sip_resolver::{DnsTransport, ReplyOutcome};
 use std::alloc::Global;
 
 /// So many octets a buffer for a query has at least, as C is told.
@@ -57,7 +57,7 @@ fn receive(
     alloc: Global,
     handle: &mut Handle,
     at: Instant,
-    over: Over,
+    over: DnsTransport,
     octets: &[u8],
 ) -> Result<(), Status>
     ensures received { OnOk result (GoesBy (IsReceived (number_of_over over) octets.now at.second)
@@ -74,13 +74,13 @@ fn receive(
 }
 
 /// Whether octets were a reply: `Nothing` where they were ignored.
-fn is_reply(heard: Heard) -> Result<(), Status>
+fn is_reply(heard: ReplyOutcome) -> Result<(), Status>
     ensures reply { OnOk result ((why : Why) → heard ≢ Ignored why) }
     ensures ignored { OnErr result ((why : Why) × (heard ≡ Ignored why)) }
 {
     match heard {
-        Heard::Ignored(_) => Err(Status::Nothing),
-        Heard::Reply | Heard::Cut => Ok(()),
+        ReplyOutcome::Ignored(_) => Err(Status::Nothing),
+        ReplyOutcome::Reply | ReplyOutcome::Cut => Ok(()),
     }
 }
 

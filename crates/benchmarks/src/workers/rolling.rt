@@ -11,7 +11,7 @@ use crate::workers::zone_text::DOMAINS;
 use dns_answers::Moment;
 use dns_zone::Zone;
 use rolling_cache::{RollingCache, RollingSeat};
-use sip_resolver::{Anything, CountingIds, Limits, Outcome, Over, Resolver};
+use sip_resolver::{CountingIds, DnsTransport, Limits, NoFacts, Outcome, Resolver};
 use sip_workers::Job;
 use std::alloc::Global;
 use std::sync::Wait;
@@ -30,7 +30,7 @@ const BATCH: u64 = 8;
 const QUERIES: usize = 100;
 
 /// The resolver core of a thread.
-type Core = Resolver<RollingCache, Anything, CountingIds>;
+type Core = Resolver<RollingCache, NoFacts, CountingIds>;
 
 /// What a thread counted: its queries, the most of them in one life of the answers, and its
 /// requests with targets.
@@ -100,7 +100,14 @@ fn drive<R: Wait + AllocGlobal>(
         };
         sent = sent.wrapping_add(1);
         resolver
-            .handle(rt, cache, seat, now, Over::Datagram, reply.as_slice())
+            .handle(
+                rt,
+                cache,
+                seat,
+                now,
+                DnsTransport::Datagram,
+                reply.as_slice(),
+            )
             .ok()?;
     }
     Some(sent)

@@ -6,8 +6,8 @@ use Rattle.sip_resolver.proofs.expiries.expire_waiting.Given as goal
 
 abbrev pub invariant-waits : goal.invariant-waits
 invariant-waits g l = record {
-  stand : (seat : SeatView) → Stand g.F.Origin.gives g.F.Origin.shows seat l.fn.requests
-      → Stand g.F.Origin.gives g.F.Origin.shows seat l.requests;
+  stand : (seat : SeatView) → Stand g.F.Facts.gives g.F.Facts.shows seat l.fn.requests
+      → Stand g.F.Facts.gives g.F.Facts.shows seat l.requests;
   same : AreSame l.fn.requests l.requests;
   ends : EndsLate l.now l.fn.requests.ended l.requests.ended;
   waited : Waited l.now l.fn.requests l.requests l.fn.questions l.questions l._wait;

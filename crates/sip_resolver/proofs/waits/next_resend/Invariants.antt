@@ -11,8 +11,8 @@ use Rattle.sip_resolver.proofs.waits.next_resend.Given as goal
 abbrev pub invariant-dues : goal.invariant-dues
 invariant-dues g l = record {
   fewer : Fewer l.fn.asker.tickets l.asker.tickets;
-  stand : (seat : SeatView) → Stand g.F.Origin.gives g.F.Origin.shows seat l.fn.requests
-      → Stand g.F.Origin.gives g.F.Origin.shows seat l.requests;
+  stand : (seat : SeatView) → Stand g.F.Facts.gives g.F.Facts.shows seat l.fn.requests
+      → Stand g.F.Facts.gives g.F.Facts.shows seat l.requests;
   ends : EndsMore (IsInTime l.fn.asker.schedule l.fn.asker.tickets l.now) l.fn.requests.ended l.requests.ended;
   few : length l.asker.tickets + l._due ≤ 256;
   awaited : (others : List Ticket) → AreIn l.fn.asker.tickets others l.fn.requests.waiting

@@ -7,8 +7,8 @@ use Rattle.sip_resolver.proofs.waits.settle_all.Given as goal
 
 abbrev pub invariant-waits : goal.invariant-waits
 invariant-waits g l = record {
-  stand : (seat : SeatView) → IsKnown g.F.Origin.gives g.F.Origin.shows seat l.end
-      → Stand g.F.Origin.gives g.F.Origin.shows seat l.fn.requests → Stand g.F.Origin.gives g.F.Origin.shows seat l.requests;
+  stand : (seat : SeatView) → IsKnown g.F.Facts.gives g.F.Facts.shows seat l.end
+      → Stand g.F.Facts.gives g.F.Facts.shows seat l.fn.requests → Stand g.F.Facts.gives g.F.Facts.shows seat l.requests;
   same : AreSame l.fn.requests l.requests;
   settling : Settling l.id (MayGoOn l.end) (MayEnd l.end) l.fn.requests l.requests;
 }

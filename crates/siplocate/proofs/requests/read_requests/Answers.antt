@@ -29,25 +29,25 @@ pub lines-preserved : goal.lines-preserved
 lines-preserved c =
     let l = c.lines in
     let this = turn (goal.at.lines-preserved c).In-Some in
-    let entry = rw this.0 at c.in_ok-read_entry.ensures.entry in
+    let entry = rw this.0 at c.in_ok-read_request_line.ensures.entry in
     let more = one_more (lines c.args.text.now) (length l.yielded) c.in-Some.line.now l.entries.items l.jobs.items
-    c.read_entry.new.jobs.items c.in_ok-read_entry.field-0 this.1 this.2 l.invariant.read entry in
+    c.read_request_line.new.jobs.items c.in_ok-read_request_line.field-0 this.1 this.2 l.invariant.read entry in
     record {
       can_next = search rules;
       is_finite = search rules;
       read = rw (length_push l.yielded (c.in-Some.at, c.in-Some.line), c.in_ok-push.ensures.items) more;
       counted = rw (length_push l.yielded (c.in-Some.at, c.in-Some.line))
           (one_more_counted (lines c.args.text.now) (length l.yielded) (length l.yielded + 1) c.in-Some.line.now l.jobs.items
-          c.read_entry.new.jobs.items c.in_ok-read_entry.field-0 this.1 this.2 l.invariant.counted entry);
-      limit = c.in_ok-read_entry.ensures.limit l.invariant.limit;
+          c.read_request_line.new.jobs.items c.in_ok-read_request_line.field-0 this.1 this.2 l.invariant.counted entry);
+      limit = c.in_ok-read_request_line.ensures.limit l.invariant.limit;
     }
 
-pub returns-in_err-read_entry-clause-full : goal.returns-in_err-read_entry-clause-full
-returns-in_err-read_entry-clause-full c =
-    let this = turn (goal.at.returns-in_err-read_entry-clause-full c).In-Some in
+pub returns-in_err-read_request_line-clause-full : goal.returns-in_err-read_request_line-clause-full
+returns-in_err-read_request_line-clause-full c =
+    let this = turn (goal.at.returns-in_err-read_request_line-clause-full c).In-Some in
     let e = err_from_is_err_and c.from_residual.result c.from_residual.ensures.1 in
     rw e.1 (λ full.
-    let crowd = c.in_err-read_entry.ensures.full (sym e.2 ∙ full) in
+    let crowd = c.in_err-read_request_line.ensures.full (sym e.2 ∙ full) in
     let all = one_too_many (lines c.args.text.now) (length c.lines.yielded) c.in-Some.line.now c.lines.jobs.items this.1 this.2
     c.lines.invariant.counted crowd.1 in
     fewer (lines c.args.text.now) (length c.lines.jobs.items + 1) 10001 (omega (arith, crowd.0)) all)

@@ -19,12 +19,13 @@ lines-preserved g c =
     let one = run-of _ _ _ _ _ _ _ _ _ done.run in
     record {
       stays = done.stays;
-      run = subst (λ l. IsRun g.W.MessageWire.gives g.C.Clock.shows seat c.args.sender.now c.args.style l old new c.and-told.result.status)
+      run = subst
+          (λ l. IsRun g.W.MessageWire.gives g.C.Clock.shows seat c.args.settings.now c.args.style l old new c.and-told.result.status)
           (sym (take_more lines at none c.lines-test.true))
           (run-more _ _ (g.B.AnswerBook.shown c.lines.seat) _ _ _ (take at lines) (line ∷ []) _ (g.O.Write.contents c.lines.output) _
           c.lines.told.status c.locate_side_by_side.result.status _ done.later
           (λ five. c.and-told.ensures.fault five was.range done.range) c.and-told.ensures.status was.run one);
-      later = λ sender line it is. done.later sender line it (was.later sender line it is);
+      later = λ settings line it is. done.later settings line it (was.later settings line it is);
       range = c.and-told.ensures.range was.range done.range;
       closed = c.and-told.ensures.ended was.closed done.closed was.range done.range;
     }

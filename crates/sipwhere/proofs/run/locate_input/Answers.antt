@@ -49,7 +49,7 @@ parts-preserved g c =
     let sizes : length lines ≡ length more = sym (length-map lines said) ∙ ap length numbered ∙ length-numbered c.parts.first more in
     let count : c.as_slice-lines.result.now ≡ lines = c.as_slice-lines.ensures.value in
     let here = numbered ∙ ap (λ n. numbered_from n more) was.4 ∙ numbered-held (1 + length was.1) more in
-    let run = subst (λ l. IsRun g.W.MessageWire.gives g.C.Clock.shows (g.B.AnswerBook.shown c.locate_lines.new.seat) c.args.sender.now
+    let run = subst (λ l. IsRun g.W.MessageWire.gives g.C.Clock.shows (g.B.AnswerBook.shown c.locate_lines.new.seat) c.args.settings.now
     c.args.style l (g.O.Write.contents c.parts.output) (g.O.Write.contents c.locate_lines.new.output) c.locate_lines.result.status) count
     c.locate_lines.ensures.run in
     record {

@@ -12,7 +12,7 @@ invariant-parts g l = record {
   read : (octets : List ℕ) × (texts : List (List ℕ)) × Consumes (g.I.Read.remaining l.fn.input) l.input.left octets
       × HasGiven octets texts l.input × (l.first ≡ min (1 + length texts) (2 ^ 64 - 1))
       × ((l.told.status ≡ 5) ⊎ ((statuses : List ℕ) × AreToldFrom g.W.MessageWire.gives g.C.Clock.shows (g.B.AnswerBook.shown l.seat)
-      l.fn.sender l.fn.style 1 texts (g.O.Write.contents l.fn.output) (g.O.Write.contents l.output) statuses
+      l.fn.settings l.fn.style 1 texts (g.O.Write.contents l.fn.output) (g.O.Write.contents l.output) statuses
       × IsGravest statuses l.told.status));
   range : l.told.status ≤ 5;
   closed : IsTrue l.told.is_closed → l.told.status ≡ 5;

@@ -8,7 +8,7 @@ rounds-init g c = record {
   stands = c.requires.stands;
   same = (refl, refl);
   told = ([], told-none _ _ _ _ c.args.lines.now _ c.requires.told, gravest-none);
-  later = λ sender line it is. is;
+  later = λ settings line it is. is;
   range = lit≤ tt;
   closed = λ is. absurd (cc (is));
 }
@@ -46,7 +46,7 @@ rounds-preserved g c =
         told-later _ _ _ _ later _ style _ _ _ all there,
         rw c.and-told.ensures.status (gravest-more was.0 more.0 _ _ was.2 more.2),
       );
-      later = λ sender line it is. later sender line it (c.rounds.invariant.later sender line it is);
+      later = λ settings line it is. later settings line it (c.rounds.invariant.later settings line it is);
       range = c.and-told.ensures.range c.rounds.invariant.range c.tell_all.ensures.range;
       closed = c.and-told.ensures.ended c.rounds.invariant.closed c.tell_all.ensures.closed c.rounds.invariant.range
           c.tell_all.ensures.range;
@@ -65,12 +65,12 @@ returns-then-is_done-clause-run g c =
     let more = c.tell_all.ensures.tells seat stands _ was.0 before in
     let said = c.tell_all.ensures.same in
     let lines : c.tell_all.new.self.lines ≡ c.args.lines.now.lines = said.0 ∙ begun.1 ∙ late.1 ∙ c.rounds.invariant.same.0 in
-    let sender : c.tell_all.new.self.sender ≡ c.args.lines.now.sender = said.1 ∙ begun.2 ∙ late.2 ∙ c.rounds.invariant.same.1 in
+    let settings : c.tell_all.new.self.settings ≡ c.args.lines.now.settings = said.1 ∙ begun.2 ∙ late.2 ∙ c.rounds.invariant.same.1 in
     let all = was.0 ++ more.0 in
     record {
       count = c.tell_all.new.self.told;
       statuses = all;
-      told = told-of _ _ seat style c.tell_all.new.self c.args.lines.now.lines c.args.lines.now.sender _ _ all lines sender more.1;
+      told = told-of _ _ seat style c.tell_all.new.self c.args.lines.now.lines c.args.lines.now.settings _ _ all lines settings more.1;
       gravest = inl (rw c.and-told.ensures.status (gravest-more was.0 more.0 _ _ was.2 more.2));
       whole = elim (c.is_done.ensures.0 c.if-is_done.true) [
         | inl every ↦ inl (all-told c.tell_all.new.self.told c.tell_all.new.self.lines c.args.lines.now.lines every lines)

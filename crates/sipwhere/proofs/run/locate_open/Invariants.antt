@@ -8,7 +8,7 @@ abbrev pub invariant-rounds : goal.invariant-rounds
 invariant-rounds g l = record {
   stays : g.B.AnswerBook.belongs l.book l.seat;
   stands : Stands g.W.MessageWire.gives g.C.Clock.shows (g.B.AnswerBook.shown l.seat) l.lines;
-  same : (l.lines.lines ≡ l.fn.lines.lines) × (l.lines.sender ≡ l.fn.lines.sender);
+  same : (l.lines.lines ≡ l.fn.lines.lines) × (l.lines.settings ≡ l.fn.lines.settings);
   told : (statuses : List ℕ) × HasTold g.W.MessageWire.gives g.C.Clock.shows (g.B.AnswerBook.shown l.seat) l.fn.style l.lines
       (g.O.Write.contents l.fn.output) (g.O.Write.contents l.output) statuses × IsGravest statuses l.told.status;
   later : StaysSo g.W.MessageWire.gives g.C.Clock.shows (g.B.AnswerBook.shown l.fn.seat) (g.B.AnswerBook.shown l.seat);

@@ -3,5 +3,5 @@ use Rattle.sip_resolver.specs.Requests.{Stand}
 use Rattle.try_states.proofs.lossy.add_all.Given as goal
 
 abbrev pub invariant-all : goal.invariant-all
-invariant-all g l = (seat : SeatView) → Stand g.F.Origin.gives g.F.Origin.shows seat l.fn.resolver.requests
-    → Stand g.F.Origin.gives g.F.Origin.shows seat l.resolver.requests
+invariant-all g l = (seat : SeatView) → Stand g.F.Facts.gives g.F.Facts.shows seat l.fn.resolver.requests
+    → Stand g.F.Facts.gives g.F.Facts.shows seat l.resolver.requests

@@ -15,7 +15,7 @@ pub invariant_of-self-2 : goal.invariant_of-self-2
 invariant_of-self-2 c =
     let entry : Entry Sent = record { id = c.in-Ok-insert.at; deadline = c.deadline_after.result; item = c.in-Ok-new.ticket } in
     let none : find (is_of c.args.id) c.args.self.now.list.entries ≡ None =
-    none-told {A = Id} c.place_of.result _ _ c.place_of.ensures c.if-is_some.ensures in
+    none-told {A = Id} c.pending_id_of.result _ _ c.pending_id_of.ensures c.if-is_some.ensures in
     let free : find (is_of c.args.id) c.self.inside.list.entries ≡ None =
     ap (λ (it : TicketList). find (is_of c.args.id) it.list.entries) c.self.view_is ∙ none in
     let some = c.self.invariant.asking.scheduled.sends.0 in

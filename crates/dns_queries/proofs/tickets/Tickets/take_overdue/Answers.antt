@@ -3,7 +3,7 @@ use Rattle.pending_list.specs.Pending.{without}
 use Rattle.pending_list.specs.declared.entry.Entry.{Entry}
 use Rattle.dns_queries.proofs.Keeping.{kept-resent, kept-rest}
 use Rattle.dns_queries.proofs.Listing.{leader-found, leads, not-more, same-first}
-use Rattle.dns_queries.proofs.Places.{place_of-resent, still-rest}
+use Rattle.dns_queries.proofs.Places.{pending_id_of-resent, still-rest}
 use Rattle.dns_queries.specs.IdTables.{place_in}
 use Rattle.dns_queries.specs.Tickets.{Sent}
 use Rattle.dns_queries.proofs.tickets.Tickets.take_overdue.Goals as goal
@@ -28,7 +28,8 @@ invariant_of-self c =
       asking = kept-resent c.self.inside.schedule c.self.inside.list c.self.invariant.asking it.entry it.others it.whole _ more;
       places = λ other.
           c.self.invariant.places other
-          ∙ sym (place_of-resent c.self.inside.schedule c.self.inside.list c.self.invariant.asking it.entry it.others it.whole _ other);
+          ∙ sym
+          (pending_id_of-resent c.self.inside.schedule c.self.inside.list c.self.invariant.asking it.entry it.others it.whole _ other);
     }
 
 pub returns-then-may_be_sent_again-clause-overdue : goal.returns-then-may_be_sent_again-clause-overdue

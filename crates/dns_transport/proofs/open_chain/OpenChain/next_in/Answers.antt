@@ -15,6 +15,6 @@ pub returns-else-is_reply_to : goal.returns-else-is_reply_to
 returns-else-is_reply_to c = λ message next.
     let begins : Begins c.args.octets.now c.in-Some.reply = rw c.in-Some.is at c.in_ok-reply.ensures.read in
     let same = one_message c.law_one_message_in_front.ensures c.args.octets.now c.in-Some.reply message begins next.read in
-    let further = ap (λ (it : OpenValue). it.further) c.self.view_is in
-    let is = ap (is_reply_to c.args.self.now.further) same ∙ next.is in
-    absurd (cc (c.is_reply_to.ensures, further, is, c.if-is_reply_to.false))
+    let follow_up = ap (λ (it : OpenValue). it.follow_up) c.self.view_is in
+    let is = ap (is_reply_to c.args.self.now.follow_up) same ∙ next.is in
+    absurd (cc (c.is_reply_to.ensures, follow_up, is, c.if-is_reply_to.false))

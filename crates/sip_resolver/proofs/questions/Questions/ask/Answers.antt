@@ -3,7 +3,7 @@ use Rattle.sip_resolver.proofs.Apart.{asked-datagram, asked-stream}
 use Rattle.sip_resolver.proofs.Idling.{asked-few, asked-schedule, may-refuse-all}
 use Rattle.sip_resolver.proofs.Sending.{scheduled-before}
 use Rattle.sip_resolver.specs.Questions.{Lacks, QuestionsView}
-use Rattle.sip_resolver.specs.declared.transmit.Over.TheVariants.{Datagram, Stream}
+use Rattle.sip_resolver.specs.declared.transmit.DnsTransport.TheVariants.{Datagram, Stream}
 use Rattle.sip_resolver.proofs.questions.Questions.ask.Goals as goal
 
 pub invariant_of-self : goal.invariant_of-self

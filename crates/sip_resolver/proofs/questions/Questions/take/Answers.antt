@@ -1,6 +1,6 @@
 use Rattle.sip_resolver.proofs.Apart.{closed-bounded, closed-one}
 use Rattle.sip_resolver.specs.Questions.{QuestionsView}
-use Rattle.sip_resolver.specs.declared.transmit.Over.TheVariants.{Datagram}
+use Rattle.sip_resolver.specs.declared.transmit.DnsTransport.TheVariants.{Datagram}
 use Rattle.sip_resolver.proofs.questions.Questions.take.Goals as goal
 
 pub invariant_of-self : goal.invariant_of-self

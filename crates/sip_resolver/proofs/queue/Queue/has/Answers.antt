@@ -10,17 +10,17 @@ pub items-preserved : goal.items-preserved
 items-preserved g c =
     let within = rw (c.len-at-end.ensures, c.self.inside.items.ok.0) at c.items-test.true in
     let other : g.T.Numbered.numbered c.index-item.result.now ≢ c.args.number =
-    λ is. c.if-its_number-number.false (c.its_number.ensures ∙ is) in
+    λ is. c.if-number.false (c.number.ensures ∙ is) in
     searched-on g.T.Numbered.numbered c.args.number c.self.inside.items.items c.items.at c.index-item.result.now within
     c.index-item.ensures c.items.invariant other
 
-pub returns-then-its_number-number : goal.returns-then-its_number-number
-returns-then-its_number-number g c =
+pub returns-then-number : goal.returns-then-number
+returns-then-number g c =
     let within = rw (c.len-at-end.ensures, c.self.inside.items.ok.0) at c.items-test.true in
     rw (← c.self.view_is) (
       (λ yes.
           found-there g.T.Numbered.numbered c.args.number c.self.inside.items.items c.items.at c.index-item.result.now within
-          c.index-item.ensures (sym c.its_number.ensures ∙ c.if-its_number-number.true)
+          c.index-item.ensures (sym c.number.ensures ∙ c.if-number.true)
           ),
       (λ there. refl),
     )

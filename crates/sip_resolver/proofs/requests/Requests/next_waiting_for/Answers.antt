@@ -16,7 +16,7 @@ remove-requires-2 g c =
 pub remove-requires-3 : goal.remove-requires-3
 remove-requires-3 g c =
     let it = c.self.inside in
-    rw c.its_number.ensures
+    rw c.number.ensures
     (taken-there it.ready it.held it.waiting it.ended it.limit it.earliest it.numbers c.self.invariant c.args.id c.in_ok-place.place
     c.in_ok-waiting.waiting c.remove.new.self (rw (← c.self.view_is) at c.in_ok-place.ensures) c.in_ok-waiting.ensures)
 
@@ -24,7 +24,7 @@ pub invariant_of-self-2 : goal.invariant_of-self-2
 invariant_of-self-2 g c =
     let it = c.self.inside in
     let removed = rw c.its_until.ensures at c.remove-2.ensures in
-    let struck = rw c.its_number.ensures at c.remove-3.ensures in
+    let struck = rw c.number.ensures at c.remove-3.ensures in
     waiting-taken it.ready it.held it.waiting it.ended it.limit it.earliest it.numbers c.self.invariant c.args.id c.in_ok-place.place
     c.in_ok-waiting.waiting c.remove.new.self (rw (← c.self.view_is) at c.in_ok-place.ensures) c.in_ok-waiting.ensures
     c.remove-2.new.self c.remove-3.new.self removed struck

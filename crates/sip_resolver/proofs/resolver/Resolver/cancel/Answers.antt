@@ -36,7 +36,7 @@ returns-clause-stand g c =
     c.remove_not_waiting.ensures ∙ ap (rest c.args.number) c.remove_waiting.ensures.requests in
     rw (← c.self.view_is)
     (λ seat it.
-    rw left (without-stands c.args.number c.self.inside.requests g.F.Origin.gives g.F.Origin.shows seat it))
+    rw left (without-stands c.args.number c.self.inside.requests g.F.Facts.gives g.F.Facts.shows seat it))
 
 pub returns-clause-awaited : goal.returns-clause-awaited
 returns-clause-awaited g c =

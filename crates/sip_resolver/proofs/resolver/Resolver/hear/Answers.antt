@@ -9,7 +9,7 @@ returns-in-Faulty-clause-works g c = works-not _ _ (g.B.AnswerBook.shown c.args.
 pub returns-in-Faulty-clause-stand : goal.returns-in-Faulty-clause-stand
 returns-in-Faulty-clause-stand g c =
     let ends = rw c.in-Faulty.is at c.requires.ends.ends in
-    let faulty : IsFaulty g.F.Origin.gives c.args.question.now c.in-Faulty.refusal = record {
+    let faulty : IsFaulty g.F.Facts.gives c.args.question.now c.in-Faulty.refusal = record {
       octets = c.args.octets.now;
       given = c.requires.given;
       it = c.requires.ends.it;

@@ -6,7 +6,7 @@ use Rattle.sip_resolver.proofs.resolver.Resolver.run_held.Given as goal
 abbrev pub invariant-tasks : goal.invariant-tasks
 invariant-tasks g l = record {
   stays : g.B.AnswerBook.belongs l.book l.seat;
-  went : Went g.F.Origin.gives g.F.Origin.shows (g.B.AnswerBook.shown l.fn.seat) (g.B.AnswerBook.shown l.seat) l.fn.self l.self;
+  went : Went g.F.Facts.gives g.F.Facts.shows (g.B.AnswerBook.shown l.fn.seat) (g.B.AnswerBook.shown l.seat) l.fn.self l.self;
   ready : l.self.requests.ready ≡ l.fn.self.requests.ready;
   held : (length l.self.requests.held + l._held ≡ length l.fn.self.requests.held) ⊎ CannotAsk g.I.Ids.draws l.self.questions;
 }

@@ -5,7 +5,7 @@ use Rattle.sip_resolver.proofs.resolver.Resolver.run_ready.Given as goal
 abbrev pub invariant-tasks : goal.invariant-tasks
 invariant-tasks g l = record {
   stays : g.B.AnswerBook.belongs l.book l.seat;
-  went : Went g.F.Origin.gives g.F.Origin.shows (g.B.AnswerBook.shown l.fn.seat) (g.B.AnswerBook.shown l.seat) l.fn.self l.self;
+  went : Went g.F.Facts.gives g.F.Facts.shows (g.B.AnswerBook.shown l.fn.seat) (g.B.AnswerBook.shown l.seat) l.fn.self l.self;
 }
 
 abbrev pub decreases-tasks : goal.decreases-tasks

@@ -9,4 +9,4 @@ returns-clause-stand g c =
     (λ seat it.
     rw c.add.ensures
     (ready-too _ _ seat c.self.inside.requests c.in_ok-task.task it
-    (rw c.in_ok-task.ensures (All-nil (Counts g.F.Origin.gives g.F.Origin.shows seat)))))
+    (rw c.in_ok-task.ensures (All-nil (Counts g.F.Facts.gives g.F.Facts.shows seat)))))

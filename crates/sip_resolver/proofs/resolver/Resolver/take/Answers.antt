@@ -21,7 +21,7 @@ returns-clause-works g c =
     let store = c.store-kept.ensures in
     let answer = arc_value c.in-Ok.answer in
     let answers : Answers c.args.question.now c.args.octets.now answer = rw c.in-Ok.ensures.ok c.requires.answers in
-    works-store g.F.Origin.gives g.F.Origin.shows before after store.goes_on c.args.octets.now c.requires.given _ c.requires.shown
+    works-store g.F.Facts.gives g.F.Facts.shows before after store.goes_on c.args.octets.now c.requires.given _ c.requires.shown
     c.args.question.now answer answers store.offered c.store-kept.result store.stored store.refused
 
 pub returns-clause-stand : goal.returns-clause-stand
@@ -32,10 +32,10 @@ returns-clause-stand g c =
     let answer = arc_value c.in-Ok.answer in
     let answers : Answers c.args.question.now c.args.octets.now answer = rw c.in-Ok.ensures.ok c.requires.answers in
     let works =
-    works-store g.F.Origin.gives g.F.Origin.shows before after store.goes_on c.args.octets.now c.requires.given _ c.requires.shown
+    works-store g.F.Facts.gives g.F.Facts.shows before after store.goes_on c.args.octets.now c.requires.given _ c.requires.shown
     c.args.question.now answer answers store.offered c.store-kept.result store.stored store.refused in
     let known =
-    counts g.F.Origin.gives g.F.Origin.shows before after store.goes_on c.args.octets.now c.requires.given _ c.requires.shown
+    counts g.F.Facts.gives g.F.Facts.shows before after store.goes_on c.args.octets.now c.requires.given _ c.requires.shown
     c.args.question.now answer answers store.offered in
     let stand = rw (← c.self.view_is) at c.requires.stand in
     c.settle_all-2.ensures.stand after known (stand-later _ _ before after works c.self.inside.requests stand)
@@ -51,7 +51,7 @@ returns-clause-hands g c =
     let answer = arc_value c.in-Ok.answer in
     let answers : Answers c.args.question.now c.args.octets.now answer = rw c.in-Ok.ensures.ok c.requires.answers in
     rw (← c.in-Ok.ensures.ok)
-    (hands-store g.F.Origin.gives g.F.Origin.shows before after store.goes_on c.args.octets.now c.requires.given _ c.requires.shown
+    (hands-store g.F.Facts.gives g.F.Facts.shows before after store.goes_on c.args.octets.now c.requires.given _ c.requires.shown
     c.args.question.now answer answers store.offered c.store-kept.result store.stored store.refused)
 
 pub returns-in_default-clause-settles : goal.returns-in_default-clause-settles

@@ -4,9 +4,9 @@ use Rattle.sipwhere.proofs.open_lines.OpenLines.advance.Goals as goal
 
 pub settle-requires : goal.settle-requires
 settle-requires g c =
-    let own = meant-one c.self.inside.sender c.self.inside.lines.now _ _ _ c.in-Some.ensures.once c.self.invariant.own in
+    let own = meant-one c.self.inside.settings c.self.inside.lines.now _ _ _ c.in-Some.ensures.once c.self.invariant.own in
     rw c.note_time.ensures (record {
-      inside = meant-inside c.self.inside.sender c.self.inside.lines.now c.in-Some.ended.sought own;
+      inside = meant-inside c.self.inside.settings c.self.inside.lines.now c.in-Some.ended.sought own;
       own = own;
     })
 
@@ -16,7 +16,7 @@ returns-in-Some-clause-stands g c =
     let lines = c.self.inside.lines.now in
     c.settle.ensures.stands _ (rw c.note_time.ensures (record {
       requests = c.in-Some.ensures.stand;
-      line_outcomes = line_outcomes-later _ _ _ _ c.in-Some.ensures.works c.self.inside.sender lines c.self.inside.line_outcomes.items
+      line_outcomes = line_outcomes-later _ _ _ _ c.in-Some.ensures.works c.self.inside.settings lines c.self.inside.line_outcomes.items
           before.line_outcomes;
     })) c.in-Some.ensures.outcome
 
@@ -26,7 +26,7 @@ returns-in_default-clause-stands g c =
     let lines = c.self.inside.lines.now in
     record {
       requests = c.poll_over.ensures.stand;
-      line_outcomes = line_outcomes-later _ _ _ _ c.poll_over.ensures.works c.self.inside.sender lines c.self.inside.line_outcomes.items
+      line_outcomes = line_outcomes-later _ _ _ _ c.poll_over.ensures.works c.self.inside.settings lines c.self.inside.line_outcomes.items
           before.line_outcomes;
     }
 

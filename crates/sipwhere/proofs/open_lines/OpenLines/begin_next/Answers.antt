@@ -9,21 +9,21 @@ invariant_of-self-2 g c =
     let inside : c.len-place.result < length lines = omega arith in
     record {
       few = omega (arith, inside, c.in_ok-push.ensures.len);
-      own = meant-next c.self.inside.sender lines c.len-place.result _ inside c.self.inside.resolver.requests
+      own = meant-next c.self.inside.settings lines c.len-place.result _ inside c.self.inside.resolver.requests
           c.submit-line_outcome.new.resolver.requests c.submit-line_outcome.ensures.weighs c.self.invariant.own;
       as_many = rw c.put.ensures (length-set _ _ _ ∙ c.self.invariant.as_many);
     }
 
 pub returns : goal.returns
 returns g c = record {
-  same = (ap (λ it. it.told) c.self.view_is, ap (λ it. it.lines) c.self.view_is, ap (λ it. it.sender) c.self.view_is);
+  same = (ap (λ it. it.told) c.self.view_is, ap (λ it. it.lines) c.self.view_is, ap (λ it. it.settings) c.self.view_is);
   stands = λ seat was.
       let before = rw (← c.self.view_is) at was in
       let lines = c.self.inside.lines.now in
       let inside : c.len-place.result < length lines = omega arith in
       record {
         requests = c.submit-line_outcome.ensures.stand seat before.requests;
-        line_outcomes = rw c.put.ensures (line_outcomes-submitted _ _ seat c.self.inside.sender lines _ _ _ _ inside
+        line_outcomes = rw c.put.ensures (line_outcomes-submitted _ _ seat c.self.inside.settings lines _ _ _ _ inside
             before.line_outcomes c.submit-line_outcome.ensures.line_outcome);
       };
 }

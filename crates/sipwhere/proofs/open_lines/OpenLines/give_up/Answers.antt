@@ -7,7 +7,7 @@ use Rattle.sipwhere.proofs.open_lines.OpenLines.give_up.Goals as goal
 pub invariant_of-self : goal.invariant_of-self
 invariant_of-self g c = record {
   few = c.self.invariant.few;
-  own = meant-left c.self.inside.sender c.self.inside.lines.now c.self.inside.resolver.requests
+  own = meant-left c.self.inside.settings c.self.inside.lines.now c.self.inside.resolver.requests
       c.cancel_over-was_inside.new.resolver.requests (requests_with c.args.place c.self.inside.resolver.requests)
       c.cancel_over-was_inside.ensures.kept c.self.invariant.own;
   as_many = rw c.put.ensures (length-set _ _ _ ∙ c.self.invariant.as_many);
@@ -17,11 +17,11 @@ pub returns-clause-stands : goal.returns-clause-stands
 returns-clause-stands g c = λ seat was.
     let before = rw (← c.self.view_is) at was in
     let lines = c.self.inside.lines.now in
-    let needless = c.line_outcome_in_vain-line_outcome.ensures in
+    let needless = c.timed_out-line_outcome.ensures in
     let within = rw (← c.self.view_is) at c.requires.inside in
     let inside : c.args.place < length lines = omega (arith, within) in
     record {
       requests = c.cancel_over-was_inside.ensures.stand seat before.requests;
-      line_outcomes = rw c.put.ensures (line_outcomes-submitted _ _ seat c.self.inside.sender lines _ _ _
-          (Some c.line_outcome_in_vain-line_outcome.result) inside before.line_outcomes needless);
+      line_outcomes = rw c.put.ensures (line_outcomes-submitted _ _ seat c.self.inside.settings lines _ _ _
+          (Some c.timed_out-line_outcome.result) inside before.line_outcomes needless);
     }

@@ -10,7 +10,7 @@ invariant-lines g l = record {
   range : l.told.status ≤ 5;
   stands : (seat : SeatView) → Stands g.W.MessageWire.gives g.C.Clock.shows seat l.fn.self
       → Stands g.W.MessageWire.gives g.C.Clock.shows seat l.self;
-  same : (l.self.lines ≡ l.fn.self.lines) × (l.self.sender ≡ l.fn.self.sender);
+  same : (l.self.lines ≡ l.fn.self.lines) × (l.self.settings ≡ l.fn.self.settings);
   tells : (seat : SeatView) → Stands g.W.MessageWire.gives g.C.Clock.shows seat l.fn.self → (start : Option (List ℕ)) (before : List ℕ)
       → HasTold g.W.MessageWire.gives g.C.Clock.shows seat l.fn.style l.fn.self start (g.O.Write.contents l.fn.output) before
       → (more : List ℕ) × HasTold g.W.MessageWire.gives g.C.Clock.shows seat l.fn.style l.self start (g.O.Write.contents l.output)

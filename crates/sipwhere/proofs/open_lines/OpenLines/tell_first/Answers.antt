@@ -22,7 +22,7 @@ returns-clause-tells g c = λ seat was.
         tries = c.as_slice.result.now;
         took = c.whole_milliseconds-took.result;
         line_outcome = line_outcome;
-        became = zip-at (IsLineOutcomeOf g.W.MessageWire.gives g.C.Clock.shows seat c.self.inside.sender) lines line_outcomes told d
+        became = zip-at (IsLineOutcomeOf g.W.MessageWire.gives g.C.Clock.shows seat c.self.inside.settings) lines line_outcomes told d
             (Some line_outcome) inside
             before.line_outcomes (subst (λ it. it ≡ get_or line_outcomes told it) found c.index.ensures);
         told = rw (line-is d) c.tell-told.ensures.told;

@@ -1,16 +1,16 @@
 //! What may be known of what comes over a wire.
-use dns_queries::{Clock, Wire};
-use sip_resolver::Origin;
+use crate::facts::Facts;
+use dns_queries::{Clock, MessageWire};
 use std::marker::PhantomData;
 
 /// Octets that a wire gives, at moments that a clock shows.
 #[derive(Clone, Copy, Debug)]
-pub(crate) struct WireOrigin<W, C> {
+pub struct WireFacts<W, C> {
     wire: PhantomData<W>,
     clock: PhantomData<C>,
 }
 
-impl<W: Wire, C: Clock> Origin for WireOrigin<W, C> {
+impl<W: MessageWire, C: Clock> Facts for WireFacts<W, C> {
     ghost gives = { W.gives };
 
     ghost shows = { C.shows };

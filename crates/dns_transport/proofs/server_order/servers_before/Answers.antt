@@ -1,7 +1,7 @@
 use Rattle.std.proofs.Common.{◌<◌, ◌%◌, arith}
 use Rattle.std.proofs.Math.Nat.{mod-lt}
 use Rattle.dns_transport.proofs.Rounds.{place-before, place-behind}
-use Rattle.dns_transport.proofs.server_order.place_of.Goals as goal
+use Rattle.dns_transport.proofs.server_order.servers_before.Goals as goal
 
 pub returns-then-server-start : goal.returns-then-server-start
 returns-then-server-start c =

@@ -1,6 +1,6 @@
 use Rattle.std.proofs.Common.{◌∙◌}
 use Rattle.dns_queries.proofs.Places.{place-told}
-use Rattle.dns_queries.proofs.tickets.Tickets.place_of.Goals as goal
+use Rattle.dns_queries.proofs.tickets.Tickets.pending_id_of.Goals as goal
 
 pub returns : goal.returns
 returns c =

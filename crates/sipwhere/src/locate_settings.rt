@@ -1,4 +1,4 @@
-//! The sender of requests: what it can do.
+//! By what settings a text is located.
 use dns_queries::Schedule;
 use sip_selection::Caps;
 use sip_tries::Extent;
@@ -7,7 +7,7 @@ use std::time::Duration;
 /// What can be sent, the key of the random words and ids, how often each question is sent, how long
 /// one text may take, whether targets are tried, and whether the parameters of Vias count.
 #[derive(Clone, Copy, Debug)]
-pub struct Sender {
+pub struct LocateSettings {
     /// The transports and families of addresses.
     pub caps: Caps,
     /// The key.

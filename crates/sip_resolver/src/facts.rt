@@ -3,7 +3,7 @@ ghost use Rattle.std.specs.Prelude.{ℕ, List};
 
 /// What may be known of the octets that come in, and of the moments that a clock shows. The
 /// contract of an outcome states it of the replies and of the moments that the outcome rests on.
-pub trait Origin {
+pub trait Facts {
     // What octets may come in.
     ghost gives: { List ℕ → Type 0 };
 
@@ -11,11 +11,11 @@ pub trait Origin {
     ghost shows: { ℕ → Type 0 };
 }
 
-/// An origin of which nothing is known: any octets may come in, and any moment may be shown.
+/// No facts: any octets may come in, and any moment may be shown.
 #[derive(Clone, Copy, Debug)]
-pub struct Anything;
+pub struct NoFacts;
 
-impl Origin for Anything {
+impl Facts for NoFacts {
     ghost use Rattle.std.specs.Prelude.{⊤};
 
     ghost gives = { λ _. ⊤ };

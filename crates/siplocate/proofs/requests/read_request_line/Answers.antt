@@ -1,5 +1,5 @@
 use Rattle.std.proofs.Common.{}
-use Rattle.siplocate.proofs.requests.read_entry.Goals as goal
+use Rattle.siplocate.proofs.requests.read_request_line.Goals as goal
 
 pub returns-in_ok-push-in-Ok-clause-entry : goal.returns-in_ok-push-in-Ok-clause-entry
 returns-in_ok-push-in-Ok-clause-entry c =
