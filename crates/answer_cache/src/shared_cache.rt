@@ -198,6 +198,7 @@ impl SharedCache {
     }
 
     /// The node of the last store of a question among those that an index tells.
+    #[inline(always)]
     fn last_in(
         &self,
         index: &Index,
@@ -290,8 +291,44 @@ impl SharedCache {
         Ok(last)
     }
 
+    /// What `last_ahead` finds. Where the index tells all that is ahead, no step is taken.
+    #[inline(always)]
+    fn last_told(
+        &self,
+        cursor: &mut Cursor,
+        handle: &mut Handle,
+        index: &mut Index,
+        asked: &Hashed<'_>,
+        links: usize,
+    ) -> Result<Option<&Node>, AllocError>
+        requires hash { asked.now.hash ≡ hash_of (hashed_of asked.now.question.now) }
+        requires books { (cursor.old.seen.book ≡ self.now.book)
+            × (handle.old.book.book ≡ self.now.book) }
+        requires handle { IsHandle handle.old }
+        requires index { IsIndex self.now.book index.old }
+        requires behind { IsPrefix index.old.seen.log cursor.old.seen.log }
+        requires ahead { (left : List Store) × Ahead cursor.old left × (length left ≤ links) }
+        ensures same { IsSame handle.old handle.new }
+        ensures book { cursor.new.seen.book ≡ self.now.book }
+        ensures later { IsPrefix cursor.old.seen.log cursor.new.seen.log }
+        ensures index { IsIndex self.now.book index.new }
+        ensures behind { IsPrefix index.new.seen.log cursor.new.seen.log }
+        ensures last { IfOk result (λ found. (left : List Store) → Ahead cursor.old left
+            → IsLastOf asked.now.question.now left (option_map (λ node. node.now) found)) }
+        ensures costs { Costs (spent_of handle.old) (spent_of handle.new) links 0 }
+        ensures missed { IfErr result
+            (λ _. (spent_of handle.old).missed < (spent_of handle.new).missed) }
+    {
+        law_log_keeps_its_rule(&cursor.seen);
+        if cursor.next == index.top() {
+            return self.last_in(index, handle, asked);
+        }
+        self.last_ahead(cursor, handle, index, asked, links)
+    }
+
     /// The node of the last store of a question, as the seat sees the history now: one load of the
     /// head of its group, and of the link of each node that the seat has not passed yet.
+    #[inline(always)]
     fn last_of(
         &self,
         handle: &mut Handle,
@@ -318,7 +355,7 @@ impl SharedCache {
         let index = &mut indexes[usize::from(group)];
         let mut cursor = self.log.cursor_after(handle, &index.seen, group);
         law_log_keeps_its_rule(&handle.book);
-        self.last_ahead(&mut cursor, handle, index, asked, GROUP_LIMIT)
+        self.last_told(&mut cursor, handle, index, asked, GROUP_LIMIT)
     }
 
     /// Whether as many stores are ahead of a cursor as a group can have.
@@ -660,6 +697,7 @@ impl AnswerBook for SharedCache {
 
     ghost holds = { λ cache seat made. made.is };
 
+    #[inline(always)]
     fn look<'a>(
         &'a self,
         seat: &mut Seat,

@@ -7,11 +7,13 @@ use dns_message::Question;
 use sip_selection::AnswerSource;
 use std::alloc::AllocError;
 
-/// What a book has at a moment.
+/// What a book has at a moment: a source of answers, which are asked for through a seat.
 #[derive(Drop)]
-pub(crate) struct BookAt<'a, B> {
-    pub(crate) book: &'a B,
-    pub(crate) now: Moment,
+pub struct BookAt<'a, B> {
+    /// The book.
+    pub book: &'a B,
+    /// The moment.
+    pub now: Moment,
 }
 
 impl<'a, B: AnswerBook> AnswerSource for BookAt<'a, B> {
@@ -29,6 +31,7 @@ impl<'a, B: AnswerBook> AnswerSource for BookAt<'a, B> {
     ghost says = { λ it seat question found.
         found ≡ cached (B.shown seat).seen question it.now };
 
+    #[inline(always)]
     fn answer<'s>(
         &'s self,
         seat: &mut B::Seat,

@@ -33,6 +33,8 @@
 //! It gives the targets, or the reason why there are none, and makes a locator only where an answer
 //! is missing. The request is a view, so a URI or a Via of a text need not be read first.
 //!
+//! `BookAt` is a book as the source of answers that a choice of `sip_selection` asks.
+//!
 //! `reply` takes the octets of one DNS message. Where the message answers the question that is
 //! asked, the answer counts for this request, and the book is then told to store it. `Kept` says
 //! whether it did. An answer whose store was refused still counts: one that may not be kept, say,
@@ -57,6 +59,7 @@ mod locator;
 mod read;
 mod refusal;
 
+pub use book_at::BookAt;
 pub use kept::Kept;
 pub use laws::law_messages_decide;
 pub use locator::{Located, Locator, locate};

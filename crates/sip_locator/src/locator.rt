@@ -61,6 +61,7 @@ pub enum Located<B> {
 }
 
 /// The choice of a request over what a book has at a moment.
+#[inline(always)]
 fn choose_at<B: AnswerBook>(
     alloc: Global,
     book: &B,
@@ -89,6 +90,7 @@ fn choose_at<B: AnswerBook>(
 
 /// Where a request goes: as `Locator::new` and one `step`, but the request and the words are copied
 /// only where the book lacks an answer. No memory is needed for a request that is refused at once.
+#[inline(always)]
 pub fn locate<B: AnswerBook>(
     alloc: Global,
     book: &B,

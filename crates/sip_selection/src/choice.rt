@@ -36,6 +36,7 @@ use std::snapshot::Snapshot;
 use std::sync::Arc;
 
 /// The addresses of the domain by a transport at a port, from a kind on.
+#[inline(always)]
 fn to_domain<'s, S: AnswerSource>(
     walk: &mut Walk<'s>,
     seat: &mut S::Seat,
@@ -409,6 +410,7 @@ fn to_address(
 
 /// Where the domain leads without a transport that is named. For SIPS, TLS has to be one of the
 /// caller's.
+#[inline(always)]
 fn discovered<'s, S: AnswerSource>(
     walk: &mut Walk<'s>,
     seat: &mut S::Seat,
@@ -445,6 +447,7 @@ fn discovered<'s, S: AnswerSource>(
 }
 
 /// The choice for a domain, from the beginning.
+#[inline(always)]
 fn for_domain<'s, S: AnswerSource>(
     walk: &mut Walk<'s>,
     seat: &mut S::Seat,
@@ -485,6 +488,7 @@ fn for_domain<'s, S: AnswerSource>(
 }
 
 /// The choice for a request to a name, from the beginning.
+#[inline(always)]
 fn for_name<'s, S: AnswerSource>(
     walk: &mut Walk<'s>,
     seat: &mut S::Seat,
@@ -532,6 +536,7 @@ fn for_name<'s, S: AnswerSource>(
 }
 
 /// The choice for a request to a hostname of its text, from the beginning.
+#[inline(always)]
 fn for_hostname<'s, S: AnswerSource>(
     walk: &mut Walk<'s>,
     seat: &mut S::Seat,
@@ -567,6 +572,7 @@ fn for_hostname<'s, S: AnswerSource>(
 }
 
 /// The choice for a request, from the beginning.
+#[inline(always)]
 pub(crate) fn begin<'s, S: AnswerSource>(
     walk: &mut Walk<'s>,
     seat: &mut S::Seat,

@@ -282,6 +282,7 @@ impl<'s> Answers<'s> {
     }
 
     /// The answer to the question for this kind of records of a name, which has this hash.
+    #[inline(always)]
     pub(crate) fn answer_to(
         &self,
         name_hash: u64,
@@ -303,6 +304,7 @@ impl<'s> Answers<'s> {
     }
 
     /// Adds the answer to a question that had none.
+    #[inline(always)]
     pub(crate) fn push(
         &mut self,
         name_hash: u64,

@@ -58,6 +58,9 @@
 //! order of records that tie, by `Caps::with_fixed_order`: however servers turn records round, a
 //! request then goes the same way (`law_fixed_order_is_of_records`).
 //!
+//! `service_name` and `service_transport` say which SRV records are those of a service, and over
+//! which transport a NAPTR record leads to one.
+//!
 //! `read_request` reads the request of a line: a URI, or the top Via of a request.
 //!
 //! Each `give` goes on from where the choice stopped. It takes memory for the answer, for the
@@ -101,6 +104,8 @@ pub use reason::Reason;
 pub use request::Request;
 pub use request_line::read_request;
 pub use request_view::RequestView;
+pub use rules::service_transport;
 pub use selection::{Choice, GiveRefusal, Next, Selection, choose};
+pub use service::service_name;
 pub use source::AnswerSource;
 pub use target::Target;

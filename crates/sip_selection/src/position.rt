@@ -35,6 +35,7 @@ fn servers_in(answer: &Answer) -> &[SrvRecord]
 }
 
 /// What SRV records say of a service: ordered by the words from an index on, or in the fixed order.
+#[inline(always)]
 fn order_by(caps: &Caps, servers: &[SrvRecord], words: &Words, from: usize) -> SrvOutcome
     requires few { length servers.now ≤ 32 }
     requires enough_words { from + length servers.now ≤ 256 }

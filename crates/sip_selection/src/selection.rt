@@ -238,6 +238,7 @@ pub enum Choice {
 
 /// A step, and the targets and the answers that were found before it. The answers are kept only
 /// where a question is asked.
+#[inline(always)]
 fn found_with(
     alloc: Global,
     walk: Walk<'_>,
@@ -258,6 +259,7 @@ fn found_with(
 }
 
 /// What a choice over a source begins with, and the targets and the answers that are found.
+#[inline(always)]
 fn begun_over<'s, S: AnswerSource>(
     known: &'s Known,
     alloc: Global,
@@ -300,6 +302,7 @@ fn choice_of(targets: Vec<Target>) -> Choice
 /// The choice of a request over a source: it is asked for the answer to each question that comes
 /// up, until it has none to one, or no more are needed. The words are copied into memory of their
 /// own only where an answer is missing. No memory is needed for a request that is refused at once.
+#[inline(always)]
 pub fn choose<S: AnswerSource>(
     alloc: Global,
     request: &RequestView<'_>,

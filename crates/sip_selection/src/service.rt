@@ -44,3 +44,12 @@ pub(crate) fn service_at(domain: &Name, transport: Transport) -> Result<Service,
         }),
     }
 }
+
+/// The name of the SRV records of a domain's service by a transport (RFC 3263 4.1, RFC 2782),
+/// unless it would have more than 255 octets.
+pub fn service_name(domain: &Name, transport: Transport) -> Result<Option<Name>, AllocError>
+    ensures { IfOk result (λ name. name ≡ (spec.service_at domain.now transport).name) }
+{
+    let Service { name, .. } = service_at(domain, transport)?;
+    Ok(name)
+}

@@ -96,6 +96,7 @@ impl<T: Drop> From<AllocFailed<T>> for Stop {
 }
 
 /// Adds an answer of the source, which is given from then on.
+#[inline(always)]
 fn add<'s>(
     walk: &mut Walk<'s>,
     name_hash: u64,
@@ -119,6 +120,7 @@ fn add<'s>(
 
 /// The answer of the source to a question without one, which is given from then on; or that
 /// question.
+#[inline(always)]
 fn drawn<'s, S: AnswerSource>(
     walk: &mut Walk<'s>,
     seat: &mut S::Seat,
@@ -152,6 +154,7 @@ fn drawn<'s, S: AnswerSource>(
 
 /// The answer to the question for this kind of records of a name: the one that was given, or else
 /// the one of the source, which is given from then on; or that question.
+#[inline(always)]
 pub(crate) fn answer_from<'s, S: AnswerSource>(
     walk: &mut Walk<'s>,
     seat: &mut S::Seat,

@@ -1,5 +1,5 @@
 //! The targets of the addresses of names (RFC 3263 4.2).
-ghost use Rattle.std.specs.Prelude.{◌≡◌, ◌≤◌, ◌++◌, List, None, IfOk, IfSome, OnOk, map};
+ghost use Rattle.std.specs.Prelude.{◌≡◌, ◌≤◌, ◌++◌, List, None, IfOk, IfSome, OnOk, map, true};
 ghost use Rattle.dns_answers.specs.Records.{count_of};
 ghost use Rattle.sip_selection.specs.Consulting as consult;
 ghost use Rattle.sip_selection.specs.FixedOrders.{addresses_by};
@@ -74,6 +74,32 @@ fn push_v6(
     Ok(())
 }
 
+/// Adds the addresses that records have at a port, in the fixed order. By itself, since room for
+/// them is filled with zeros where a function begins.
+#[inline(never)]
+fn push_in_order(
+    targets: &mut Vec<Target>,
+    transport: Transport,
+    port: u16,
+    records: &Records,
+) -> Result<(), AllocError>
+    requires { count_of records.now ≤ 32 }
+    ensures { OnOk result (targets.new.items ≡ targets.old.items
+        ++ map (spec.target_at transport port) (addresses_by true records.now)) }
+{
+    match records {
+        Records::V4(addresses) => {
+            let addresses = in_order(addresses.as_slice());
+            push_v4(targets, transport, port, addresses.as_slice())
+        }
+        Records::V6(addresses) => {
+            let addresses = in_order(addresses.as_slice());
+            push_v6(targets, transport, port, addresses.as_slice())
+        }
+        Records::Srv(_) | Records::Naptr(_) => Ok(()),
+    }
+}
+
 /// Adds the addresses that records have at a port, as they stand or in the fixed order.
 fn push_addresses(
     targets: &mut Vec<Target>,
@@ -86,15 +112,10 @@ fn push_addresses(
     ensures { OnOk result (targets.new.items ≡ targets.old.items
         ++ map (spec.target_at transport port) (addresses_by is_fixed records.now)) }
 {
+    if is_fixed {
+        return push_in_order(targets, transport, port, records);
+    }
     match records {
-        Records::V4(addresses) if is_fixed => {
-            let addresses = in_order(addresses.as_slice());
-            push_v4(targets, transport, port, addresses.as_slice())
-        }
-        Records::V6(addresses) if is_fixed => {
-            let addresses = in_order(addresses.as_slice());
-            push_v6(targets, transport, port, addresses.as_slice())
-        }
         Records::V4(addresses) => push_v4(targets, transport, port, addresses.as_slice()),
         Records::V6(addresses) => push_v6(targets, transport, port, addresses.as_slice()),
         Records::Srv(_) | Records::Naptr(_) => Ok(()),

@@ -131,6 +131,7 @@ fn value_so_far<'a>(
 }
 
 /// The values of parameters with `;` between them. Refuses what are none.
+#[inline(always)]
 pub(crate) fn check_params(params: &[u8]) -> Result<Values<'_>, UriRefusal>
     ensures fault { result_err result ≡ spec.params_fault (parted 59 params.now) }
     ensures transport { IfOk result (λ values. option_map (λ text. text.now) values.transport

@@ -47,6 +47,7 @@ pub(crate) fn port_number(text: &[u8]) -> Option<u16>
 
 /// The port of its digits, where a colon stands before them.
 #[tactic(auto, unfolding(crate::specs::Readers::Uris::port_of))]
+#[inline(always)]
 pub(crate) fn port_of(text: Option<&[u8]>) -> Result<Option<u16>, UriRefusal>
     ensures { result ≡ spec.port_of (option_map (λ digits. digits.now) text.entry) }
 {

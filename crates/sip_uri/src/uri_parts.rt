@@ -82,6 +82,7 @@ fn is_secure(scheme: &[u8]) -> Option<bool>
 
 /// Whether the scheme is that of SIPS, and what follows its colon.
 #[tactic(auto, unfolding(crate::specs::Readers::Uris::behind_scheme))]
+#[inline(always)]
 fn behind_scheme(text: &[u8]) -> Result<(bool, &[u8]), UriRefusal>
     ensures { spec.seen (λ found. (found.0, found.1.now)) result ≡ spec.behind_scheme text.now }
 {
@@ -94,6 +95,7 @@ fn behind_scheme(text: &[u8]) -> Result<(bool, &[u8]), UriRefusal>
 
 /// What follows the user and its `@`, if there is one.
 #[tactic(auto, unfolding(crate::specs::Readers::Uris::behind_user))]
+#[inline(always)]
 fn behind_user(text: &[u8]) -> Result<&[u8], UriRefusal>
     ensures { spec.seen (λ rest. rest.now) result ≡ spec.behind_user text.now }
 {
@@ -111,6 +113,7 @@ fn behind_user(text: &[u8]) -> Result<&[u8], UriRefusal>
 
 /// What the parameters say of the transport and of the host.
 #[tactic(auto, unfolding(crate::specs::Readers::Uris::said_by))]
+#[inline(always)]
 fn said_by(params: Option<&[u8]>) -> Result<(Option<Spoken>, Option<HostPart<'_>>), UriRefusal>
     ensures value { spec.seen (λ said. (said.0, option_map host_of said.1)) result
         ≡ spec.said_by (option_map (λ text. text.now) params.entry) }

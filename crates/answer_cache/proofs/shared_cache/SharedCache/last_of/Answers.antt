@@ -17,18 +17,18 @@ returns-clause-last c =
     let q = c.args.asked.now.question.now in
     let cursor = c.cursor_after-cursor in
     let stores = history cursor.new.handle.book.log in
-    let same = ap (λ b. history b.log) c.last_ahead.ensures.same.book in
+    let same = ap (λ b. history b.log) c.last_told.ensures.same.book in
     let own = c.group_of_hash-group.ensures ∙ ap (λ n. n % 64) c.requires.hash in
     let A : ℕ → Type 0 = λ group. Ahead cursor.result (in_group group stores) in
     let ahead = subst A own cursor.ensures.ahead in
-    ok-found c.last_ahead.result (λ found it. last-on q (history c.last_ahead.new.handle.book.log) (in_group (group_of q) stores) _
+    ok-found c.last_told.result (λ found it. last-on q (history c.last_told.new.handle.book.log) (in_group (group_of q) stores) _
     (ap (λ w. last_or None (stores_of q w)) same ∙ ap (last_or None) (sym (grouped c.law_same_questions_are_equal.ensures q stores)))
-    (it (in_group (group_of q) stores) ahead)) c.last_ahead.ensures.last
+    (it (in_group (group_of q) stores) ahead)) c.last_told.ensures.last
 
 pub returns-clause-holds : goal.returns-clause-holds
 returns-clause-holds c =
     let cursor = c.cursor_after-cursor.ensures in
-    let it = c.last_ahead.ensures.same in
+    let it = c.last_told.ensures.same in
     record {
       handle = it.handle;
       number = it.number ∙ cursor.number.0;
@@ -41,9 +41,9 @@ pub returns-clause-seen : goal.returns-clause-seen
 returns-clause-seen c =
     let h = c.args.handle.now in
     let S : List Event → Type 0 = λ log. SeesMore h.number h.book.log log in
-    subst S (sym (ap (λ b. b.log) c.last_ahead.ensures.same.book)) c.cursor_after-cursor.ensures.seen
+    subst S (sym (ap (λ b. b.log) c.last_told.ensures.same.book)) c.cursor_after-cursor.ensures.seen
 
 pub returns-clause-costs : goal.returns-clause-costs
 returns-clause-costs c =
-    let C : Spending → Type 0 = λ spent. Costs spent (spent_of c.last_ahead.new.handle) group_limit 0 in
-    subst C c.cursor_after-cursor.ensures.spent c.last_ahead.ensures.costs
+    let C : Spending → Type 0 = λ spent. Costs spent (spent_of c.last_told.new.handle) group_limit 0 in
+    subst C c.cursor_after-cursor.ensures.spent c.last_told.ensures.costs
