@@ -1,11 +1,14 @@
 //! Laws of resolvers. A call of one does nothing; its contract states the law.
 ghost use Rattle.std.specs.Prelude.{◌<◌, ◌≤◌, ℕ, List, Some};
+ghost use Rattle.answer_cache.specs.Seats.{GoesOn, SeatView, StoresNothing};
 ghost use Rattle.sip_resolver.specs.Dues.{AreAsBefore, AreDealtWith, IsOneDue, PollsAll};
 ghost use Rattle.sip_resolver.specs.Expiries.{timeouts_of};
 ghost use Rattle.sip_resolver.specs.Idle.{AreAwaited};
 ghost use Rattle.sip_resolver.specs.Questions.{IsLeast, deadlines_of};
 ghost use Rattle.sip_resolver.specs.Resolvers.{ResolverView};
+ghost use Rattle.sip_resolver.specs.Requests.{RequestsView, Stand};
 ghost use Rattle.sip_resolver.specs.Runs.{AreKept, Event, Runs};
+ghost use Rattle.sip_resolver.specs.Works.{Works};
 
 use crate::facts::Facts;
 use crate::ids::Ids;
@@ -43,4 +46,16 @@ pub fn law_questions_are_dealt_with<F: Facts, I: Ids>()
         → PollsAll F.gives F.shows I.draws now asked first last
         → IsLeast (deadlines_of first.questions) (Some least) → least ≤ now
         → IsOneDue least first last }
+{}
+
+/// What holds of requests at a seat holds of them as the seat goes on without a store, as a look-up
+/// makes it go on; and what a resolver did until then it did.
+pub fn law_requests_stand_as_seats_go_on<F: Facts>()
+    ensures stand { (old new : SeatView) (requests : RequestsView) → GoesOn old new
+        → StoresNothing old new → Stand F.gives F.shows old requests
+        → Stand F.gives F.shows new requests }
+    ensures quiet { (old new : SeatView) → GoesOn old new → StoresNothing old new
+        → Works F.gives F.shows old new }
+    ensures works { (first old new : SeatView) → GoesOn old new → StoresNothing old new
+        → Works F.gives F.shows first old → Works F.gives F.shows first new }
 {}
