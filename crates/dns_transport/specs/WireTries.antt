@@ -51,7 +51,9 @@ pub record Awaits (id : ℕ) (server : SocketAddr) (over_tcp : Bool) (one : Wire
   pub from : one.route.server ≡ server
   pub over : one.route.over_tcp ≡ over_tcp
 
--- how much went over a wire, and the tries that were kept
+-- how much went over a wire, the tries that were kept, and the server from which a message came
+-- last
 pub record LogValue : Type 0 where
   pub counts : WireCounts
   pub tries : List WireTry
+  pub last_server : Option SocketAddr

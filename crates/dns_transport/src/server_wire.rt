@@ -844,6 +844,10 @@ impl<S: System + Drop, G: Rng + Drop> Tracer for ServerWire<S, G> {
     fn take_tries(&mut self) -> Vec<WireTry> {
         self.log.take()
     }
+
+    fn last_server(&self) -> Option<SocketAddr> {
+        self.log.last_server()
+    }
 }
 
 impl<S: System + Drop, G: Rng + Drop> MessageWire for ServerWire<S, G> {

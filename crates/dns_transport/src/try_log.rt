@@ -57,6 +57,8 @@ pub(crate) struct TryLog {
     is_kept: bool,
     tries: Vec<WireTry>,
     counts: WireCounts,
+    /// The server from which a message came last.
+    last_server: Option<SocketAddr>,
 }
 
 impl Model for TryLog {
@@ -65,7 +67,11 @@ impl Model for TryLog {
 
     ghost Value = { LogValue };
 
-    ghost view = { λ it. record { counts = it.counts; tries = it.tries.items } };
+    ghost view = { λ it. record {
+      counts = it.counts;
+      tries = it.tries.items;
+      last_server = it.last_server;
+    } };
 
     ghost invariant = { λ it. All IsTry it.tries.items };
 }
@@ -80,7 +86,15 @@ impl TryLog {
             is_kept,
             tries: Vec::new(alloc),
             counts: WireCounts::default(),
+            last_server: None,
         }
+    }
+
+    /// The server from which a message came last, if one came.
+    pub(crate) fn last_server(&self) -> Option<SocketAddr>
+        ensures { result ≡ self.now.last_server }
+    {
+        self.last_server
     }
 
     /// How much went over the wire.
@@ -92,7 +106,8 @@ impl TryLog {
 
     /// Keeps a try.
     fn keep(&mut self, sent_at: Duration, route: TryRoute, query: &[u8]) -> Result<(), AllocError>
-        ensures { self.new.counts ≡ self.old.counts }
+        ensures counts { self.new.counts ≡ self.old.counts }
+        ensures last { self.new.last_server ≡ self.old.last_server }
     {
         let asked = asked_in(self.alloc, query)?;
         self.tries.push(WireTry {
@@ -107,7 +122,8 @@ impl TryLog {
 
     /// Notes that a query goes out. One for which memory is refused is counted and not kept.
     pub(crate) fn sent(&mut self, sent_at: Duration, route: TryRoute, query: &[u8], is_first: bool)
-        ensures { self.new.counts ≡ with_query is_first route.over_tcp self.old.counts }
+        ensures counts { self.new.counts ≡ with_query is_first route.over_tcp self.old.counts }
+        ensures last { self.new.last_server ≡ self.old.last_server }
     {
         self.counts = self.counts.with_query(is_first, route.over_tcp);
         if self.is_kept {
@@ -129,7 +145,8 @@ impl TryLog {
     fn keep_reply(&mut self, at: usize, came_at: Duration, message: &[u8]) -> Result<(), AllocError>
         requires inside { at < length self.old.tries }
         requires of_id { HoldsAt (λ one. one.id ≡ spec.id_of message.now) self.old.tries at }
-        ensures { self.new.counts ≡ self.old.counts }
+        ensures counts { self.new.counts ≡ self.old.counts }
+        ensures last { self.new.last_server ≡ self.old.last_server }
     {
         let reply = reply_of(self.alloc, came_at, message)?;
         self.tries[at].reply = Some(reply);
@@ -145,9 +162,11 @@ impl TryLog {
         over_tcp: bool,
         message: &[u8],
     )
-        ensures { self.new.counts ≡ with_reply self.old.counts }
+        ensures counts { self.new.counts ≡ with_reply self.old.counts }
+        ensures last { self.new.last_server ≡ Some server }
     {
         self.counts = self.counts.with_reply();
+        self.last_server = Some(server);
         if let Some(at) = self.place_awaiting(id_of(message), server, over_tcp) {
             let _ = self.keep_reply(at, came_at, message);
         }
@@ -156,6 +175,7 @@ impl TryLog {
     /// Gives the tries that were kept, and keeps those that follow.
     pub(crate) fn take(&mut self) -> Vec<WireTry>
         ensures counts { self.new.counts ≡ self.old.counts }
+        ensures last { self.new.last_server ≡ self.old.last_server }
         ensures taken { result.items ≡ self.old.tries }
         ensures none { self.new.tries ≡ [] }
         ensures tries { All IsTry result.items }

@@ -68,9 +68,12 @@ impl WireTry {
     }
 }
 
-/// A wire that keeps the queries that went out.
+/// A wire that keeps the queries that went out, and which server replied last.
 pub trait Tracer {
     /// Gives the queries that went out since the last call, in their order.
     fn take_tries(&mut self) -> Vec<WireTry>
         ensures { All spec.IsTry result.items };
+
+    /// The server from which a message came last, if one came.
+    fn last_server(&self) -> Option<SocketAddr>;
 }

@@ -1,7 +1,10 @@
 -- What is written of a text has no float.
 use Rattle.std.proofs.Common.{◌≡◌, ◌||◌, ℕ, Bool, true, false, true≢false, codes, List, [], ◌∷◌, map, Ordering, Less, Equal, Greater, nat_cmp, refl}
 use Rattle.std.specs.Cmp.Lexicographic.{slice_cmp}
+use Rattle.std.specs.Net.Text.{socket_text}
 use Rattle.std.specs.Ordering.{match_ordering}
+use Rattle.std.specs.Prelude.{Option, Some, None}
+use Rattle.std.specs.declared.net.SocketAddr.{SocketAddr}
 use Rattle.dns_answers.specs.declared.refusal.ReplyRefusal.TheVariants as refusal
 use Rattle.serde_json.specs.View.{items_of}
 use Rattle.serde_json.specs.Data.{Data, Members, null, boolean, array, member, no_members, number, object, put, string}
@@ -15,7 +18,7 @@ use Rattle.sip_tries.specs.declared.found.TargetTry.{TargetTry}
 use Rattle.sip_uri.specs.declared.transport.Transport.{Transport}
 use Rattle.sip_uri.specs.declared.transport.Transport.TheVariants.{Udp, Tcp, Sctp, Tls}
 use Rattle.sip_report.specs.Hosts.{host_words}
-use Rattle.sip_report.specs.Jsons.{found_data, line_outcome_data, place_data, target_data, try_data, verified, with_member}
+use Rattle.sip_report.specs.Jsons.{found_data, line_outcome_data, place_data, target_data, try_data, verified, number_data, with_member, with_server, with_ttl}
 use Rattle.sip_report.specs.declared.address.AddressForm.{AddressForm}
 use Rattle.sip_report.specs.declared.line_outcome.LineOutcome.{LineOutcome}
 use Rattle.sip_report.specs.declared.line_outcome.LineOutcome.TheVariants as line_outcome
@@ -33,27 +36,27 @@ none_in_order Less before at behind first second third = first
 none_in_order Equal before at behind first second third = second
 none_in_order Greater before at behind first second third = third
 
-none_in_put : (key text : List ℕ) (members : Members) → members_have_float members ≡ false
-    → members_have_float (put key (string text) members) ≡ false
-none_in_put key text no_members none = refl
-none_in_put key text (member other data' members) none =
+none_in_put : (key : List ℕ) (one : Data) (members : Members) → has_float one ≡ false → members_have_float members ≡ false
+    → members_have_float (put key one members) ≡ false
+none_in_put key one no_members single none = rw single refl
+none_in_put key one (member other data' members) single none =
     let parts = both_false (has_float data') (members_have_float members) none in
-    none_in_order (slice_cmp nat_cmp key other) (member key (string text) (member other data' members))
-    (member other (string text) members) (member other data' (put key (string text) members)) none parts.1
-    (rw parts.0 (none_in_put key text members parts.1))
+    none_in_order (slice_cmp nat_cmp key other) (member key one (member other data' members))
+    (member other one members) (member other data' (put key one members)) (rw single none) (rw single parts.1)
+    (rw parts.0 (none_in_put key one members single parts.1))
 
-none_in_text : (key text : List ℕ) (it : Data) → has_float it ≡ false
-    → has_float (with_member key (string text) it) ≡ false
-none_in_text key text (object members) none = none_in_put key text members none
-none_in_text key text (array items) none = none
-none_in_text key text (string other) none = none
-none_in_text key text (number value) none = none
-none_in_text key text (boolean value) none = none
-none_in_text key text null none = none
+none_in_member : (key : List ℕ) (one it : Data) → has_float one ≡ false → has_float it ≡ false
+    → has_float (with_member key one it) ≡ false
+none_in_member key one (object members) single none = none_in_put key one members single none
+none_in_member key one (array items) single none = none
+none_in_member key one (string other) single none = none
+none_in_member key one (number value) single none = none
+none_in_member key one (boolean value) single none = none
+none_in_member key one null single none = none
 
 none_in_verified : (verify : List ℕ) (transport : Transport) (it : Data) → has_float it ≡ false
     → has_float (verified verify transport it) ≡ false
-none_in_verified verify Tls it none = none_in_text (codes "verify") verify it none
+none_in_verified verify Tls it none = none_in_member (codes "verify") (string verify) it refl none
 none_in_verified verify Udp it none = none
 none_in_verified verify Tcp it none = none
 none_in_verified verify Sctp it none = none
@@ -98,6 +101,22 @@ none form text took (line_outcome.Tried tries) =
     rw (none_in_targets form verify tries.targets.items, none_in_tries form verify tries.tries.items) refl
 none form text took (line_outcome.NoSuchName name) = refl
 none form text took line_outcome.TimeOver = refl
-none form text took (line_outcome.Bad why) = refl
+none form text took (line_outcome.Bad fault) = refl
 none form text took line_outcome.NotText = refl
 none form text took line_outcome.Memory = refl
+
+-- ---- with the account of a text
+
+none_in_ttl : (life : Option ℕ) (it : Data) → has_float it ≡ false → has_float (with_ttl life it) ≡ false
+none_in_ttl None it none = none
+none_in_ttl (Some life) it none = none_in_member (codes "ttl") (number_data life) it refl none
+
+none_in_server : (server : Option SocketAddr) (it : Data) → has_float it ≡ false → has_float (with_server server it) ≡ false
+none_in_server None it none = none
+none_in_server (Some server) it none = none_in_member (codes "server") (string (socket_text server)) it refl none
+
+pub none_in_all : (form : AddressForm) (text : List ℕ) (took : ℕ) (it : LineOutcome) (life : Option ℕ) (server : Option SocketAddr)
+    → has_float (with_server server (with_ttl life (line_outcome_data form text took it))) ≡ false
+none_in_all form text took it life server =
+    let data' = line_outcome_data form text took it in
+    none_in_server server (with_ttl life data') (none_in_ttl life data' (none form text took it))

@@ -40,7 +40,7 @@ check_status verdict (line_outcome.Tried tries) =
     if succeeded tries.extent tries.tries.items then verdict_status verdict else 2
 check_status verdict (line_outcome.NoSuchName name) = 2
 check_status verdict line_outcome.TimeOver = 2
-check_status verdict (line_outcome.Bad refusal) = 3
+check_status verdict (line_outcome.Bad fault) = 3
 check_status verdict line_outcome.NotText = 3
 check_status verdict line_outcome.Memory = 3
 
@@ -158,8 +158,8 @@ check_line form limits took verdict (line_outcome.NoSuchName name) =
     verbose_lines form (codes "SIP CRITICAL - ") (line_outcome.NoSuchName name)
 check_line form limits took verdict line_outcome.TimeOver =
     lines_of form (codes "SIP CRITICAL - ") line_outcome.TimeOver
-check_line form limits took verdict (line_outcome.Bad refusal) =
-    lines_of form (codes "SIP UNKNOWN - ") (line_outcome.Bad refusal)
+check_line form limits took verdict (line_outcome.Bad fault) =
+    lines_of form (codes "SIP UNKNOWN - ") (line_outcome.Bad fault)
 check_line form limits took verdict line_outcome.NotText =
     lines_of form (codes "SIP UNKNOWN - ") line_outcome.NotText
 check_line form limits took verdict line_outcome.Memory =

@@ -1,6 +1,8 @@
 -- What became of a text as an object of JSON (RFC 8259). The members of an object stand in the
 -- order of their keys.
-use Rattle.std.specs.Prelude.{ℕ, List, [], ◌∷◌, ◌++◌, map, codes}
+use Rattle.std.specs.Prelude.{ℕ, List, [], ◌∷◌, ◌++◌, map, codes, Option, Some, None}
+use Rattle.std.specs.Net.Text.{socket_text}
+use Rattle.std.specs.declared.net.SocketAddr.{SocketAddr}
 use Rattle.dns_name.specs.Texts.{text_of}
 use Rattle.dns_answers.specs.declared.refusal.ReplyRefusal.{ReplyRefusal}
 use Rattle.dns_answers.specs.declared.refusal.ReplyRefusal.TheVariants as refusal
@@ -18,10 +20,13 @@ use Rattle.sip_selection.specs.declared.target.Target.{Target}
 use Rattle.sip_uri.specs.declared.transport.Transport.{Transport}
 use Rattle.sip_uri.specs.declared.transport.Transport.TheVariants.{Udp, Tcp, Sctp, Tls}
 use Rattle.sip_report.specs.Addresses.{address_words}
+use Rattle.sip_report.specs.Explanations.{least_life, targets_in}
 use Rattle.sip_report.specs.Hosts.{host_words}
 use Rattle.sip_report.specs.Lines.{found_words, kind_word, reason_word, request_word, status_of_tries, transport_word}
+use Rattle.sip_report.specs.declared.account.Account.{Account}
 use Rattle.sip_report.specs.declared.address.AddressForm.{AddressForm}
 use Rattle.sip_report.specs.declared.line_outcome.LineOutcome.{LineOutcome}
+use Rattle.sip_report.specs.declared.line_outcome.RequestFault.{RequestFault}
 use Rattle.sip_report.specs.declared.line_outcome.LineOutcome.TheVariants as line_outcome
 
 -- ---- the parts
@@ -185,6 +190,13 @@ with_bad text took word =
     object (member (codes "bad") (string word)
     (member (codes "status") (number (unsigned 3)) (last_members text took)))
 
+-- the same, with how many octets of the text stand in front of its leftmost fault
+abbrev pub with_bad_at : List ℕ → ℕ → RequestFault → Data
+with_bad_at text took fault =
+    object (member (codes "at") (number (unsigned fault.at))
+    (member (codes "bad") (string (request_word fault.refusal))
+    (member (codes "status") (number (unsigned 3)) (last_members text took))))
+
 -- the object of a text for which memory was refused
 abbrev pub with_fault : List ℕ → ℕ → Data
 with_fault text took =
@@ -215,12 +227,25 @@ line_outcome_data form text took (line_outcome.Tried tries) =
     (tries_data form (host_words form tries.certificate_host) tries.tries.items)
 line_outcome_data form text took (line_outcome.NoSuchName name) = with_no_name text took name
 line_outcome_data form text took line_outcome.TimeOver = with_gaveup text took total_data
-line_outcome_data form text took (line_outcome.Bad refusal) =
-    with_bad text took (request_word refusal)
+line_outcome_data form text took (line_outcome.Bad fault) =
+    with_bad_at text took fault
 line_outcome_data form text took line_outcome.NotText = with_bad text took (codes "NotText")
 line_outcome_data form text took line_outcome.Memory = with_fault text took
 
--- the line with the object of what became of a text (RFC 8259)
-abbrev pub json_line : AddressForm → List ℕ → ℕ → LineOutcome → List ℕ
-json_line form text took line_outcome =
-    compact_text (line_outcome_data form text took line_outcome) ++ 10 ∷ []
+-- an object with the seconds for which the answers may be kept by which its targets came, if any
+-- did
+abbrev pub with_ttl : Option ℕ → Data → Data
+with_ttl None it = it
+with_ttl (Some life) it = with_member (codes "ttl") (number_data life) it
+
+-- an object with the DNS server whose reply came last, if one came
+abbrev pub with_server : Option SocketAddr → Data → Data
+with_server None it = it
+with_server (Some server) it = with_member (codes "server") (string (socket_text server)) it
+
+-- the line with the object of what became of a text (RFC 8259), and with the account of it
+abbrev pub json_line : AddressForm → List ℕ → ℕ → Account → LineOutcome → List ℕ
+json_line form text took account line_outcome =
+    compact_text (with_server account.server
+    (with_ttl (least_life account.paths.items (targets_in line_outcome))
+    (line_outcome_data form text took line_outcome))) ++ 10 ∷ []

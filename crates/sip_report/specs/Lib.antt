@@ -5,6 +5,7 @@ pub mod Lines
 pub mod RecordLines
 pub mod Rules
 pub mod Traces
+pub mod Explanations
 pub mod Verdicts
 pub mod Checks
 pub mod Jsons

@@ -26,6 +26,7 @@ use Rattle.sip_resolver.specs.declared.outcome.Outcome.TheVariants as outcome
 use Rattle.sip_report.specs.Addresses.{address_words}
 use Rattle.sip_report.specs.declared.address.AddressForm.{AddressForm}
 use Rattle.sip_report.specs.declared.line_outcome.LineOutcome.{LineOutcome}
+use Rattle.sip_report.specs.declared.line_outcome.RequestFault.{RequestFault}
 use Rattle.sip_report.specs.declared.line_outcome.LineOutcome.TheVariants as line_outcome
 
 -- ---- words
@@ -63,6 +64,10 @@ request_word uri.RepeatedParam = codes "RepeatedParam"
 request_word uri.BadHeader = codes "BadHeader"
 request_word uri.BadVia = codes "BadVia"
 request_word uri.Memory = codes "Memory"
+
+-- why a text is no request, and how many of its octets stand in front of its leftmost fault
+abbrev pub fault_words : RequestFault → List ℕ
+fault_words fault = request_word fault.refusal ++ codes " at " ++ decimal fault.at
 
 -- why a reply has no answer: it was cut, or its code (RFC 1035 4.1.1)
 abbrev pub why_word : ReplyRefusal → List ℕ
@@ -132,8 +137,7 @@ lines_of form front (line_outcome.Tried tries) =
 lines_of form front (line_outcome.NoSuchName name) =
     words_line front (codes "refused ") (codes "NoAddress")
 lines_of form front line_outcome.TimeOver = words_line front (codes "gaveup ") (codes "total")
-lines_of form front (line_outcome.Bad refusal) = words_line front (codes "bad ")
-    (request_word refusal)
+lines_of form front (line_outcome.Bad fault) = words_line front (codes "bad ") (fault_words fault)
 lines_of form front line_outcome.NotText = words_line front (codes "bad ") (codes "NotText")
 lines_of form front line_outcome.Memory = words_line front (codes "fault ") (codes "memory")
 
@@ -145,7 +149,7 @@ verbose_lines form front (line_outcome.Tried tries) =
 verbose_lines form front (line_outcome.NoSuchName name) =
     words_line front (codes "refused NoAddress rcode 3 ") (text_of name)
 verbose_lines form front line_outcome.TimeOver = lines_of form front line_outcome.TimeOver
-verbose_lines form front (line_outcome.Bad refusal) = lines_of form front (line_outcome.Bad refusal)
+verbose_lines form front (line_outcome.Bad fault) = lines_of form front (line_outcome.Bad fault)
 verbose_lines form front line_outcome.NotText = lines_of form front line_outcome.NotText
 verbose_lines form front line_outcome.Memory = lines_of form front line_outcome.Memory
 
@@ -176,6 +180,6 @@ status_of (line_outcome.Became outcome.Memory) = 5
 status_of (line_outcome.Tried tries) = status_of_tries tries
 status_of (line_outcome.NoSuchName name) = 2
 status_of line_outcome.TimeOver = 1
-status_of (line_outcome.Bad refusal) = 3
+status_of (line_outcome.Bad fault) = 3
 status_of line_outcome.NotText = 3
 status_of line_outcome.Memory = 5

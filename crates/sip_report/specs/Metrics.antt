@@ -50,7 +50,7 @@ count_of (line_outcome.Became outcome.Memory) = 0
 count_of (line_outcome.Tried tries) = length tries.targets.items
 count_of (line_outcome.NoSuchName name) = 0
 count_of line_outcome.TimeOver = 0
-count_of (line_outcome.Bad refusal) = 0
+count_of (line_outcome.Bad fault) = 0
 count_of line_outcome.NotText = 0
 count_of line_outcome.Memory = 0
 

@@ -81,7 +81,7 @@ verdict_of limits took (line_outcome.Became outcome.Memory) = Well
 verdict_of limits took (line_outcome.Tried tries) = verdict_on limits took tries.targets.items
 verdict_of limits took (line_outcome.NoSuchName name) = Well
 verdict_of limits took line_outcome.TimeOver = Well
-verdict_of limits took (line_outcome.Bad refusal) = Well
+verdict_of limits took (line_outcome.Bad fault) = Well
 verdict_of limits took line_outcome.NotText = Well
 verdict_of limits took line_outcome.Memory = Well
 

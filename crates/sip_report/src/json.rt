@@ -8,11 +8,13 @@ ghost use Rattle.sip_resolver.specs.declared.outcome.Outcome.TheVariants.{Target
 ghost use Rattle.sip_report.specs.declared.line_outcome.LineOutcome.TheVariants.{Tried};
 ghost use Rattle.sip_report.specs.Jsons as spec;
 
+use crate::account::Account;
 use crate::address::{AddressForm, address_words};
+use crate::explanation::{least_life, targets_in};
 use crate::host::host_words;
 use crate::line_outcome::{
-    BAD_STATUS, FAULT_STATUS, GAVEUP_STATUS, LineOutcome, REFUSED_STATUS, TARGETS_STATUS,
-    status_of_tries,
+    BAD_STATUS, FAULT_STATUS, GAVEUP_STATUS, LineOutcome, REFUSED_STATUS, RequestFault,
+    TARGETS_STATUS, status_of_tries,
 };
 use crate::output::{kind_word, reason_word, request_word, transport_word};
 use dns_answers::ReplyRefusal;
@@ -25,6 +27,7 @@ use sip_selection::Target;
 use sip_tries::{Found, TargetTry, Tries};
 use sip_uri::Transport;
 use std::alloc::{AllocError, Global};
+use std::net::SocketAddr;
 
 /// The number of this format. It changes where a key goes, or means something else; a key that is
 /// added does not change it.
@@ -354,6 +357,19 @@ fn with_bad(alloc: Global, text: &str, took: u64, word: &str) -> Result<Value, A
     with_word(alloc, text, took, BAD_STATUS, "bad", word)
 }
 
+/// An object of a text that is no request, with where its fault stands.
+fn with_bad_at(
+    alloc: Global,
+    text: &str,
+    took: u64,
+    fault: RequestFault,
+) -> Result<Value, AllocError>
+    ensures { IfOk result (λ value. view value ≡ spec.with_bad_at text.now took fault) }
+{
+    let object = with_bad(alloc, text, took, request_word(fault.refusal))?;
+    with_number(alloc, object, "at", fault.at as u64)
+}
+
 /// An object of a fault.
 fn with_fault(alloc: Global, text: &str, took: u64) -> Result<Value, AllocError>
     ensures { IfOk result (λ value. view value ≡ spec.with_fault text.now took) }
@@ -404,25 +420,53 @@ fn line_outcome_value(
         LineOutcome::Tried(tries) => tried_value(alloc, form, text, took, tries),
         LineOutcome::NoSuchName(name) => with_no_name(alloc, text, took, name),
         LineOutcome::TimeOver => with_gaveup(alloc, text, took, total_value(alloc)?),
-        LineOutcome::Bad(refusal) => with_bad(alloc, text, took, request_word(*refusal)),
+        LineOutcome::Bad(fault) => with_bad_at(alloc, text, took, *fault),
         LineOutcome::NotText => with_bad(alloc, text, took, "NotText"),
         LineOutcome::Memory => with_fault(alloc, text, took),
     }
 }
 
-/// The line of what became of a text after so many milliseconds: its object, without a space
-/// between its parts.
+/// An object with the seconds for which the answers may be kept by which its targets came.
+fn with_ttl(alloc: Global, object: Value, life: Option<u32>) -> Result<Value, AllocError>
+    ensures { IfOk result (λ it. view it ≡ spec.with_ttl life (view object)) }
+{
+    match life {
+        Some(life) => with_number(alloc, object, "ttl", u64::from(life)),
+        None => Ok(object),
+    }
+}
+
+/// An object with the DNS server whose reply came last.
+fn with_server(
+    alloc: Global,
+    object: Value,
+    server: Option<SocketAddr>,
+) -> Result<Value, AllocError>
+    ensures { IfOk result (λ it. view it ≡ spec.with_server server (view object)) }
+{
+    match server {
+        Some(server) => with_text(alloc, object, "server", &format!(in alloc; "{server}")?),
+        None => Ok(object),
+    }
+}
+
+/// The line of what became of a text after so many milliseconds, with the account of it: its
+/// object, without a space between its parts.
 pub fn json_line(
     alloc: Global,
     form: AddressForm,
     text: &str,
     took: u64,
+    account: &Account,
     line_outcome: &LineOutcome,
 ) -> Result<String, AllocError>
     ensures { IfOk result (λ line. string_bytes line
-        ≡ spec.json_line form text.now took line_outcome.now) }
+        ≡ spec.json_line form text.now took account.now line_outcome.now) }
 {
+    let life = least_life(account.paths.as_slice(), targets_in(line_outcome));
     let value = line_outcome_value(alloc, form, text, took, line_outcome)?;
+    let value = with_ttl(alloc, value, life)?;
+    let value = with_server(alloc, value, account.server)?;
     let mut line = value.to_string(alloc)?;
     line.push_str("\n")?;
     Ok(line)

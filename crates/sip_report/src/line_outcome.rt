@@ -23,6 +23,15 @@ pub const BAD_STATUS: u8 = 3;
 /// The status where memory, input, output, a clock or a socket failed.
 pub const FAULT_STATUS: u8 = 5;
 
+/// Why a text is no request, and where.
+#[derive(Clone, Copy, Debug, PartialEq, Eq)]
+pub struct RequestFault {
+    /// Why it is none.
+    pub refusal: UriRefusal,
+    /// How many octets of it stand in front of its leftmost fault.
+    pub at: usize,
+}
+
 /// What becomes of a text.
 #[derive(Debug, Drop)]
 pub enum LineOutcome {
@@ -36,7 +45,7 @@ pub enum LineOutcome {
     /// The text is a request, and its time was over.
     TimeOver,
     /// The text is no request, for this reason.
-    Bad(UriRefusal),
+    Bad(RequestFault),
     /// The text is no request: it has octets that are no text (UTF-8, RFC 3629).
     NotText,
     /// Memory was refused for the text.

@@ -8,7 +8,7 @@ ghost use Rattle.sip_tries.specs.declared.found.Found.TheVariants.{Asked};
 ghost use Rattle.sip_report.specs.Lines as spec;
 
 use crate::address::{AddressForm, address_words};
-use crate::line_outcome::LineOutcome;
+use crate::line_outcome::{LineOutcome, RequestFault};
 use dns_answers::ReplyRefusal;
 use dns_message::{Kind, Question};
 use dns_name::Name;
@@ -71,6 +71,15 @@ pub fn request_word(refusal: UriRefusal) -> &'static str
         UriRefusal::BadVia => "BadVia",
         UriRefusal::Memory => "Memory",
     }
+}
+
+/// Why a text is no request, and where, in words.
+fn fault_words(alloc: Global, fault: RequestFault) -> Result<String, AllocError>
+    ensures { IfOk result (λ words. string_bytes words ≡ spec.fault_words fault) }
+{
+    let word = request_word(fault.refusal);
+    let at = fault.at;
+    format!(in alloc; "{word} at {at}")
 }
 
 /// Why a reply has no answer.
@@ -254,7 +263,7 @@ pub fn lines_of(
         LineOutcome::Tried(tries) => try_lines(alloc, form, front, tries.tries.as_slice()),
         LineOutcome::NoSuchName(_) => words_line(alloc, front, "refused ", "NoAddress"),
         LineOutcome::TimeOver => words_line(alloc, front, "gaveup ", "total"),
-        LineOutcome::Bad(refusal) => words_line(alloc, front, "bad ", request_word(*refusal)),
+        LineOutcome::Bad(fault) => words_line(alloc, front, "bad ", &fault_words(alloc, *fault)?),
         LineOutcome::NotText => words_line(alloc, front, "bad ", "NotText"),
         LineOutcome::Memory => words_line(alloc, front, "fault ", "memory"),
     }

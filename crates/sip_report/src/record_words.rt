@@ -60,7 +60,7 @@ fn push_string(string: &CharString, words: &mut String) -> Result<(), AllocError
 }
 
 /// Adds the data of a server.
-fn push_srv(alloc: Global, server: &SrvRecord, words: &mut String) -> Result<(), AllocError>
+pub fn push_srv(alloc: Global, server: &SrvRecord, words: &mut String) -> Result<(), AllocError>
     ensures { OnOk result (string_bytes words.new
         ≡ string_bytes words.old ++ spec.srv_words server.now) }
 {
@@ -71,7 +71,7 @@ fn push_srv(alloc: Global, server: &SrvRecord, words: &mut String) -> Result<(),
 }
 
 /// Adds the data of a rule.
-fn push_naptr(alloc: Global, rule: &NaptrRecord, words: &mut String) -> Result<(), AllocError>
+pub fn push_naptr(alloc: Global, rule: &NaptrRecord, words: &mut String) -> Result<(), AllocError>
     ensures { OnOk result (string_bytes words.new
         ≡ string_bytes words.old ++ spec.naptr_words rule.now) }
 {

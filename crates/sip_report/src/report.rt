@@ -3,9 +3,11 @@ ghost use Rattle.std.specs.Prelude.{◌≡◌, ◌≤◌, IfOk};
 ghost use Rattle.std.specs.String.{string_bytes};
 ghost use Rattle.sip_report.specs.Reports as spec;
 
+use crate::account::Account;
 use crate::address::AddressForm;
 use crate::check_limits::CheckLimits;
 use crate::check_line::{check_line, check_status};
+use crate::explanation::{account_lines, targets_in};
 use crate::json::json_line;
 use crate::line_outcome::{LineOutcome, status_of};
 use crate::metrics::metrics_of;
@@ -45,6 +47,8 @@ pub struct Style<'a> {
     pub traced: bool,
     /// Whether a line has the name that does not exist.
     pub verbose: bool,
+    /// Whether lines of how each target came are in front.
+    pub explains: bool,
 }
 
 /// What stands in front of the lines of a text: the text as it is shown, where there are several.
@@ -83,14 +87,15 @@ pub fn report_of(
     text: &str,
     took: u64,
     verdict: Verdict,
+    account: &Account,
     line_outcome: &LineOutcome,
 ) -> Result<String, AllocError>
-    ensures { IfOk result (λ report.
-        string_bytes report ≡ spec.report_of style.entry text.now took verdict line_outcome.now) }
+    ensures { IfOk result (λ report. string_bytes report
+        ≡ spec.report_of style.entry text.now took verdict account.now line_outcome.now) }
 {
     match style.report {
         Report::Lines => lines_in(alloc, style, text, line_outcome),
-        Report::Json => json_line(alloc, style.form, text, took, line_outcome),
+        Report::Json => json_line(alloc, style.form, text, took, account, line_outcome),
         Report::Check => {
             check_line(alloc, style.form, style.limits, took, verdict, line_outcome)
         }
@@ -98,8 +103,47 @@ pub fn report_of(
     }
 }
 
-/// What is printed of a text, by what went over the wire for it and by what became of it after so
-/// many milliseconds.
+/// The lines of what went over the wire, where they are asked for.
+fn trace_of(
+    alloc: Global,
+    style: Style<'_>,
+    text: &str,
+    tries: &[WireTry],
+) -> Result<String, AllocError>
+    ensures { IfOk result (λ lines. string_bytes lines
+        ≡ spec.trace_of style.entry.traced style.entry.form text.now tries.now) }
+{
+    if style.traced {
+        trace_lines(alloc, style.form, is_via(text), tries)
+    } else {
+        Ok(String::new(alloc))
+    }
+}
+
+/// The lines of the account of a text.
+fn account_of(
+    alloc: Global,
+    style: Style<'_>,
+    text: &str,
+    account: &Account,
+    line_outcome: &LineOutcome,
+) -> Result<String, AllocError>
+    ensures { IfOk result (λ lines. string_bytes lines
+        ≡ spec.account_of style.entry text.now account.now line_outcome.now) }
+{
+    let targets = targets_in(line_outcome);
+    account_lines(
+        alloc,
+        style.form,
+        is_via(text),
+        style.explains,
+        account,
+        targets,
+    )
+}
+
+/// What is printed of a text, by what went over the wire for it, by the account of it, and by what
+/// became of it after so many milliseconds.
 pub fn traced_report(
     alloc: Global,
     style: Style<'_>,
@@ -107,17 +151,15 @@ pub fn traced_report(
     text: &str,
     took: u64,
     verdict: Verdict,
+    account: &Account,
     line_outcome: &LineOutcome,
 ) -> Result<String, AllocError>
-    ensures { IfOk result (λ report. string_bytes report
-        ≡ spec.traced_report style.entry tries.now text.now took verdict line_outcome.now) }
+    ensures { IfOk result (λ report. string_bytes report ≡ spec.traced_report style.entry
+        tries.now text.now took verdict account.now line_outcome.now) }
 {
-    if !style.traced {
-        return report_of(alloc, style, text, took, verdict, line_outcome);
-    }
-    let report = report_of(alloc, style, text, took, verdict, line_outcome)?;
-    let mut lines = trace_lines(alloc, style.form, is_via(text), tries)?;
-    lines.push_str(&report)?;
+    let mut lines = trace_of(alloc, style, text, tries)?;
+    lines.push_str(&account_of(alloc, style, text, account, line_outcome)?)?;
+    lines.push_str(&report_of(alloc, style, text, took, verdict, account, line_outcome)?)?;
     Ok(lines)
 }
 

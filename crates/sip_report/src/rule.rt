@@ -66,7 +66,7 @@ fn servers_word(name: &str) -> &'static str
 }
 
 /// The rule, where it says where a request or a response goes.
-fn place_rule(alloc: Global, via: bool, wanted: &str) -> Result<String, AllocError>
+pub fn place_rule(alloc: Global, via: bool, wanted: &str) -> Result<String, AllocError>
     ensures { IfOk result (λ words. string_bytes words ≡ spec.place_rule via wanted.now) }
 {
     let mut words = String::from_str(alloc, wanted)?;

@@ -91,7 +91,7 @@ module _ (gives : List ℕ → Type 0) (shows : ℕ → Type 0) where
       is = it.is;
     }
 
-    outcome-later : (sought : Sought) (outcome : Outcome) → IsOutcome gives shows old sought outcome
+    pub outcome-later : (sought : Sought) (outcome : Outcome) → IsOutcome gives shows old sought outcome
         → IsOutcome gives shows new sought outcome
     outcome-later sought (outcomes.Targets list) it = (chosen-later sought (targets list.targets) it.0, it.1)
     outcome-later sought (outcomes.Refused reason) it = chosen-later sought (refused reason) it

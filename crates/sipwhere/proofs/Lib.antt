@@ -5,6 +5,7 @@ mod HostNames
 mod Later
 mod Meant
 mod OneDestination
+mod Quiet
 mod Results
 pub mod Inputs
 pub mod Told

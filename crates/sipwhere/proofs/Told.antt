@@ -117,6 +117,7 @@ module _ (gives : List ℕ → Type 0) (shows : ℕ → Type 0) where
     record {
       tries = told.3.tries;
       took = told.3.took;
+      account = told.3.account;
       line_outcome = told.3.line_outcome;
       became = later settings line told.3.line_outcome told.3.became;
       told = told.3.told;

@@ -4,3 +4,4 @@ pub mod Denials
 pub mod Destinations
 pub mod LineOutcomes
 pub mod Runs
+pub mod Accounts

@@ -1,15 +1,16 @@
 -- What becomes of a text.
-use Rattle.std.specs.Prelude.{◌≡◌, ◌≢◌, ◌⊎◌, ℕ, List, [], ◌∷◌, Option, Some, None}
+use Rattle.std.specs.Prelude.{◌≡◌, ◌≢◌, ◌+◌, ◌⊎◌, ℕ, List, [], ◌∷◌, Option, Some, None}
 use Rattle.std.specs.Str.Pattern.{FindsChar}
 use Rattle.answer_cache.specs.Seats.{SeatView}
 use Rattle.sip_resolver.specs.Draws.{drawn}
 use Rattle.sip_resolver.specs.Outcomes.{IsOutcome, Sought}
 use Rattle.sip_resolver.specs.TargetLists.{TargetListView}
-use Rattle.sip_selection.specs.RequestLines.{RequestText}
+use Rattle.sip_fault.specs.Faults.{IsUriFault, IsViaFault}
+use Rattle.sip_selection.specs.RequestLines.{BeginsVia, RequestText}
 use Rattle.sip_selection.specs.declared.request.Request.{Request}
-use Rattle.sip_uri.specs.declared.refusal.UriRefusal.{UriRefusal}
 use Rattle.sip_uri.specs.declared.refusal.UriRefusal.TheVariants as uri
 use Rattle.sip_report.specs.declared.line_outcome.LineOutcome.{LineOutcome}
+use Rattle.sip_report.specs.declared.line_outcome.RequestFault.{RequestFault}
 use Rattle.sip_report.specs.declared.line_outcome.LineOutcome.TheVariants.{Became, Tried, NoSuchName, TimeOver, Bad, NotText, Memory}
 use Rattle.sipwhere.specs.declared.line.Line.{Line}
 use Rattle.sipwhere.specs.declared.locate_settings.LocateSettings.{LocateSettings}
@@ -101,11 +102,20 @@ MayBecome gives shows seat asked Memory = Unit {0}
 abbrev pub HasReplacement : List ℕ → Type 0
 HasReplacement text = (from : ℕ) × (until : ℕ) × FindsChar 65533 text (Some (from, until))
 
+-- where the leftmost fault of a text stands that is no request: of a Via behind the four octets of
+-- `Via:`, or of a URI
+pub data IsRequestFault (text : List ℕ) (at : ℕ) : Type 0 where
+  of_via : (rest : List ℕ) (behind : ℕ) → BeginsVia text rest → IsViaFault rest behind
+      → at ≡ 4 + behind → IsRequestFault text at
+  of_uri : ((rest : List ℕ) → BeginsVia text rest → ⊥) → IsUriFault text at
+      → IsRequestFault text at
+
 -- a text is no request: it spells none, so it was not for want of memory that it was refused; and
 -- its octets are text
-pub record IsNoRequest (text : List ℕ) (refusal : UriRefusal) : Type 0 where
+pub record IsNoRequest (text : List ℕ) (fault : RequestFault) : Type 0 where
   pub none : (request : Request) → RequestText text request → ⊥
-  pub why : refusal ≢ uri.Memory
+  pub why : fault.refusal ≢ uri.Memory
+  pub at : IsRequestFault text fault.at
   pub whole : FindsChar 65533 text None
 
 -- a text is no request, and has octets that are no text

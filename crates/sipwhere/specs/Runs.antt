@@ -9,6 +9,7 @@ use Rattle.sipwhere.specs.LineOutcomes.{IsLineOutcome}
 use Rattle.sip_report.specs.Lines.{gravity}
 use Rattle.sip_report.specs.Reports.{status_in, traced_report}
 use Rattle.sip_report.specs.Verdicts.{verdict_of}
+use Rattle.sip_report.specs.declared.account.Account.{Account}
 use Rattle.sip_report.specs.declared.line_outcome.LineOutcome.{LineOutcome}
 use Rattle.sipwhere.specs.declared.line.Line.{Line}
 use Rattle.sipwhere_options.specs.declared.options.Options.{Options}
@@ -19,31 +20,32 @@ use Rattle.sip_report.specs.declared.verdict.Verdict.{Verdict}
 -- the report of a text was printed, with this verdict of a check, and the status is that of what
 -- became of it
 abbrev pub IsPrintedWith : Verdict → Option (List ℕ) → Option (List ℕ) → Style → List WireTry
-    → List ℕ → ℕ → LineOutcome → ℕ → Type 0
-IsPrintedWith verdict old new style tries text took line_outcome status =
-    Appends old new (traced_report style tries text took verdict line_outcome)
+    → List ℕ → ℕ → Account → LineOutcome → ℕ → Type 0
+IsPrintedWith verdict old new style tries text took account line_outcome status =
+    Appends old new (traced_report style tries text took verdict account line_outcome)
     × (status ≡ status_in style.report verdict line_outcome)
 
 -- The report of a text was printed, and the status is that of what became of it. It took so many
 -- milliseconds, as the program measured them.
 abbrev pub IsPrinted : Option (List ℕ) → Option (List ℕ) → Style → List WireTry → List ℕ → ℕ
-    → LineOutcome → ℕ → Type 0
-IsPrinted old new style tries text took line_outcome status =
-    IsPrintedWith (verdict_of style.limits took line_outcome) old new style tries text took
+    → Account → LineOutcome → ℕ → Type 0
+IsPrinted old new style tries text took account line_outcome status =
+    IsPrintedWith (verdict_of style.limits took line_outcome) old new style tries text took account
     line_outcome status
 
 -- the same, or the status is 5
 abbrev pub IsTold : Option (List ℕ) → Option (List ℕ) → Style → List WireTry → List ℕ → ℕ
-    → LineOutcome → ℕ → Type 0
-IsTold old new style tries text took line_outcome status =
-    IsPrinted old new style tries text took line_outcome status ⊎ (status ≡ 5)
+    → Account → LineOutcome → ℕ → Type 0
+IsTold old new style tries text took account line_outcome status =
+    IsPrinted old new style tries text took account line_outcome status ⊎ (status ≡ 5)
 
 -- The same of an output that takes more: where the report was not printed, for want of memory,
 -- nothing was.
 abbrev pub IsToldWhole : Option (List ℕ) → Option (List ℕ) → Style → List WireTry → List ℕ → ℕ
-    → LineOutcome → ℕ → Type 0
-IsToldWhole old new style tries text took line_outcome status =
-    IsPrinted old new style tries text took line_outcome status ⊎ ((new ≡ old) × (status ≡ 5))
+    → Account → LineOutcome → ℕ → Type 0
+IsToldWhole old new style tries text took account line_outcome status =
+    IsPrinted old new style tries text took account line_outcome status
+    ⊎ ((new ≡ old) × (status ≡ 5))
 
 -- what became of a line is printed, after what went over the wire for it
 pub record Tells (gives : List ℕ → Type 0) (shows : ℕ → Type 0) (seat : SeatView)
@@ -51,9 +53,10 @@ pub record Tells (gives : List ℕ → Type 0) (shows : ℕ → Type 0) (seat : 
     (status : ℕ) : Type 0 where
   pub tries : List WireTry
   pub took : ℕ
+  pub account : Account
   pub line_outcome : LineOutcome
   pub became : IsLineOutcome gives shows seat settings line line_outcome
-  pub told : IsTold old new style tries line.text.now took line_outcome status
+  pub told : IsTold old new style tries line.text.now took account line_outcome status
 
 -- ---- many lines
 

@@ -20,4 +20,8 @@ pub struct LocateSettings {
     pub extent: Option<Extent>,
     /// Whether a Via is located by its sent-by alone, whatever its parameters say.
     pub by_sent_by: bool,
+    /// Whether it is told how the targets of a text came.
+    pub accounts: bool,
+    /// How many draws of the order of its targets are counted.
+    pub draws: u32,
 }

@@ -4,6 +4,7 @@
 ghost use Rattle.std.specs.Prelude.{◌≡◌, ◌≤◌, IfOk, IsFalse, IsTrue};
 ghost use Rattle.sip_report.specs.declared.report.Report.TheVariants.{Check};
 
+mod account;
 mod counting_book;
 mod destination;
 mod line;
@@ -12,6 +13,7 @@ mod locate_settings;
 mod noting_wire;
 mod open_lines;
 mod progress;
+mod request_fault;
 mod run;
 mod stats;
 mod submitted_lines;

@@ -9,6 +9,7 @@ use dns_queries::{MessageWire, Received};
 use dns_transport::{Tracer, WireTry};
 use std::alloc::Global;
 use std::marker::Model;
+use std::net::SocketAddr;
 
 /// The RCODE of a reply that says that a name does not exist (RFC 1035 4.1.1).
 const NAME_ERROR: u8 = 3;
@@ -183,5 +184,9 @@ impl<W: MessageWire> NameNotes for NotingWire<W> {
 impl<W: MessageWire + Tracer> Tracer for NotingWire<W> {
     fn take_tries(&mut self) -> Vec<WireTry> {
         self.wire.take_tries()
+    }
+
+    fn last_server(&self) -> Option<SocketAddr> {
+        self.wire.last_server()
     }
 }

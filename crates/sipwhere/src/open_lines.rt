@@ -2,28 +2,32 @@
 ghost use Rattle.std.specs.Prelude.{◌≡◌, ◌+◌, ◌/◌, ◌^◌, ◌<◌, ◌≤◌, IfOk, IfSome, None, length};
 ghost use Rattle.std.specs.Prelude.{◌↔◌, ◌⊎◌, ◌++◌, ℕ, List, Option, IsTrue, replicate, set};
 ghost use Rattle.std.specs.Duration.{as_nanos};
-ghost use Rattle.answer_cache.specs.Seats.{SeatView};
+ghost use Rattle.answer_cache.specs.Seats.{GoesOn, SeatView, StoresNothing};
 ghost use Rattle.sip_resolver.specs.Outcomes.{IsOutcome};
 ghost use Rattle.sipwhere.specs.OpenLines.{HasTold, IsMeant, Stands, TellsFirst};
 ghost use Rattle.sipwhere.specs.Runs.{IsGravest, StaysSo};
 
+use crate::account::{account_of, no_account};
 use crate::line::Line;
 use crate::locate_settings::LocateSettings;
 use crate::noting_wire::NameNotes;
 use crate::submitted_lines::{line_outcome_of, submit, timed_out};
-use crate::tell::{NOTHING_TOLD, Told, tell};
+use crate::tell::{FAULT_TOLD, NOTHING_TOLD, Told, tell};
 use answer_cache::{AnswerBook, Stores};
+use dns_answers::Moment;
 use dns_queries::{Clock, MessageWire, Schedule};
 use dns_transport::{Timer, Tracer};
 use rand_chacha::ChaCha20Rng;
-use sip_report::{LineOutcome, Style};
+use sip_report::{Account, LineOutcome, Style};
 use sip_resolver::{
-    Limits, RandomIds, Resolved, Resolver, WireFacts, cancel_over, poll_over, random_ids,
+    Limits, RandomIds, Resolved, Resolver, WireFacts, cancel_over,
+    law_requests_stand_as_seats_go_on, poll_over, random_ids,
 };
 use sip_tries::Pinger;
 use std::alloc::{AllocError, Global};
 use std::io::Write;
 use std::marker::Model;
+use std::net::SocketAddr;
 use std::time::Duration;
 
 /// How many requests are inside at once. A resolver goes through all that wait at each reply.
@@ -72,12 +76,12 @@ fn whole_milliseconds(time: Duration) -> u64
     u64::try_from(time.as_millis()).unwrap_or(u64::MAX)
 }
 
-/// So many fates of which none is known.
-fn unknown(alloc: Global, count: usize) -> Result<Vec<Option<LineOutcome>>, AllocError>
+/// So many things of which none is known.
+fn unknown<T: Drop>(alloc: Global, count: usize) -> Result<Vec<Option<T>>, AllocError>
     ensures { IfOk result (λ made. made.items ≡ replicate count None) }
 {
     let mut made = Vec::with_capacity(alloc, count)?;
-    'line_outcomes: for _line_outcome in 0..count {
+    'things: for _thing in 0..count {
         made.push(None)?;
     }
     Ok(made)
@@ -104,6 +108,9 @@ pub struct OpenLines<'a, B, W, C> {
     late: usize,
     /// How many of the lines were reported.
     told: usize,
+    /// How the targets of each line came, as far as it is known and told, or that memory was
+    /// refused for it.
+    accounts: Vec<Option<Result<Account, AllocError>>>,
     resolver: Resolver<B, WireFacts<W, C>, RandomIds<ChaCha20Rng>>,
     /// What became of each line, as far as it is known.
     line_outcomes: Vec<Option<LineOutcome>>,
@@ -151,6 +158,7 @@ impl<'a, B: AnswerBook + Drop, W: MessageWire, C: Clock> OpenLines<'a, B, W, C> 
             late: 0,
             told: 0,
             line_outcomes: unknown(alloc, lines.len())?,
+            accounts: unknown(alloc, lines.len())?,
             resolver: Resolver::with_schedule(alloc, limits, schedule, ids)?,
         })
     }
@@ -221,6 +229,47 @@ impl<'a, B: AnswerBook + Drop, W: MessageWire, C: Clock> OpenLines<'a, B, W, C> 
         }
     }
 
+    /// The moment in front of that at which the line at a place was begun, where this is the moment
+    /// now: the answers that it used lived then, or came later.
+    fn moment_of(&self, place: usize, now: Moment) -> Moment {
+        match self.times.get(place) {
+            Some(times) => {
+                let took = times.took.as_secs().saturating_add(1);
+                Moment::new(now.get().saturating_sub(took)).unwrap_or(now)
+            }
+            None => now,
+        }
+    }
+
+    /// Notes how the targets of the line at a place came, if that is told: by what the book has at
+    /// a moment, and by the server whose reply came last.
+    fn note_account(
+        &mut self,
+        book: &B,
+        seat: &mut B::Seat,
+        server: Option<SocketAddr>,
+        now: Moment,
+        place: usize,
+    )
+        requires made_here { B.belongs book.now seat.old }
+        ensures stays { B.belongs book.now seat.new }
+        ensures goes_on { GoesOn (B.shown seat.old) (B.shown seat.new) }
+        ensures stores_nothing { StoresNothing (B.shown seat.old) (B.shown seat.new) }
+        ensures same { self.new ≡ self.old }
+    {
+        let Some(line) = self.lines.get(place) else {
+            return;
+        };
+        if !self.settings.accounts {
+            return;
+        }
+        let text = line.text;
+        let found = account_of(self.alloc, book, seat, &self.settings, text, now, server);
+        if let Some(account) = self.accounts.get_mut(place) {
+            *account = Some(found);
+        }
+    }
+
     /// Gives the line at a place up, whose time is over: its request is cancelled, and so has no
     /// room any more. Nothing is waited for at the wire that nobody else waits for.
     fn give_up(&mut self, wire: &mut W, place: usize)
@@ -280,7 +329,7 @@ impl<'a, B: AnswerBook + Drop, W: MessageWire, C: Clock> OpenLines<'a, B, W, C> 
     }
 }
 
-impl<'a, B: AnswerBook + Drop, W: NameNotes, C: Clock + Timer> OpenLines<'a, B, W, C> {
+impl<'a, B: AnswerBook + Drop, W: NameNotes + Tracer, C: Clock + Timer> OpenLines<'a, B, W, C> {
     /// Takes what became of a request, unless the time of its line was over. Its targets are tried
     /// then, where they are to be.
     fn settle<P: Pinger>(&mut self, wire: &W, pinger: &mut P, ended: Resolved<B>)
@@ -327,13 +376,22 @@ impl<'a, B: AnswerBook + Drop, W: NameNotes, C: Clock + Timer> OpenLines<'a, B, 
         if let Some(ended) = poll_over(rt, &mut self.resolver, book, seat, wire, clock) {
             let place = ended.number() as usize;
             self.note_time(place, clock.elapsed());
+            let begun = self.moment_of(place, clock.now());
+            self.note_account(book, seat, wire.last_server(), begun, place);
+            law_requests_stand_as_seats_go_on::<WireFacts<W, C>>();
             self.settle(wire, pinger, ended);
         }
     }
 }
 
 impl<'a, B: AnswerBook + Drop, W: MessageWire + Tracer, C: Clock> OpenLines<'a, B, W, C> {
-    /// Prints what became of the first line that was not reported, if it is known.
+    /// Whether memory was refused for how the targets of the line at a place came.
+    fn lacks_account(&self, place: usize) -> bool {
+        matches!(self.accounts.get(place), Some(Some(Err(_))))
+    }
+
+    /// Prints what became of the first line that was not reported, if it is known. Nothing is
+    /// printed where memory was refused for how its targets came.
     fn tell_first<O: Write>(
         &mut self,
         style: Style<'_>,
@@ -353,10 +411,21 @@ impl<'a, B: AnswerBook + Drop, W: MessageWire + Tracer, C: Clock> OpenLines<'a, 
         ensures closed { IfSome result (λ told. IsTrue told.is_closed → told.status ≡ 5) }
     {
         let place = self.told;
+        let lacks_account = self.lacks_account(place);
         let line = self.lines.get(place)?;
         let line_outcome = self.line_outcomes[place].as_ref()?;
         let took = whole_milliseconds(self.times.get(place)?.took);
         let tries = wire.take_tries();
+        let next = place + 1;
+        let none = no_account(self.alloc);
+        if lacks_account {
+            self.told = next;
+            return Some(FAULT_TOLD);
+        }
+        let account = match self.accounts.get(place) {
+            Some(Some(Ok(account))) => account,
+            _ => &none,
+        };
         let told = tell(
             self.alloc,
             output,
@@ -364,9 +433,10 @@ impl<'a, B: AnswerBook + Drop, W: MessageWire + Tracer, C: Clock> OpenLines<'a, 
             tries.as_slice(),
             line.text,
             took,
+            account,
             line_outcome,
         );
-        self.told = place + 1;
+        self.told = next;
         Some(told)
     }
 

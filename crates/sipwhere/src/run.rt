@@ -1,8 +1,9 @@
 //! Texts, from their words to what is printed.
-ghost use Rattle.std.specs.Prelude.{◌≡◌, ◌⊎◌, ◌↔◌, ◌*◌, ◌≤◌, IfOk, IsTrue, List, map, ℕ};
+ghost use Rattle.std.specs.Prelude.{◌≡◌, ◌⊎◌, ◌↔◌, ◌*◌, ◌≤◌, IfOk, IsTrue, List, map, unwrap_or, ℕ};
 ghost use Rattle.std.specs.Duration.{as_nanos};
 ghost use Rattle.sipwhere.specs.LineInputs.{AreInputTexts};
 ghost use Rattle.sipwhere_options.specs.Timings.{AreReplyTimes};
+ghost use Rattle.sipwhere.specs.Accounts as spec;
 ghost use Rattle.sipwhere.specs.LineOutcomes.{extent_of};
 ghost use Rattle.sipwhere.specs.OpenLines.{Stands};
 ghost use Rattle.sipwhere.specs.Runs.{AreRun, IsRun, IsRunBy, IsRunOf, StaysSo, from_input};
@@ -19,7 +20,7 @@ use crate::tell::{FAULT_TOLD, NOTHING_TOLD, Told};
 use answer_cache::{ListCache, Stores};
 use dns_queries::Clock;
 use dns_transport::{HostWire, RunClock, Timer, Tracer, WireOptions, open_wire};
-use sip_report::Style;
+use sip_report::{Report, Style};
 use sip_resolver::random_key;
 use sip_tries::{Extent, PingForm, Pinger, ServerPinger, random_pings};
 use sipwhere_options::{Options, Pinging, Plan, RunFault, read_plan, reply_times_of};
@@ -291,6 +292,13 @@ fn form_of(pinging: Option<Pinging>) -> PingForm {
     }
 }
 
+/// Whether it is told how targets came: where lines of it are asked for, and as an object.
+fn accounts_of(options: &Options<'_>) -> bool
+    ensures { result ≡ spec.accounts options.now }
+{
+    options.detail.explains || options.detail.draws.is_some() || options.report == Report::Json
+}
+
 /// The settings by which the texts are located.
 fn settings_of(options: &Options<'_>, plan: &Plan, key: [u8; 32]) -> LocateSettings
     ensures caps { result.caps ≡ options.now.caps }
@@ -299,6 +307,8 @@ fn settings_of(options: &Options<'_>, plan: &Plan, key: [u8; 32]) -> LocateSetti
     ensures total { as_nanos result.total ≡ options.now.total * 1000000 }
     ensures extent { result.extent ≡ extent_of options.now.pinging }
     ensures sent_by { result.by_sent_by ≡ options.now.by_sent_by }
+    ensures accounts { result.accounts ≡ spec.accounts options.now }
+    ensures draws { result.draws ≡ unwrap_or options.now.detail.draws 0 }
 {
     LocateSettings {
         caps: options.caps,
@@ -307,6 +317,8 @@ fn settings_of(options: &Options<'_>, plan: &Plan, key: [u8; 32]) -> LocateSetti
         total: total_of(options),
         extent: extent_of(options.pinging),
         by_sent_by: options.by_sent_by,
+        accounts: accounts_of(options),
+        draws: options.detail.draws.unwrap_or(0),
     }
 }
 
@@ -316,7 +328,7 @@ fn wire_options(options: &Options<'_>, plan: &Plan) -> WireOptions
     ensures form { result.form ≡ options.now.query_form }
     ensures times { AreReplyTimes plan.now.schedule result.reply_times }
     ensures rotates { result.rotates ≡ plan.now.rotates }
-    ensures tries { result.keeps_tries ≡ options.now.traced }
+    ensures tries { result.keeps_tries ≡ options.now.detail.traced }
     ensures total { as_nanos result.total ≡ options.now.total * 1000000 }
 {
     WireOptions {
@@ -324,7 +336,7 @@ fn wire_options(options: &Options<'_>, plan: &Plan) -> WireOptions
         form: options.query_form,
         reply_times: reply_times_of(plan.schedule),
         rotates: plan.rotates,
-        keeps_tries: options.traced,
+        keeps_tries: options.detail.traced,
         total: total_of(options),
     }
 }

@@ -13,9 +13,10 @@ use crate::destination::{Destination, destination_of, law_one_destination_of_a_t
 use crate::line::Line;
 use crate::locate_settings::LocateSettings;
 use crate::noting_wire::NameNotes;
+use crate::request_fault::request_fault_at;
 use answer_cache::AnswerBook;
 use dns_name::Name;
-use sip_report::LineOutcome;
+use sip_report::{LineOutcome, RequestFault};
 use sip_resolver::{Facts, Ids, Outcome, Resolver, TargetList, draw_words};
 use sip_selection::{Reason, Request, Target, read_request};
 use sip_tries::{Extent, Pinger, try_targets};
@@ -40,7 +41,10 @@ fn request_of(alloc: Global, text: &str) -> Result<Request, LineOutcome>
         Err(refusal) => match refusal {
             UriRefusal::Memory => Err(LineOutcome::Memory),
             _ if has_replacement(text) => Err(LineOutcome::NotText),
-            _ => Err(LineOutcome::Bad(refusal)),
+            _ => match request_fault_at(text) {
+                Some(at) => Err(LineOutcome::Bad(RequestFault { refusal, at })),
+                None => Err(LineOutcome::Memory),
+            },
         },
     }
 }
@@ -57,7 +61,11 @@ fn named(alloc: Global, target: Target, host: Host) -> LineOutcome
 
 /// The request that is located for a text, or what became of the text already: it is none, it asks
 /// for a target that the parameters of its Via name, or memory was refused for it.
-fn located_of(alloc: Global, settings: &LocateSettings, text: &str) -> Result<Request, LineOutcome>
+pub fn located_of(
+    alloc: Global,
+    settings: &LocateSettings,
+    text: &str,
+) -> Result<Request, LineOutcome>
     ensures found { IfOk result (spec.IsOnlyLocated settings.now text.now) }
     ensures ready { IfErr result (spec.IsReady settings.now text.now) }
 {

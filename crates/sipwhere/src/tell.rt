@@ -6,7 +6,7 @@ ghost use Rattle.sipwhere.specs.Runs.{IsTold, IsToldWhole};
 
 use dns_transport::WireTry;
 use sip_report::{
-    FAULT_STATUS, LineOutcome, Style, graver_of, status_in, traced_report, verdict_of,
+    Account, FAULT_STATUS, LineOutcome, Style, graver_of, status_in, traced_report, verdict_of,
 };
 use std::alloc::Global;
 use std::io::{self, Write};
@@ -69,19 +69,31 @@ pub fn tell<O: Write>(
     tries: &[WireTry],
     text: &str,
     took: u64,
+    account: &Account,
     line_outcome: &LineOutcome,
 ) -> Told
     ensures told { IsTold (O.contents output.old) (O.contents output.new) style.entry tries.now
-        text.now took line_outcome.now result.status }
+        text.now took account.now line_outcome.now result.status }
     ensures range { result.status ≤ 5 }
     ensures closed { IsTrue result.is_closed → result.status ≡ 5 }
     ensures open { IsFalse result.is_closed → IsToldWhole (O.contents output.old)
-        (O.contents output.new) style.entry tries.now text.now took line_outcome.now result.status }
+        (O.contents output.new) style.entry tries.now text.now took account.now line_outcome.now
+        result.status }
 {
     let Ok(verdict) = verdict_of(alloc, style.limits, took, line_outcome) else {
         return FAULT_TOLD;
     };
-    let Ok(report) = traced_report(alloc, style, tries, text, took, verdict, line_outcome) else {
+    let report = traced_report(
+        alloc,
+        style,
+        tries,
+        text,
+        took,
+        verdict,
+        account,
+        line_outcome,
+    );
+    let Ok(report) = report else {
         return FAULT_TOLD;
     };
     match write_text(output, &report) {

@@ -21,6 +21,7 @@ use Rattle.sipwhere_options.specs.Terminals.{form_for, shows_progress}
 use Rattle.sipwhere_options.specs.declared.options.OptionFault.{OptionFault}
 use Rattle.sipwhere_options.specs.declared.options.OptionFault.TheVariants as fault
 use Rattle.sip_report.specs.declared.check_limits.CheckLimits.{CheckLimits}
+use Rattle.sipwhere_options.specs.declared.options.Detail.{Detail}
 use Rattle.sipwhere_options.specs.declared.options.Options.{Options}
 use Rattle.sipwhere_options.specs.declared.options.Timing.{Timing}
 use Rattle.sip_report.specs.declared.report.Report.{Report}
@@ -190,6 +191,14 @@ pub record AreTimings (matches : ArgMatches) (timing : Timing) : Type 0 where
   pub timeout : MaySay (NumberText 8) (one_text (found_of matches) (codes "timeout")) timing.timeout
   pub tries : MaySay (NumberText 8) (one_text (found_of matches) (codes "tries")) timing.tries
 
+-- what is printed beside what became of a text: queries, names, how targets came, and how often
+-- each came first in so many draws, a number of 32 bits
+pub record IsDetail (matches : ArgMatches) (detail : Detail) : Type 0 where
+  pub traced : IsFlag matches (codes "trace") detail.traced
+  pub verbose : IsFlag matches (codes "verbose") detail.verbose
+  pub explains : IsFlag matches (codes "explain") detail.explains
+  pub draws : MaySay (NumberText 32) (one_text (found_of matches) (codes "repeat")) detail.draws
+
 -- one text, and not the lines of the input
 abbrev pub IsOneText : List (List ℕ) → Type 0
 IsOneText [] = ⊥
@@ -225,8 +234,7 @@ pub record AreOptions (matches : ArgMatches) (terminals : Terminals) (options : 
     pub short : Bool
     pub short_given : IsFlag matches (codes "short") short
     pub form : options.form ≡ form_for short options.report terminals
-    pub traced : IsFlag matches (codes "trace") options.traced
-    pub verbose : IsFlag matches (codes "verbose") options.verbose
+    pub detail : IsDetail matches options.detail
     pub stats : IsFlag matches (codes "stats") options.stats
     pub pinging : IsPinging matches options.pinging
     pub progress : options.shows_progress ≡ shows_progress terminals
@@ -238,8 +246,9 @@ pub record IsStyle (options : Options) (several : Bool) (style : Style) : Type 0
   pub limits : style.limits ≡ options.limits
   pub form : style.form ≡ options.form
   pub front : style.several ≡ several
-  pub traced : style.traced ≡ options.traced
-  pub verbose : style.verbose ≡ options.verbose
+  pub traced : style.traced ≡ options.detail.traced
+  pub verbose : style.verbose ≡ options.detail.verbose
+  pub explains : style.explains ≡ options.detail.explains
 
 -- why the words say no options
 abbrev pub IsFault : ArgMatches → OptionFault → Type 0

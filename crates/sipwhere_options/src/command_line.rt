@@ -251,6 +251,32 @@ fn trace<'a>(alloc: Global) -> Result<Arg<'a>, AllocError> {
     .conflicts_with("metrics")
 }
 
+/// The option of how each target came.
+fn explain<'a>(alloc: Global) -> Result<Arg<'a>, AllocError> {
+    flag(
+        alloc,
+        "explain",
+        "Lines of how each target came, in front of the targets",
+    )
+    .conflicts_with("json")?
+    .conflicts_with("check")?
+    .conflicts_with("metrics")
+}
+
+/// The option of how often each target comes first.
+fn repeat<'a>(alloc: Global) -> Result<Arg<'a>, AllocError> {
+    value(
+        alloc,
+        "repeat",
+        "N",
+        "Lines of how often each target comes first in N draws, in front of the targets",
+    )
+    .value_parser(value_parser!(u32).range(1..=100_000))
+    .conflicts_with("json")?
+    .conflicts_with("check")?
+    .conflicts_with("metrics")
+}
+
 /// With the options of what is printed.
 fn with_output<'a>(alloc: Global, command: Command<'a>) -> Result<Command<'a>, AllocError> {
     let short = "IPv6 addresses in their short form (RFC 5952), as on a terminal";
@@ -259,6 +285,8 @@ fn with_output<'a>(alloc: Global, command: Command<'a>) -> Result<Command<'a>, A
         .arg(flag(alloc, "json", "An object of JSON for each URI"))?;
     let command = with(command, metrics(alloc))?;
     let command = with(command, trace(alloc))?;
+    let command = with(command, explain(alloc))?;
+    let command = with(command, repeat(alloc))?;
     let verbose = "Of a URI without an address also the name that does not exist";
     command.arg(flag(alloc, "verbose", verbose).short('v'))?.arg(flag(
         alloc,

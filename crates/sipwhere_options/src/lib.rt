@@ -20,7 +20,7 @@ mod terminals;
 mod timing;
 
 pub use command_line::command;
-pub use options::{OptionFault, Options, Timing, read_options};
+pub use options::{Detail, OptionFault, Options, Timing, read_options};
 pub use pinging::Pinging;
 pub use plan::{Plan, read_plan, resolver_path};
 pub use run_fault::RunFault;

@@ -32,6 +32,19 @@ pub struct Timing {
     pub tries: Option<u8>,
 }
 
+/// What is printed beside what became of a text.
+#[derive(Clone, Copy, Debug)]
+pub struct Detail {
+    /// Whether the program prints each query that went out.
+    pub traced: bool,
+    /// Whether a line has the name that does not exist.
+    pub verbose: bool,
+    /// Whether the program prints how each target came.
+    pub explains: bool,
+    /// How many draws of the order of the targets it counts, if any.
+    pub draws: Option<u32>,
+}
+
 /// The options of a run.
 #[derive(Debug, Drop)]
 pub struct Options<'a> {
@@ -61,10 +74,8 @@ pub struct Options<'a> {
     pub limits: CheckLimits<'a>,
     /// The form of addresses.
     pub form: AddressForm,
-    /// Whether the program prints each query that went out.
-    pub traced: bool,
-    /// Whether a line has the name that does not exist.
-    pub verbose: bool,
+    /// What is printed beside what became of a text.
+    pub detail: Detail,
     /// Whether the program reports at the end how much was asked.
     pub stats: bool,
     /// How the targets of URIs are pinged, if they are.
@@ -137,8 +148,9 @@ impl<'a> Options<'a> {
             limits: self.limits,
             form: self.form,
             several,
-            traced: self.traced,
-            verbose: self.verbose,
+            traced: self.detail.traced,
+            verbose: self.detail.verbose,
+            explains: self.detail.explains,
         }
     }
 }
@@ -347,6 +359,18 @@ fn timing_of(matches: &ArgMatches<'_>) -> Timing
     }
 }
 
+/// What is printed beside what became of a text.
+fn detail_of(matches: &ArgMatches<'_>) -> Detail
+    ensures { spec.IsDetail matches.now result }
+{
+    Detail {
+        traced: is_set(matches, "trace"),
+        verbose: is_set(matches, "verbose"),
+        explains: is_set(matches, "explain"),
+        draws: matches.get_one::<u32>("repeat"),
+    }
+}
+
 /// The milliseconds that one text may take.
 fn total_of(matches: &ArgMatches<'_>) -> u32
     ensures { spec.IsTotal (one_text (found_of matches.now) (codes "total")) result }
@@ -481,8 +505,7 @@ pub fn read_options<'a>(
         report,
         limits: limits_of(matches),
         form: form_for(is_set(matches, "short"), report, terminals),
-        traced: is_set(matches, "trace"),
-        verbose: is_set(matches, "verbose"),
+        detail: detail_of(matches),
         stats: is_set(matches, "stats"),
         pinging: pinging_of(matches),
         shows_progress: shows_progress(terminals),
