@@ -27,9 +27,13 @@ mod ip_text_page;
 #[cfg(test)]
 mod pending_list_page;
 #[cfg(test)]
+mod resolution_paths_page;
+#[cfg(test)]
 mod resolver_file_page;
 #[cfg(test)]
 mod rolling_cache_page;
+#[cfg(test)]
+mod sip_fault_page;
 #[cfg(test)]
 mod sip_locator_page;
 #[cfg(test)]

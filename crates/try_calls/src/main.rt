@@ -15,6 +15,7 @@ mod answers;
 mod books;
 mod caches;
 mod chains;
+mod faults;
 mod fields;
 mod lists;
 mod locators;
@@ -47,6 +48,7 @@ fn tell<R: Wait>(rt: &R, output: &mut Output, crate_name: &str, call: &str, inpu
         "dns_zone" => zones::told(output, call, input),
         "ip_text" => addresses::told(output, call, input),
         "pending_list" => lists::told(output, call, input),
+        "sip_fault" => faults::told(output, call, input),
         "sip_options" => options::told(output, call, input),
         "sip_response" => routes::told(output, call, input),
         "sip_selection" => selections::told(output, call, input),
