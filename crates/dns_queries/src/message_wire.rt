@@ -9,6 +9,9 @@ pub enum Received {
     Message(Vec<u8>),
     /// No server takes the query of this id, and nothing more comes for it.
     Closed(u16),
+    /// No reply to the query of this id came in time, and nothing more comes for it: the wire sent
+    /// it as often as it was to.
+    TimedOut(u16),
 }
 
 /// A wire to DNS servers. It gives whole messages.

@@ -2,6 +2,7 @@ pub mod Replies
 pub mod Ends
 pub mod Frames
 pub mod Deadlines
+pub mod Attempts
 pub mod ServerOrders
 pub mod QueryForms
 pub mod Letters

@@ -51,7 +51,7 @@ impl<W: MessageWire> Wire for BufferWire<W> {
     fn receive(&mut self, buffer: &mut [u8; DATAGRAM_LIMIT]) -> Result<Option<usize>, WireFault> {
         match self.wire.receive() {
             Some(Received::Message(message)) => Ok(put_in_front(message.as_slice(), buffer)),
-            Some(Received::Closed(_)) | None => Ok(None),
+            Some(Received::Closed(_) | Received::TimedOut(_)) | None => Ok(None),
         }
     }
 

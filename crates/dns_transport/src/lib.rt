@@ -3,9 +3,9 @@
 //! `ServerWire` is a wire to DNS servers: it takes queries, asks the servers in turn, and gives
 //! replies. It retries over TCP what was cut (RFC 1035 4.2.1, RFC 7766), goes on to the next server
 //! where one fails, asks without EDNS where a server refuses that (RFC 6891), and asks CNAME chains
-//! on that a server cut short. `WireOptions`, `QueryForm` and `ReplyTimes` say how it asks;
-//! `WireCounts` and `WireTry` say what went over it. Like any `MessageWire` (`dns_queries`) it
-//! gives whole messages.
+//! on that a server cut short. `WireOptions`, `Attempts`, `QueryForm` and `ReplyTimes` say how it
+//! asks; `WireCounts` and `WireTry` say what went over it. Like any `MessageWire` (`dns_queries`)
+//! it gives whole messages.
 //!
 //! Below it `Transport` has queries out side by side, and gives for each at most one end: a reply,
 //! silence until its deadline, or that it failed. A query in a datagram has a socket of its own,
@@ -24,6 +24,7 @@
 //! `specs/Frames.antt` what goes over a connection (RFC 1035 4.2.2).
 #![tactic(auto)]
 
+mod attempts;
 mod buffer_wire;
 mod draws;
 mod exchange;
@@ -54,6 +55,7 @@ mod udp_server_wire;
 mod wire_counts;
 mod wire_try;
 
+pub use attempts::Attempts;
 pub use buffer_wire::BufferWire;
 pub use draws::{random_draws, random_ports};
 pub use host_wire::{HostWire, open_wire};

@@ -1,5 +1,6 @@
 //! A query of the caller that is open.
-ghost use Rattle.std.specs.Prelude.{◌≡◌, IfOk};
+ghost use Rattle.std.specs.Prelude.{◌≡◌, ◌↔◌, ◌+◌, ◌≤◌, IfOk, IsTrue, min};
+ghost use Rattle.dns_transport.specs.Attempts.{late_from};
 ghost use Rattle.dns_transport.specs.Sends.{asked_by};
 
 use crate::open_chain::OpenChain;
@@ -21,23 +22,27 @@ pub(crate) struct Lookup {
     pub(crate) is_plain: bool,
     /// Whether the last send of it failed for want of memory or of sockets: a later one may not.
     pub(crate) was_lost: bool,
-    /// The millisecond at which it was sent to the last server, if it was.
-    pub(crate) asked_at: Option<u64>,
+    /// The millisecond at which its last wait for a reply began.
+    pub(crate) asked_at: u64,
+    /// How often no reply came in time, up to 255.
+    pub(crate) timeouts: u8,
     pub(crate) kept: Option<Vec<u8>>,
     pub(crate) chain: Option<OpenChain>,
 }
 
 impl Lookup {
-    /// A query that was not sent yet, and goes to this server first.
+    /// A query that was not sent yet, and goes to this server first. Its wait begins now.
     pub(crate) fn new(
         alloc: Global,
         number: u64,
         query: &[u8],
         first: usize,
+        now: u64,
     ) -> Result<Lookup, AllocError>
         ensures number { IfOk result (λ lookup. lookup.number ≡ number) }
         ensures first { IfOk result (λ lookup. lookup.first ≡ first) }
         ensures unsent { IfOk result (λ lookup. lookup.sends ≡ 0) }
+        ensures waits { IfOk result (λ lookup. (lookup.asked_at ≡ now) × (lookup.timeouts ≡ 0)) }
     {
         Ok(Lookup {
             number,
@@ -47,7 +52,8 @@ impl Lookup {
             went_out: false,
             is_plain: false,
             was_lost: false,
-            asked_at: None,
+            asked_at: now,
+            timeouts: 0,
             kept: None,
             chain: None,
         })
@@ -76,9 +82,25 @@ impl Lookup {
         Some(server_at(self.first, self.sends - 1, servers))
     }
 
-    /// Whether it was sent to the last server after this millisecond.
-    pub(crate) fn was_asked_after(&self, time: u64) -> bool {
-        self.asked_at.is_some_and(|asked_at| asked_at > time)
+    /// The millisecond at which its time is over, where each send is waited for so long.
+    pub(crate) fn late_at(&self, time: u64) -> u64
+        ensures { result ≡ late_from self.now.asked_at time }
+    {
+        self.asked_at.saturating_add(time)
+    }
+
+    /// Counts that no reply came in time, and begins another wait. It tells whether that was the
+    /// last one of so many.
+    pub(crate) fn count_timeout(&mut self, now: u64, count: u8) -> bool
+        ensures counted { self.new ≡ record self.old {
+          asked_at = now;
+          timeouts = min (self.old.timeouts + 1) 255;
+        } }
+        ensures last { IsTrue result ↔ (count ≤ self.old.timeouts + 1) }
+    {
+        self.asked_at = now;
+        self.timeouts = self.timeouts.saturating_add(1);
+        count <= self.timeouts
     }
 
     /// Lets it go, and gives its number.

@@ -1,5 +1,7 @@
 //! The queries of the caller that are open.
-ghost use Rattle.std.specs.Prelude.{◌<◌, ◌≤◌, length};
+ghost use Rattle.std.specs.Prelude.{◌≡◌, ◌<◌, ◌≤◌, [], MatchOption, length};
+ghost use Rattle.std.specs.List.{All};
+ghost use Rattle.dns_transport.specs.Attempts.{late_from};
 
 use crate::lookup::Lookup;
 use std::alloc::Global;
@@ -21,13 +23,30 @@ impl Lookups {
         }
     }
 
-    /// Takes the one out that has these octets, if one has.
-    pub(crate) fn take(&mut self, query: &[u8]) -> Option<Lookup> {
-        let at = self
-            .items
-            .iter()
-            .position(|it| it.query.as_slice() == query)?;
+    /// Whether one has these octets.
+    pub(crate) fn has(&self, query: &[u8]) -> bool {
+        self.items.iter().any(|it| it.query.as_slice() == query)
+    }
+
+    /// Takes one out whose time is over by now, where each send is waited for so long, if there is
+    /// one.
+    pub(crate) fn take_late(&mut self, now: u64, time: u64) -> Option<Lookup>
+        ensures { MatchOption result
+            ((self.new.items.items ≡ self.old.items.items)
+            × All (λ it. now < late_from it.asked_at time) self.old.items.items)
+            (λ it. late_from it.asked_at time ≤ now) }
+    {
+        let at = self.items.iter().position(|it| it.late_at(time) <= now)?;
         Some(self.items.remove(at))
+    }
+
+    /// The first millisecond at which the time of one is over, where each send is waited for so
+    /// long.
+    pub(crate) fn next_late(&self, time: u64) -> Option<u64>
+        ensures { MatchOption result (self.now.items.items ≡ [])
+            (λ first. All (λ it. first ≤ late_from it.asked_at time) self.now.items.items) }
+    {
+        self.items.iter().map(|it| it.late_at(time)).min()
     }
 
     /// Takes the one of an id out, if there is one.

@@ -13,9 +13,9 @@ pub struct ReplyTimes {
 }
 
 impl ReplyTimes {
-    /// The times of a caller that has no others: six seconds for a datagram, and two over TCP.
+    /// The times of a caller that has no others: three seconds for a datagram, and two over TCP.
     pub const DEFAULT: ReplyTimes = ReplyTimes {
-        over_udp: 6_000,
+        over_udp: 3_000,
         over_tcp: 2_000,
     };
 

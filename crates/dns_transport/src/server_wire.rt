@@ -1,7 +1,8 @@
 //! A wire to DNS servers over sockets.
-ghost use Rattle.std.specs.Prelude.{◌≡◌, ◌↔◌, ◌+◌, ◌%◌, ◌^◌, ℕ, List, false, true, IfOk, IfSome, IsFalse, IsTrue, OnErr, OnOk, length, slice_get};
+ghost use Rattle.std.specs.Prelude.{◌≡◌, ◌↔◌, ◌+◌, ◌%◌, ◌^◌, ◌<◌, ◌≤◌, ℕ, List, None, false, true, IfOk, IfSome, IsFalse, IsSome, IsTrue, OnErr, OnOk, length, slice_get};
 ghost use Rattle.std.specs.List.{All};
 ghost use Rattle.dns_queries.specs.MessageWires.{IfMessage};
+ghost use Rattle.dns_transport.specs.Attempts.{TellsTimeout};
 ghost use Rattle.dns_transport.specs.CnameChains.{EndsWith, IsHandedOn, OpenValue};
 ghost use Rattle.dns_transport.specs.Deadlines.{IsAfter, time_over};
 ghost use Rattle.dns_transport.specs.Ends.{HasIdOver};
@@ -12,10 +13,11 @@ ghost use Rattle.dns_transport.specs.Steps.{IfReplied, Steps};
 ghost use Rattle.dns_transport.specs.Sends.{HasAsked, asked_by, sent_octets, with_id};
 ghost use Rattle.dns_transport.specs.Wires.{HandsOn, IsKnownAfter, Refuses, with_refusal};
 
+use crate::attempts::Attempts;
 use crate::letters::respell;
 use crate::link::System;
 use crate::lookup::Lookup;
-use crate::lookups::Lookups;
+use crate::lookups::{LOOKUP_LIMIT, Lookups};
 use crate::open_chain::{OpenChain, Step};
 use crate::query::{End, Outcome, Query};
 use crate::query_form::QueryForm;
@@ -38,11 +40,6 @@ use std::time::Duration;
 /// How long a receive waits at most, in milliseconds.
 const RECEIVE_TIME: u64 = 100;
 
-/// How long after a query went to a server the caller's resend is none, in milliseconds: the query
-/// went on to that server meanwhile. It bounds no wait, so no caller chooses it: a caller waits for
-/// a second at least before it sends again.
-const RESEND_TIME: u64 = 500;
-
 /// How many queries may end at one receive.
 const END_LIMIT: usize = 1_024;
 
@@ -59,6 +56,8 @@ pub struct WireOptions {
     pub over_tcp: bool,
     /// The form in which queries go out.
     pub form: QueryForm,
+    /// How often a query is sent, and how long each send is waited for.
+    pub attempts: Attempts,
     /// How long replies are waited for.
     pub reply_times: ReplyTimes,
     /// Whether each query of the caller begins with the server after the one that the query before
@@ -84,6 +83,10 @@ enum Course {
 }
 
 /// A wire to DNS servers over sockets.
+///
+/// A query is sent as often as `WireOptions::attempts` says, until a reply comes: the wire sends it
+/// again by itself, each time when the wait for the send before is over, and tells when the last
+/// wait is (`Received::TimedOut`). Where the caller sends a query that is open, nothing is done.
 ///
 /// The first send of a query goes to the first server, the second to the second, and so on round. A
 /// server that comes first and does not reply in time, or can't be reached, comes last from then
@@ -168,6 +171,7 @@ fn is_refusal(kind: ErrorKind) -> bool {
 /// Lets a query of the caller go that no server takes, and tells of it.
 fn tell_closed(lookup: Lookup) -> Option<Received>
     ensures no_message { IfSome result (λ it. IfMessage it (λ _. ⊥)) }
+    ensures in_time { TellsTimeout result → ⊥ }
 {
     let id = lookup.id();
     lookup.let_go();
@@ -432,7 +436,7 @@ impl<S: System + Drop, G: Rng + Drop> ServerWire<S, G> {
         let is_asked = self.ask(lookup, server, self.options.over_tcp);
         lookup.sends = lookup.sends.saturating_add(1);
         if is_asked {
-            lookup.asked_at = Some(self.transport.now());
+            lookup.asked_at = self.transport.now();
         }
         is_asked
     }
@@ -693,18 +697,15 @@ impl<S: System + Drop, G: Rng + Drop> ServerWire<S, G> {
         }
     }
 
-    /// What becomes of a query to which nothing came until its deadline. Silence closes none.
+    /// What becomes of a query to which nothing came until the deadline of one that was sent for
+    /// it. Silence closes none: it is open until its own time is over.
     fn miss(&mut self, lookup: &mut Lookup, server: usize, query: &Query) -> Course {
-        if query.route.over_tcp {
-            return match self.fail(lookup, server) {
-                Course::Closed => Course::Open,
-                course => course,
-            };
+        if !query.route.over_tcp {
+            return Course::Open;
         }
-        if self.transport.has_number(lookup.number) {
-            Course::Open
-        } else {
-            Course::Over
+        match self.fail(lookup, server) {
+            Course::Closed => Course::Open,
+            course => course,
         }
     }
 
@@ -735,7 +736,8 @@ impl<S: System + Drop, G: Rng + Drop> ServerWire<S, G> {
     /// Lets a query of the caller go to which this is the reply, and gives that, unless it refuses
     /// EDNS or memory is refused to look.
     fn give(&mut self, lookup: Lookup, reply: Vec<u8>) -> Option<Received>
-        ensures { IfSome result (λ it. IfMessage it (HandsOn self.new.options.form)) }
+        ensures handed_on { IfSome result (λ it. IfMessage it (HandsOn self.new.options.form)) }
+        ensures in_time { TellsTimeout result → ⊥ }
     {
         self.end(lookup);
         match self.refuses(reply.as_slice()) {
@@ -746,7 +748,8 @@ impl<S: System + Drop, G: Rng + Drop> ServerWire<S, G> {
 
     /// Does what becomes of a query of the caller, and gives what is to be handed on.
     fn follow(&mut self, lookup: Lookup, course: Course) -> Option<Received>
-        ensures { IfSome result (λ it. IfMessage it (HandsOn self.new.options.form)) }
+        ensures handed_on { IfSome result (λ it. IfMessage it (HandsOn self.new.options.form)) }
+        ensures in_time { TellsTimeout result → ⊥ }
     {
         match course {
             Course::Open => self.put(lookup),
@@ -755,6 +758,53 @@ impl<S: System + Drop, G: Rng + Drop> ServerWire<S, G> {
             Course::Closed => return tell_closed(lookup),
         }
         None
+    }
+
+    /// Sends a query once more, to which no reply came in time, and gives what is to be handed on.
+    fn ask_again(&mut self, mut lookup: Lookup) -> Option<Received>
+        ensures handed_on { IfSome result (λ it. IfMessage it (HandsOn self.new.options.form)) }
+        ensures in_time { TellsTimeout result → ⊥ }
+    {
+        if let Some(server) = lookup.last_server(self.servers.len()) {
+            self.put_last(server);
+        }
+        let course = if self.ask_next(&mut lookup) {
+            Course::Open
+        } else {
+            self.wait_on(&lookup)
+        };
+        self.follow(lookup, course)
+    }
+
+    /// Lets a query go that was sent as often as it was to, and tells of it. Where a reply was kept
+    /// for it, that is handed on.
+    fn give_up(&mut self, mut lookup: Lookup) -> Option<Received>
+        ensures handed_on { IfSome result (λ it. IfMessage it (HandsOn self.new.options.form)) }
+        ensures silent { lookup.kept ≡ None → TellsTimeout result }
+        ensures kept { IsSome lookup.kept → TellsTimeout result → ⊥ }
+    {
+        if let Some(reply) = lookup.kept.take() {
+            let course = self.hand_on(&mut lookup, reply);
+            return self.follow(lookup, course);
+        }
+        let id = lookup.id();
+        self.end(lookup);
+        Some(Received::TimedOut(id))
+    }
+
+    /// Goes on with a query to which no reply came in time, and gives what is to be handed on.
+    fn time_out(&mut self, mut lookup: Lookup, now: u64) -> Option<Received>
+        ensures handed_on { IfSome result (λ it. IfMessage it (HandsOn self.new.options.form)) }
+        ensures early { lookup.timeouts + 1 < self.old.options.attempts.count
+            → TellsTimeout result → ⊥ }
+        ensures late { self.old.options.attempts.count ≤ lookup.timeouts + 1
+            → lookup.kept ≡ None → TellsTimeout result }
+    {
+        if lookup.count_timeout(now, self.options.attempts.count) {
+            self.give_up(lookup)
+        } else {
+            self.ask_again(lookup)
+        }
     }
 
     /// Takes the end of a query, and gives what is to be handed on.
@@ -766,23 +816,59 @@ impl<S: System + Drop, G: Rng + Drop> ServerWire<S, G> {
         self.follow(lookup, course)
     }
 
-    /// Tells of a query that no server takes, or takes the ends that are known, until one gives
-    /// something to hand on.
+    /// Takes the ends that are known, until one gives something to hand on.
+    fn take_ends(&mut self) -> Option<Received>
+        ensures { IfSome result (λ it. IfMessage it (HandsOn self.new.options.form)) }
+    {
+        'ends: for _end in 0..END_LIMIT {
+            let end = self.transport.poll_end()?;
+            if let Some(received) = self.take(end) {
+                return Some(received);
+            }
+        }
+        None
+    }
+
+    /// Goes on with the queries to which no reply came in time, until there is something to hand
+    /// on.
+    fn take_late(&mut self) -> Option<Received>
+        ensures { IfSome result (λ it. IfMessage it (HandsOn self.new.options.form)) }
+    {
+        let now = self.transport.now();
+        let time = u64::from(self.options.attempts.time);
+        'lookups: for _lookup in 0..LOOKUP_LIMIT {
+            let lookup = self.lookups.take_late(now, time)?;
+            if let Some(received) = self.time_out(lookup, now) {
+                return Some(received);
+            }
+        }
+        None
+    }
+
+    /// Tells of a query that no server takes, or what came, or of one whose time is over.
     fn take_all(&mut self) -> Option<Received>
         ensures { IfSome result (λ it. IfMessage it (HandsOn self.new.options.form)) }
     {
         if let Some(id) = self.closed.pop() {
             return Some(Received::Closed(id));
         }
-        'ends: for _end in 0..END_LIMIT {
-            let Some(end) = self.transport.poll_end() else {
-                return None;
-            };
-            if let Some(received) = self.take(end) {
-                return Some(received);
-            }
+        if let Some(received) = self.take_ends() {
+            return Some(received);
         }
-        None
+        self.take_late()
+    }
+
+    /// How many milliseconds a receive may wait: until the time of a query is over, at most.
+    fn wait_time(&self) -> u64
+        ensures { result ≤ RECEIVE_TIME }
+    {
+        let time = u64::from(self.options.attempts.time);
+        match self.lookups.next_late(time) {
+            Some(late_at) => late_at
+                .saturating_sub(self.transport.now())
+                .min(RECEIVE_TIME),
+            None => RECEIVE_TIME,
+        }
     }
 
     /// A query of the caller that was not open: the number that is next is its own.
@@ -797,7 +883,8 @@ impl<S: System + Drop, G: Rng + Drop> ServerWire<S, G> {
         ensures refused { OnErr result (self.new.next_number ≡ self.old.next_number) }
     {
         let number = self.next_number;
-        let lookup = Lookup::new(self.alloc, number, query, self.first_for(number))?;
+        let first = self.first_for(number);
+        let lookup = Lookup::new(self.alloc, number, query, first, self.transport.now())?;
         self.next_number = number.wrapping_add(1);
         Ok(lookup)
     }
@@ -824,20 +911,6 @@ impl<S: System + Drop, G: Rng + Drop> ServerWire<S, G> {
             Err(_) => self.put(lookup),
         }
     }
-
-    /// Sends a query of the caller once more, unless it has just been sent.
-    fn send_again(&mut self, mut lookup: Lookup) {
-        if !lookup.was_asked_after(self.transport.now().saturating_sub(RESEND_TIME)) {
-            if let Some(server) = lookup.last_server(self.servers.len()) {
-                self.put_last(server);
-            }
-            if !self.ask_next(&mut lookup) && self.is_closed(&lookup) {
-                self.put_closed(lookup);
-                return;
-            }
-        }
-        self.put(lookup);
-    }
 }
 
 impl<S: System + Drop, G: Rng + Drop> Tracer for ServerWire<S, G> {
@@ -859,11 +932,10 @@ impl<S: System + Drop, G: Rng + Drop> MessageWire for ServerWire<S, G> {
     // Nor of time.
     ghost over = { λ _. ⊤ };
 
-    /// Where a query is open already, the server that it was sent to last did not reply in time.
+    /// Where a query is open already, nothing is done: the wire sends it again by itself.
     fn send(&mut self, query: &[u8]) {
-        match self.lookups.take(query) {
-            Some(lookup) => self.send_again(lookup),
-            None => self.send_first(query),
+        if !self.lookups.has(query) {
+            self.send_first(query);
         }
     }
 
@@ -878,7 +950,8 @@ impl<S: System + Drop, G: Rng + Drop> MessageWire for ServerWire<S, G> {
         if let Some(received) = self.take_all() {
             return Some(received);
         }
-        self.transport.wait(RECEIVE_TIME);
+        let most = self.wait_time();
+        self.transport.wait(most);
         self.take_all()
     }
 

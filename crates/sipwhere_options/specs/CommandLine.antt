@@ -186,10 +186,11 @@ pub record AreLimits (matches : ArgMatches) (limits : CheckLimits) : Type 0 wher
   pub expected : option_map (λ word. word.now) limits.expected ≡ word_of matches (codes "expect")
 
 -- how long each query is waited for, and how often each question is sent, where words say so: as
--- numbers of 8 bits
+-- numbers of 32 bits
 pub record AreTimings (matches : ArgMatches) (timing : Timing) : Type 0 where
-  pub timeout : MaySay (NumberText 8) (one_text (found_of matches) (codes "timeout")) timing.timeout
-  pub tries : MaySay (NumberText 8) (one_text (found_of matches) (codes "tries")) timing.tries
+  pub timeout : MaySay (NumberText 32) (one_text (found_of matches) (codes "timeout"))
+      timing.timeout
+  pub tries : MaySay (NumberText 32) (one_text (found_of matches) (codes "tries")) timing.tries
 
 -- what is printed beside what became of a text: queries, names, how targets came, and how often
 -- each came first in so many draws, a number of 32 bits

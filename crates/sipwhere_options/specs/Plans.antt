@@ -9,7 +9,7 @@ use Rattle.ip_text.specs.declared.address.Address.{Address}
 use Rattle.ip_text.specs.declared.address.Address.TheVariants.{V4, V6}
 use Rattle.resolver_file.specs.ResolverFiles.{FileSays, FileValue}
 use Rattle.sipwhere_options.specs.Servers.{servers_from}
-use Rattle.sipwhere_options.specs.Timings.{IsSchedule, sends_of}
+use Rattle.sipwhere_options.specs.Timings.{AreAttempts, sends_of}
 use Rattle.sipwhere_options.specs.declared.options.Options.{Options}
 use Rattle.sipwhere_options.specs.declared.plan.Plan.{Plan}
 use Rattle.sipwhere_options.specs.declared.run_fault.RunFault.{RunFault}
@@ -29,8 +29,8 @@ IsServerAt (V6 octets) server =
 pub record IsOfFile (options : Options) (file : FileValue) (plan : Plan) : Type 0 where
   pub servers : AllZip IsServerAt file.servers plan.servers.items
   pub tcp : plan.over_tcp ≡ options.over_tcp || file.over_tcp
-  pub schedule : IsSchedule options file.timeout (sends_of file.attempts (length file.servers))
-      plan.schedule
+  pub attempts : AreAttempts options file.timeout (sends_of file.attempts (length file.servers))
+      plan.attempts
   pub rotates : plan.rotates ≡ file.rotates
 
 -- the servers that words name, in their order, over TCP alone where a word says so, as often and
@@ -39,7 +39,7 @@ pub record IsNamed (options : Options) (plan : Plan) : Type 0 where
   pub some : options.servers.items ≢ []
   pub servers : plan.servers.items ≡ options.servers.items
   pub tcp : plan.over_tcp ≡ options.over_tcp
-  pub schedule : IsSchedule options None None plan.schedule
+  pub attempts : AreAttempts options None None plan.attempts
   pub rotates : plan.rotates ≡ false
 
 -- where words name no servers: those of a resolver file
@@ -60,7 +60,7 @@ pub record IsFrom (local : IpAddr) (whole plan : Plan) : Type 0 where
   pub servers : plan.servers.items ≡ servers_from local whole.servers.items
   pub some : plan.servers.items ≢ []
   pub tcp : plan.over_tcp ≡ false
-  pub schedule : plan.schedule ≡ whole.schedule
+  pub attempts : plan.attempts ≡ whole.attempts
   pub rotates : plan.rotates ≡ whole.rotates
 
 -- the system has a fault

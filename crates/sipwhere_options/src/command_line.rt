@@ -137,10 +137,10 @@ fn timeout<'a>(alloc: Global) -> Arg<'a> {
     value(
         alloc,
         "timeout",
-        "SECONDS",
-        "How long each query is waited for, 1 if not given",
+        "MS",
+        "How long each query is waited for (10 to 60000), 1000 if not given",
     )
-    .value_parser(value_parser!(u8).range(1..=60))
+    .value_parser(value_parser!(u32).range(10..=60_000))
 }
 
 /// The option of how often a question is sent.
@@ -151,7 +151,7 @@ fn tries<'a>(alloc: Global) -> Arg<'a> {
         "N",
         "How often each question is sent in all, 3 if not given",
     )
-    .value_parser(value_parser!(u8).range(1..=15))
+    .value_parser(value_parser!(u32).range(1..=15))
 }
 
 /// The option of how long one URI may take.

@@ -2,8 +2,8 @@
 //!
 //! `command` is the command line, and `read_options` gives the `Options` that its words say.
 //! `read_plan` gives the `Plan`: which servers are asked, and how, by these and by the resolver
-//! file. `reply_times_of` is how long replies are waited for by a plan. `RunFault` is what ends a
-//! run before anything is asked.
+//! file. `reply_times_of` is how long replies are waited for by a plan, and `schedule_of` how long
+//! a resolver waits. `RunFault` is what ends a run before anything is asked.
 //!
 //! Read `specs/CommandLine.antt` first: what each word says. `specs/Plans.antt` says whom to ask,
 //! and `specs/Timings.antt` how often, and for how long.
@@ -25,4 +25,4 @@ pub use pinging::Pinging;
 pub use plan::{Plan, read_plan, resolver_path};
 pub use run_fault::RunFault;
 pub use terminals::Terminals;
-pub use timing::reply_times_of;
+pub use timing::{reply_times_of, schedule_of};

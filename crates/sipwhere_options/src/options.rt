@@ -26,10 +26,10 @@ use thiserror::Error;
 /// How long each query is waited for, and how often each question is sent, as far as words say so.
 #[derive(Clone, Copy, Debug)]
 pub struct Timing {
-    /// For how many seconds each query is waited for.
-    pub timeout: Option<u8>,
+    /// For how many milliseconds each query is waited for.
+    pub timeout: Option<u32>,
     /// How often each question is sent in all.
-    pub tries: Option<u8>,
+    pub tries: Option<u32>,
 }
 
 /// What is printed beside what became of a text.
@@ -354,8 +354,8 @@ fn timing_of(matches: &ArgMatches<'_>) -> Timing
     ensures { spec.AreTimings matches.now result }
 {
     Timing {
-        timeout: matches.get_one::<u8>("timeout"),
-        tries: matches.get_one::<u8>("tries"),
+        timeout: matches.get_one::<u32>("timeout"),
+        tries: matches.get_one::<u32>("tries"),
     }
 }
 

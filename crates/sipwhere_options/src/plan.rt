@@ -5,8 +5,8 @@ ghost use Rattle.sipwhere_options.specs.Servers as spec;
 
 use crate::options::Options;
 use crate::run_fault::RunFault;
-use crate::timing::{schedule_by, sends_of};
-use dns_queries::Schedule;
+use crate::timing::{attempts_by, sends_of};
+use dns_transport::Attempts;
 use resolver_file::{ResolverFile, SERVER_PORT};
 use sip_uri::Address;
 use std::alloc::{AllocError, Global};
@@ -23,7 +23,7 @@ pub struct Plan {
     /// Whether the servers are asked over TCP alone.
     pub over_tcp: bool,
     /// How often each question is sent, and for how long each query is waited for.
-    pub schedule: Schedule,
+    pub attempts: Attempts,
     /// Whether each question begins with the server after the one that the question before it began
     /// with.
     pub rotates: bool,
@@ -81,7 +81,7 @@ fn plan_of(alloc: Global, options: &Options<'_>, file: &ResolverFile) -> Result<
     Ok(Plan {
         servers,
         over_tcp: options.over_tcp || file.is_over_tcp(),
-        schedule: schedule_by(options, file.timeout_option(), sends),
+        attempts: attempts_by(options, file.timeout_option(), sends),
         rotates: file.rotates(),
     })
 }
@@ -125,7 +125,7 @@ fn plan_from(alloc: Global, local: IpAddr, plan: Plan) -> Result<Plan, RunFault>
     Ok(Plan {
         servers,
         over_tcp: false,
-        schedule: plan.schedule,
+        attempts: plan.attempts,
         rotates: plan.rotates,
     })
 }
@@ -149,7 +149,7 @@ fn read_servers<R: Files + Eprint + AllocGlobal>(
         return Ok(Plan {
             servers: Vec::from_slice(alloc, options.servers.as_slice())?,
             over_tcp: options.over_tcp,
-            schedule: schedule_by(options, None, None),
+            attempts: attempts_by(options, None, None),
             rotates: false,
         });
     }
