@@ -27,7 +27,7 @@ use dns_answers::Moment;
 use sip_locator::{Located, locate};
 use sip_selection::{Caps, Request, RequestView};
 use sip_uri::Transport::{Sctp, Tcp, Tls, Udp};
-use srv_choice::{WORD_COUNT, Words};
+use srv_choice::{RandomWords, WORD_COUNT, Words};
 use std::alloc::Global;
 use std::rt::Files;
 use std::sync::Wait;
@@ -77,8 +77,9 @@ fn targets_of<B: AnswerBook>(
     requires view { IsRequestView request.now }
     ensures { B.belongs book.now seat.new }
 {
-    let (caps, words, now) = (load.caps, load.words, load.now);
-    match locate(alloc, book, seat, request, caps, words, now) {
+    let (caps, now) = (load.caps, load.now);
+    let words = RandomWords::Given(load.words);
+    match locate(alloc, book, seat, request, caps, &words, now) {
         Ok(Located::Targets(found)) => found.len(),
         _ => 0,
     }

@@ -8,14 +8,14 @@
 use answer_cache::{ListCache, Stores};
 use dns_queries as queries;
 use dns_queries::MessageWire;
-use dns_transport::{QueryForm, ReplyTimes, RunClock, WireOptions, open_wire};
+use dns_transport::{Attempts, QueryForm, ReplyTimes, RunClock, WireOptions, open_wire};
 use sip_resolver::{
-    Limits, Outcome, Resolved, Resolver, WireFacts, draw_words, next_outcome, random_ids,
-    random_key,
+    Limits, Outcome, Resolved, Resolver, WireFacts, next_outcome, random_ids, random_key,
 };
 use sip_selection::{Caps, Families, Request};
 use sip_uri::Transport::{Tcp, Tls, Udp};
 use sip_uri::{SipUri, address_text, read_uri};
+use srv_choice::RandomWords;
 use std::alloc::Global;
 use std::net::{Net, SocketAddr};
 use std::process::ExitCode;
@@ -53,7 +53,11 @@ fn resolve<R: Wait, B: Stores<R> + Drop, W: MessageWire, C: queries::Clock>(
     let Ok(mut resolver) = Resolver::<B, WireFacts<W, C>, _>::new(alloc, LIMITS, ids) else {
         return None;
     };
-    let ended = match resolver.submit(NUMBER, request, caps, draw_words(key, NUMBER), None) {
+    let words = RandomWords::Drawn {
+        key,
+        number: NUMBER,
+    };
+    let ended = match resolver.submit(NUMBER, request, caps, &words, None) {
         Ok(()) => next_outcome(rt, &mut resolver, book, seat, wire, clock),
         Err(_) => None,
     };
@@ -84,6 +88,7 @@ fn resolve_at<R: Wait + Net + Clock + RandomSource + AllocGlobal>(
     let options = WireOptions {
         over_tcp: false,
         form: QueryForm::PLAIN,
+        attempts: Attempts::DEFAULT,
         reply_times: ReplyTimes::DEFAULT,
         rotates: false,
         keeps_tries: false,

@@ -13,6 +13,7 @@ ghost use Rattle.sip_locator.specs.Gains.{Gains, IsAsking, Lacks, LookedUp, Step
 ghost use Rattle.sip_locator.specs.Locations.{IsLocated};
 ghost use Rattle.sip_locator.specs.Replies.{Answers, IsTaken, Refuses};
 ghost use Rattle.dns_message.specs.declared.question.Question as question;
+ghost use Rattle.srv_choice.specs.Draws.{words_of};
 
 use crate::book_at::BookAt;
 use crate::kept::Kept;
@@ -24,7 +25,7 @@ use dns_message::{Question, law_same_questions_are_equal};
 use sip_selection::{
     Caps, Choice, GiveRefusal, Next, Reason, Request, RequestView, Selection, Target, choose,
 };
-use srv_choice::Words;
+use srv_choice::{RandomWords, Words};
 use std::alloc::{AllocError, Global};
 use std::marker::{Model, PhantomData};
 use std::sync::Arc;
@@ -68,7 +69,7 @@ fn choose_at<B: AnswerBook>(
     seat: &mut B::Seat,
     request: &RequestView<'_>,
     caps: &Caps,
-    words: &Words,
+    words: &RandomWords<'_>,
     now: Moment,
 ) -> Result<Choice, AllocError>
     requires made_here { B.belongs book.now seat.old }
@@ -78,18 +79,19 @@ fn choose_at<B: AnswerBook>(
     ensures stores_nothing { StoresNothing (B.shown seat.old) (B.shown seat.new) }
     ensures chosen { (new : SelectionValue)
         × Gains (B.shown seat.new).seen now (B.shown seat.old).seen
-        (begun (request_of request.now) caps.now words.now.0) new
+        (begun (request_of request.now) caps.now (words_of words.now)) new
         × IfOk result (ChoiceIs new) }
     ensures lacks { IfOk result (ChoiceLacks
         (λ question found. found ≡ cached (B.shown seat.new).seen question now)) }
     ensures memory { OnErr result
-        (IsNotRefused (now_of (begun (request_of request.now) caps.now words.now.0))) }
+        (IsNotRefused (now_of (begun (request_of request.now) caps.now (words_of words.now)))) }
 {
     choose(alloc, request, caps, words, &BookAt { book, now }, seat)
 }
 
-/// Where a request goes: as `Locator::new` and one `step`, but the request and the words are copied
-/// only where the book lacks an answer. No memory is needed for a request that is refused at once.
+/// Where a request goes: as `Locator::with_words` and one `step`, but the request, and words that
+/// are given, are copied only where the book lacks an answer. No memory is needed for a request
+/// that is refused at once.
 #[inline(always)]
 pub fn locate<B: AnswerBook>(
     alloc: Global,
@@ -97,7 +99,7 @@ pub fn locate<B: AnswerBook>(
     seat: &mut B::Seat,
     request: &RequestView<'_>,
     caps: &Caps,
-    words: &Words,
+    words: &RandomWords<'_>,
     now: Moment,
 ) -> Result<Located<B>, AllocError>
     requires made_here { B.belongs book.now seat.old }
@@ -105,10 +107,11 @@ pub fn locate<B: AnswerBook>(
     ensures stays { B.belongs book.now seat.new }
     ensures goes_on { GoesOn (B.shown seat.old) (B.shown seat.new) }
     ensures stores_nothing { StoresNothing (B.shown seat.old) (B.shown seat.new) }
-    ensures located { IfOk result (IsLocated (begun (request_of request.now) caps.now words.now.0)
+    ensures located { IfOk result (IsLocated (begun (request_of request.now) caps.now
+        (words_of words.now))
         (B.shown seat.old).seen (B.shown seat.new).seen now) }
     ensures memory { OnErr result
-        (IsNotRefused (now_of (begun (request_of request.now) caps.now words.now.0))) }
+        (IsNotRefused (now_of (begun (request_of request.now) caps.now (words_of words.now)))) }
 {
     match choose_at(alloc, book, seat, request, caps, words, now)? {
         Choice::Targets(targets) => Ok(Located::Targets(targets)),
@@ -137,9 +140,23 @@ impl<B: AnswerBook> Locator<B> {
         ensures is { IfOk result (λ it. it ≡ begun request caps words.0) }
         ensures memory { OnErr result (IsNotRefused (now_of (begun request caps words.0))) }
     {
+        Locator::with_words(alloc, request, caps, &RandomWords::Given(&words))
+    }
+
+    /// As `new`, by random words that are given or drawn. Those that are drawn take no memory.
+    pub fn with_words(
+        alloc: Global,
+        request: Request,
+        caps: Caps,
+        words: &RandomWords<'_>,
+    ) -> Result<Locator<B>, AllocError>
+        ensures is { IfOk result (λ it. it ≡ begun request caps (words_of words.now)) }
+        ensures memory { OnErr result
+            (IsNotRefused (now_of (begun request caps (words_of words.now)))) }
+    {
         Ok(Locator {
             alloc,
-            selection: Selection::new(alloc, request, caps, words)?,
+            selection: Selection::with_words(alloc, request, caps, words)?,
             book: PhantomData,
         })
     }

@@ -6,7 +6,7 @@ use Rattle.sip_resolver.specs.Resolvers.{ResolverView}
 use Rattle.sip_resolver.specs.Sends.{Sends}
 use Rattle.sip_resolver.specs.Tasks.{WaitingView}
 use Rattle.sip_resolver.specs.declared.transmit.Transmit.{Transmit}
-use Rattle.sip_resolver.specs.Driven.{Drives, Gives, IsQuery, SendsNext, begun, closes, leaves, receives, sends, waits}
+use Rattle.sip_resolver.specs.Driven.{Drives, Gives, IsQuery, SendsNext, begun, closes, leaves, receives, sends, times_out, waits}
 
 is-query : (now asked : ℕ) (waiting : List WaitingView) (old new : QuestionsView) (transmit : Transmit)
     → Sends now asked waiting old new (Some transmit) → IsQuery transmit.octets.now
@@ -24,6 +24,8 @@ module _ {Wire : Type 0} (does : Wire → Event → Wire → Type 0) where
       leaves id before after (drives-through first middle before front back) did
   drives-through first middle last front (closes id before after back did) =
       closes id before after (drives-through first middle before front back) did
+  drives-through first middle last front (times_out id before after back did) =
+      times_out id before after (drives-through first middle before front back) did
   drives-through first middle last front (waits before after back did) =
       waits before after (drives-through first middle before front back) did
 

@@ -2,7 +2,7 @@
 use Rattle.std.specs.Prelude.{◌≡◌, ℕ, Bool, true, false, List, Option, Some, None}
 use Rattle.std.specs.List.{All}
 use Rattle.answer_cache.specs.Seats.{SeatView}
-use Rattle.dns_queries.specs.MessageWires.{Event, closed, left, nothing, received, sent}
+use Rattle.dns_queries.specs.MessageWires.{Event, closed, left, nothing, received, sent, timed_out}
 use Rattle.dns_message.specs.Written.{plain, query_of}
 use Rattle.dns_message.specs.declared.question.Question.{Question}
 use Rattle.sip_resolver.specs.Idle.{IsOut}
@@ -54,7 +54,7 @@ pub record IsQuery (octets : List ℕ) : Type 0 where
   pub are : octets ≡ plain (query_of id question)
 
 -- A wire went from one state to another by calls of which each sent a query, let one go or
--- received: a message, that no server takes a query, or nothing.
+-- received: a message, that no server takes a query, that no reply to one came in time, or nothing.
 pub data Drives {Wire : Type 0} (does : Wire → Event → Wire → Type 0) (first : Wire)
     : Wire → Type 0 where
   begun : Drives does first first
@@ -66,5 +66,7 @@ pub data Drives {Wire : Type 0} (does : Wire → Event → Wire → Type 0) (fir
       → does before (received message) after → Drives does first after
   closes : (id : ℕ) (before after : Wire) → Drives does first before
       → does before (closed id) after → Drives does first after
+  times_out : (id : ℕ) (before after : Wire) → Drives does first before
+      → does before (timed_out id) after → Drives does first after
   waits : (before after : Wire) → Drives does first before → does before nothing after
       → Drives does first after

@@ -17,7 +17,7 @@ use Rattle.sip_selection.specs.Selections.{begun}
 use Rattle.sip_selection.specs.declared.caps.Caps.{Caps}
 use Rattle.sip_selection.specs.declared.request.Request.{Request}
 use Rattle.sip_resolver.specs.Cancels.{questions_left}
-use Rattle.sip_resolver.specs.Ends.{EndsMore, IsByClosing, IsByReply}
+use Rattle.sip_resolver.specs.Ends.{EndsMore, IsByClosing, IsByReply, IsBySilence}
 use Rattle.sip_resolver.specs.Expiries.{AreExpired, HaveTime}
 use Rattle.sip_resolver.specs.Idle.{AreAwaited, IsIdle}
 use Rattle.sip_resolver.specs.Outcomes.{Ended}
@@ -139,16 +139,26 @@ pub data HandsIn (over : DnsTransport) (octets : List ℕ) (now : ℕ) (question
       (incoming.Ended id question (endings.Answered found))
       → Hands question found now old new → HandsIn over octets now questions old new
 
--- The question that is out under an id is closed, as no server takes it, and no request waits for
--- it any more: each that needs it ends for that, or for want of memory, and each other one goes on.
-pub record Closes (id : ℕ) (old new : ResolverView) : Type 0 where
-  pub over : DnsTransport
-  pub question : Question
-  pub was : HasQuestion question id (asking_over over old.questions).tickets
-  pub left : new.questions ≡ closed_over over id old.questions
-  pub settles : SettlesAll id (NeedsOther question) (IsByClosing question)
-      old.requests new.requests
-  pub streams : new.streams ≡ old.streams
+-- The question that is out under an id is closed, and no request waits for it any more: each that
+-- needs it ends with an outcome of this kind, and each other one goes on.
+pub record EndsWait (kind : Question → Outcome → Type 0) (id : ℕ) (old new : ResolverView) : Type 0
+  where
+    pub over : DnsTransport
+    pub question : Question
+    pub was : HasQuestion question id (asking_over over old.questions).tickets
+    pub left : new.questions ≡ closed_over over id old.questions
+    pub settles : SettlesAll id (NeedsOther question) (kind question) old.requests new.requests
+    pub streams : new.streams ≡ old.streams
+
+-- The question that is out under an id is closed, as no server takes it: each request that needs it
+-- ends for that, or for want of memory.
+abbrev pub Closes : ℕ → ResolverView → ResolverView → Type 0
+Closes id old new = EndsWait IsByClosing id old new
+
+-- The question that is out under an id is closed, as no reply to it came in time: each request that
+-- needs it ends for that, or for want of memory.
+abbrev pub GivesUpOn : ℕ → ResolverView → ResolverView → Type 0
+GivesUpOn id old new = EndsWait IsBySilence id old new
 
 -- ---- an outcome is taken
 

@@ -95,8 +95,8 @@ fn send_and_poll<B: AnswerBook, W: MessageWire, C: Clock, I: Ids + Drop>(
     resolver.poll_outcome()
 }
 
-/// Receives once, and hands on what came: a message, or that no server takes a query. Where memory
-/// is refused for a message, it is lost.
+/// Receives once, and hands on what came: a message, or that no server takes a query, or that no
+/// reply to one came in time. Where memory is refused for a message, it is lost.
 fn receive_once<R, B: Stores<R>, W: MessageWire, C: Clock, I: Ids + Drop>(
     rt: &R,
     resolver: &mut Resolver<B, WireFacts<W, C>, I>,
@@ -126,6 +126,9 @@ fn receive_once<R, B: Stores<R>, W: MessageWire, C: Clock, I: Ids + Drop>(
         }
         Some(Received::Closed(id)) => {
             let _closed = resolver.close(id);
+        }
+        Some(Received::TimedOut(id)) => {
+            let _given_up = resolver.give_up(id);
         }
         None => {}
     }

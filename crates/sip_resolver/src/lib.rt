@@ -10,9 +10,11 @@
 //! let Ok(mut resolver) = Resolver::new(alloc, limits, CountingIds::new()) else {
 //!     return None;
 //! };
-//! resolver
-//!     .submit(1, request, caps, Words([0; WORD_COUNT]), until)
-//!     .ok()?;
+//! let words = RandomWords::Drawn {
+//!     key: [0; 32],
+//!     number: 1,
+//! };
+//! resolver.submit(1, request, caps, &words, until).ok()?;
 //! // the octets of a query, which begin with its id
 //! let asked = rounded_up(now);
 //! let query = resolver.poll_transmit(book, seat, now, asked)?.octets;

@@ -8,6 +8,7 @@ ghost use Rattle.dns_answers.specs.declared.refusal.ReplyRefusal.TheVariants as 
 ghost use Rattle.dns_queries.specs.Tickets.{usual};
 ghost use Rattle.dns_queries.specs.declared.incoming.Ending.TheVariants as endings;
 ghost use Rattle.sip_locator.specs.Replies.{Answers};
+ghost use Rattle.srv_choice.specs.Draws.{words_of};
 ghost use Rattle.sip_resolver.specs.Cancels.{questions_left, requests_with, requests_without};
 ghost use Rattle.sip_resolver.specs.Ends.{EndsMore, IsByChoice, IsByReply, IsMemory};
 ghost use Rattle.sip_resolver.specs.Expiries.{timeouts_of};
@@ -15,7 +16,7 @@ ghost use Rattle.sip_resolver.specs.Idle.{AreAwaited, CannotAsk, IsIdle, IsOut};
 ghost use Rattle.sip_resolver.specs.Outcomes.{IsOutcome, Sought};
 ghost use Rattle.sip_resolver.specs.Questions.{IsLeast, schedule_of};
 ghost use Rattle.sip_resolver.specs.Requests.{AreSame, IsAwaitedBy, IsBack, Stand, count_of, numbers_of, weight};
-ghost use Rattle.sip_resolver.specs.Resolvers.{Closes, Expires, HandsIn, HasRoomFor, Hears, IsCut, IsEnded, IsTaken, LeavesSeat, Polls, RefusesSubmit, begun_of, with_request};
+ghost use Rattle.sip_resolver.specs.Resolvers.{Closes, Expires, GivesUpOn, HandsIn, HasRoomFor, Hears, IsCut, IsEnded, IsTaken, LeavesSeat, Polls, RefusesSubmit, begun_of, with_request};
 ghost use Rattle.sip_resolver.specs.Sends.{GivesUpBoth, IsInTime, SendsAfter, SendsFirst, tickets_of};
 ghost use Rattle.sip_resolver.specs.Settles.{GetsAnswer, GoesByReply, SettlesAll};
 ghost use Rattle.sip_resolver.specs.Tasks.{IsCounted, sought_of};
@@ -39,7 +40,7 @@ use dns_answers::{Answer, Moment, ReplyRefusal, law_answers_are_bounded};
 use dns_message::Question;
 use dns_queries::{Ending, Incoming, Schedule, Why};
 use sip_selection::{Caps, Request};
-use srv_choice::Words;
+use srv_choice::RandomWords;
 use std::alloc::{AllocError, Global};
 use std::marker::{Model, PhantomData};
 use std::sync::Arc;
@@ -172,11 +173,11 @@ impl<B: AnswerBook, F: Facts, I: Ids + Drop> Resolver<B, F, I> {
         number: u64,
         request: Request,
         caps: Caps,
-        words: Words,
+        words: &RandomWords<'_>,
         until: Option<Moment>,
     ) -> Result<(), SubmitRefusal>
         ensures submitted { OnOk result
-            (self.new ≡ with_request number request caps words.0 until self.old) }
+            (self.new ≡ with_request number request caps (words_of words.now) until self.old) }
         ensures room { OnOk result (HasRoomFor self.old number) }
         ensures refused { IfErr result (RefusesSubmit self.old number) }
         ensures stand { (seat : SeatView) → Stand F.gives F.shows seat self.old.requests
@@ -334,6 +335,27 @@ impl<B: AnswerBook, F: Facts, I: Ids + Drop> Resolver<B, F, I> {
             return false;
         };
         settle_all::<B, F>(&mut self.requests, id, &WaitEnd::Closed(&question));
+        true
+    }
+
+    /// Ends the wait for the reply to the question of this id, to which none came in time, where
+    /// the caller counts the time: each request that waits for it ends with `NoAnswer`. It says
+    /// whether a question is out under the id. A reply that comes later is ignored, and stores
+    /// nothing.
+    pub fn give_up(&mut self, id: u16) -> bool
+        ensures found { IsTrue result ↔ IsOut id self.old.questions }
+        ensures gives_up { IsTrue result → GivesUpOn id self.old self.new }
+        ensures unchanged { OnFalse result (self.new ≡ self.old) }
+        ensures same { AreSame self.old.requests self.new.requests }
+        ensures stand { (seat : SeatView) → Stand F.gives F.shows seat self.old.requests
+            → Stand F.gives F.shows seat self.new.requests }
+        ensures awaited { AreAwaited self.old.requests self.old.questions
+            → AreAwaited self.new.requests self.new.questions }
+    {
+        let Some((_, question)) = self.questions.take(id) else {
+            return false;
+        };
+        settle_all::<B, F>(&mut self.requests, id, &WaitEnd::GivenUp(&question));
         true
     }
 

@@ -8,6 +8,7 @@ ghost use Rattle.sip_selection.specs.Choice.{IsNotRefused, need};
 ghost use Rattle.sip_selection.specs.Nexts.{next_of};
 ghost use Rattle.sip_selection.specs.Selections.{begun, given_too, now_of};
 ghost use Rattle.sip_resolver.specs.Expiries.{is_expired};
+ghost use Rattle.srv_choice.specs.Draws.{words_of};
 ghost use Rattle.sip_resolver.specs.Tasks.{EndsByChoice, IsCounted, Leaves, Progresses, over_of, sought_of};
 
 use crate::facts::Facts;
@@ -20,7 +21,7 @@ use dns_message::Question;
 use sip_locator::Locator;
 use sip_selection::{Caps, GiveRefusal, Next, Request};
 use sip_uri::Host;
-use srv_choice::Words;
+use srv_choice::RandomWords;
 use std::alloc::{AllocError, AllocFailed, Global};
 use std::marker::Model;
 use std::sync::Arc;
@@ -127,18 +128,18 @@ impl<B: AnswerBook> Task<B> {
         number: u64,
         request: Request,
         caps: Caps,
-        words: Words,
+        words: &RandomWords<'_>,
         until: Option<Moment>,
     ) -> Result<Task<B>, AllocError>
         ensures { IfOk result (λ it. it ≡ record {
           number = number;
-          selection = begun request caps words.0;
+          selection = begun request caps (words_of words.now);
           cut = false;
           until = until;
         }) }
     {
         let host = request.target().try_clone()?;
-        let locator = Locator::new(alloc, request, caps, words)?;
+        let locator = Locator::with_words(alloc, request, caps, words)?;
         match Box::new(alloc, locator) {
             Ok(locator) => Ok(Task {
                 number,

@@ -5,13 +5,13 @@ use Rattle.std.proofs.lemmas.List.{get_or_append_left, get_or_push, length_push,
 use Rattle.std.proofs.lemmas.List.Elements.{All-push}
 use Rattle.dns_answers.specs.Records.{count_of}
 use Rattle.dns_message.specs.declared.question.Question.{Question}
-use Rattle.std.specs.Prelude.{Option, Some}
-use Rattle.srv_choice.specs.declared.words.Words.{Words}
+use Rattle.sip_selection.specs.HeldWords.{AreHeld, AreThere}
+use Rattle.sip_selection.specs.declared.held_words.HeldWords.{HeldWords}
 use Rattle.sip_selection.specs.Choice.{IsNotRefused, Settled, need, refused, settled, resolved, chosen, locate}
 use Rattle.sip_selection.specs.Known.{Given, Needing}
 use Rattle.sip_selection.specs.Requests.{is_secure, target_of}
 use Rattle.sip_selection.specs.Selections.{AreAskedOneByOne}
-use Rattle.sip_selection.specs.Stages.{AreHeld, ComesTo, Extends, IsAsking, name_of, stage_left}
+use Rattle.sip_selection.specs.Stages.{ComesTo, Extends, IsAsking, name_of, stage_left}
 use Rattle.sip_selection.specs.declared.caps.Caps.{Caps}
 use Rattle.sip_selection.specs.declared.reason.Reason.{Reason}
 use Rattle.sip_selection.specs.declared.request.Request.{Request}
@@ -90,8 +90,8 @@ module _ (request : Request) (caps : Caps) (words : List ℕ) (given : List Give
         let whole : chosen request caps words all ≡ Err asked = on all extends ∙ is in
         ap resolved whole
 
--- words that are in memory are so at each step
-pub held-by : (step : Step) (held : Option Words) (words : Words) → held ≡ Some words → AreHeld step held words
-held-by (Ask question stage) held words is = is
-held-by Found held words is = tt
-held-by (Refused reason) held words is = tt
+-- words that are there are held at each step
+pub held-by : (step : Step) (held : HeldWords) → AreThere held → AreHeld step held
+held-by (Ask question stage) held there = there
+held-by Found held there = tt
+held-by (Refused reason) held there = tt

@@ -1,5 +1,6 @@
 -- Where a choice stands, and what one that asks a question goes on from.
 use Rattle.std.specs.Prelude.{List}
+use Rattle.srv_choice.specs.Draws.{words_of}
 use Rattle.sip_selection.specs.Choice.{Settled, chosen}
 use Rattle.sip_selection.specs.Consulting.{asked_with}
 use Rattle.sip_selection.specs.Known.{Given, Needing}
@@ -18,16 +19,16 @@ StandsAt it = ComesTo (is_secure it.request) it.caps it.words (name_of (target_o
 -- the choice, with the answers that were given
 abbrev pub asking : Asked → List Given → SelectionValue
 asking asked given =
-    asked_with (request_of asked.request) asked.caps.now asked.words.now.0 given
+    asked_with (request_of asked.request) asked.caps.now (words_of asked.words.now) given
 
 -- what is left of it behind the targets that were found
 abbrev pub left_after : Asked → List Target → List Given → Needing Settled
 left_after asked =
-    stage_left (is_secure (request_of asked.request)) asked.caps.now asked.words.now.0
+    stage_left (is_secure (request_of asked.request)) asked.caps.now (words_of asked.words.now)
     asked.name.now asked.stage.now
 
 -- what is left of it behind some targets comes to this step with these
 abbrev pub ComesAfter : Asked → List Given → List Target → Step → List Target → Type 0
 ComesAfter asked given before =
-    ComesTo (is_secure (request_of asked.request)) asked.caps.now asked.words.now.0
+    ComesTo (is_secure (request_of asked.request)) asked.caps.now (words_of asked.words.now)
     asked.name.now given (left_after asked before)

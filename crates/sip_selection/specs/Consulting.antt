@@ -1,5 +1,6 @@
 -- A source of answers that is asked while a choice is made.
 use Rattle.std.specs.Prelude.{◌≡◌, ⊤, ℕ, ◌≤◌, List, [], ◌∷◌, ◌++◌, Option, Some, None, Result, Err}
+use Rattle.srv_choice.specs.Draws.{words_of}
 use Rattle.dns_answers.specs.Records.{count_of}
 use Rattle.dns_answers.specs.Values.{AnswerValue}
 use Rattle.dns_message.specs.declared.question.Question.{Question}
@@ -47,7 +48,7 @@ asked_with request caps words given =
 -- the choice that a walk is made for, with the answers that it began with
 abbrev pub inquiry : {Source Seat : Type 0} → Context Source Seat → SelectionValue
 inquiry context =
-    asked_with (request_of context.request.now) context.caps.now context.words.now.0
+    asked_with (request_of context.request.now) context.caps.now (words_of context.words.now)
     context.given.value
 
 -- the first question that is left is the one that the choice needs, whatever else is answered

@@ -10,6 +10,7 @@ pub mod Trials
 pub mod Fallbacks
 pub mod Views
 pub mod Stages
+pub mod HeldWords
 pub mod Selections
 pub mod Consulting
 pub mod Nexts

@@ -4,6 +4,7 @@ use Rattle.std.specs.Prelude.{◌≡◌, ⊤, ℕ, ◌+◌, ◌*◌, ◌≤◌, 
 use Rattle.std.specs.Arc.{arc_value}
 use Rattle.std.specs.List.{flat_map, list_any}
 use Rattle.std.specs.Option.{option_map_or}
+use Rattle.srv_choice.specs.Draws.{words_of}
 use Rattle.dns_answers.specs.Values.{AnswerValue}
 use Rattle.dns_message.specs.declared.question.Question.{Question}
 use Rattle.dns_message.specs.declared.srv.SrvRecord.{SrvRecord}
@@ -14,7 +15,6 @@ use Rattle.sip_uri.specs.declared.transport.Transport.{Transport}
 use Rattle.srv_choice.specs.Outcomes.{is_root}
 use Rattle.srv_choice.specs.declared.outcome.SrvOutcome.{SrvOutcome}
 use Rattle.srv_choice.specs.declared.outcome.SrvOutcome.TheVariants.{Absent, Denied, Listed}
-use Rattle.srv_choice.specs.declared.words.Words.{Words}
 use Rattle.sip_selection.specs.Callers.{kinds_of}
 use Rattle.sip_selection.specs.Choice.{Settled, to_domain, to_port, to_service, offered_default, by_naptr, discovered}
 use Rattle.sip_selection.specs.Known.{Given, Needing, after, made, joined, answer_to, servers_in}
@@ -196,7 +196,7 @@ abbrev pub ServiceStepAsks : {Source Seat : Type 0} → Context Source Seat → 
     → List Service → Result Transport Reason → ServiceStep → List Target → Type 0
 ServiceStepAsks context given services fallback (service_step.Position position) found = ⊤
 ServiceStepAsks context given services fallback (service_step.Stop service_stage question) found =
-    service_stage_left context.caps.now context.words.now.0 context.name.now
+    service_stage_left context.caps.now (words_of context.words.now) context.name.now
     given services fallback service_stage found ≡ Err question
 
 -- What is left after some targets is what is left after these of the step, among these services
@@ -207,7 +207,8 @@ abbrev pub Walks : {Source Seat : Type 0} → Context Source Seat → List Given
 Walks context given services left service_step before now =
     (fallback : Result Transport Reason) (front : List Target)
     → ((all : List Given) → Extends given all → left all fallback (front ++ before)
-    ≡ service_step_left context.caps.now context.words.now.0 context.name.now all services fallback
+    ≡ service_step_left context.caps.now (words_of context.words.now) context.name.now all services
+    fallback
     service_step
     (front ++ now))
     × ServiceStepAsks context given services fallback service_step (front ++ now)
@@ -225,12 +226,6 @@ abbrev pub IsAsking : Step → Type 0
 IsAsking (Ask question stage) = ⊤
 IsAsking Found = ⊥
 IsAsking (Refused reason) = ⊥
-
--- where a question is asked, these random words are in memory of their own
-abbrev pub AreHeld : Step → Option Words → Words → Type 0
-AreHeld (Ask question stage) held words = held ≡ Some words
-AreHeld Found held words = ⊤
-AreHeld (Refused reason) held words = ⊤
 
 -- there are few services, and words enough
 abbrev pub StageFits : Stage → Type 0
@@ -279,7 +274,8 @@ module _ (secure : Bool) (caps : Caps) (words : List ℕ) (name : List (List ℕ
 -- the choice for a domain comes to this step with these targets
 abbrev pub Comes : {Source Seat : Type 0} → Context Source Seat → List Given
     → (List Given → Needing Settled) → Step → List Target → Type 0
-Comes context given = ComesTo context.secure context.caps.now context.words.now.0 context.name.now
+Comes context given = ComesTo context.secure context.caps.now (words_of context.words.now)
+    context.name.now
     given
 
 -- The same, whatever was found before: what is left after some targets comes to this step with

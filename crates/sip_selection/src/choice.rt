@@ -13,6 +13,7 @@ ghost use Rattle.sip_selection.specs.Requests.{IsRequestView, is_secure, request
 ghost use Rattle.sip_selection.specs.Rules as rules;
 ghost use Rattle.sip_selection.specs.Stages as left_of;
 ghost use Rattle.sip_selection.specs.declared.target.Target as target;
+ghost use Rattle.srv_choice.specs.Draws.{words_of};
 
 use crate::boxed::Boxed;
 use crate::caps::Caps;
@@ -30,7 +31,7 @@ use dns_answers::{Answer, Records};
 use dns_message::{Kind, NaptrRecord};
 use dns_name::Name;
 use sip_uri::{Address, Spoken, Transport, name_of_hostname};
-use srv_choice::Words;
+use srv_choice::RandomWords;
 use std::alloc::{AllocError, Global};
 use std::snapshot::Snapshot;
 use std::sync::Arc;
@@ -143,7 +144,7 @@ fn along<'s, S: AnswerSource>(
     requires words { (left_of.position_of service_stage.now).word ≤ 32 *
         (left_of.position_of service_stage.now).service }
     requires needs { consult.Needs (consult.inquiry context.now) walk.old.known
-        (λ all. left_of.service_stage_left context.now.caps.now context.now.words.now.0
+        (λ all. left_of.service_stage_left context.now.caps.now (words_of context.now.words.now)
         context.now.name.now all
         (arc_value candidates.now).services.items (arc_value candidates.now).fallback
         service_stage.now walk.old.targets.items) }
@@ -155,7 +156,8 @@ fn along<'s, S: AnswerSource>(
         seat.new walk.new.known }
     ensures extends { IfOk result (λ _. left_of.Extends walk.old.known walk.new.known) }
     ensures goes { IfOk result (λ step. left_of.Goes context.now walk.new.known
-        (λ found all. left_of.service_stage_left context.now.caps.now context.now.words.now.0
+        (λ found all. left_of.service_stage_left context.now.caps.now
+        (words_of context.now.words.now)
         context.now.name.now all
         (arc_value candidates.now).services.items (arc_value candidates.now).fallback
         service_stage.now found)
@@ -203,7 +205,8 @@ fn along_all<'s, S: AnswerSource>(
 ) -> Result<Step, AllocError>
     requires few { left_of.CandidatesFits candidates }
     requires needs { consult.Needs (consult.inquiry context.now) walk.old.known
-        (λ all. spec.along context.now.caps.now context.now.words.now.0 all context.now.name.now
+        (λ all. spec.along context.now.caps.now (words_of context.now.words.now) all
+        context.now.name.now
         candidates.fallback candidates.services.items) }
     requires consulted { consult.Consulted (S.ready context.now.source.now) S.goes
         (S.says context.now.source.now) (consult.inquiry context.now) context.now.start.value
@@ -214,7 +217,7 @@ fn along_all<'s, S: AnswerSource>(
     ensures extends { IfOk result (λ _. left_of.Extends walk.old.known walk.new.known) }
     ensures goes { IfOk result (λ step. left_of.Goes context.now walk.new.known
         (λ found all. made (left_of.in_front found)
-        (spec.along context.now.caps.now context.now.words.now.0 all context.now.name.now
+        (spec.along context.now.caps.now (words_of context.now.words.now) all context.now.name.now
         candidates.fallback
         candidates.services.items))
         step walk.old.targets.items walk.new.targets.items) }
@@ -296,9 +299,9 @@ fn candidates_by<'s, S: AnswerSource>(
     requires { length rules.now ≤ 32 }
     ensures few { IfOk result left_of.CandidatesFits }
     ensures is { IfOk result (λ candidates. (all : List known_as.Given)
-        → spec.by_rules context.now.secure context.now.caps.now context.now.words.now.0 all
+        → spec.by_rules context.now.secure context.now.caps.now (words_of context.now.words.now) all
         context.now.name.now rules.now
-        ≡ spec.along context.now.caps.now context.now.words.now.0 all context.now.name.now
+        ≡ spec.along context.now.caps.now (words_of context.now.words.now) all context.now.name.now
         candidates.fallback
         candidates.services.items) }
 {
@@ -322,7 +325,8 @@ fn by_naptr<'s, S: AnswerSource>(
     context: &Context<'_, 's, S>,
 ) -> Result<Step, AllocError>
     requires needs { consult.Needs (consult.inquiry context.now) walk.old.known
-        (λ all. spec.by_naptr context.now.secure context.now.caps.now context.now.words.now.0 all
+        (λ all. spec.by_naptr context.now.secure context.now.caps.now
+        (words_of context.now.words.now) all
         context.now.name.now) }
     requires consulted { consult.Consulted (S.ready context.now.source.now) S.goes
         (S.says context.now.source.now) (consult.inquiry context.now) context.now.start.value
@@ -333,7 +337,7 @@ fn by_naptr<'s, S: AnswerSource>(
     ensures extends { IfOk result (λ _. left_of.Extends walk.old.known walk.new.known) }
     ensures goes { IfOk result (λ step. left_of.Goes context.now walk.new.known
         (λ found all. made (left_of.in_front found)
-        (spec.by_naptr context.now.secure context.now.caps.now context.now.words.now.0 all
+        (spec.by_naptr context.now.secure context.now.caps.now (words_of context.now.words.now) all
         context.now.name.now))
         step walk.old.targets.items walk.new.targets.items) }
     ensures lacks { IfOk result
@@ -359,7 +363,7 @@ fn to_service<'s, S: AnswerSource>(
     transport: Transport,
 ) -> Result<Step, AllocError>
     requires needs { consult.Needs (consult.inquiry context.now) walk.old.known
-        (λ all. spec.to_service context.now.caps.now context.now.words.now.0 all
+        (λ all. spec.to_service context.now.caps.now (words_of context.now.words.now) all
         context.now.name.now (Ok transport)) }
     requires consulted { consult.Consulted (S.ready context.now.source.now) S.goes
         (S.says context.now.source.now) (consult.inquiry context.now) context.now.start.value
@@ -370,7 +374,8 @@ fn to_service<'s, S: AnswerSource>(
     ensures extends { IfOk result (λ _. left_of.Extends walk.old.known walk.new.known) }
     ensures goes { IfOk result (λ step. left_of.Goes context.now walk.new.known
         (λ found all. made (left_of.in_front found)
-        (spec.to_service context.now.caps.now context.now.words.now.0 all context.now.name.now
+        (spec.to_service context.now.caps.now (words_of context.now.words.now) all
+        context.now.name.now
         (Ok transport)))
         step walk.old.targets.items walk.new.targets.items) }
     ensures lacks { IfOk result
@@ -417,7 +422,8 @@ fn discovered<'s, S: AnswerSource>(
     context: &Context<'_, 's, S>,
 ) -> Result<Step, AllocError>
     requires needs { consult.Needs (consult.inquiry context.now) walk.old.known
-        (λ all. spec.discovered context.now.secure context.now.caps.now context.now.words.now.0 all
+        (λ all. spec.discovered context.now.secure context.now.caps.now
+        (words_of context.now.words.now) all
         context.now.name.now (spec.offered_default context.now.secure context.now.caps.now)) }
     requires consulted { consult.Consulted (S.ready context.now.source.now) S.goes
         (S.says context.now.source.now) (consult.inquiry context.now) context.now.start.value
@@ -428,12 +434,13 @@ fn discovered<'s, S: AnswerSource>(
     ensures extends { IfOk result (λ _. left_of.Extends walk.old.known walk.new.known) }
     ensures goes { IfOk result (λ step. left_of.Goes context.now walk.new.known
         (λ found all. made (left_of.in_front found)
-        (spec.discovered context.now.secure context.now.caps.now context.now.words.now.0 all
+        (spec.discovered context.now.secure context.now.caps.now (words_of context.now.words.now)
+        all
         context.now.name.now
         (spec.offered_default context.now.secure context.now.caps.now)))
         step walk.old.targets.items walk.new.targets.items) }
     ensures memory { OnErr result (spec.IsNotRefused (spec.resolved
-        (spec.discovered context.now.secure context.now.caps.now context.now.words.now.0 []
+        (spec.discovered context.now.secure context.now.caps.now (words_of context.now.words.now) []
         context.now.name.now
         (spec.offered_default context.now.secure context.now.caps.now)))) }
     ensures lacks { IfOk result
@@ -459,7 +466,7 @@ fn for_domain<'s, S: AnswerSource>(
     requires empty { walk.old.targets.items ≡ [] }
     requires needs { consult.Needs (consult.inquiry context.now) walk.old.known
         (λ all. left_of.domain_choice context.now.secure context.now.caps.now
-        context.now.words.now.0 context.now.name.now all port spoken transport) }
+        (words_of context.now.words.now) context.now.name.now all port spoken transport) }
     requires consulted { consult.Consulted (S.ready context.now.source.now) S.goes
         (S.says context.now.source.now) (consult.inquiry context.now) context.now.start.value
         seat.old walk.old.known }
@@ -469,11 +476,12 @@ fn for_domain<'s, S: AnswerSource>(
     ensures extends { IfOk result (λ _. left_of.Extends walk.old.known walk.new.known) }
     ensures comes { IfOk result (λ step. left_of.Comes context.now walk.new.known
         (λ all. left_of.domain_choice context.now.secure context.now.caps.now
-        context.now.words.now.0
+        (words_of context.now.words.now)
         context.now.name.now all port spoken transport)
         step walk.new.targets.items) }
     ensures memory { OnErr result (spec.IsNotRefused (spec.resolved
-        (left_of.domain_choice context.now.secure context.now.caps.now context.now.words.now.0
+        (left_of.domain_choice context.now.secure context.now.caps.now
+        (words_of context.now.words.now)
         context.now.name.now [] port spoken transport))) }
     ensures lacks { IfOk result
         (consult.StepLacks (S.says context.now.source.now seat.new)) }
@@ -496,21 +504,24 @@ fn for_name<'s, S: AnswerSource>(
     alloc: Global,
     request: &RequestView<'_>,
     caps: &Caps,
-    words: &Words,
+    words: &RandomWords<'_>,
     name: &Name,
 ) -> Result<Step, AllocError>
     requires empty { walk.old.targets.items ≡ [] }
     requires ready { S.ready source.now seat.old }
     requires target { target_of (request_of request.now) ≡ host.Domain name.now }
     ensures consulted { consult.Consulted (S.ready source.now) S.goes (S.says source.now)
-        (consult.asked_with (request_of request.now) caps.now words.now.0 walk.old.known) seat.old
+        (consult.asked_with (request_of request.now) caps.now (words_of words.now) walk.old.known)
+        seat.old
         seat.new walk.new.known }
     ensures comes { IfOk result
-        (λ step. left_of.ComesTo (is_secure (request_of request.now)) caps.now words.now.0
+        (λ step. left_of.ComesTo (is_secure (request_of request.now)) caps.now (words_of words.now)
         (left_of.name_of (target_of (request_of request.now))) walk.new.known
-        (spec.chosen (request_of request.now) caps.now words.now.0) step walk.new.targets.items) }
+        (spec.chosen (request_of request.now) caps.now (words_of words.now)) step
+        walk.new.targets.items) }
     ensures memory { OnErr result
-        (spec.IsNotRefused (spec.locate (request_of request.now) caps.now words.now.0 [])) }
+        (spec.IsNotRefused
+        (spec.locate (request_of request.now) caps.now (words_of words.now) [])) }
     ensures lacks { IfOk result (consult.StepLacks (S.says source.now seat.new)) }
 {
     let context = Context {
@@ -544,7 +555,7 @@ fn for_hostname<'s, S: AnswerSource>(
     alloc: Global,
     request: &RequestView<'_>,
     caps: &Caps,
-    words: &Words,
+    words: &RandomWords<'_>,
     hostname: &[u8],
 ) -> Result<Step, AllocError>
     requires empty { walk.old.targets.items ≡ [] }
@@ -552,14 +563,17 @@ fn for_hostname<'s, S: AnswerSource>(
     requires hostname { DomainText hostname.now (name_of hostname.now) }
     requires target { target_of (request_of request.now) ≡ host.Domain (name_of hostname.now) }
     ensures consulted { consult.Consulted (S.ready source.now) S.goes (S.says source.now)
-        (consult.asked_with (request_of request.now) caps.now words.now.0 walk.old.known) seat.old
+        (consult.asked_with (request_of request.now) caps.now (words_of words.now) walk.old.known)
+        seat.old
         seat.new walk.new.known }
     ensures comes { IfOk result
-        (λ step. left_of.ComesTo (is_secure (request_of request.now)) caps.now words.now.0
+        (λ step. left_of.ComesTo (is_secure (request_of request.now)) caps.now (words_of words.now)
         (left_of.name_of (target_of (request_of request.now))) walk.new.known
-        (spec.chosen (request_of request.now) caps.now words.now.0) step walk.new.targets.items) }
+        (spec.chosen (request_of request.now) caps.now (words_of words.now)) step
+        walk.new.targets.items) }
     ensures memory { OnErr result
-        (spec.IsNotRefused (spec.locate (request_of request.now) caps.now words.now.0 [])) }
+        (spec.IsNotRefused
+        (spec.locate (request_of request.now) caps.now (words_of words.now) [])) }
     ensures lacks { IfOk result (consult.StepLacks (S.says source.now seat.new)) }
 {
     let (secure, port, spoken) = (request.is_secure(), request.port(), request.spoken());
@@ -580,20 +594,23 @@ pub(crate) fn begin<'s, S: AnswerSource>(
     alloc: Global,
     request: &RequestView<'_>,
     caps: &Caps,
-    words: &Words,
+    words: &RandomWords<'_>,
 ) -> Result<Step, AllocError>
     requires empty { walk.old.targets.items ≡ [] }
     requires ready { S.ready source.now seat.old }
     requires view { IsRequestView request.now }
     ensures consulted { consult.Consulted (S.ready source.now) S.goes (S.says source.now)
-        (consult.asked_with (request_of request.now) caps.now words.now.0 walk.old.known) seat.old
+        (consult.asked_with (request_of request.now) caps.now (words_of words.now) walk.old.known)
+        seat.old
         seat.new walk.new.known }
     ensures comes { IfOk result
-        (λ step. left_of.ComesTo (is_secure (request_of request.now)) caps.now words.now.0
+        (λ step. left_of.ComesTo (is_secure (request_of request.now)) caps.now (words_of words.now)
         (left_of.name_of (target_of (request_of request.now))) walk.new.known
-        (spec.chosen (request_of request.now) caps.now words.now.0) step walk.new.targets.items) }
+        (spec.chosen (request_of request.now) caps.now (words_of words.now)) step
+        walk.new.targets.items) }
     ensures memory { OnErr result
-        (spec.IsNotRefused (spec.locate (request_of request.now) caps.now words.now.0 [])) }
+        (spec.IsNotRefused
+        (spec.locate (request_of request.now) caps.now (words_of words.now) [])) }
     ensures lacks { IfOk result (consult.StepLacks (S.says source.now seat.new)) }
 {
     let targets = &mut walk.targets;
@@ -624,7 +641,7 @@ pub(crate) fn resume<'s, S: AnswerSource>(
 ) -> Result<Step, AllocError>
     requires fits { left_of.StageFits stage.now }
     requires needs { consult.Needs (consult.inquiry context.now) walk.old.known
-        (left_of.stage_left context.now.secure context.now.caps.now context.now.words.now.0
+        (left_of.stage_left context.now.secure context.now.caps.now (words_of context.now.words.now)
         context.now.name.now stage.now walk.old.targets.items) }
     requires consulted { consult.Consulted (S.ready context.now.source.now) S.goes
         (S.says context.now.source.now) (consult.inquiry context.now) context.now.start.value
@@ -634,7 +651,7 @@ pub(crate) fn resume<'s, S: AnswerSource>(
         seat.new walk.new.known }
     ensures extends { IfOk result (λ _. left_of.Extends walk.old.known walk.new.known) }
     ensures goes { IfOk result (λ step. left_of.Goes context.now walk.new.known
-        (left_of.stage_left context.now.secure context.now.caps.now context.now.words.now.0
+        (left_of.stage_left context.now.secure context.now.caps.now (words_of context.now.words.now)
         context.now.name.now stage.now)
         step walk.old.targets.items walk.new.targets.items) }
     ensures lacks { IfOk result

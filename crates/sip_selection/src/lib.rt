@@ -73,6 +73,7 @@ mod choice;
 mod choice_laws;
 mod failover;
 mod fallbacks;
+mod held_words;
 mod known;
 mod laws;
 mod position;

@@ -9,6 +9,7 @@ ghost use Rattle.sip_selection.specs.Known.{after, servers_in};
 ghost use Rattle.sip_selection.specs.Services.{offer_along, offer_by};
 ghost use Rattle.sip_selection.specs.Stages as spec;
 ghost use Rattle.sip_selection.specs.declared.service.Service.{Service};
+ghost use Rattle.srv_choice.specs.Draws.{words_of};
 
 use crate::boxed::Boxed;
 use crate::caps::Caps;
@@ -19,7 +20,7 @@ use crate::targets::push_indexes;
 use dns_answers::{Answer, FoundAnswer, Records};
 use dns_message::{Kind, SrvRecord};
 use sip_uri::Transport;
-use srv_choice::{Indexes, SrvOutcome, Words, fixed_order, order};
+use srv_choice::{Indexes, RandomWords, SrvOutcome, fixed_order, random_order};
 use std::alloc::AllocError;
 use std::sync::Arc;
 
@@ -36,15 +37,15 @@ fn servers_in(answer: &Answer) -> &[SrvRecord]
 
 /// What SRV records say of a service: ordered by the words from an index on, or in the fixed order.
 #[inline(always)]
-fn order_by(caps: &Caps, servers: &[SrvRecord], words: &Words, from: usize) -> SrvOutcome
+fn order_by(caps: &Caps, servers: &[SrvRecord], words: &RandomWords<'_>, from: usize) -> SrvOutcome
     requires few { length servers.now ≤ 32 }
     requires enough_words { from + length servers.now ≤ 256 }
-    ensures { result ≡ order_by caps.now.is_fixed servers.now words.now.0 from }
+    ensures { result ≡ order_by caps.now.is_fixed servers.now (words_of words.now) from }
 {
     if caps.is_fixed() {
         fixed_order(servers, from)
     } else {
-        order(servers, words, from)
+        random_order(servers, words, from)
     }
 }
 
@@ -70,7 +71,8 @@ fn push_listing<'s, S: AnswerSource>(
     ensures extends { IfOk result (λ _. spec.Extends walk.old.known walk.new.known) }
     ensures left { IfOk result (λ service_step. (services : List Service)
         → spec.Walks context.now walk.new.known services
-        (λ all fallback found. spec.servers_first context.now.caps.now context.now.words.now.0
+        (λ all fallback found. spec.servers_first context.now.caps.now
+        (words_of context.now.words.now)
         context.now.name.now all services fallback
         (arc_value listing.now) from position found)
         service_step walk.old.targets.items walk.new.targets.items) }
@@ -116,7 +118,8 @@ fn push_listed<'s, S: AnswerSource>(
     ensures left { IfOk result (λ service_step. (services : List Service)
         → spec.Walks context.now walk.new.known services
         (λ all fallback found. after (λ more. spec.position_left context.now.caps.now
-        context.now.words.now.0 context.now.name.now all services fallback position (found ++ more))
+        (words_of context.now.words.now) context.now.name.now all services fallback position (found
+        ++ more))
         (spec.servers_left context.now.caps.now all transport
         (servers_in (answer_in answer.entry).records) indexes spec.first_server))
         service_step walk.old.targets.items walk.new.targets.items) }
@@ -163,7 +166,7 @@ fn push_answer<'s, S: AnswerSource>(
     requires words { position.word ≤ 32 * position.service }
     requires needs { consult.Needs (consult.inquiry context.now) walk.old.known
         (λ all. offer_by all (kinds_of context.now.caps.now.families)
-        context.now.caps.now.is_fixed context.now.words.now.0
+        context.now.caps.now.is_fixed (words_of context.now.words.now)
         transport position.word (answer_in answer)) }
     requires consulted { consult.Consulted (S.ready context.now.source.now) S.goes
         (S.says context.now.source.now) (consult.inquiry context.now) context.now.start.value
@@ -174,11 +177,11 @@ fn push_answer<'s, S: AnswerSource>(
     ensures extends { IfOk result (λ _. spec.Extends walk.old.known walk.new.known) }
     ensures left { IfOk result (λ service_step. (services : List Service)
         → spec.Walks context.now walk.new.known services
-        (λ all fallback found. spec.offer_left context.now.caps.now context.now.words.now.0
+        (λ all fallback found. spec.offer_left context.now.caps.now (words_of context.now.words.now)
         context.now.name.now all services fallback position found
         (offer_by all
         (kinds_of context.now.caps.now.families) context.now.caps.now.is_fixed
-        context.now.words.now.0 transport position.word
+        (words_of context.now.words.now) transport position.word
         (answer_in answer.entry)))
         service_step walk.old.targets.items walk.new.targets.items) }
     ensures fits { IfOk result spec.ServiceStepFits }
@@ -209,7 +212,7 @@ fn push_service<'s, S: AnswerSource>(
     requires words { position.word ≤ 32 * position.service }
     requires needs { consult.Needs (consult.inquiry context.now) walk.old.known
         (λ all. offer_along all (kinds_of context.now.caps.now.families)
-        context.now.caps.now.is_fixed context.now.words.now.0
+        context.now.caps.now.is_fixed (words_of context.now.words.now)
         service.now position.word) }
     requires consulted { consult.Consulted (S.ready context.now.source.now) S.goes
         (S.says context.now.source.now) (consult.inquiry context.now) context.now.start.value
@@ -222,7 +225,8 @@ fn push_service<'s, S: AnswerSource>(
         (λ service_step. (services : List Service) → drop position.service services
         ≡ service.now ∷ drop (position.service + 1) services
         → spec.Walks context.now walk.new.known services
-        (λ all fallback found. spec.position_left context.now.caps.now context.now.words.now.0
+        (λ all fallback found. spec.position_left context.now.caps.now
+        (words_of context.now.words.now)
         context.now.name.now all services fallback position found)
         service_step walk.old.targets.items walk.new.targets.items) }
     ensures fits { IfOk result spec.ServiceStepFits }
@@ -255,7 +259,7 @@ pub(crate) fn push_services<'s, S: AnswerSource>(
     requires few { length services.now ≤ 8 }
     requires words { from.word ≤ 32 * from.service }
     requires needs { consult.NeedsAlong (consult.inquiry context.now) walk.old.known
-        (λ all fallback. spec.position_left context.now.caps.now context.now.words.now.0
+        (λ all fallback. spec.position_left context.now.caps.now (words_of context.now.words.now)
         context.now.name.now all services.now fallback from walk.old.targets.items) }
     requires consulted { consult.Consulted (S.ready context.now.source.now) S.goes
         (S.says context.now.source.now) (consult.inquiry context.now) context.now.start.value
@@ -265,7 +269,8 @@ pub(crate) fn push_services<'s, S: AnswerSource>(
         seat.new walk.new.known }
     ensures extends { IfOk result (λ _. spec.Extends walk.old.known walk.new.known) }
     ensures left { IfOk result (λ service_step. spec.Walks context.now walk.new.known services.now
-        (λ all fallback found. spec.position_left context.now.caps.now context.now.words.now.0
+        (λ all fallback found. spec.position_left context.now.caps.now
+        (words_of context.now.words.now)
         context.now.name.now all services.now fallback from found)
         service_step walk.old.targets.items walk.new.targets.items) }
     ensures fits { IfOk result spec.ServiceStepFits }
@@ -295,7 +300,8 @@ pub(crate) fn push_from<'s, S: AnswerSource>(
     requires words { (spec.position_of service_stage.now).word ≤ 32 *
         (spec.position_of service_stage.now).service }
     requires needs { consult.NeedsAlong (consult.inquiry context.now) walk.old.known
-        (λ all fallback. spec.service_stage_left context.now.caps.now context.now.words.now.0
+        (λ all fallback. spec.service_stage_left context.now.caps.now
+        (words_of context.now.words.now)
         context.now.name.now all services.now fallback service_stage.now
         walk.old.targets.items) }
     requires consulted { consult.Consulted (S.ready context.now.source.now) S.goes
@@ -306,7 +312,8 @@ pub(crate) fn push_from<'s, S: AnswerSource>(
         seat.new walk.new.known }
     ensures extends { IfOk result (λ _. spec.Extends walk.old.known walk.new.known) }
     ensures left { IfOk result (λ service_step. spec.Walks context.now walk.new.known services.now
-        (λ all fallback found. spec.service_stage_left context.now.caps.now context.now.words.now.0
+        (λ all fallback found. spec.service_stage_left context.now.caps.now
+        (words_of context.now.words.now)
         context.now.name.now all services.now fallback service_stage.now found)
         service_step walk.old.targets.items walk.new.targets.items) }
     ensures fits { IfOk result spec.ServiceStepFits }

@@ -10,8 +10,9 @@ ghost use Rattle.sip_selection.specs.Known.{Given};
 ghost use Rattle.sip_selection.specs.Nexts.{next_of};
 ghost use Rattle.sip_selection.specs.Requests.{IsRequestView, is_secure, request_of, target_of};
 ghost use Rattle.sip_selection.specs.Selections.{AreAskedOneByOne, SelectionValue, begun, given_too, now_of};
-ghost use Rattle.sip_selection.specs.Stages.{AreHeld, ComesTo, Extends, IsAsking, StageFits, name_of};
+ghost use Rattle.sip_selection.specs.Stages.{ComesTo, Extends, IsAsking, StageFits, name_of};
 ghost use Rattle.sip_selection.specs.declared.target.Target.{Target};
+ghost use Rattle.srv_choice.specs.Draws.{words_of};
 
 use crate::boxed::Boxed;
 use crate::caps::Caps;
@@ -19,6 +20,7 @@ use crate::choice::{begin, resume};
 use crate::choice_laws::{
     law_numeric_targets_ask_nothing, law_questions_are_few, law_targets_are_few,
 };
+use crate::held_words::HeldWords;
 use crate::known::Known;
 use crate::reason::Reason;
 use crate::request::Request;
@@ -30,7 +32,7 @@ use dns_answers::Answer;
 use dns_message::{Question, law_same_questions_are_equal};
 use dns_name::Name;
 use sip_uri::Host;
-use srv_choice::Words;
+use srv_choice::{RandomWords, Words};
 use std::alloc::{AllocError, Global};
 use std::marker::Model;
 use std::mem;
@@ -69,10 +71,7 @@ pub enum GiveRefusal {
 pub struct Selection {
     request: Request,
     caps: Caps,
-    /// The random words, as contracts see them.
-    drawn: Snapshot<Words>,
-    /// The same in memory, where a question is asked.
-    words: Option<Boxed<Words>>,
+    words: HeldWords,
     /// The targets that were found.
     targets: Vec<Target>,
     /// The answers that were given.
@@ -84,22 +83,23 @@ impl Model for Selection {
     ghost use Rattle.sip_selection.specs.Asked.{StandsAt};
     ghost use Rattle.sip_selection.specs.Consulting.{asked_with};
     ghost use Rattle.sip_selection.specs.Selections.{AreAskedOneByOne, SelectionValue};
-    ghost use Rattle.sip_selection.specs.Stages.{AreHeld};
+    ghost use Rattle.sip_selection.specs.HeldWords.{AreHeld, held_words};
 
     ghost Value = { SelectionValue };
 
     ghost view = { λ it. record {
       request = it.request;
       caps = it.caps;
-      words = it.drawn.value.0;
+      words = held_words it.words;
       given =
           it.known;
     } };
 
     ghost invariant = { λ it.
-        StandsAt (asked_with it.request it.caps it.drawn.value.0 it.known) it.step it.targets.items
-        × AreAskedOneByOne it.request it.caps it.drawn.value.0 it.known
-        × AreHeld it.step it.words it.drawn.value };
+        StandsAt (asked_with it.request it.caps (held_words it.words) it.known) it.step
+        it.targets.items
+        × AreAskedOneByOne it.request it.caps (held_words it.words) it.known
+        × AreHeld it.step it.words };
 }
 
 /// Adds the targets that were found behind the others. The first ones are not copied.
@@ -143,7 +143,7 @@ struct Asked<'a> {
     alloc: Global,
     request: RequestView<'a>,
     caps: &'a Caps,
-    words: &'a Words,
+    words: &'a RandomWords<'a>,
     name: &'a Name,
     stage: &'a Stage,
 }
@@ -213,17 +213,6 @@ fn go_on<'a, S: AnswerSource>(
     Ok(step)
 }
 
-/// The random words in memory of their own, where a question is asked.
-fn held_words(alloc: Global, step: &Step, words: &Words) -> Result<Option<Boxed<Words>>, AllocError>
-    ensures held { IfOk result (λ held. AreHeld step.now held words.now) }
-    ensures memory { OnErr result (IsAsking step.now) }
-{
-    match step {
-        Step::Ask(_, _) => Ok(Some(Boxed::new(alloc, *words)?)),
-        Step::Found | Step::Refused(_) => Ok(None),
-    }
-}
-
 /// What a choice over a source comes to.
 #[derive(Drop)]
 pub enum Choice {
@@ -265,7 +254,7 @@ fn begun_over<'s, S: AnswerSource>(
     alloc: Global,
     request: &RequestView<'_>,
     caps: &Caps,
-    words: &Words,
+    words: &RandomWords<'_>,
     source: &'s S,
     seat: &mut S::Seat,
 ) -> Result<(Step, Vec<Target>, Known), AllocError>
@@ -273,14 +262,15 @@ fn begun_over<'s, S: AnswerSource>(
     requires ready { S.ready source.now seat.old }
     requires view { IsRequestView request.now }
     ensures begun { (given : List Given) × Consulted (S.ready source.now) S.goes
-        (S.says source.now) (begun (request_of request.now) caps.now words.now.0) seat.old seat.new
+        (S.says source.now) (begun (request_of request.now) caps.now (words_of words.now)) seat.old
+        seat.new
         given
         × IfOk result (λ found.
-        StandsAt (asked_with (request_of request.now) caps.now words.now.0 given) found.0
+        StandsAt (asked_with (request_of request.now) caps.now (words_of words.now) given) found.0
         found.1.items × (IsAsking found.0 → found.2 ≡ given)) }
     ensures lacks { IfOk result (λ found. StepLacks (S.says source.now seat.new) found.0) }
     ensures memory { OnErr result
-        (IsNotRefused (now_of (begun (request_of request.now) caps.now words.now.0))) }
+        (IsNotRefused (now_of (begun (request_of request.now) caps.now (words_of words.now)))) }
 {
     let mut walk = Walk::after(alloc, known);
     let step = begin(&mut walk, seat, source, alloc, request, caps, words)?;
@@ -300,26 +290,28 @@ fn choice_of(targets: Vec<Target>) -> Choice
 }
 
 /// The choice of a request over a source: it is asked for the answer to each question that comes
-/// up, until it has none to one, or no more are needed. The words are copied into memory of their
-/// own only where an answer is missing. No memory is needed for a request that is refused at once.
+/// up, until it has none to one, or no more are needed. Words that are given are copied into memory
+/// of their own only where an answer is missing. No memory is needed for a request that is refused
+/// at once.
 #[inline(always)]
 pub fn choose<S: AnswerSource>(
     alloc: Global,
     request: &RequestView<'_>,
     caps: &Caps,
-    words: &Words,
+    words: &RandomWords<'_>,
     source: &S,
     seat: &mut S::Seat,
 ) -> Result<Choice, AllocError>
     requires ready { S.ready source.now seat.old }
     requires view { IsRequestView request.now }
     ensures chosen { (given : List Given) × Consulted (S.ready source.now) S.goes
-        (S.says source.now) (begun (request_of request.now) caps.now words.now.0) seat.old
+        (S.says source.now) (begun (request_of request.now) caps.now (words_of words.now)) seat.old
         seat.new given
-        × IfOk result (ChoiceIs (asked_with (request_of request.now) caps.now words.now.0 given)) }
+        × IfOk result (ChoiceIs (asked_with (request_of request.now) caps.now (words_of words.now)
+        given)) }
     ensures lacks { IfOk result (ChoiceLacks (S.says source.now seat.new)) }
     ensures memory { OnErr result
-        (IsNotRefused (now_of (begun (request_of request.now) caps.now words.now.0))) }
+        (IsNotRefused (now_of (begun (request_of request.now) caps.now (words_of words.now)))) }
 {
     let known = Known::new(alloc);
     let (step, targets, known) = begun_over(&known, alloc, request, caps, words, source, seat)?;
@@ -346,17 +338,23 @@ impl Selection {
         ensures is { IfOk result (λ it. it ≡ begun request caps words.0) }
         ensures memory { OnErr result (IsNotRefused (now_of (begun request caps words.0))) }
     {
+        Selection::with_words(alloc, request, caps, &RandomWords::Given(&words))
+    }
+
+    /// As `new`, by random words that are given or drawn. Those that are drawn take no memory.
+    pub fn with_words(
+        alloc: Global,
+        request: Request,
+        caps: Caps,
+        words: &RandomWords<'_>,
+    ) -> Result<Selection, AllocError>
+        ensures is { IfOk result (λ it. it ≡ begun request caps (words_of words.now)) }
+        ensures memory { OnErr result
+            (IsNotRefused (now_of (begun request caps (words_of words.now)))) }
+    {
         let (view, none) = (RequestView::Read(&request), Known::new(alloc));
-        let (step, targets, _) = begun_over(
-            &none,
-            alloc,
-            &view,
-            &caps,
-            &words,
-            &NoSource,
-            &mut (),
-        )?;
-        Selection::at_step(alloc, request, caps, &words, targets, none, step)
+        let (step, targets, _) = begun_over(&none, alloc, &view, &caps, words, &NoSource, &mut ())?;
+        Selection::at_step(alloc, request, caps, words, targets, none, step)
     }
 
     /// The choice of a request that came to a step.
@@ -364,21 +362,21 @@ impl Selection {
         alloc: Global,
         request: Request,
         caps: Caps,
-        words: &Words,
+        words: &RandomWords<'_>,
         targets: Vec<Target>,
         known: Known,
         step: Step,
     ) -> Result<Selection, AllocError>
-        requires stands { StandsAt (asked_with request caps words.now.0 known) step targets.items }
-        requires asked { AreAskedOneByOne request caps words.now.0 known }
-        ensures is { IfOk result (λ it. it ≡ asked_with request caps words.now.0 known) }
+        requires stands { StandsAt (asked_with request caps (words_of words.now) known) step
+            targets.items }
+        requires asked { AreAskedOneByOne request caps (words_of words.now) known }
+        ensures is { IfOk result (λ it. it ≡ asked_with request caps (words_of words.now) known) }
         ensures memory { OnErr result (IsAsking step) }
     {
         Ok(Selection {
             request,
             caps,
-            drawn: Snapshot::of(words),
-            words: held_words(alloc, &step, words)?,
+            words: HeldWords::of(alloc, &step, words)?,
             targets,
             known,
             step,
@@ -463,15 +461,13 @@ impl Selection {
         let Step::Ask(question, stage) = &self.step else {
             unreachable!()
         };
-        let Some(words) = &self.words else {
-            unreachable!()
-        };
+        let words = self.words.random_words();
         self.known.push(question.as_ref(), answer)?;
         let asked = Asked {
             alloc,
             request: RequestView::Read(&self.request),
             caps: &self.caps,
-            words: words.as_ref(),
+            words: &words,
             name,
             stage: stage.as_ref(),
         };
@@ -524,14 +520,12 @@ impl Selection {
         let Step::Ask(_, stage) = &self.step else {
             unreachable!()
         };
-        let Some(words) = &self.words else {
-            unreachable!()
-        };
+        let words = self.words.random_words();
         let asked = Asked {
             alloc,
             request: RequestView::Read(&self.request),
             caps: &self.caps,
-            words: words.as_ref(),
+            words: &words,
             name,
             stage: stage.as_ref(),
         };

@@ -14,7 +14,7 @@ use dns_answers::Answer;
 use dns_message::Question;
 use dns_name::Name;
 use sip_uri::Transport;
-use srv_choice::{Indexes, SrvOutcome, Words};
+use srv_choice::{Indexes, RandomWords, SrvOutcome};
 use std::alloc::{AllocError, Global};
 use std::snapshot::Snapshot;
 use std::sync::Arc;
@@ -27,7 +27,7 @@ pub(crate) struct Context<'a, 's, S: AnswerSource> {
     /// For a SIPS URI.
     pub(crate) secure: bool,
     pub(crate) caps: &'a Caps,
-    pub(crate) words: &'a Words,
+    pub(crate) words: &'a RandomWords<'a>,
     /// The domain.
     pub(crate) name: &'a Name,
     /// Where answers come from that were not given.

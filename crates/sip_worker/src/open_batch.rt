@@ -15,6 +15,7 @@ use crate::wire_facts::WireFacts;
 use answer_cache::{AnswerBook, Seat, SharedCache};
 use dns_queries::{Clock, DATAGRAM_LIMIT, Wire};
 use sip_resolver::{CountingIds, Facts, Ids, Limits, Outcome, Resolver};
+use srv_choice::RandomWords;
 use std::alloc::{AllocError, Global};
 use std::marker::Model;
 use std::sync::Wait;
@@ -70,8 +71,9 @@ fn submit<B: AnswerBook, F: Facts, I: Ids + Drop>(
     let Ok(request) = job.request.try_clone() else {
         return false;
     };
+    let words = RandomWords::Given(&job.words);
     resolver
-        .submit(place as u64, request, job.caps, job.words, None)
+        .submit(place as u64, request, job.caps, &words, None)
         .is_ok()
 }
 

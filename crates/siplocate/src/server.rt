@@ -14,7 +14,8 @@ use crate::run::run_text;
 use answer_cache::{CacheRefusal, SharedCache};
 use dns_queries::PeerWire;
 use dns_transport::{
-    BufferWire, HostWire, QueryForm, ReplyTimes, SystemClock, UdpServerWire, WireOptions, open_wire,
+    Attempts, BufferWire, HostWire, QueryForm, ReplyTimes, SystemClock, UdpServerWire, WireOptions,
+    open_wire,
 };
 use dns_zone::{Zone, ZoneRefusal, serve};
 use sip_resolver::random_key;
@@ -129,6 +130,7 @@ pub(crate) fn local_wire<R: Net>(rt: &R) -> io::Result<UdpServerWire>
 const WIRE_OPTIONS: WireOptions = WireOptions {
     over_tcp: false,
     form: QueryForm::PLAIN,
+    attempts: Attempts::DEFAULT,
     reply_times: ReplyTimes::DEFAULT,
     rotates: false,
     keeps_tries: false,

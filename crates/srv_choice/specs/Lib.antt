@@ -1,4 +1,5 @@
 pub mod SrvOrder
 pub mod Outcomes
 pub mod Chances
+pub mod Draws
 pub mod Later

@@ -18,6 +18,9 @@
 //! }
 //! ```
 //!
+//! `random_order` takes its words as `RandomWords`: given, or by a key and a number, of which only
+//! the words that count are drawn.
+//!
 //! `fixed_order` puts them in one order in which no random word counts, for a stateless proxy (RFC
 //! 3263 4.4).
 //!
@@ -31,12 +34,13 @@ mod choice;
 mod indexes;
 mod laws;
 mod next_index;
+mod order_words;
 mod outcome;
 mod words;
 
-pub use choice::{fixed_order, order};
+pub use choice::{fixed_order, order, random_order};
 pub use indexes::Indexes;
 pub use laws::{law_limits, law_order_is_by_priority, law_weights_are_shares};
 pub use next_index::RECORD_LIMIT;
 pub use outcome::SrvOutcome;
-pub use words::{WORD_COUNT, Words};
+pub use words::{RandomWords, WORD_COUNT, Words};

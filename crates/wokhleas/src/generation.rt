@@ -9,6 +9,7 @@ ghost use Rattle.sip_resolver.specs.Idle.{IsOut};
 ghost use Rattle.sip_resolver.specs.Questions.{IsLeast};
 ghost use Rattle.sip_resolver.specs.Requests.{Stand, count_of, numbers_of};
 ghost use Rattle.sip_resolver.specs.Resolvers.{RefusesSubmit, with_request};
+ghost use Rattle.srv_choice.specs.Draws.{words_of};
 ghost use Rattle.wokhleas.specs.States.{IsWritten, Learns, TakesOut, begun_generation};
 
 use crate::clock::Instant;
@@ -20,7 +21,7 @@ use sip_resolver::{
     random_ids,
 };
 use sip_selection::{Caps, Request};
-use srv_choice::Words;
+use srv_choice::RandomWords;
 use std::alloc::{AllocError, Global};
 use std::marker::Model;
 
@@ -117,11 +118,11 @@ impl Generation {
         number: u64,
         request: Request,
         caps: Caps,
-        words: Words,
+        words: &RandomWords<'_>,
         until: Option<Moment>,
     ) -> Result<(), SubmitRefusal>
         ensures submitted { OnOk result (self.new ≡ record self.old {
-          core = with_request number request caps words.0 until self.old.core;
+          core = with_request number request caps (words_of words.now) until self.old.core;
         }) }
         ensures refused { IfErr result (RefusesSubmit self.old.core number) }
         ensures unchanged { OnErr result (self.new ≡ self.old) }

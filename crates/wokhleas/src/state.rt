@@ -14,8 +14,9 @@ use crate::told::{ToldOutcome, ToldTarget, question_of, target_at, told_outcome}
 use dns_answers::Moment;
 use dns_message::Question;
 use dns_queries::Why;
-use sip_resolver::{DnsTransport, Limits, ReplyOutcome, SubmitRefusal, draw_words};
+use sip_resolver::{DnsTransport, Limits, ReplyOutcome, SubmitRefusal};
 use sip_selection::{Caps, Request};
+use srv_choice::RandomWords;
 use std::alloc::{AllocError, Global};
 use std::marker::Model;
 
@@ -27,7 +28,7 @@ const DRAWS: u64 = 1 << 63;
 pub struct State {
     limits: Limits,
     seed: [u8; 32],
-    /// How many times words were drawn.
+    /// How many requests have words of their own.
     drawn: u64,
     /// How many generations began.
     begun: u64,
@@ -151,9 +152,12 @@ impl State {
         if self.has_older(number) {
             return Err(SubmitRefusal::NumberTaken);
         }
-        let words = draw_words(self.seed, self.drawn);
+        let words = RandomWords::Drawn {
+            key: self.seed,
+            number: self.drawn,
+        };
         self.drawn = self.drawn.wrapping_add(1) % DRAWS;
-        self.current.submit(number, request, caps, words, until)?;
+        self.current.submit(number, request, caps, &words, until)?;
         self.inside += 1;
         Ok(())
     }

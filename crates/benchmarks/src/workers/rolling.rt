@@ -13,6 +13,7 @@ use dns_zone::Zone;
 use rolling_cache::{RollingCache, RollingSeat};
 use sip_resolver::{CountingIds, DnsTransport, Limits, NoFacts, Outcome, Resolver};
 use sip_workers::Job;
+use srv_choice::RandomWords;
 use std::alloc::Global;
 use std::sync::Wait;
 use std::thread::{Threads, map_vec};
@@ -152,7 +153,8 @@ fn submit(alloc: Global, resolver: &mut Core, number: u64) -> Option<()>
         caps,
         words,
     } = job_of(alloc, number)?;
-    resolver.submit(number, request, caps, words, None).ok()
+    let words = RandomWords::Given(&words);
+    resolver.submit(number, request, caps, &words, None).ok()
 }
 
 /// Submits the requests of a batch, the first of which has this number.

@@ -1,4 +1,5 @@
 use Rattle.std.proofs.Common.{◌∙◌, refl}
+use Rattle.srv_choice.specs.Draws.{words_of}
 use Rattle.dns_answers.specs.Found.{answer_in}
 use Rattle.dns_message.specs.declared.kind.Kind.TheVariants.{Naptr}
 use Rattle.sip_selection.proofs.Choosing.{goes-too, by_services-left}
@@ -29,7 +30,8 @@ returns-in_ok-candidates-in-Ok-clause-goes g c =
     let is = rw (c.rules_in.ensures.rules, c.deref.ensures, c.as_arc.ensures) at c.in_ok-candidates-in-Ok.ensures.is in
     let left = rw c.answer_from.ensures.targets at c.along_all.ensures.goes in
     ok-both _ _ _ (λ step on goes. goes-too b more _ _ step a.walk.now.targets.items _
-    (λ found all extends. by_services-left b.secure b.caps.now b.words.now.0 b.name.now all candidates.services.items candidates.fallback
+    (λ found all extends. by_services-left b.secure b.caps.now (words_of b.words.now) b.name.now all candidates.services.items
+    candidates.fallback
     found answer
     (extends-on then more all on extends (record { name = b.name.now; kind = Naptr }) answer c.in-Ok.ensures.answer) (is all)) goes)
     c.along_all.result c.along_all.ensures.extends left

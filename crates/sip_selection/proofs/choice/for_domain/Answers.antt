@@ -1,4 +1,5 @@
 use Rattle.std.proofs.Common.{[], ap, Ok}
+use Rattle.srv_choice.specs.Draws.{words_of}
 use Rattle.sip_selection.specs.Known.{made}
 use Rattle.sip_selection.specs.Choice as spec
 use Rattle.sip_selection.proofs.Beginning.{name-asked, named_service-asked, whatever-came}
@@ -17,7 +18,7 @@ returns-in-None-Some-Ok-clause-comes g c =
     let b = c.args.context.now in
     rw (it.is-0, it.is-1, it.is-2)
     (ok-each _ _ (λ step goes. comes-first b c.to_service.new.walk.known
-    (λ all. spec.to_service b.caps.now b.words.now.0 all b.name.now (Ok it.transport))
+    (λ all. spec.to_service b.caps.now (words_of b.words.now) all b.name.now (Ok it.transport))
     step _ ((rw c.requires.empty at goes) [])) c.to_service.result c.to_service.ensures.goes)
 
 pub returns-in-None-None-default-clause-comes : goal.returns-in-None-None-default-clause-comes
@@ -25,7 +26,7 @@ returns-in-None-None-default-clause-comes g c =
     let it = c.in-None-None-default in
     let b = c.args.context.now in
     rw (it.is-0, it.is-1) (ok-each _ _ (λ step goes. comes-first b c.discovered.new.walk.known
-    (λ all. spec.discovered b.secure b.caps.now b.words.now.0 all b.name.now (spec.offered_default b.secure b.caps.now))
+    (λ all. spec.discovered b.secure b.caps.now (words_of b.words.now) all b.name.now (spec.offered_default b.secure b.caps.now))
     step _ ((rw c.requires.empty at goes) [])) c.discovered.result c.discovered.ensures.goes)
 
 pub returns-in-Some-default-Ok-clause-memory : goal.returns-in-Some-default-Ok-clause-memory
@@ -39,7 +40,7 @@ returns-in-None-Some-Ok-clause-memory g c =
     let it = c.in-None-Some-Ok in
     let b = c.args.context.now in
     rw (it.is-0, it.is-1, it.is-2)
-    (whatever-came c.to_service.result (named_service-asked b.caps.now b.words.now.0 b.name.now it.transport))
+    (whatever-came c.to_service.result (named_service-asked b.caps.now (words_of b.words.now) b.name.now it.transport))
 
 pub returns-in-None-None-default-clause-memory : goal.returns-in-None-None-default-clause-memory
 returns-in-None-None-default-clause-memory g c =

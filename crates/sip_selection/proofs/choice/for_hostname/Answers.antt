@@ -1,4 +1,5 @@
 use Rattle.std.proofs.Common.{[], ◌∙◌}
+use Rattle.srv_choice.specs.Draws.{words_of}
 use Rattle.sip_selection.specs.Consulting.{nothing}
 use Rattle.sip_selection.specs.Requests.{request_of}
 use Rattle.sip_selection.proofs.Beginning.{whatever-came}
@@ -21,7 +22,7 @@ returns-in-Some-clause-comes g c =
       c.transport_offered-transport.ensures,
     ) at c.in-Some.ensures.refused in
     rw c.requires.target (
-      λ all extends. domain-is request a.caps.now a.words.now.0 all name _ _ ∙ refused a.words.now.0 name all,
+      λ all extends. domain-is request a.caps.now (words_of a.words.now) all name _ _ ∙ refused (words_of a.words.now) name all,
       tt,
     )
 
@@ -39,7 +40,8 @@ returns-in_err-name-clause-memory g c =
       c.transport_offered-transport.ensures,
     ) at (c.refused_at_once.ensures.asked c.in_default.is) in
     whatever-came c.from_residual.result
-    (rw (c.requires.target, domain-is (request_of a.request.now) a.caps.now a.words.now.0 [] name _ _) (asked a.words.now.0 name))
+    (rw (c.requires.target, domain-is (request_of a.request.now) a.caps.now (words_of a.words.now) [] name _ _)
+    (asked (words_of a.words.now) name))
 
 pub for_name-requires-clause-target : goal.for_name-requires-clause-target
 for_name-requires-clause-target g c = rw c.in_ok-name.ensures c.requires.target

@@ -1,4 +1,5 @@
 use Rattle.std.proofs.Common.{◌≡◌, [], ◌∙◌, ap, Err}
+use Rattle.srv_choice.specs.Draws.{words_of}
 use Rattle.sip_selection.specs.Choice.{chosen, resolved}
 use Rattle.sip_selection.specs.Consulting.{nothing}
 use Rattle.sip_selection.specs.Requests.{request_of}
@@ -16,8 +17,8 @@ for_domain-requires-clause-needs g c = λ all question extends is.
       c.spoken.ensures,
       c.transport_offered-transport.ensures,
     ) at is in
-    let whole : chosen request a.caps.now a.words.now.0 all ≡ Err question =
-    rw c.requires.target (domain-is request a.caps.now a.words.now.0 all a.name.now _ _ ∙ here) in
+    let whole : chosen request a.caps.now (words_of a.words.now) all ≡ Err question =
+    rw c.requires.target (domain-is request a.caps.now (words_of a.words.now) all a.name.now _ _ ∙ here) in
     ap resolved whole
 
 pub for_domain-requires-clause-consulted : goal.for_domain-requires-clause-consulted
@@ -33,7 +34,7 @@ returns-clause-comes g c =
       c.transport_offered-transport.ensures,
     ) at c.for_domain.ensures.comes in
     rw c.requires.target (ok-each _ _ (λ step first. (
-      λ all extends. domain-is (request_of a.request.now) a.caps.now a.words.now.0 all a.name.now _ _ ∙ first.0 all extends,
+      λ all extends. domain-is (request_of a.request.now) a.caps.now (words_of a.words.now) all a.name.now _ _ ∙ first.0 all extends,
       first.1,
     )) c.for_domain.result comes)
 
@@ -46,4 +47,4 @@ returns-clause-memory g c =
       c.spoken.ensures,
       c.transport_offered-transport.ensures,
     ) at c.for_domain.ensures.memory in
-    rw (c.requires.target, domain-is (request_of a.request.now) a.caps.now a.words.now.0 [] a.name.now _ _) asked
+    rw (c.requires.target, domain-is (request_of a.request.now) a.caps.now (words_of a.words.now) [] a.name.now _ _) asked

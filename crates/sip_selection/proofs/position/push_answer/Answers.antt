@@ -1,4 +1,5 @@
 use Rattle.std.proofs.Common.{◌++◌, sym}
+use Rattle.srv_choice.specs.Draws.{words_of}
 use Rattle.dns_answers.specs.Found.{answer_in}
 use Rattle.sip_selection.specs.Callers.{kinds_of}
 use Rattle.sip_selection.specs.Consulting.{inquiry}
@@ -16,9 +17,9 @@ push_listed-requires-clause-needs g c =
     let answer = answer_in a.answer in
     let is = rw (c.servers_in-servers.ensures.servers, c.deref.ensures, c.as_arc.ensures, c.in-Listed.is) at c.order_by-outcome.ensures in
     needs-of (inquiry b) a.walk.now.known
-    (λ all. offer_by all (kinds_of b.caps.now.families) b.caps.now.is_fixed b.words.now.0 a.transport a.position.word answer)
+    (λ all. offer_by all (kinds_of b.caps.now.families) b.caps.now.is_fixed (words_of b.words.now) a.transport a.position.word answer)
     (λ all. servers_left b.caps.now all a.transport (servers_in answer.records) c.in-Listed.indexes first_server)
-    (λ all question extends. answer-asks b.caps.now b.words.now.0 all a.transport answer a.position.word c.in-Listed.indexes
+    (λ all question extends. answer-asks b.caps.now (words_of b.words.now) all a.transport answer a.position.word c.in-Listed.indexes
     c.in-Listed.field-1 (sym is) question) c.requires.needs
 
 pub returns-in-Listed-clause-left : goal.returns-in-Listed-clause-left
@@ -29,7 +30,8 @@ returns-in-Listed-clause-left g c =
     let left = rw (c.behind-behind.ensures, c.in-Listed.is) at c.push_listed.ensures.left in
     ok-each _ _ (λ service_step walks services. walks-too b c.push_listed.new.walk.known services _ _ service_step
     a.walk.now.targets.items _
-    (λ all extends fallback found. answer-listed b.caps.now b.words.now.0 b.name.now all services fallback a.position found a.transport
+    (λ all extends fallback found. answer-listed b.caps.now (words_of b.words.now) b.name.now all services fallback a.position found
+    a.transport
     (answer_in a.answer) c.in-Listed.indexes c.in-Listed.field-1 (sym is))
     (walks services)) c.push_listed.result left
 
@@ -40,7 +42,7 @@ returns-in-Absent-clause-left g c =
     let outcome = c.order_by-outcome.result in
     let is = rw (c.servers_in-servers.ensures.servers, c.deref.ensures, c.as_arc.ensures) at c.order_by-outcome.ensures in
     rw c.behind-behind.ensures (λ services fallback front. (
-      λ all extends. answer-unlisted b.caps.now b.words.now.0 b.name.now all services fallback a.position
+      λ all extends. answer-unlisted b.caps.now (words_of b.words.now) b.name.now all services fallback a.position
           (front ++ a.walk.now.targets.items) a.transport (answer_in a.answer) outcome c.in-Absent.is is,
       tt,
     ))

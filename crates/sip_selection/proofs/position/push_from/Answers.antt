@@ -1,5 +1,6 @@
 use Rattle.std.specs.Arc.{arc_value}
 use Rattle.std.proofs.Common.{[], ◌∙◌}
+use Rattle.srv_choice.specs.Draws.{words_of}
 use Rattle.sip_selection.specs.Consulting.{inquiry}
 use Rattle.sip_selection.specs.Stages.{listing_left, position_left, servers_first}
 use Rattle.sip_selection.proofs.Consulting.{extends-on, needs-of}
@@ -16,10 +17,11 @@ push_listing-requires-clause-needs g c =
     let s = c.in-Server in
     let needs = rw s.is at c.requires.needs in
     needs-of (inquiry b) a.walk.now.known
-    (λ all. servers_first b.caps.now b.words.now.0 b.name.now all a.services.now needs.0 (arc_value s.listing) s.cursor s.position
+    (λ all. servers_first b.caps.now (words_of b.words.now) b.name.now all a.services.now needs.0 (arc_value s.listing) s.cursor s.position
     a.walk.now.targets.items)
     (λ all. listing_left b.caps.now all (arc_value s.listing) s.cursor)
-    (λ all question extends. listing-asks b.caps.now b.words.now.0 b.name.now all a.services.now needs.0 (arc_value s.listing) s.cursor
+    (λ all question extends. listing-asks b.caps.now (words_of b.words.now) b.name.now all a.services.now needs.0 (arc_value s.listing)
+    s.cursor
     s.position a.walk.now.targets.items question) needs.1
 
 pub push_services-requires-in-Position-clause-needs : goal.push_services-requires-in-Position-clause-needs
@@ -46,8 +48,9 @@ returns-in-Position-clause-left g c =
     let more = c.push_services-in-Position.new.walk.known in
     let first = rw c.in-Position.is at (c.in_ok-stop-in-Server.ensures.left a.services.now) in
     rw s.is (ok-both _ _ _ (λ service_step on walks. walks-then b more a.services.now
-    (λ all fallback found. position_left b.caps.now b.words.now.0 b.name.now all a.services.now fallback c.in-Position.position found)
-    (λ all fallback found. servers_first b.caps.now b.words.now.0 b.name.now all a.services.now fallback
+    (λ all fallback found. position_left b.caps.now (words_of b.words.now) b.name.now all a.services.now fallback c.in-Position.position
+    found)
+    (λ all fallback found. servers_first b.caps.now (words_of b.words.now) b.name.now all a.services.now fallback
     (arc_value s.listing) s.cursor s.position found)
     service_step a.walk.now.targets.items c.push_listing.new.walk.targets.items c.push_services-in-Position.new.walk.targets.items
     (λ fallback front all extends. (first fallback front).0 all (extends-on then more all on extends)) walks)

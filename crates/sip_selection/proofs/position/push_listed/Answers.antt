@@ -1,4 +1,5 @@
 use Rattle.std.proofs.Common.{◌++◌}
+use Rattle.srv_choice.specs.Draws.{words_of}
 use Rattle.sip_selection.specs.Stages.{first_server}
 use Rattle.sip_selection.specs.declared.stage.Listing.{Listing}
 use Rattle.sip_selection.proofs.Walking.{listing-more, listing-asks}
@@ -20,8 +21,8 @@ returns-in_ok-new-in-Some-clause-left g c = λ services fallback front.
       it.is,
     ) at c.in_ok-push_indexes.ensures.reaches in
     rw (stop.1, c.in_ok-new-in-Some.ensures, c.in_ok-listing-in-Some.ensures.ok, ← kept.ensures.same) (
-      λ all extends. listing-more b.caps.now b.words.now.0 b.name.now services listing a.position a.walk.now.targets.items stop.0
+      λ all extends. listing-more b.caps.now (words_of b.words.now) b.name.now services listing a.position a.walk.now.targets.items stop.0
           first_server it.cursor all (stop.2.0 all extends) fallback front,
-      listing-asks b.caps.now b.words.now.0 b.name.now c.push_indexes.new.walk.known services fallback listing it.cursor
+      listing-asks b.caps.now (words_of b.words.now) b.name.now c.push_indexes.new.walk.known services fallback listing it.cursor
           a.position (front ++ (a.walk.now.targets.items ++ stop.0)) it.question stop.2.1,
     )

@@ -1,5 +1,6 @@
 use Rattle.std.proofs.Common.{◌++◌}
 use Rattle.std.specs.Arc.{arc_value}
+use Rattle.srv_choice.specs.Draws.{words_of}
 use Rattle.sip_selection.proofs.Walking.{listing-done, listing-more, listing-asks}
 use Rattle.sip_selection.proofs.position.push_listing.Goals as goal
 
@@ -27,7 +28,7 @@ returns-in-None-clause-left g c = λ services fallback front.
       c.in-None.is,
     ) at c.in_ok-push_indexes.ensures.reaches in
     rw stop.1 (
-      λ all extends. listing-done b.caps.now b.words.now.0 b.name.now services (arc_value a.listing.now) a.position
+      λ all extends. listing-done b.caps.now (words_of b.words.now) b.name.now services (arc_value a.listing.now) a.position
           a.walk.now.targets.items stop.0
           a.from all (stop.2 all extends) fallback front,
       tt,
@@ -48,9 +49,10 @@ returns-in_ok-new-in-Some-clause-left g c = λ services fallback front.
       it.is,
     ) at c.in_ok-push_indexes.ensures.reaches in
     rw (stop.1, c.in_ok-new-in-Some.ensures, c.in_ok-listing-in-Some.ensures) (
-      λ all extends. listing-more b.caps.now b.words.now.0 b.name.now services (arc_value a.listing.now) a.position
+      λ all extends. listing-more b.caps.now (words_of b.words.now) b.name.now services (arc_value a.listing.now) a.position
           a.walk.now.targets.items stop.0
           a.from it.cursor all (stop.2.0 all extends) fallback front,
-      listing-asks b.caps.now b.words.now.0 b.name.now c.push_indexes.new.walk.known services fallback (arc_value a.listing.now) it.cursor
+      listing-asks b.caps.now (words_of b.words.now) b.name.now c.push_indexes.new.walk.known services fallback (arc_value a.listing.now)
+          it.cursor
           a.position (front ++ (a.walk.now.targets.items ++ stop.0)) it.question stop.2.1,
     )

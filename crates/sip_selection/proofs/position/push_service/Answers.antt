@@ -1,6 +1,7 @@
 use Rattle.dns_answers.specs.Found.{answer_in}
 use Rattle.dns_message.specs.declared.kind.Kind.TheVariants.{Srv}
 use Rattle.std.proofs.Common.{refl}
+use Rattle.srv_choice.specs.Draws.{words_of}
 use Rattle.sip_selection.specs.Callers.{kinds_of}
 use Rattle.sip_selection.specs.Consulting.{inquiry}
 use Rattle.sip_selection.specs.Known.{answer_to}
@@ -14,7 +15,7 @@ answer_from-requires-clause-needs g c =
     let a = c.args in
     let b = a.context.now in
     needs-of (inquiry b) a.walk.now.known
-    (λ all. offer_along all (kinds_of b.caps.now.families) b.caps.now.is_fixed b.words.now.0 a.service.now a.position.word)
+    (λ all. offer_along all (kinds_of b.caps.now.families) b.caps.now.is_fixed (words_of b.words.now) a.service.now a.position.word)
     (λ all. answer_to all (record { name = c.in-Some.name; kind = Srv }))
     (λ all question extends is. rw (c.in-Some.is, is) refl) c.requires.needs
 
@@ -25,8 +26,9 @@ push_answer-requires-clause-needs g c =
     let then = c.answer_from.new.walk.known in
     let answer = answer_in c.in-Ok.answer in
     needs-of (inquiry b) then
-    (λ all. offer_along all (kinds_of b.caps.now.families) b.caps.now.is_fixed b.words.now.0 a.service.now a.position.word)
-    (λ all. offer_by all (kinds_of b.caps.now.families) b.caps.now.is_fixed b.words.now.0 a.service.now.transport a.position.word answer)
+    (λ all. offer_along all (kinds_of b.caps.now.families) b.caps.now.is_fixed (words_of b.words.now) a.service.now a.position.word)
+    (λ all. offer_by all (kinds_of b.caps.now.families) b.caps.now.is_fixed (words_of b.words.now) a.service.now.transport a.position.word
+    answer)
     (λ all question extends is. rw (c.in-Some.is, extends (record { name = c.in-Some.name; kind = Srv }) answer c.in-Ok.ensures.answer) is)
     (needs-on (inquiry b) a.walk.now.known then _ c.answer_from.ensures.extends c.requires.needs)
 
@@ -39,7 +41,8 @@ returns-in-Ok-clause-left g c =
     let more = c.push_answer.new.walk.known in
     let left = rw c.answer_from.ensures.targets at c.push_answer.ensures.left in
     ok-both _ _ _ (λ service_step on walks services there. walks-too b more services _ _ service_step a.walk.now.targets.items _
-    (λ all extends fallback found. named-left b.caps.now b.words.now.0 b.name.now all services fallback a.position found a.service.now
+    (λ all extends fallback found. named-left b.caps.now (words_of b.words.now) b.name.now all services fallback a.position found
+    a.service.now
     c.in-Some.name
     c.in-Some.is there answer
     (extends-on then more all on extends (record { name = c.in-Some.name; kind = Srv }) answer c.in-Ok.ensures.answer))

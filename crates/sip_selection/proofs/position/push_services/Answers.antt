@@ -1,4 +1,5 @@
 use Rattle.std.proofs.Common.{◌+◌, [], ℕ, ◌∙◌, ap}
+use Rattle.srv_choice.specs.Draws.{words_of}
 use Rattle.sip_selection.proofs.Consulting.{extends-on}
 use Rattle.sip_selection.proofs.Walking.{next-service, service-asks}
 use Rattle.sip_selection.proofs.position.push_services.Goals as goal
@@ -13,7 +14,7 @@ push_service-requires-clause-needs g c = λ all question extends is.
     c.index-services-at.is in
     c.requires.needs.1 all question (extends-on a.walk.now.known l.walk.known all l.invariant.more extends)
     (l.invariant.left fallback [] all extends
-    ∙ service-asks b.caps.now b.words.now.0 b.name.now all a.services.now fallback l.position l.walk.targets.items
+    ∙ service-asks b.caps.now (words_of b.words.now) b.name.now all a.services.now fallback l.position l.walk.targets.items
     c.index-services-at.result there question is)
 
 pub returns-in_default-clause-left : goal.returns-in_default-clause-left

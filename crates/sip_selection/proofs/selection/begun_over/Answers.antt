@@ -1,4 +1,5 @@
 use Rattle.std.proofs.Common.{ℕ, List, []}
+use Rattle.srv_choice.specs.Draws.{words_of}
 use Rattle.sip_selection.specs.Choice.{IsNotRefused, locate}
 use Rattle.sip_selection.specs.Known.{Given}
 use Rattle.sip_selection.specs.Requests.{request_of}
@@ -38,5 +39,5 @@ pub returns-clause-memory : goal.returns-clause-memory
 returns-clause-memory g c =
     let a = c.args in
     let begin = c.begin.new.walk in
-    err-each (asking-first (request_of a.request.now) a.caps.now a.words.now.0 begin.known begin.targets.items c.in_ok-step.step
+    err-each (asking-first (request_of a.request.now) a.caps.now (words_of a.words.now) begin.known begin.targets.items c.in_ok-step.step
     c.in_ok-step.ensures.comes) c.found_with.result c.found_with.ensures.memory

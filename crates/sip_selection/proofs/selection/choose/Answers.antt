@@ -1,4 +1,5 @@
 use Rattle.std.proofs.Common.{◌∙◌, ◌≡◌, sym}
+use Rattle.srv_choice.specs.Draws.{words_of}
 use Rattle.sip_selection.specs.Consulting.{asked_with}
 use Rattle.sip_selection.specs.Requests.{request_of}
 use Rattle.sip_selection.proofs.Beginning.{whatever-came}
@@ -13,8 +14,8 @@ returns-in-Found-clause-chosen g c =
     let a = c.args in
     let begun = c.in_ok-step.ensures.begun in
     let stands = rw c.in-Found.is at begun.2.0 in
-    let is = found-is (request_of a.request.now) a.caps.now a.words.now.0 begun.0 c.in_ok-step.targets.items stands in
-    (begun.0, begun.1, c.choice_of.ensures.is (asked_with (request_of a.request.now) a.caps.now a.words.now.0 begun.0) is)
+    let is = found-is (request_of a.request.now) a.caps.now (words_of a.words.now) begun.0 c.in_ok-step.targets.items stands in
+    (begun.0, begun.1, c.choice_of.ensures.is (asked_with (request_of a.request.now) a.caps.now (words_of a.words.now) begun.0) is)
 
 pub returns-in-Refused-clause-chosen : goal.returns-in-Refused-clause-chosen
 returns-in-Refused-clause-chosen g c =
@@ -23,7 +24,7 @@ returns-in-Refused-clause-chosen g c =
     let stands = rw c.in-Refused.is at begun.2.0 in (
       begun.0,
       begun.1,
-      refused-is (request_of a.request.now) a.caps.now a.words.now.0 begun.0 c.in_ok-step.targets.items c.in-Refused.reason stands,
+      refused-is (request_of a.request.now) a.caps.now (words_of a.words.now) begun.0 c.in_ok-step.targets.items c.in-Refused.reason stands,
     )
 
 pub returns-in-Found-clause-lacks : goal.returns-in-Found-clause-lacks
@@ -36,8 +37,8 @@ returns-in_err-request-in-Ask-clause-memory g c =
     let request = request_of a.request.now in
     let begun = c.in_ok-step.ensures.begun in
     whatever-came c.from_residual-in_err-request-in-Ask.result
-    (asks-first request a.caps.now a.words.now.0 begun.0 c.in-Ask.field-0
-    (asked-is request a.caps.now a.words.now.0 begun.0 c.in_ok-step.targets.items c.in-Ask.field-0 c.in-Ask.field-1
+    (asks-first request a.caps.now (words_of a.words.now) begun.0 c.in-Ask.field-0
+    (asked-is request a.caps.now (words_of a.words.now) begun.0 c.in_ok-step.targets.items c.in-Ask.field-0 c.in-Ask.field-1
     (rw c.in-Ask.is at begun.2.0)))
 
 pub at_step-requires-clause-stands : goal.at_step-requires-clause-stands
@@ -50,7 +51,7 @@ at_step-requires-clause-asked g c =
     let a = c.args in
     let begun = c.in_ok-step.ensures.begun in
     rw (c.in_ok-request-in-Ask.ensures.request, begun.2.1 (rw c.in-Ask.is tt))
-    (consulted-asked begun.1 (nothing-asked (request_of a.request.now) a.caps.now a.words.now.0))
+    (consulted-asked begun.1 (nothing-asked (request_of a.request.now) a.caps.now (words_of a.words.now)))
 
 pub returns-in_err-selection-in-Ask-clause-memory : goal.returns-in_err-selection-in-Ask-clause-memory
 returns-in_err-selection-in-Ask-clause-memory g c =
@@ -58,8 +59,8 @@ returns-in_err-selection-in-Ask-clause-memory g c =
     let request = request_of a.request.now in
     let begun = c.in_ok-step.ensures.begun in
     whatever-came c.from_residual-in_err-selection-in-Ask.result
-    (asks-first request a.caps.now a.words.now.0 begun.0 c.in-Ask.field-0
-    (asked-is request a.caps.now a.words.now.0 begun.0 c.in_ok-step.targets.items c.in-Ask.field-0 c.in-Ask.field-1
+    (asks-first request a.caps.now (words_of a.words.now) begun.0 c.in-Ask.field-0
+    (asked-is request a.caps.now (words_of a.words.now) begun.0 c.in_ok-step.targets.items c.in-Ask.field-0 c.in-Ask.field-1
     (rw c.in-Ask.is at begun.2.0)))
 
 pub returns-clause-chosen : goal.returns-clause-chosen
@@ -71,7 +72,8 @@ returns-clause-chosen g c =
       (
         rw (c.in_ok-request-in-Ask.ensures.request, begun.2.1 (rw c.in-Ask.is tt)) at c.in_ok-selection-in-Ask.ensures.is,
         c.in-Ask.field-0,
-        asked-is (request_of a.request.now) a.caps.now a.words.now.0 begun.0 c.in_ok-step.targets.items c.in-Ask.field-0 c.in-Ask.field-1
+        asked-is (request_of a.request.now) a.caps.now (words_of a.words.now) begun.0 c.in_ok-step.targets.items c.in-Ask.field-0
+            c.in-Ask.field-1
             (rw c.in-Ask.is at begun.2.0),
       ),
     )
@@ -81,7 +83,7 @@ returns-clause-lacks g c = λ question is.
     let a = c.args in
     let begun = c.in_ok-step.ensures.begun in
     let here = rw (c.in_ok-selection-in-Ask.ensures.is, c.in_ok-request-in-Ask.ensures.request, begun.2.1 (rw c.in-Ask.is tt)) at is in
-    let asked = asked-is (request_of a.request.now) a.caps.now a.words.now.0 begun.0 c.in_ok-step.targets.items c.in-Ask.field-0
+    let asked = asked-is (request_of a.request.now) a.caps.now (words_of a.words.now) begun.0 c.in_ok-step.targets.items c.in-Ask.field-0
     c.in-Ask.field-1 (rw c.in-Ask.is at begun.2.0) in
     let same : c.in-Ask.field-0 ≡ question = let both = sym asked ∙ here in cc in
     rw same at (rw c.in-Ask.is at c.in_ok-step.ensures.lacks)

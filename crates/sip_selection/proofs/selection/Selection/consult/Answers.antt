@@ -1,4 +1,5 @@
-use Rattle.std.proofs.Common.{◌≡◌, ◌∙◌, ap, refl, sym}
+use Rattle.std.proofs.Common.{◌∙◌, ap, refl, sym}
+use Rattle.sip_selection.specs.HeldWords.{held_words}
 use Rattle.sip_selection.specs.Consulting.{nothing}
 use Rattle.sip_selection.specs.Stages.{name_of}
 use Rattle.sip_selection.proofs.Consulting.{consulted-asked}
@@ -16,7 +17,7 @@ pub unreachable-requires : goal.unreachable-requires
 unreachable-requires g c =
     let s = c.self.inside in
     let asked = c.if-not-is_asking.ensures.0 refl in
-    c.law_numeric_targets_ask_nothing.ensures.nothing s.request s.caps s.drawn.value.0 s.known
+    c.law_numeric_targets_ask_nothing.ensures.nothing s.request s.caps (held_words s.words) s.known
     (λ name is. c.in_default.not-Domain name (c.target.ensures ∙ is))
     asked.0 (rw (← c.self.view_is) at asked.1)
 
@@ -26,9 +27,9 @@ go_on-requires-clause-needs g c =
     let there = sym c.target.ensures ∙ c.in-Domain.is in
     let before = rw c.in-Ask.is at c.self.invariant.0 in
     let held = rw c.in-Ask.is at c.self.invariant.2 in
-    let words : c.in-Some.words ≡ s.drawn.value = let both = sym c.in-Some.is ∙ held in cc in
-    rw (c.as_ref.ensures, words, c.as_ref-2.ensures, ← (ap name_of there))
-    (left-needs s.request s.caps s.drawn.value.0 s.known s.targets.items c.in-Ask.field-0 c.in-Ask.stage before _ (extends-itself s.known))
+    rw (c.random_words-words.ensures, c.as_ref.ensures, ← (ap name_of there))
+    (left-needs s.request s.caps (held_words s.words) s.known s.targets.items c.in-Ask.field-0 c.in-Ask.stage before _
+    (extends-itself s.known))
 
 pub invariant_of-self : goal.invariant_of-self
 invariant_of-self g c =
@@ -41,14 +42,13 @@ invariant_of-self-2 g c =
     let there = sym c.target.ensures ∙ c.in-Domain.is in
     let before = rw c.in-Ask.is at c.self.invariant.0 in
     let held = rw c.in-Ask.is at c.self.invariant.2 in
-    let words : c.in-Some.words ≡ s.drawn.value = let both = sym c.in-Some.is ∙ held in cc in
     let ok = c.in_ok-self-inside in
-    let consulted = rw (c.as_ref.ensures, words) at ok.ensures.consulted in (
-      goes-on s.request s.caps s.drawn.value.0 s.known s.targets.items c.in-Ask.field-0 c.in-Ask.stage before _
+    let consulted = rw c.random_words-words.ensures at ok.ensures.consulted in (
+      goes-on s.request s.caps (held_words s.words) s.known s.targets.items c.in-Ask.field-0 c.in-Ask.stage before _
           ok.ensures.extends ok.field-0 _
-          (rw (c.as_ref.ensures, words, c.as_ref-2.ensures, ← (ap name_of there)) at ok.ensures.goes),
+          (rw (c.random_words-words.ensures, c.as_ref.ensures, ← (ap name_of there)) at ok.ensures.goes),
       consulted-asked consulted c.self.invariant.1,
-      held-by ok.field-0 s.words s.drawn.value held,
+      held-by ok.field-0 s.words held,
     )
 
 pub returns-clause-lacks : goal.returns-clause-lacks
@@ -57,10 +57,9 @@ returns-clause-lacks g c = λ question is.
     let there = sym c.target.ensures ∙ c.in-Domain.is in
     let before = rw c.in-Ask.is at c.self.invariant.0 in
     let held = rw c.in-Ask.is at c.self.invariant.2 in
-    let words : c.in-Some.words ≡ s.drawn.value = let both = sym c.in-Some.is ∙ held in cc in
     let ok = c.in_ok-self-inside in
-    let stands = goes-on s.request s.caps s.drawn.value.0 s.known s.targets.items c.in-Ask.field-0 c.in-Ask.stage before
+    let stands = goes-on s.request s.caps (held_words s.words) s.known s.targets.items c.in-Ask.field-0 c.in-Ask.stage before
     c.go_on.new.known ok.ensures.extends ok.field-0 c.go_on.new.targets.items
-    (rw (c.as_ref.ensures, words, c.as_ref-2.ensures, ← (ap name_of there)) at ok.ensures.goes) in
-    let asks = step-asks s.request s.caps s.drawn.value.0 c.go_on.new.known c.go_on.new.targets.items ok.field-0 question stands is in
+    (rw (c.random_words-words.ensures, c.as_ref.ensures, ← (ap name_of there)) at ok.ensures.goes) in
+    let asks = step-asks s.request s.caps (held_words s.words) c.go_on.new.known c.go_on.new.targets.items ok.field-0 question stands is in
     rw asks.1 at ok.ensures.lacks

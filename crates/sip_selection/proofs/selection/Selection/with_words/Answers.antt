@@ -1,8 +1,9 @@
 use Rattle.std.proofs.Common.{[]}
+use Rattle.srv_choice.specs.Draws.{words_of}
 use Rattle.sip_selection.proofs.Beginning.{err-each}
 use Rattle.sip_selection.proofs.Consulting.{nobody-says, nothing-asked}
 use Rattle.sip_selection.proofs.Steps.{not-refused}
-use Rattle.sip_selection.proofs.selection.Selection.new.Goals as goal
+use Rattle.sip_selection.proofs.selection.Selection.with_words.Goals as goal
 
 pub at_step-requires-clause-stands : goal.at_step-requires-clause-stands
 at_step-requires-clause-stands c =
@@ -10,11 +11,11 @@ at_step-requires-clause-stands c =
     rw c.new-none.ensures (rw (nobody-says begun.1) at begun.2.0)
 
 pub at_step-requires-clause-asked : goal.at_step-requires-clause-asked
-at_step-requires-clause-asked c = rw c.new-none.ensures (nothing-asked c.args.request c.args.caps c.args.words.0)
+at_step-requires-clause-asked c = rw c.new-none.ensures (nothing-asked c.args.request c.args.caps (words_of c.args.words.now))
 
 pub returns-clause-memory : goal.returns-clause-memory
 returns-clause-memory c =
     let a = c.args in
     let begun = c.in_ok-step.ensures.begun in
-    err-each (λ asking. not-refused a.request a.caps a.words.0 [] _ c.in_ok-step.step asking
+    err-each (λ asking. not-refused a.request a.caps (words_of a.words.now) [] _ c.in_ok-step.step asking
     (rw (nobody-says begun.1) at begun.2.0)) c.at_step.result c.at_step.ensures.memory

@@ -1,9 +1,0 @@
-use Rattle.std.proofs.Common.{◌≡◌, ℕ, ◌<◌, slice_index}
-use Rattle.rand_chacha.specs.ChaCha.{key_of, word_at}
-use Rattle.sip_resolver.proofs.draw.draw_words.Given as goal
-
-abbrev pub invariant-loop-word : goal.invariant-loop-word
-invariant-loop-word l = record {
-  place : l.stream ≡ record { key = key_of l.fn.key; stream = l.number; word_pos = l.word-index };
-  drawn : (i : ℕ) → i < l.word-index → slice_index l.word-items i ≡ word_at 10 (key_of l.fn.key) l.number i;
-}
