@@ -1,4 +1,6 @@
+mod Accounts
 mod Colons
+mod Counts
 mod Denied
 mod Ends
 mod HostNames

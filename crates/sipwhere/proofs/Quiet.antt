@@ -1,17 +1,13 @@
--- Seats that go on without a store, and the targets that came first.
-use Rattle.std.proofs.Common.{◌≡◌, ◌⊎◌, ◌++◌, ◌∷◌, [], ℕ, zero, suc, ◌+◌, ◌<◌, ◌≤◌, List, inl, inr, refl, sym, ap, ◌∙◌, append_assoc, arith, get_or, length, set}
+-- Seats that go on without a store, and what comes first in a list.
+use Rattle.std.proofs.Common.{◌≡◌, ◌++◌, ◌∷◌, [], List, refl, sym, ap, ◌∙◌, append_assoc}
 use Rattle.std.proofs.lemmas.List.{append-nil}
-use Rattle.std.proofs.lemmas.List.Elements.{All-push}
-use Rattle.std.specs.List.{All}
 use Rattle.std.specs.Prelude.{OnOk, Result, Ok, Err, Some, slice_get}
 use mathlib.Core.List.{IsPrefix}
 use Rattle.resolution_paths.specs.Sources.{Went, here, onward}
-use Rattle.sip_report.specs.declared.account.FirstCount.{FirstCount}
-use Rattle.sipwhere.specs.Accounts.{targets_of, times_of}
 use Rattle.answer_cache.specs.Seats.{GoesOn, SeatView, StoresNothing}
 use Rattle.sip_selection.specs.declared.target.Target.{Target}
 
-prefix-through : {X : Type 0} (first middle last : List X) → IsPrefix first middle → IsPrefix middle last → IsPrefix first last
+pub prefix-through : {X : Type 0} (first middle last : List X) → IsPrefix first middle → IsPrefix middle last → IsPrefix first last
 prefix-through first middle last front back =
     (front.0 ++ back.0, sym (append_assoc first front.0 back.0) ∙ ap (λ l. l ++ back.0) front.1 ∙ back.1)
 
@@ -28,12 +24,6 @@ nothing-not seat = record { own = refl; offered = refl }
 pub nothing-through : (old middle new : SeatView) → StoresNothing old middle → StoresNothing middle new → StoresNothing old new
 nothing-through old middle new front back = record { own = back.own ∙ front.own; offered = back.offered ∙ front.offered }
 
--- all that came first before, and one more, or none
-pub counted-all : (P : Target → Type 0) (old new : List Target) (target : Target) → (new ≡ old) ⊎ (new ≡ old ++ target ∷ [])
-    → All P old → P target → All P new
-counted-all P old new target (inl same) all one = rw same all
-counted-all P old new target (inr more) all one = rw more (All-push P old target all one)
-
 -- a seat that went by calls that store nothing
 pub went-quietly : {Seat : Type 0} (shown : Seat → SeatView) (start : Seat) (seat : Seat)
     → Went (λ before after. GoesOn (shown before) (shown after) × StoresNothing (shown before) (shown after)) start seat
@@ -44,34 +34,6 @@ went-quietly shown start seat (onward {seat = middle} next went goes) =
       goes-through (shown start) (shown middle) (shown seat) before.0 goes.0,
       nothing-through (shown start) (shown middle) (shown seat) before.1 goes.1,
     )
-
--- ---- how often targets came first
-
-pub times-set : (firsts : List FirstCount) (at : ℕ) (one d : FirstCount) → at < length firsts
-    → one.times ≤ (get_or firsts at d).times + 1 → times_of (set firsts at one) ≤ times_of firsts + 1
-times-set [] at one d inside least = absurd (omega (arith, inside))
-times-set (first ∷ firsts) zero one d inside least = omega (arith, least)
-times-set (first ∷ firsts) (suc at) one d inside least =
-    let rest = times-set firsts at one d (omega (arith, inside)) least in
-    omega (arith, rest)
-
-pub targets-set : (firsts : List FirstCount) (at : ℕ) (one d : FirstCount) → at < length firsts
-    → one.target ≡ (get_or firsts at d).target → targets_of (set firsts at one) ≡ targets_of firsts
-targets-set [] at one d inside same = refl
-targets-set (first ∷ firsts) zero one d inside same = ap (λ target. target ∷ targets_of firsts) same
-targets-set (first ∷ firsts) (suc at) one d inside same =
-    ap (λ targets. first.target ∷ targets) (targets-set firsts at one d (omega (arith, inside)) same)
-
-pub times-push : (firsts : List FirstCount) (one : FirstCount) → times_of (firsts ++ one ∷ []) ≡ times_of firsts + one.times
-times-push [] one = omega arith
-times-push (first ∷ firsts) one =
-    let rest = times-push firsts one in
-    omega (arith, rest)
-
-pub targets-push : (firsts : List FirstCount) (one : FirstCount)
-    → targets_of (firsts ++ one ∷ []) ≡ targets_of firsts ++ one.target ∷ []
-targets-push [] one = refl
-targets-push (first ∷ firsts) one = ap (λ targets. first.target ∷ targets) (targets-push firsts one)
 
 -- what a result that is good has follows from what it has
 pub ok-map : {T E A B : Type 0} (result : Result T E) → (A → B) → OnOk result A → OnOk result B

@@ -14,3 +14,8 @@ on_ok_both (Err e) f h k = tt
 pub if_ok : {T E : Type 0} (P Q : T → Type 0) (r : Result T E) → ((x : T) → P x → Q x) → IfOk r P → IfOk r Q
 if_ok P Q (Ok x) f h = f x h
 if_ok P Q (Err e) f h = tt
+
+-- the same, of a fact where there is a value
+pub if_ok_both : {T E A : Type 0} (P Q : T → Type 0) (r : Result T E) → ((x : T) → A → P x → Q x) → OnOk r A → IfOk r P → IfOk r Q
+if_ok_both P Q (Ok x) f a h = f x a h
+if_ok_both P Q (Err e) f a h = tt

@@ -1,38 +1,135 @@
 -- How the targets of a text came about.
-use Rattle.std.specs.Prelude.{◌≡◌, ℕ, ◌+◌, Bool, true, false, ◌||◌, List, [], ◌∷◌, map, is_some}
+use Rattle.std.specs.Prelude.{◌≡◌, ℕ, ◌+◌, ◌-◌, ◌^◌, min, Bool, true, false, ◌||◌, List, [], ◌∷◌, ◌++◌, map}
+use Rattle.std.specs.Prelude.{Option, Some, None, is_some, set, slice_get}
+use Rattle.std.specs.List.{All, Contains}
+use Rattle.std.specs.declared.net.socket_addr.SocketAddr.{SocketAddr}
+use mathlib.Core.List.{IsPrefix}
+use Rattle.answer_cache.specs.Seats.{GoesOn, SeatView, StoresNothing}
+use Rattle.answer_log.specs.Histories.{cached}
 use Rattle.answer_log.specs.declared.store.Store.{Store}
+use Rattle.dns_answers.specs.Values.{AnswerValue}
+use Rattle.dns_message.specs.declared.question.Question.{Question}
+use Rattle.resolution_paths.specs.Paths.{IsPathOf}
+use Rattle.resolution_paths.specs.Sources.{Said}
+use Rattle.resolution_paths.specs.declared.path.ResolutionPath.{ResolutionPath}
 use Rattle.sip_locator.specs.Gains.{Gains}
+use Rattle.sip_report.specs.declared.account.Account.{Account}
 use Rattle.sip_report.specs.declared.account.FirstCount.{FirstCount}
 use Rattle.sip_report.specs.declared.report.Report.{Report}
 use Rattle.sip_report.specs.declared.report.Report.TheVariants.{Lines, Json, Check, Metrics}
+use Rattle.sipwhere.specs.Destinations.{IsDestination}
+use Rattle.sipwhere.specs.LineOutcomes.{IsOnlyLocated}
+use Rattle.sipwhere.specs.declared.destination.Destination.TheVariants.{Located}
+use Rattle.sipwhere.specs.declared.locate_settings.LocateSettings.{LocateSettings}
 use Rattle.sipwhere_options.specs.declared.options.Options.{Options}
 use Rattle.sip_resolver.specs.Draws.{drawn}
-use Rattle.sip_selection.specs.Choice.{targets}
+use Rattle.sip_selection.specs.Choice.{Resolution, targets}
 use Rattle.sip_selection.specs.Selections.{SelectionValue, begun, now_of}
-use Rattle.sip_selection.specs.declared.caps.Caps.{Caps}
 use Rattle.sip_selection.specs.declared.request.Request.{Request}
 use Rattle.sip_selection.specs.declared.target.Target.{Target}
 
--- how often targets came first, in all
-abbrev pub times_of : List FirstCount → ℕ
-times_of [] = 0
-times_of (first ∷ firsts) = first.times + times_of firsts
+-- ---- which targets came first
 
 -- the targets that came first
 abbrev pub targets_of : List FirstCount → List Target
 targets_of firsts = map (λ (first : FirstCount). first.target) firsts
 
--- A target came first in a draw: it is the first one to which the request goes by the words of a
--- number, over answers that a book had at a moment (RFC 3263 4).
-pub record IsFirst (request : Request) (caps : Caps) (key : List ℕ) (now : ℕ) (target : Target)
-    : Type 0 where
-  pub number : ℕ
+-- a target came first once more, up to 2^32 - 1 times
+abbrev pub once_more : FirstCount → FirstCount
+once_more it = record { target = it.target; times = min (it.times + 1) (2 ^ 32 - 1) }
+
+-- a target came first for the first time
+abbrev pub once : Target → FirstCount
+once target = record { target = target; times = 1 }
+
+-- A target is counted once more: behind all others where it was not counted yet, and else at its
+-- place.
+pub data IsCounted (target : Target) (old new : List FirstCount) : Type 0 where
+  first_time : (Contains (targets_of old) target → ⊥) → new ≡ old ++ once target ∷ []
+      → IsCounted target old new
+  again : (place : ℕ) (it : FirstCount) → slice_get old place ≡ Some it → it.target ≡ target
+      → new ≡ set old place (once_more it) → IsCounted target old new
+
+-- the first one of the targets to which a request goes is counted, and none where it goes to none
+pub data CountsFirst (resolution : Resolution) (old new : List FirstCount) : Type 0 where
+  first_of : (target : Target) (others : List Target) → resolution ≡ targets (target ∷ others)
+      → IsCounted target old new → CountsFirst resolution old new
+  nothing : ((target : Target) (others : List Target) → resolution ≡ targets (target ∷ others) → ⊥)
+      → new ≡ old → CountsFirst resolution old new
+
+-- A draw of the order of the targets of a request: which of them comes first by the words of its
+-- own number is counted, over answers that a book had at a moment, in histories between these two
+-- (RFC 3263 4).
+pub record IsDraw (request : Request) (settings : LocateSettings) (now : ℕ) (start end : List Store)
+    (draw : ℕ) (old new : List FirstCount) : Type 0 where
   pub first : List Store
   pub last : List Store
+  pub after : IsPrefix start first
+  pub before : IsPrefix last end
   pub choice : SelectionValue
-  pub gains : Gains last now first (begun request caps (drawn key number)) choice
-  pub others : List Target
-  pub goes : now_of choice ≡ targets (target ∷ others)
+  pub gains : Gains last now first
+      (begun request settings.caps (drawn settings.key (2 ^ 63 + draw))) choice
+  pub counted : CountsFirst (now_of choice) old new
+
+-- so many draws, one after the other
+pub data AreDraws (request : Request) (settings : LocateSettings) (now : ℕ) (start end : List Store)
+    : ℕ → List FirstCount → Type 0 where
+  none : AreDraws request settings now start end 0 []
+  more : {draw : ℕ} {old : List FirstCount} (new : List FirstCount)
+      → AreDraws request settings now start end draw old
+      → IsDraw request settings now start end draw old new
+      → AreDraws request settings now start end (draw + 1) new
+
+-- ---- the account of a request
+
+-- An answer that a book held at a moment: a seat at it found the answer, that had gone on from
+-- another by calls that store nothing.
+abbrev pub IsHeld : {Seat : Type 0} → (Seat → SeatView) → Seat → ℕ → Question → AnswerValue
+    → Type 0
+IsHeld shown start now =
+    Said
+    (λ before after. GoesOn (shown before) (shown after)
+    × StoresNothing (shown before) (shown after))
+    (λ seat question found. found ≡ cached (shown seat).seen question now)
+    start
+
+-- The account of a request, by what a book held at a moment, from one state of a seat to another:
+-- each path is one of the request, and as many draws were made as the settings say.
+pub record IsAccount {Seat : Type 0} (shown : Seat → SeatView) (old new : Seat)
+    (settings : LocateSettings) (now : ℕ) (request : Request) (account : Account) : Type 0 where
+  pub paths : All (IsPathOf (IsHeld shown old now) request) account.paths.items
+  pub draws : account.draws ≡ settings.draws
+  pub firsts : AreDraws request settings now (shown old).seen (shown new).seen settings.draws
+      account.firsts.items
+
+-- the server that counts: where there is no path, none does
+abbrev pub server_for : List ResolutionPath → Option SocketAddr → Option SocketAddr
+server_for [] server = None
+server_for (path ∷ paths) server = server
+
+-- ---- the account of a text
+
+-- an account of nothing
+pub record IsEmpty (account : Account) : Type 0 where
+  pub paths : account.paths.items ≡ []
+  pub draws : account.draws ≡ 0
+  pub firsts : account.firsts.items ≡ []
+  pub server : account.server ≡ None
+
+-- no request is located for a text: it is none, or its Via names its target
+abbrev pub HasNoRequest : LocateSettings → List ℕ → Type 0
+HasNoRequest settings text = (request : Request) → IsDestination settings text (Located request) → ⊥
+
+-- the account of a text: of the request that is located for it, or of nothing where none is
+pub data IsAccountOfText {Seat : Type 0} (shown : Seat → SeatView) (old new : Seat)
+    (settings : LocateSettings) (now : ℕ) (text : List ℕ) (account : Account) : Type 0 where
+  located : (request : Request) → IsOnlyLocated settings text request
+      → IsAccount shown old new settings now request account
+      → IsAccountOfText shown old new settings now text account
+  without : HasNoRequest settings text → IsEmpty account
+      → IsAccountOfText shown old new settings now text account
+
+-- ---- whether it is told
 
 -- an object of JSON is printed
 abbrev pub is_json : Report → Bool

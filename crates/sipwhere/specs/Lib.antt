@@ -5,3 +5,4 @@ pub mod Destinations
 pub mod LineOutcomes
 pub mod Runs
 pub mod Accounts
+pub mod Statuses

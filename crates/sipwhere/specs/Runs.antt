@@ -1,11 +1,16 @@
 -- What is printed of a text.
-use Rattle.std.specs.Prelude.{◌≡◌, ◌≢◌, ◌⊎◌, ◌≤◌, ℕ, Bool, true, false, List, [], ◌∷◌, Option, codes, length, map, take, All}
+use Rattle.std.specs.Prelude.{◌≡◌, ◌≢◌, ◌⊎◌, ◌≤◌, ◌*◌, ℕ, Bool, true, false, List, [], ◌∷◌, Option, Some, None}
+use Rattle.std.specs.Prelude.{⊤, codes, length, map, take, unwrap_or, All}
+use Rattle.std.specs.Duration.{as_nanos}
 use Rattle.std.specs.Io.KnownBytes.{Appends}
 use Rattle.answer_cache.specs.Seats.{SeatView}
 use Rattle.dns_transport.specs.declared.wire_try.WireTry.{WireTry}
 use Rattle.sipwhere_options.specs.CommandLine.{IsStyle}
+use Rattle.sipwhere_options.specs.Plans.{IsPlan}
+use Rattle.sipwhere_options.specs.Timings.{IsScheduleOf}
+use Rattle.sipwhere.specs.Accounts.{accounts}
 use Rattle.sipwhere.specs.LineInputs.{AreInputTexts, numbered_from, said}
-use Rattle.sipwhere.specs.LineOutcomes.{IsLineOutcome}
+use Rattle.sipwhere.specs.LineOutcomes.{IsLineOutcome, extent_of}
 use Rattle.sip_report.specs.Lines.{gravity}
 use Rattle.sip_report.specs.Reports.{status_in, traced_report}
 use Rattle.sip_report.specs.Verdicts.{verdict_of}
@@ -13,6 +18,7 @@ use Rattle.sip_report.specs.declared.account.Account.{Account}
 use Rattle.sip_report.specs.declared.line_outcome.LineOutcome.{LineOutcome}
 use Rattle.sipwhere.specs.declared.line.Line.{Line}
 use Rattle.sipwhere_options.specs.declared.options.Options.{Options}
+use Rattle.sipwhere_options.specs.declared.plan.Plan.{Plan}
 use Rattle.sip_report.specs.declared.report.Style.{Style}
 use Rattle.sipwhere.specs.declared.locate_settings.LocateSettings.{LocateSettings}
 use Rattle.sip_report.specs.declared.verdict.Verdict.{Verdict}
@@ -153,3 +159,47 @@ pub record IsRunBy (gives : List ℕ → Type 0) (shows : ℕ → Type 0) (seat 
   pub style : Style
   pub is_style : IsStyle options fronts style
   pub run : IsRunOf gives shows seat settings style texts old new status
+
+-- ---- the whole run
+
+-- The settings by which texts are located: those of the options, the schedule of the plan, and this
+-- key.
+pub record AreSettings (options : Options) (plan : Plan) (key : List ℕ) (settings : LocateSettings)
+    : Type 0 where
+  pub caps : settings.caps ≡ options.caps
+  pub key_is : settings.key ≡ key
+  pub schedule : plan.attempts.time ≤ 60000 → IsScheduleOf plan.attempts settings.schedule
+  pub total : as_nanos settings.total ≡ options.total * 1000000
+  pub extent : settings.extent ≡ extent_of options.pinging
+  pub sent_by : settings.by_sent_by ≡ options.by_sent_by
+  pub told : settings.accounts ≡ accounts options
+  pub draws : settings.draws ≡ unwrap_or options.detail.draws 0
+
+-- A run over the sockets, the clock, the input and the output of a host. Nothing is known of what
+-- these give and take: there are a seat, an input, and an output before and after it, so that this
+-- is the status of the run.
+pub record IsRunOnHost (settings : LocateSettings) (options : Options) (status : ℕ) : Type 0 where
+  pub seat : SeatView
+  pub input : Option (List ℕ)
+  pub old : Option (List ℕ)
+  pub new : Option (List ℕ)
+  pub run : IsRunBy (λ octets. ⊤) (λ moment. ⊤) seat settings options input old new status
+
+-- the same by the options, the plan and the key
+pub record IsRunWith (options : Options) (plan : Plan) (key : List ℕ) (status : ℕ) : Type 0 where
+  pub settings : LocateSettings
+  pub are : AreSettings options plan key settings
+  pub run : IsRunOnHost settings options status
+
+-- the key of a run: that of the options, or whichever was drawn
+abbrev pub IsKey : Option (List ℕ) → List ℕ → Type 0
+IsKey None key = ⊤
+IsKey (Some seed) key = key ≡ seed
+
+-- the same by the options alone: their plan, and their key or one that was drawn
+pub record IsRunOfOptions (options : Options) (status : ℕ) : Type 0 where
+  pub plan : Plan
+  pub is_plan : IsPlan options plan
+  pub key : List ℕ
+  pub is_key : IsKey options.seed key
+  pub run : IsRunWith options plan key status

@@ -1,18 +1,22 @@
 //! How the targets of a text came about.
-ghost use Rattle.std.specs.Prelude.{◌≡◌, ◌⊎◌, ◌<◌, ◌≤◌, ◌+◌, ◌++◌, ◌∷◌, [], length, IfOk, None, OnOk};
-ghost use Rattle.std.specs.List.{All};
+ghost use Rattle.std.specs.Prelude.{◌≡◌, ◌≢◌, ◌↔◌, ◌<◌, ◌++◌, ◌∷◌, [], length, set, slice_get, IfOk, IfSome, IsTrue, None, OnOk, Some};
+ghost use Rattle.std.specs.List.{Contains};
 ghost use Rattle.answer_cache.specs.Seats.{GoesOn, StoresNothing};
+ghost use Rattle.sip_report.specs.declared.account.FirstCount.{FirstCount};
+ghost use Rattle.sip_report.specs.declared.line_outcome.LineOutcome.TheVariants as outcomes;
 ghost use Rattle.sipwhere.specs.Accounts as spec;
+ghost use Rattle.sipwhere.specs.Accounts.{IsAccount, IsAccountOfText, IsDraw, AreDraws};
 
+use crate::destination::law_one_destination_of_a_text;
 use crate::locate_settings::LocateSettings;
 use crate::submitted_lines::located_of;
 use answer_cache::AnswerBook;
 use dns_answers::Moment;
 use resolution_paths::paths_of;
 use sip_locator::{BookAt, Located, locate};
-use sip_report::{Account, FirstCount};
-use sip_resolver::draw_words;
+use sip_report::{Account, FirstCount, LineOutcome};
 use sip_selection::{Request, RequestView, Target};
+use srv_choice::RandomWords;
 use std::alloc::{AllocError, Global};
 use std::net::SocketAddr;
 
@@ -21,9 +25,7 @@ const FIRST_DRAW: u64 = 1 << 63;
 
 /// An account of nothing.
 pub fn no_account(alloc: Global) -> Account
-    ensures paths { result.paths.items ≡ [] }
-    ensures firsts { result.firsts.items ≡ [] }
-    ensures server { result.server ≡ None }
+    ensures { spec.IsEmpty result }
 {
     Account {
         paths: Vec::new(alloc),
@@ -33,23 +35,42 @@ pub fn no_account(alloc: Global) -> Account
     }
 }
 
-/// Counts the target at a place once more, up to `u32::MAX`.
-fn count_at(firsts: &mut Vec<FirstCount>, at: usize)
-    requires inside { at < length firsts.old.items }
-    ensures times { spec.times_of firsts.new.items ≤ spec.times_of firsts.old.items + 1 }
-    ensures targets { spec.targets_of firsts.new.items ≡ spec.targets_of firsts.old.items }
+/// Whether this is the target that was counted.
+fn is_of(first: &FirstCount, target: Target) -> bool
+    ensures { IsTrue result ↔ (first.now.target ≡ target) }
 {
-    let FirstCount { target, times } = firsts[at];
+    first.target == target
+}
+
+/// The place of a target among those that were counted.
+fn place_of(firsts: &[FirstCount], target: Target) -> Option<usize>
+    ensures inside { IfSome result (λ place. place < length firsts.now) }
+    ensures found { IfSome result (λ place. (it : FirstCount) → slice_get firsts.now place ≡ Some it
+        → it.target ≡ target) }
+    ensures none { result ≡ None → Contains (spec.targets_of firsts.now) target → ⊥ }
+{
+    'firsts: for (place, first) in firsts.iter().enumerate() {
+        if is_of(first, target) {
+            return Some(place);
+        }
+    }
+    None
+}
+
+/// Counts the target at a place once more, up to `u32::MAX`.
+fn count_at(firsts: &mut Vec<FirstCount>, place: usize)
+    requires inside { place < length firsts.old.items }
+    ensures { (it : FirstCount) → slice_get firsts.old.items place ≡ Some it
+        → firsts.new.items ≡ set firsts.old.items place (spec.once_more it) }
+{
+    let FirstCount { target, times } = firsts[place];
     let times = times.saturating_add(1);
-    firsts[at] = FirstCount { target, times };
+    firsts[place] = FirstCount { target, times };
 }
 
 /// Counts a target for the first time.
 fn count_new(firsts: &mut Vec<FirstCount>, target: Target) -> Result<(), AllocError>
-    ensures times { OnOk result
-        (spec.times_of firsts.new.items ≡ spec.times_of firsts.old.items + 1) }
-    ensures targets { OnOk result (spec.targets_of firsts.new.items
-        ≡ spec.targets_of firsts.old.items ++ target ∷ []) }
+    ensures { OnOk result (firsts.new.items ≡ firsts.old.items ++ spec.once target ∷ []) }
 {
     firsts.push(FirstCount { target, times: 1 })?;
     Ok(())
@@ -57,15 +78,11 @@ fn count_new(firsts: &mut Vec<FirstCount>, target: Target) -> Result<(), AllocEr
 
 /// Counts a target that came first once more.
 fn count_first(firsts: &mut Vec<FirstCount>, target: Target) -> Result<(), AllocError>
-    ensures times { OnOk result
-        (spec.times_of firsts.new.items ≤ spec.times_of firsts.old.items + 1) }
-    ensures targets { OnOk result ((spec.targets_of firsts.new.items
-        ≡ spec.targets_of firsts.old.items) ⊎ (spec.targets_of firsts.new.items
-        ≡ spec.targets_of firsts.old.items ++ target ∷ [])) }
+    ensures { OnOk result (spec.IsCounted target firsts.old.items firsts.new.items) }
 {
-    match firsts.iter().position(|it| it.target == target) {
-        Some(at) => {
-            count_at(firsts, at);
+    match place_of(firsts.as_slice(), target) {
+        Some(place) => {
+            count_at(firsts, place);
             Ok(())
         }
         None => count_new(firsts, target),
@@ -80,28 +97,28 @@ fn draw_once<B: AnswerBook>(
     request: &Request,
     settings: &LocateSettings,
     now: Moment,
-    number: u64,
+    draw: u32,
     firsts: &mut Vec<FirstCount>,
 ) -> Result<(), AllocError>
     requires made_here { B.belongs book.now seat.old }
     ensures stays { B.belongs book.now seat.new }
     ensures goes_on { GoesOn (B.shown seat.old) (B.shown seat.new) }
     ensures stores_nothing { StoresNothing (B.shown seat.old) (B.shown seat.new) }
-    ensures times { OnOk result
-        (spec.times_of firsts.new.items ≤ spec.times_of firsts.old.items + 1) }
-    ensures firsts { All (spec.IsFirst request.now settings.now.caps settings.now.key now)
-        (spec.targets_of firsts.old.items)
-        → OnOk result (All (spec.IsFirst request.now settings.now.caps settings.now.key now)
-        (spec.targets_of firsts.new.items)) }
+    ensures draws { OnOk result (IsDraw request.now settings.now now (B.shown seat.old).seen
+        (B.shown seat.new).seen draw firsts.old.items firsts.new.items) }
 {
-    let words = draw_words(settings.key, number);
+    let words = RandomWords::Drawn {
+        key: settings.key,
+        number: FIRST_DRAW + u64::from(draw),
+    };
     let view = RequestView::Read(request);
     match locate(alloc, book, seat, &view, &settings.caps, &words, now)? {
         Located::Targets(targets) => match targets.first() {
             Some(target) => count_first(firsts, *target),
             None => Ok(()),
         },
-        _ => Ok(()),
+        Located::Refused(_) => Ok(()),
+        Located::Missing(_) => Ok(()),
     }
 }
 
@@ -118,23 +135,12 @@ fn firsts_of<B: AnswerBook>(
     ensures stays { B.belongs book.now seat.new }
     ensures goes_on { GoesOn (B.shown seat.old) (B.shown seat.new) }
     ensures stores_nothing { StoresNothing (B.shown seat.old) (B.shown seat.new) }
-    ensures times { IfOk result (λ firsts. spec.times_of firsts.items ≤ settings.now.draws) }
-    ensures firsts { IfOk result (λ firsts. All (spec.IsFirst request.now settings.now.caps
-        settings.now.key now) (spec.targets_of firsts.items)) }
+    ensures draws { IfOk result (λ firsts. AreDraws request.now settings.now now
+        (B.shown seat.old).seen (B.shown seat.new).seen settings.now.draws firsts.items) }
 {
     let mut firsts = Vec::new(alloc);
     'draws: for draw in 0..settings.draws {
-        let number = FIRST_DRAW + u64::from(draw);
-        draw_once(
-            alloc,
-            book,
-            seat,
-            request,
-            settings,
-            now,
-            number,
-            &mut firsts,
-        )?;
+        draw_once(alloc, book, seat, request, settings, now, draw, &mut firsts)?;
     }
     Ok(firsts)
 }
@@ -154,11 +160,9 @@ fn account_for<B: AnswerBook>(
     ensures stays { B.belongs book.now seat.new }
     ensures goes_on { GoesOn (B.shown seat.old) (B.shown seat.new) }
     ensures stores_nothing { StoresNothing (B.shown seat.old) (B.shown seat.new) }
-    ensures times { IfOk result (λ it. spec.times_of it.firsts.items ≤ it.draws) }
-    ensures draws { IfOk result (λ it. it.draws ≡ settings.now.draws) }
-    ensures server { IfOk result (λ it. (it.server ≡ server) ⊎ (it.server ≡ None)) }
-    ensures firsts { IfOk result (λ it. All (spec.IsFirst request.now settings.now.caps
-        settings.now.key now) (spec.targets_of it.firsts.items)) }
+    ensures account { IfOk result
+        (IsAccount B.shown seat.old seat.new settings.now now request.now) }
+    ensures server { IfOk result (λ it. it.server ≡ spec.server_for it.paths.items server) }
 {
     let paths = paths_of(alloc, &BookAt { book, now }, seat, request)?;
     let firsts = firsts_of(alloc, book, seat, request, settings, now)?;
@@ -169,6 +173,17 @@ fn account_for<B: AnswerBook>(
         firsts,
         server,
     })
+}
+
+/// The account of a text for which no request is located, as this became of it.
+fn account_without(alloc: Global, line_outcome: &LineOutcome) -> Result<Account, AllocError>
+    ensures empty { IfOk result spec.IsEmpty }
+    ensures memory { OnOk result (line_outcome.now ≢ outcomes.Memory) }
+{
+    match line_outcome {
+        LineOutcome::Memory => Err(AllocError),
+        _ => Ok(no_account(alloc)),
+    }
 }
 
 /// How the targets of a text came about, by what a book has at a moment. Where its target is named
@@ -186,11 +201,13 @@ pub fn account_of<B: AnswerBook>(
     ensures stays { B.belongs book.now seat.new }
     ensures goes_on { GoesOn (B.shown seat.old) (B.shown seat.new) }
     ensures stores_nothing { StoresNothing (B.shown seat.old) (B.shown seat.new) }
-    ensures times { IfOk result (λ it. spec.times_of it.firsts.items ≤ it.draws) }
-    ensures server { IfOk result (λ it. (it.server ≡ server) ⊎ (it.server ≡ None)) }
+    ensures account { IfOk result
+        (IsAccountOfText B.shown seat.old seat.new settings.now now text.now) }
+    ensures server { IfOk result (λ it. it.server ≡ spec.server_for it.paths.items server) }
 {
+    law_one_destination_of_a_text();
     match located_of(alloc, settings, text) {
         Ok(request) => account_for(alloc, book, seat, settings, &request, now, server),
-        Err(_) => Ok(no_account(alloc)),
+        Err(line_outcome) => account_without(alloc, &line_outcome),
     }
 }

@@ -1,8 +1,11 @@
 //! The program `sipwhere`: where SIP requests are sent (RFC 3263), asked of DNS servers.
 #![tactic(auto)]
 
-ghost use Rattle.std.specs.Prelude.{◌≡◌, ◌≤◌, IfOk, IsFalse, IsTrue};
+ghost use Rattle.std.specs.Prelude.{◌≡◌, ◌≤◌, IfOk, IsTrue, map, string_bytes};
+ghost use Rattle.std.specs.Process.{exit_status};
+ghost use Rattle.clap.specs.Values.{kind_of};
 ghost use Rattle.sip_report.specs.declared.report.Report.TheVariants.{Check};
+ghost use Rattle.sipwhere.specs.Statuses as spec;
 
 mod account;
 mod counting_book;
@@ -40,14 +43,21 @@ use std::time::Clock;
 const USAGE_STATUS: u8 = 4;
 
 /// Whether words ask for a check.
-fn ask_for_check(words: &[String]) -> bool {
-    words.iter().any(|word| word.as_str() == "--check")
+fn ask_for_check(words: &[String]) -> bool
+    ensures { result ≡ spec.ask_for_check (map string_bytes words.now) }
+{
+    'words: for word in words {
+        if word.as_str() == "--check" {
+            return true;
+        }
+    }
+    false
 }
 
 /// Tells how the program is used, or its version, or what is wrong with its words, or that memory
 /// was refused for them.
 fn tell_usage<R: Print + Eprint>(rt: &R, error: &Error) -> u8
-    ensures { result ≤ 5 }
+    ensures { spec.IsUsage (kind_of error.now) result }
 {
     if error.print(rt).is_err() || error.kind() == ErrorKind::OutOfMemory {
         return FAULT_STATUS;
@@ -57,7 +67,7 @@ fn tell_usage<R: Print + Eprint>(rt: &R, error: &Error) -> u8
 
 /// The status where an option is wrong, or memory was refused for the options.
 fn option_status(fault: OptionFault) -> u8
-    ensures { result ≤ 5 }
+    ensures { result ≡ spec.option_status fault }
 {
     match fault {
         OptionFault::Memory => FAULT_STATUS,
@@ -68,8 +78,8 @@ fn option_status(fault: OptionFault) -> u8
 /// The status of a run. A check that ended as none of its states is UNKNOWN, and says why in the
 /// line that a monitoring system reads.
 fn status_in_form<R: Print, T: Display>(rt: &R, is_check: bool, status: u8, why: &T) -> u8
+    ensures form { result ≡ spec.in_form is_check status }
     ensures check { IsTrue is_check → result ≤ 3 }
-    ensures other { IsFalse is_check → result ≡ status }
     ensures range { status ≤ 5 → result ≤ 5 }
 {
     if !is_check || status <= UNKNOWN_STATUS {
@@ -77,6 +87,13 @@ fn status_in_form<R: Print, T: Display>(rt: &R, is_check: bool, status: u8, why:
     }
     let _ = println!(rt; "SIP UNKNOWN - {why}");
     UNKNOWN_STATUS
+}
+
+/// Whether a check is asked for.
+fn is_check(report: Report) -> bool
+    ensures { result ≡ spec.is_check report }
+{
+    report == Report::Check
 }
 
 /// Tells on standard error why nothing is asked, and of which resolver file where it is one.
@@ -92,10 +109,11 @@ fn run_as<R: Wait + Input + Print + Eprint + Files + Net + RandomSource + Clock 
     rt: &R,
     options: &Options<'_>,
 ) -> u8
-    ensures range { result ≤ 5 }
+    ensures run { spec.IsOfOptions options.now result }
     ensures check { options.now.report ≡ Check → result ≤ 3 }
+    ensures range { result ≤ 5 }
 {
-    let is_check = options.report == Report::Check;
+    let is_check = is_check(options.report);
     match run(rt, options) {
         Ok(status) => status_in_form(rt, is_check, status, &"memory, input or output failed"),
         Err(fault) => {
@@ -107,7 +125,8 @@ fn run_as<R: Wait + Input + Print + Eprint + Files + Net + RandomSource + Clock 
 
 /// Tells what is wrong with the words, and gives the status.
 fn tell_wrong_words<R: Print + Eprint>(rt: &R, error: &Error, words: &[String]) -> u8
-    ensures { result ≤ 5 }
+    ensures usage { spec.IsOfError (kind_of error.now) (map string_bytes words.now) result }
+    ensures range { result ≤ 5 }
 {
     let status = tell_usage(rt, error);
     let why = if status == FAULT_STATUS {
@@ -124,7 +143,8 @@ fn run_matches<R: Wait + Input + Print + Eprint + Files + Net + RandomSource + C
     matches: &ArgMatches<'_>,
     terminals: Terminals,
 ) -> u8
-    ensures { result ≤ 5 }
+    ensures run { spec.IsOfMatches matches.now terminals result }
+    ensures range { result ≤ 5 }
 {
     match read_options(rt.alloc(), matches, terminals) {
         Ok(options) => run_as(rt, &options),
@@ -140,7 +160,8 @@ fn run_matches<R: Wait + Input + Print + Eprint + Files + Net + RandomSource + C
 fn perform<
     R: Wait + Env + Input + Print + Eprint + Files + Net + RandomSource + Clock + AllocGlobal,
 >(rt: &R, terminals: Terminals) -> io::Result<u8>
-    ensures { IfOk result (λ status. status ≤ 5) }
+    ensures run { IfOk result (spec.IsOfWords terminals) }
+    ensures range { IfOk result (λ status. status ≤ 5) }
 {
     let words = env::args(rt)?.collect::<Vec<String>>(rt.alloc())?;
     match command(rt.alloc())?.try_get_matches_from(words.as_slice()) {
@@ -149,16 +170,27 @@ fn perform<
     }
 }
 
-fn main(rt: HostRuntime) -> ExitCode {
-    let terminals = Terminals {
-        output: rt.stdout().is_terminal(),
-        errors: rt.stderr().is_terminal(),
-    };
-    match perform(&rt, terminals) {
+/// Does what the program is asked to do, and ends with its status. A fault of the system is told on
+/// standard error.
+fn perform_reported<
+    R: Wait + Env + Input + Print + Eprint + Files + Net + RandomSource + Clock + AllocGlobal,
+>(rt: &R, terminals: Terminals) -> ExitCode
+    ensures run { spec.IsOfProgram terminals (exit_status result) }
+    ensures range { exit_status result ≤ 5 }
+{
+    match perform(rt, terminals) {
         Ok(status) => ExitCode::from(status),
         Err(error) => {
             let _ = eprintln!(rt; "sipwhere: {error}");
             ExitCode::from(FAULT_STATUS)
         }
     }
+}
+
+fn main(rt: HostRuntime) -> ExitCode {
+    let terminals = Terminals {
+        output: rt.stdout().is_terminal(),
+        errors: rt.stderr().is_terminal(),
+    };
+    perform_reported(&rt, terminals)
 }

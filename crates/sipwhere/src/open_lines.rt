@@ -164,7 +164,9 @@ impl<'a, B: AnswerBook + Drop, W: MessageWire, C: Clock> OpenLines<'a, B, W, C> 
     }
 
     /// How many lines were reported.
-    pub fn told(&self) -> usize {
+    pub fn told(&self) -> usize
+        ensures { result ≡ self.now.told }
+    {
         self.told
     }
 
@@ -231,7 +233,9 @@ impl<'a, B: AnswerBook + Drop, W: MessageWire, C: Clock> OpenLines<'a, B, W, C> 
 
     /// The moment in front of that at which the line at a place was begun, where this is the moment
     /// now: the answers that it used lived then, or came later.
-    fn moment_of(&self, place: usize, now: Moment) -> Moment {
+    fn moment_of(&self, place: usize, now: Moment) -> Moment
+        ensures { result ≤ now }
+    {
         match self.times.get(place) {
             Some(times) => {
                 let took = times.took.as_secs().saturating_add(1);

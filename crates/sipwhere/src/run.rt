@@ -1,12 +1,12 @@
 //! Texts, from their words to what is printed.
-ghost use Rattle.std.specs.Prelude.{◌≡◌, ◌⊎◌, ◌↔◌, ◌*◌, ◌≤◌, IfOk, IsTrue, List, map, unwrap_or, ℕ};
+ghost use Rattle.std.specs.Prelude.{◌≡◌, ◌⊎◌, ◌↔◌, ◌*◌, ◌≤◌, IfOk, IfSome, IsTrue, List, map, unwrap_or, ℕ};
 ghost use Rattle.std.specs.Duration.{as_nanos};
 ghost use Rattle.sipwhere.specs.LineInputs.{AreInputTexts};
-ghost use Rattle.sipwhere_options.specs.Timings.{AreReplyTimes};
+ghost use Rattle.sipwhere_options.specs.Timings.{AreReplyTimes, IsScheduleOf};
 ghost use Rattle.sipwhere.specs.Accounts as spec;
 ghost use Rattle.sipwhere.specs.LineOutcomes.{extent_of};
 ghost use Rattle.sipwhere.specs.OpenLines.{Stands};
-ghost use Rattle.sipwhere.specs.Runs.{AreRun, IsRun, IsRunBy, IsRunOf, StaysSo, from_input};
+ghost use Rattle.sipwhere.specs.Runs.{AreRun, IsKey, IsRun, IsRunBy, IsRunOf, IsRunOfOptions, IsRunOnHost, IsRunWith, StaysSo, from_input};
 
 use crate::counting_book::CountingBook;
 use crate::line::{Line, lines_of, numbered};
@@ -23,7 +23,7 @@ use dns_transport::{HostWire, RunClock, Timer, Tracer, WireOptions, open_wire};
 use sip_report::{Report, Style};
 use sip_resolver::random_key;
 use sip_tries::{Extent, PingForm, Pinger, ServerPinger, random_pings};
-use sipwhere_options::{Options, Pinging, Plan, RunFault, read_plan, reply_times_of};
+use sipwhere_options::{Options, Pinging, Plan, RunFault, read_plan, reply_times_of, schedule_of};
 use std::alloc::Global;
 use std::io::{self, Read, Write};
 use std::net::Net;
@@ -282,7 +282,9 @@ fn extent_of(pinging: Option<Pinging>) -> Option<Extent>
 }
 
 /// How servers are asked, where they are; else it makes no difference.
-fn form_of(pinging: Option<Pinging>) -> PingForm {
+fn form_of(pinging: Option<Pinging>) -> PingForm
+    ensures { IfSome pinging (λ it. result ≡ it.form) }
+{
     match pinging {
         Some(pinging) => pinging.form,
         None => PingForm {
@@ -303,7 +305,8 @@ fn accounts_of(options: &Options<'_>) -> bool
 fn settings_of(options: &Options<'_>, plan: &Plan, key: [u8; 32]) -> LocateSettings
     ensures caps { result.caps ≡ options.now.caps }
     ensures key { result.key ≡ key }
-    ensures schedule { result.schedule ≡ plan.now.schedule }
+    ensures schedule { plan.now.attempts.time ≤ 60_000
+        → IsScheduleOf plan.now.attempts result.schedule }
     ensures total { as_nanos result.total ≡ options.now.total * 1000000 }
     ensures extent { result.extent ≡ extent_of options.now.pinging }
     ensures sent_by { result.by_sent_by ≡ options.now.by_sent_by }
@@ -313,7 +316,7 @@ fn settings_of(options: &Options<'_>, plan: &Plan, key: [u8; 32]) -> LocateSetti
     LocateSettings {
         caps: options.caps,
         key,
-        schedule: plan.schedule,
+        schedule: schedule_of(plan.attempts),
         total: total_of(options),
         extent: extent_of(options.pinging),
         by_sent_by: options.by_sent_by,
@@ -326,7 +329,8 @@ fn settings_of(options: &Options<'_>, plan: &Plan, key: [u8; 32]) -> LocateSetti
 fn wire_options(options: &Options<'_>, plan: &Plan) -> WireOptions
     ensures tcp { result.over_tcp ≡ plan.now.over_tcp }
     ensures form { result.form ≡ options.now.query_form }
-    ensures times { AreReplyTimes plan.now.schedule result.reply_times }
+    ensures attempts { result.attempts ≡ plan.now.attempts }
+    ensures times { AreReplyTimes plan.now.attempts result.reply_times }
     ensures rotates { result.rotates ≡ plan.now.rotates }
     ensures tries { result.keeps_tries ≡ options.now.detail.traced }
     ensures total { as_nanos result.total ≡ options.now.total * 1000000 }
@@ -334,7 +338,8 @@ fn wire_options(options: &Options<'_>, plan: &Plan) -> WireOptions
     WireOptions {
         over_tcp: plan.over_tcp,
         form: options.query_form,
-        reply_times: reply_times_of(plan.schedule),
+        attempts: plan.attempts,
+        reply_times: reply_times_of(plan.attempts),
         rotates: plan.rotates,
         keeps_tries: options.detail.traced,
         total: total_of(options),
@@ -449,7 +454,8 @@ fn run_wire<R: Wait + Input + Print + Eprint + Net + time::Clock>(
     wire: &mut NotingWire<HostWire<'_, R>>,
     clock: &RunClock<'_, R>,
 ) -> u8
-    ensures { result ≤ 5 }
+    ensures run { (result ≡ 5) ⊎ IsRunOnHost settings.now options.now result }
+    ensures range { result ≤ 5 }
 {
     let (book, seat) = ListCache::new(alloc);
     let (book, mut seat) = CountingBook::new(book, seat);
@@ -484,7 +490,9 @@ fn run_over<R: Wait + Input + Print + Eprint + Net + time::Clock>(
     plan: &Plan,
     key: [u8; 32],
 ) -> io::Result<u8>
-    ensures { IfOk result (λ status. status ≤ 5) }
+    ensures run { IfOk result (λ status.
+        (status ≡ 5) ⊎ IsRunWith options.now plan.now key status) }
+    ensures range { IfOk result (λ status. status ≤ 5) }
 {
     let servers = plan.servers.as_slice();
     let asks = wire_options(options, plan);
@@ -497,6 +505,16 @@ fn run_over<R: Wait + Input + Print + Eprint + Net + time::Clock>(
     Ok(status)
 }
 
+/// The key of a run: that of the options, or one that is drawn.
+fn key_for<R: RandomSource>(rt: &R, seed: Option<[u8; 32]>) -> io::Result<[u8; 32]>
+    ensures { IfOk result (IsKey seed) }
+{
+    match seed {
+        Some(key) => Ok(key),
+        None => random_key(rt),
+    }
+}
+
 /// Does what the options ask for, and gives the status.
 ///
 /// # Errors
@@ -506,12 +524,10 @@ fn run_over<R: Wait + Input + Print + Eprint + Net + time::Clock>(
 pub fn run<
     R: Wait + Input + Print + Eprint + Files + Net + RandomSource + time::Clock + AllocGlobal,
 >(rt: &R, options: &Options<'_>) -> Result<u8, RunFault>
-    ensures { IfOk result (λ status. status ≤ 5) }
+    ensures run { IfOk result (λ status. (status ≡ 5) ⊎ IsRunOfOptions options.now status) }
+    ensures range { IfOk result (λ status. status ≤ 5) }
 {
     let plan = read_plan(rt, options)?;
-    let key = match options.seed {
-        Some(key) => key,
-        None => random_key(rt)?,
-    };
+    let key = key_for(rt, options.seed)?;
     Ok(run_over(rt, rt.alloc(), options, &plan, key)?)
 }

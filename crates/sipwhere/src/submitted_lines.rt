@@ -17,10 +17,11 @@ use crate::request_fault::request_fault_at;
 use answer_cache::AnswerBook;
 use dns_name::Name;
 use sip_report::{LineOutcome, RequestFault};
-use sip_resolver::{Facts, Ids, Outcome, Resolver, TargetList, draw_words};
+use sip_resolver::{Facts, Ids, Outcome, Resolver, TargetList};
 use sip_selection::{Reason, Request, Target, read_request};
 use sip_tries::{Extent, Pinger, try_targets};
 use sip_uri::{Host, UriRefusal};
+use srv_choice::RandomWords;
 use std::alloc::Global;
 
 /// Whether a text has the character that stands for octets that are no UTF-8.
@@ -100,8 +101,11 @@ pub fn submit<B: AnswerBook, F: Facts, I: Ids + Drop>(
         Ok(request) => request,
         Err(line_outcome) => return Some(line_outcome),
     };
-    let words = draw_words(settings.key, line.number);
-    match resolver.submit(number, request, settings.caps, words, None) {
+    let words = RandomWords::Drawn {
+        key: settings.key,
+        number: line.number,
+    };
+    match resolver.submit(number, request, settings.caps, &words, None) {
         Ok(()) => None,
         Err(_) => Some(LineOutcome::Memory),
     }

@@ -1,4 +1,6 @@
-use Rattle.sipwhere.proofs.Quiet.{goes-through, nothing-through, went-quietly}
+use Rattle.std.proofs.Common.{refl}
+use Rattle.sipwhere.proofs.Accounts.{draws-within}
+use Rattle.sipwhere.proofs.Quiet.{goes-not, goes-through, nothing-through, went-quietly}
 use Rattle.sipwhere.proofs.account.account_for.Goals as goal
 
 pub returns-in_err-paths-clause-goes_on : goal.returns-in_err-paths-clause-goes_on
@@ -26,3 +28,13 @@ pub returns-clause-stores_nothing : goal.returns-clause-stores_nothing
 returns-clause-stores_nothing g c =
     let went = went-quietly g.B.AnswerBook.shown _ _ c.paths_of.ensures.went in
     nothing-through _ _ _ went.1 c.firsts_of.ensures.stores_nothing
+
+pub returns-clause-account : goal.returns-clause-account
+returns-clause-account g c =
+    let went = went-quietly g.B.AnswerBook.shown _ _ c.paths_of.ensures.went in
+    let end = goes-not (g.B.AnswerBook.shown c.firsts_of.new.seat) in
+    record {
+      paths = c.in_ok-paths.ensures.paths;
+      draws = refl;
+      firsts = draws-within _ _ _ _ _ _ _ went.0.seen end.seen _ _ c.in_ok-firsts.ensures.draws;
+    }

@@ -1,7 +1,5 @@
-use Rattle.std.proofs.Common.{◌≤◌}
-use Rattle.std.specs.List.{All}
 use Rattle.answer_cache.specs.Seats.{GoesOn, StoresNothing}
-use Rattle.sipwhere.specs.Accounts.{IsFirst, targets_of, times_of}
+use Rattle.sipwhere.specs.Accounts.{AreDraws}
 use Rattle.sipwhere.proofs.account.firsts_of.Given as goal
 
 abbrev pub invariant-draws : goal.invariant-draws
@@ -9,6 +7,6 @@ invariant-draws g l = record {
   stays : g.B.AnswerBook.belongs l.book l.seat;
   goes_on : GoesOn (g.B.AnswerBook.shown l.fn.seat) (g.B.AnswerBook.shown l.seat);
   stores_nothing : StoresNothing (g.B.AnswerBook.shown l.fn.seat) (g.B.AnswerBook.shown l.seat);
-  times : times_of l.firsts.items ≤ l.draw;
-  firsts : All (IsFirst l.request l.settings.caps l.settings.key l.now) (targets_of l.firsts.items);
+  firsts : AreDraws l.request l.settings l.now (g.B.AnswerBook.shown l.fn.seat).seen (g.B.AnswerBook.shown l.seat).seen l.draw
+      l.firsts.items;
 }

@@ -1,4 +1,4 @@
-use Rattle.std.proofs.Common.{◌≡◌, ◌++◌, ◌∷◌, [], List, ℕ, map, sym, ap, subst, ◌∙◌, append_assoc}
+use Rattle.std.proofs.Common.{◌++◌, ◌∷◌, [], map, sym, ap, subst, ◌∙◌, append_assoc}
 use Rattle.std.specs.List.{filter}
 use Rattle.std.specs.Str.{trim}
 use Rattle.std.specs.Str.Lossy.{utf8_lossy}
