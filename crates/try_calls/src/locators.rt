@@ -11,6 +11,7 @@ use dns_answers::Moment;
 use row_fields::{Fault, Output, count, octets, split_word};
 use sip_locator::{Kept, Located, Locator, LocatorRefusal, locate};
 use sip_selection::{GiveRefusal, Next, RequestView};
+use srv_choice::RandomWords;
 use std::alloc::{AllocError, Global};
 use std::sync::Wait;
 
@@ -236,7 +237,8 @@ fn located<B: AnswerBook>(
     ensures { B.belongs book.now seat.new }
 {
     let Sending { caps, words, .. } = &it.sending;
-    locate(alloc, book, seat, request, caps, words, it.now)
+    let words = RandomWords::Given(words);
+    locate(alloc, book, seat, request, caps, &words, it.now)
 }
 
 /// Writes where a request goes; the locator of one whose answers are not all there is added.

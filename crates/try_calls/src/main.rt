@@ -1,5 +1,5 @@
-//! Public calls of the libraries that ask no server, tried on rows of text: `try_calls CRATE CALL`
-//! reads lines from its input, hands them to a call, and prints what that gives.
+//! Public calls of the libraries, tried on rows of text: `try_calls CRATE CALL` reads lines from
+//! its input, hands them to a call, and prints what that gives.
 //!
 //! `tests/rows/CRATE/CALL.txt` has rows for it, with what each has to print, which comes from
 //! standards, from servers, or was worked out by hand; `tools/run-rows` compares. A further row
@@ -12,23 +12,33 @@
 
 mod addresses;
 mod answers;
+mod askers;
 mod books;
 mod caches;
 mod chains;
+mod clients;
 mod faults;
 mod fields;
 mod lists;
 mod locators;
+mod lookups;
 mod messages;
 mod names;
 mod options;
 mod orders;
+mod pings;
 mod replies;
 mod request_lines;
 mod requests;
+mod resolver_calls;
+mod resolver_lines;
+mod resolver_steps;
+mod resolvers;
 mod rolling;
 mod routes;
+mod schedules;
 mod selections;
+mod servers;
 mod shown;
 mod uris;
 mod zones;
@@ -45,11 +55,15 @@ fn tell<R: Wait>(rt: &R, output: &mut Output, crate_name: &str, call: &str, inpu
         "dns_answers" => answers::told(output, call, input),
         "dns_message" => messages::told(output, call, input),
         "dns_name" => names::told(output, call, input),
-        "dns_zone" => zones::told(output, call, input),
+        "dns_queries" => askers::told(output, call, input),
+        "dns_transport" | "resolver_file" => clients::told(output, call, input),
+        "dns_zone" => zones::told(rt, output, call, input),
         "ip_text" => addresses::told(output, call, input),
         "pending_list" => lists::told(output, call, input),
         "sip_fault" => faults::told(output, call, input),
         "sip_options" => options::told(output, call, input),
+        "sip_ping" => pings::told(rt, output, call, input),
+        "sip_resolver" => resolvers::told(rt, output, call, input),
         "sip_response" => routes::told(output, call, input),
         "sip_selection" => selections::told(output, call, input),
         "sip_uri" => uris::told(output, call, input),

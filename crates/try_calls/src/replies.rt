@@ -193,11 +193,21 @@ fn push_rule(output: &mut Output, rule: &NaptrRecord) {
     push_name(output, &rule.replacement);
 }
 
-/// Writes rules.
-fn push_rules(output: &mut Output, all: &[NaptrRecord]) {
+/// Writes rules, each behind a text.
+fn push_rules(output: &mut Output, before: &str, all: &[NaptrRecord]) {
     for rule in all {
-        output.push(" | ");
+        output.push(before);
         push_rule(output, rule);
+    }
+}
+
+/// Writes records, each behind a text.
+pub(crate) fn push_records(output: &mut Output, before: &str, records: &Records) {
+    match records {
+        Records::V4(all) => push_v4(output, before, all.as_slice(), ""),
+        Records::V6(all) => push_v6(output, before, all.as_slice(), ""),
+        Records::Srv(all) => push_servers(output, before, all.as_slice(), ""),
+        Records::Naptr(all) => push_rules(output, before, all.as_slice()),
     }
 }
 
@@ -207,12 +217,7 @@ pub(crate) fn push_answer(output: &mut Output, answer: &Answer) {
     if answer.records().is_empty() {
         output.push(" none");
     }
-    match answer.records() {
-        Records::V4(all) => push_v4(output, " | ", all.as_slice(), ""),
-        Records::V6(all) => push_v6(output, " | ", all.as_slice(), ""),
-        Records::Srv(all) => push_servers(output, " | ", all.as_slice(), ""),
-        Records::Naptr(all) => push_rules(output, all.as_slice()),
-    }
+    push_records(output, " | ", answer.records());
 }
 
 /// A copy of a question, and the answer to it that there are no records, with a life.

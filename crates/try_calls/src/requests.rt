@@ -24,7 +24,7 @@ pub(crate) struct Sending {
 }
 
 /// The Via of a text.
-fn via(alloc: Global, text: &str) -> Result<Request, Fault> {
+pub(crate) fn via(alloc: Global, text: &str) -> Result<Request, Fault> {
     match read_via(alloc, text) {
         Ok(via) => Ok(Request::Via(via)),
         Err(_) => Err(Fault::Form),
@@ -32,7 +32,7 @@ fn via(alloc: Global, text: &str) -> Result<Request, Fault> {
 }
 
 /// The URI of a text.
-fn uri(alloc: Global, text: &str) -> Result<Request, Fault> {
+pub(crate) fn uri(alloc: Global, text: &str) -> Result<Request, Fault> {
     match read_uri(alloc, text) {
         Ok(uri) => Ok(Request::Uri(uri)),
         Err(_) => Err(Fault::Form),

@@ -1,17 +1,25 @@
 //! Calls of `dns_zone`.
+use crate::servers::served;
 use crate::shown::push_debug_line;
 use dns_zone::Zone;
 use row_fields::{Fault, Output, count, octets, only_line, split_word, text};
 use std::alloc::Global;
+use std::sync::Wait;
 
 /// What a call gives for a row's lines.
-pub(crate) fn told(output: &mut Output, call: &str, input: &str) -> Result<(), Fault> {
+pub(crate) fn told<R: Wait>(
+    rt: &R,
+    output: &mut Output,
+    call: &str,
+    input: &str,
+) -> Result<(), Fault> {
     let input = only_line(input);
     match call {
         "read" => read(output, input),
         "reply" => replies(output, input),
         "repeated" => repeated(output, input),
         "zeros" => zeros(output, input),
+        "serve" => served(rt, output, input),
         _ => Err(Fault::Call),
     }
 }

@@ -5,6 +5,7 @@ ghost use Rattle.dns_answers.specs.Records.{kind_of};
 ghost use Rattle.dns_message.specs.declared.kind.Kind.TheVariants.{A};
 ghost use Rattle.answer_cache.specs.Shared.{Belongs, CacheView, cache_view};
 
+use crate::seats::{both, two_seats};
 use answer_cache::{AnswerBook, Rival, Seat, SharedCache, StoreRefusal, Stores};
 use dns_answers::{Answer, FoundAnswer, Moment, Records};
 use dns_message::{Kind, Question, Section};
@@ -51,9 +52,11 @@ const WORDS: Words = Words([0; WORD_COUNT]);
 
 /// The locator of a request to port 5070 of that host, over UDP and IPv4.
 fn locator<B: AnswerBook>(alloc: Global) -> Option<Locator<B>> {
-    let request = Request::Uri(read_uri(alloc, "sip:a.example:5070").ok()?);
     let caps = Caps::new(&[Transport::Udp], Families::V4)?;
-    Locator::new(alloc, request, caps, WORDS).ok()
+    match read_uri(alloc, "sip:a.example:5070") {
+        Ok(uri) => Locator::new(alloc, Request::Uri(uri), caps, WORDS).ok(),
+        Err(_) => None,
+    }
 }
 
 /// Whether one target is next.
@@ -204,46 +207,74 @@ fn is_used_over<'a, R: Wait, J: Naming>(
     is_used(rt, locator, &book, pair)
 }
 
+/// The same by a new locator.
+fn is_used_by_new<'a, R: Wait, J: Naming>(
+    rt: &'a R,
+    alloc: Global,
+    cache: &'a SharedCache,
+    pair: &mut Pair<'a, R, J>,
+) -> Option<bool>
+    requires { Belongs cache.now pair.old.seat }
+{
+    match locator(alloc) {
+        Some(mut locator) => {
+            let is_used = is_used_over(rt, cache, pair, &mut locator);
+            drop(locator);
+            Some(is_used)
+        }
+        None => None,
+    }
+}
+
 /// The same over the two seats of this cache, of which the other stores this answer.
 fn is_used_by_two<J: Naming, R: Wait>(
     rt: &R,
     alloc: Global,
     cache: &SharedCache,
-    seats: (Seat, Seat),
-    asked: (Question, Arc<Answer>),
+    seat: Seat,
+    other: Seat,
+    question: Question,
+    answer: Arc<Answer>,
 ) -> Option<bool>
     requires cache { cache.now ≡ J.cache }
-    requires seat { Belongs J.cache seats.0 }
-    requires other { Belongs J.cache seats.1 }
-    requires kind { kind_of (arc_value asked.1).records ≡ asked.0.kind }
+    requires seat { Belongs J.cache seat }
+    requires other { Belongs J.cache other }
+    requires kind { kind_of (arc_value answer).records ≡ question.kind }
 {
-    let mut locator = locator(alloc)?;
-    let other = other_of::<R, J>(rt, cache, seats.1, asked.0, asked.1);
-    let mut pair = Pair {
-        seat: seats.0,
-        other,
-    };
-    Some(is_used_over(rt, cache, &mut pair, &mut locator))
-}
-
-/// A cache with two seats.
-fn two_seats(alloc: Global) -> Option<(SharedCache, Seat, Seat)>
-    ensures first { IfSome result (λ made. Belongs made.0 made.1) }
-    ensures second { IfSome result (λ made. Belongs made.0 made.2) }
-{
-    let Ok((cache, mut seats)) = SharedCache::new(alloc, 2) else {
-        return None;
-    };
-    let second = seats.pop()?;
-    let first = seats.pop()?;
-    Some((cache, first, second))
+    let other = other_of::<R, J>(rt, cache, other, question, answer);
+    let mut pair = Pair { seat, other };
+    let is_used = is_used_by_new(rt, alloc, cache, &mut pair);
+    drop(pair);
+    is_used
 }
 
 /// The same over a new cache.
+fn over_new_cache(
+    rt: &impl Wait,
+    alloc: Global,
+    question: Question,
+    answer: Arc<Answer>,
+) -> Option<bool>
+    requires { kind_of (arc_value answer).records ≡ question.kind }
+{
+    match two_seats(alloc) {
+        Some((cache, seat, other)) => {
+            let is_used = is_used_by_two::<Brand, _>(
+                rt, alloc, &cache, seat, other, question, answer,
+            );
+            drop(cache);
+            is_used
+        }
+        None => None,
+    }
+}
+
+/// The same of A of a.example.
 fn over_two_seats(rt: &(impl Wait + AllocGlobal)) -> Option<bool> {
-    let asked = (question(rt.alloc())?, answer(rt.alloc())?);
-    let (cache, seat, other) = two_seats(rt.alloc())?;
-    is_used_by_two::<Brand, _>(rt, rt.alloc(), &cache, (seat, other), asked)
+    match both(question(rt.alloc()), answer(rt.alloc())) {
+        Some((question, answer)) => over_new_cache(rt, rt.alloc(), question, answer),
+        None => None,
+    }
 }
 
 #[test]

@@ -1,14 +1,14 @@
 //! Equal jobs of one batch, which share questions.
 ghost use Rattle.answer_cache.specs.Shared.{Belongs};
 
-use crate::worker_jobs::{WORDS, clock_at_100};
+use crate::worker_jobs::{clock_at_100, job_by, push_job, zone_with};
 use crate::workers::one_worker;
 use answer_cache::SharedCache;
 use dns_zone::{Zone, ZoneWire};
-use sip_selection::{Caps, Families, Request, Target};
+use sip_selection::{Caps, Families, Target};
 use sip_uri::Address::{V4, V6};
 use sip_uri::Transport::{Tcp, Tls, Udp};
-use sip_uri::{Address, Transport, read_uri};
+use sip_uri::{Address, Transport};
 use sip_workers::{Job, OpenGate, Outcome, Worker};
 use std::alloc::Global;
 use std::sync::Wait;
@@ -57,17 +57,17 @@ fn goes_to_six(outcome: &Outcome) -> bool {
     matches!(outcome, Outcome::Targets(list) if list.as_slice() == six.as_slice())
 }
 
+/// A job to the domain.
+fn job_to_domain(alloc: Global, number: u64) -> Option<Job> {
+    let caps = Caps::new(&[Udp, Tcp, Tls], Families::V4ThenV6)?;
+    job_by(alloc, number, "sip:d.example", caps)
+}
+
 /// So many jobs to the domain.
 fn jobs_to_domain(alloc: Global, count: u64) -> Option<Vec<Job>> {
     let mut jobs = Vec::new(alloc);
     for number in 0..count {
-        let job = Job {
-            number,
-            request: Request::Uri(read_uri(alloc, "sip:d.example").ok()?),
-            caps: Caps::new(&[Udp, Tcp, Tls], Families::V4ThenV6)?,
-            words: WORDS,
-        };
-        jobs.push(job).ok()?;
+        push_job(&mut jobs, job_to_domain(alloc, number))?;
     }
     Some(jobs)
 }
@@ -105,10 +105,15 @@ fn counts<R: Wait + AllocGlobal>(rt: &R, zone: &Zone, jobs: &[Job]) -> (usize, u
 
 /// The same of so many equal jobs.
 fn equal_jobs<R: Wait + AllocGlobal>(rt: &R, count: u64) -> Option<(usize, u64)> {
-    let alloc = rt.alloc();
-    let zone = Zone::read(alloc, ZONE).ok()?;
-    let jobs = jobs_to_domain(alloc, count)?;
-    Some(counts(rt, &zone, jobs.as_slice()))
+    match zone_with(rt.alloc(), ZONE, jobs_to_domain(rt.alloc(), count)) {
+        Some((zone, jobs)) => {
+            let counts = counts(rt, &zone, jobs.as_slice());
+            drop(jobs);
+            drop(zone);
+            Some(counts)
+        }
+        None => None,
+    }
 }
 
 #[test]

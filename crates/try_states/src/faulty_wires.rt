@@ -2,7 +2,8 @@
 ghost use Rattle.std.specs.Prelude.{◌≡◌, ◌+◌, ◌-◌, ◌^◌, ◌<◌, ◌≤◌};
 ghost use Rattle.answer_cache.specs.Shared.{Belongs};
 
-use crate::worker_jobs::WORDS;
+use crate::seats::both;
+use crate::worker_jobs::{job_by, push_job, zone_with};
 use crate::workers::one_worker;
 use answer_cache::SharedCache;
 use dns_answers::{Moment, ReplyRefusal};
@@ -10,9 +11,9 @@ use dns_message::{Kind, Question};
 use dns_queries::{Clock, DATAGRAM_LIMIT, Wire, WireFault};
 use dns_zone::Zone;
 use sip_resolver::draw_words;
-use sip_selection::{Caps, Families, Request, Target};
+use sip_selection::{Caps, Families, Target};
+use sip_uri::Address;
 use sip_uri::Transport::Udp;
-use sip_uri::{Address, read_uri};
 use sip_workers::{Job, OpenGate, Outcome, Worker};
 use std::alloc::Global;
 use std::collections::VecDeque;
@@ -108,21 +109,35 @@ impl<'a> Line<'a> {
         }
     }
 
-    /// Gives what is no reply to this query. Its name is `a.example.`, whose `a` is its 14th octet,
-    /// and the bit QR is in the third one (RFC 1035 4.1.1 and 4.1.2).
+    /// Gives the reply to a query, if there is one.
+    fn give_reply(&mut self, query: &[u8]) {
+        self.give(self.reply(query));
+    }
+
+    /// Gives the reply to another question under the id of this query. Its name is `a.example.`,
+    /// whose `a` is its 14th octet (RFC 1035 4.1.2).
+    fn forge(&mut self, query: &[u8]) {
+        if let Some(other) = changed(self.alloc, query, 13, b'b') {
+            self.give_reply(&other);
+        }
+    }
+
+    /// Gives random octets, half of a reply, and the reply with QR clear, which is in its third
+    /// octet (RFC 1035 4.1.1).
+    fn garble(&mut self, reply: &[u8]) {
+        self.give(noise(self.alloc, self.sends));
+        self.give(Vec::from_slice(self.alloc, &reply[..reply.len() / 2]).ok());
+        self.give(changed(self.alloc, reply, 2, 0));
+    }
+
+    /// Gives what is no reply to this query.
     fn disturb(&mut self, query: &[u8]) {
-        let reply = self.reply(query).unwrap_or(Vec::new(self.alloc));
-        let half = &reply[..reply.len() / 2];
         match self.fault {
-            Fault::Doubles => self.give(self.reply(query)),
-            Fault::Forges => {
-                let other = changed(self.alloc, query, 13, b'b').and_then(|it| self.reply(&it));
-                self.give(other);
-            }
+            Fault::Doubles => self.give_reply(query),
+            Fault::Forges => self.forge(query),
             Fault::Garbles => {
-                self.give(noise(self.alloc, self.sends));
-                self.give(Vec::from_slice(self.alloc, half).ok());
-                self.give(changed(self.alloc, &reply, 2, 0));
+                let reply = self.reply(query).unwrap_or(Vec::new(self.alloc));
+                self.garble(&reply);
             }
             _ => {}
         }
@@ -138,7 +153,7 @@ impl<'a> Line<'a> {
             _ => {}
         }
         self.disturb(query);
-        self.give(self.reply(query));
+        self.give_reply(query);
         true
     }
 
@@ -312,19 +327,14 @@ fn end_of(outcome: &Outcome) -> End {
 
 /// A job over UDP and both families, of which each is asked for.
 fn job_to(alloc: Global, number: u64, text: &str) -> Option<Job> {
-    Some(Job {
-        number,
-        request: Request::Uri(read_uri(alloc, text).ok()?),
-        caps: Caps::new(&[Udp], Families::V4ThenV6)?,
-        words: WORDS,
-    })
+    job_by(alloc, number, text, Caps::new(&[Udp], Families::V4ThenV6)?)
 }
 
 /// A job to each of these.
 fn jobs_to(alloc: Global, texts: &[&str]) -> Option<Vec<Job>> {
     let mut jobs = Vec::new(alloc);
     for (place, text) in texts.iter().enumerate() {
-        jobs.push(job_to(alloc, place as u64, text)?).ok()?;
+        push_job(&mut jobs, job_to(alloc, place as u64, text))?;
     }
     Some(jobs)
 }
@@ -411,9 +421,15 @@ fn ends<R: Wait + AllocGlobal>(
     end: End,
 ) -> Option<bool> {
     let alloc = rt.alloc();
-    let zone = Zone::read(alloc, zone).ok()?;
-    let jobs = jobs_to(alloc, &[request])?;
-    Some(ends_over(rt, wire_to(alloc, &zone, fault), &jobs, end))
+    match zone_with(alloc, zone, jobs_to(alloc, &[request])) {
+        Some((zone, jobs)) => {
+            let ends = ends_over(rt, wire_to(alloc, &zone, fault), &jobs, end);
+            drop(jobs);
+            drop(zone);
+            Some(ends)
+        }
+        None => None,
+    }
 }
 
 /// A zone with the name that is asked for, and another one for forged replies.
@@ -437,12 +453,24 @@ const ROWS: [(Fault, End); 7] = [
 const QUERY: &[u8] =
     b"\x12\x34\x01\x00\x00\x01\x00\x00\x00\x00\x00\x00\x01a\x07example\x00\x00\x01\x00\x01";
 
-/// How many datagrams such a wire gives after it has sent a query.
-fn given_after(alloc: Global, fault: Fault) -> Option<usize> {
-    let zone = Zone::read(alloc, ZONE).ok()?;
-    let mut wire = wire_to(alloc, &zone, fault);
+/// How many datagrams a wire gives after it has sent a query.
+fn given_by(mut wire: FaultyWire<'_>) -> usize {
     wire.line.send(QUERY);
-    Some(wire.line.replies.len())
+    let count = wire.line.replies.len();
+    drop(wire);
+    count
+}
+
+/// The same of such a wire to the zone.
+fn given_after(alloc: Global, fault: Fault) -> Option<usize> {
+    match Zone::read(alloc, ZONE) {
+        Ok(zone) => {
+            let count = given_by(wire_to(alloc, &zone, fault));
+            drop(zone);
+            Some(count)
+        }
+        Err(_) => None,
+    }
 }
 
 /// The wires do what their faults say.
@@ -543,13 +571,31 @@ const LATER: [&str; 2] = ["sip:b.example:5070", "sip:a.example:5070"];
 /// What becomes of them.
 const LATER_ENDS: [End; 2] = [End::Goes(8), End::Goes(7)];
 
+/// Whether these jobs and then the later ones end so.
+fn late_ends_of<R: Wait + AllocGlobal>(rt: &R, first: &[Job], later: &[Job]) -> Option<bool> {
+    match Zone::read(rt.alloc(), ZONE) {
+        Ok(zone) => {
+            let wire = wire_to(rt.alloc(), &zone, Fault::Holds);
+            let end = both_over(rt, wire, first, later);
+            drop(zone);
+            Some(end)
+        }
+        Err(_) => None,
+    }
+}
+
 /// Whether the first requests and then the later ones end so.
 fn late_ends<R: Wait + AllocGlobal>(rt: &R) -> Option<bool> {
     let alloc = rt.alloc();
-    let first = jobs_to(alloc, &FIRST)?;
-    let later = jobs_to(alloc, &LATER)?;
-    let zone = Zone::read(alloc, ZONE).ok()?;
-    Some(both_over(rt, wire_to(alloc, &zone, Fault::Holds), &first, &later))
+    match both(jobs_to(alloc, &FIRST), jobs_to(alloc, &LATER)) {
+        Some((first, later)) => {
+            let ends = late_ends_of(rt, &first, &later);
+            drop(first);
+            drop(later);
+            ends
+        }
+        None => None,
+    }
 }
 
 #[test]

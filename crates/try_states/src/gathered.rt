@@ -1,11 +1,11 @@
 //! Results that are put in the order of their jobs: those of two jobs, over a wire in memory.
 ghost use Rattle.answer_cache.specs.Shared.{Belongs};
 
-use crate::worker_jobs::{ZONE, clock_at_100, goes_to, rises, two_jobs};
+use crate::worker_jobs::{ZONE, clock_at_100, goes_to, rises, two_jobs, zone_with};
 use crate::workers::one_worker;
 use answer_cache::{Notice, SharedCache};
 use dns_queries::StandingClock;
-use dns_zone::{Zone, ZoneWire};
+use dns_zone::ZoneWire;
 use sip_workers::{GatherRefusal, Job, JobResult, OpenGate, Outcome, Worker, gather};
 use std::alloc::Global;
 use std::sync::Wait;
@@ -22,6 +22,14 @@ fn copy_at<'a, 'b>(alloc: Global, made: &[Made<'a, 'b>], at: usize) -> Option<Ma
     }
 }
 
+/// Adds a copy to others, where there is one and memory for it.
+fn push_copy<T: Drop>(all: &mut Vec<T>, copy: Option<T>) -> Option<()> {
+    match copy {
+        Some(copy) => all.push(copy).ok(),
+        None => None,
+    }
+}
+
 /// Copies of the results at these places.
 fn picked<'a, 'b>(
     alloc: Global,
@@ -30,7 +38,7 @@ fn picked<'a, 'b>(
 ) -> Option<Vec<Made<'a, 'b>>> {
     let mut all = Vec::new(alloc);
     for at in places {
-        all.push(copy_at(alloc, made, *at)?).ok()?;
+        push_copy(&mut all, copy_at(alloc, made, *at))?;
     }
     Some(all)
 }
@@ -114,10 +122,18 @@ fn gathered<R: Wait + AllocGlobal>(
     places: &[usize],
 ) -> Option<Result<bool, GatherRefusal>> {
     let alloc = rt.alloc();
-    let jobs = two_jobs(alloc, "sip:a.example:5070", "sip:192.0.2.7:5080")?;
-    let zone = Zone::read(alloc, ZONE).ok()?;
-    let sent = AtomicU64::new(0);
-    gathered_over(rt, ZoneWire::new(alloc, &zone, &sent), &jobs, count, places)
+    let jobs = two_jobs(alloc, "sip:a.example:5070", "sip:192.0.2.7:5080");
+    match zone_with(alloc, ZONE, jobs) {
+        Some((zone, jobs)) => {
+            let sent = AtomicU64::new(0);
+            let wire = ZoneWire::new(alloc, &zone, &sent);
+            let all = gathered_over(rt, wire, &jobs, count, places);
+            drop(jobs);
+            drop(zone);
+            all
+        }
+        None => None,
+    }
 }
 
 #[test]

@@ -1,6 +1,7 @@
 //! Tests of public calls whose states no line of text reaches: seats that several threads use, and
 //! workers; wires over UDP, and wires of a test's own, which lose, double, forge and fail; items
-//! that count their drops; memory and threads that are refused. This crate has tests alone.
+//! that count their drops; memory and threads that are refused. And the examples of the crates'
+//! pages. This crate has tests alone.
 //!
 //! Each test of `allocations` makes each of its calls twice, which no row of `tests/rows` makes.
 //! `tools/refuse-allocations` runs it once for each allocation that it makes, which is then
@@ -30,6 +31,8 @@ mod faulty_wires;
 mod gathered;
 #[cfg(test)]
 mod lossy;
+#[cfg(test)]
+mod pages;
 #[cfg(test)]
 mod rolling;
 #[cfg(test)]

@@ -1,5 +1,5 @@
 //! A thousand requests to a hundred domains, over a wire that loses a third of what it carries.
-ghost use Rattle.std.specs.Prelude.{ℕ, IfSome, List};
+ghost use Rattle.std.specs.Prelude.{⊤, ℕ, IfSome, List};
 ghost use Rattle.answer_cache.specs.Seats.{SeatView};
 ghost use Rattle.sip_resolver.specs.Requests.{Stand};
 
@@ -14,7 +14,8 @@ use sip_resolver::{
 };
 use sip_selection::{Caps, Families, Request};
 use sip_uri::Transport::Udp;
-use sip_uri::{Address, read_uri};
+use sip_uri::{Address, SipUri, read_uri};
+use srv_choice::RandomWords;
 use std::alloc::{AllocError, Global};
 use std::sync::Wait;
 
@@ -97,6 +98,21 @@ fn empty<B: AnswerBook, F: Facts>(alloc: Global) -> Option<Resolver<B, F, Counti
 }
 
 /// Takes a request to this URI in.
+fn submit<B: AnswerBook, F: Facts>(
+    resolver: &mut Resolver<B, F, CountingIds>,
+    number: u64,
+    uri: SipUri,
+    caps: Caps,
+) -> Option<()>
+    ensures { (seat : SeatView) → Stand F.gives F.shows seat resolver.old.requests
+        → Stand F.gives F.shows seat resolver.new.requests }
+{
+    let words = RandomWords::Given(&WORDS);
+    let submitted = resolver.submit(number, Request::Uri(uri), caps, &words, None);
+    submitted.ok()
+}
+
+/// The same of its text.
 fn add<B: AnswerBook, F: Facts>(
     resolver: &mut Resolver<B, F, CountingIds>,
     alloc: Global,
@@ -106,12 +122,11 @@ fn add<B: AnswerBook, F: Facts>(
     ensures { (seat : SeatView) → Stand F.gives F.shows seat resolver.old.requests
         → Stand F.gives F.shows seat resolver.new.requests }
 {
-    let Ok(uri) = read_uri(alloc, text) else {
-        return None;
-    };
     let caps = Caps::new(&[Udp], Families::V4)?;
-    let submitted = resolver.submit(number, Request::Uri(uri), caps, WORDS, None);
-    submitted.ok()
+    match read_uri(alloc, text) {
+        Ok(uri) => submit(resolver, number, uri, caps),
+        Err(_) => None,
+    }
 }
 
 /// Takes all requests in: request n to domain n modulo a hundred.
@@ -230,13 +245,31 @@ fn counted<B: AnswerBook, F: Facts>(resolver: &mut Resolver<B, F, CountingIds>) 
     counts
 }
 
-/// What becomes of the requests over this wire.
+/// What becomes of the requests in a resolver over this wire and a new book.
+fn outcomes_of(
+    rt: &impl Wait,
+    alloc: Global,
+    resolver: &mut Resolver<ListCache, NoFacts, CountingIds>,
+    wire: &mut Wire,
+) -> Counts
+    requires { (seat : SeatView) → Stand (λ _. ⊤) (λ _. ⊤) seat resolver.old.requests }
+{
+    let (book, mut seat) = ListCache::new(alloc);
+    finish(rt, alloc, resolver, &book, &mut seat, wire);
+    drop(seat);
+    drop(book);
+    counted(resolver)
+}
+
+/// The same of all requests in a new resolver.
 fn outcomes(rt: &impl Wait, alloc: Global, wire: &mut Wire) -> Option<Counts> {
     let mut resolver = empty::<ListCache, NoFacts>(alloc)?;
-    add_all(&mut resolver, alloc)?;
-    let (book, mut seat) = ListCache::new(alloc);
-    finish(rt, alloc, &mut resolver, &book, &mut seat, wire);
-    Some(counted(&mut resolver))
+    let counts = match add_all(&mut resolver, alloc) {
+        Some(()) => Some(outcomes_of(rt, alloc, &mut resolver, wire)),
+        None => None,
+    };
+    drop(resolver);
+    counts
 }
 
 /// The same over a wire that loses by the key stream of this byte.

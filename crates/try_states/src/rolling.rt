@@ -251,20 +251,33 @@ fn load_met<R: Threads + Wait + AllocGlobal + Sync>(
     all_met(rt, load, seats)
 }
 
-/// What so many threads met, which share one cache.
-fn shared<R: Threads + Wait + AllocGlobal + Sync>(rt: &R, threads: usize) -> Option<Met> {
-    let questions = questions(rt.alloc())?;
-    let now = Moment::new(100)?;
+/// What so many threads met that ask these questions and share one cache.
+fn met_by<R: Threads + Wait + AllocGlobal + Sync>(
+    rt: &R,
+    questions: &[Question],
+    threads: usize,
+    now: Moment,
+) -> Option<Met> {
     match RollingCache::new(rt.alloc(), threads, now) {
         Ok((cache, seats)) => {
+            let first = AtomicU64::new(0);
             let load = Load {
                 cache: &cache,
-                questions: &questions,
-                first: &AtomicU64::new(0),
+                questions,
+                first: &first,
             };
             load_met(rt, &load, seats)
         }
         Err(_) => None,
+    }
+}
+
+/// What so many threads met, which share one cache.
+fn shared<R: Threads + Wait + AllocGlobal + Sync>(rt: &R, threads: usize) -> Option<Met> {
+    let now = Moment::new(100)?;
+    match questions(rt.alloc()) {
+        Some(questions) => met_by(rt, &questions, threads, now),
+        None => None,
     }
 }
 

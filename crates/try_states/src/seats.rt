@@ -111,6 +111,37 @@ pub(crate) fn last_of(cache: &SharedCache, seats: &mut Vec<Seat>) -> Option<Seat
     seats.pop()
 }
 
+/// The two seats of a cache.
+fn two_of(cache: SharedCache, mut seats: Vec<Seat>) -> Option<(SharedCache, Seat, Seat)>
+    requires { All (Belongs cache) seats.items }
+    ensures first { IfSome result (λ made. Belongs made.0 made.1) }
+    ensures second { IfSome result (λ made. Belongs made.0 made.2) }
+{
+    let second = last_of(&cache, &mut seats);
+    let first = last_of(&cache, &mut seats);
+    drop(seats);
+    match (first, second) {
+        (Some(first), Some(second)) => Some((cache, first, second)),
+        (first, second) => {
+            drop(first);
+            drop(second);
+            drop(cache);
+            None
+        }
+    }
+}
+
+/// A cache with two seats.
+pub(crate) fn two_seats(alloc: Global) -> Option<(SharedCache, Seat, Seat)>
+    ensures first { IfSome result (λ made. Belongs made.0 made.1) }
+    ensures second { IfSome result (λ made. Belongs made.0 made.2) }
+{
+    match SharedCache::new(alloc, 2) {
+        Ok((cache, seats)) => two_of(cache, seats),
+        Err(_) => None,
+    }
+}
+
 /// Adds a seat to the seats of a cache, where there is memory for that.
 pub(crate) fn keep(cache: &SharedCache, seats: &mut Vec<Seat>, seat: Seat)
     requires seats { All (Belongs cache.now) seats.old.items }

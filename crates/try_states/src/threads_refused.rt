@@ -1,7 +1,10 @@
 //! Where the system refuses a thread: the run says so, and the next one has all its threads again.
+ghost use Rattle.std.specs.List.{All};
+ghost use Rattle.answer_cache.specs.Shared.{Belongs};
+
 use crate::worker_jobs::{ZONE, clock_at_100};
 use crate::workers_many::{each_goes, jobs_to_ports};
-use answer_cache::{Notice, SharedCache};
+use answer_cache::{Notice, Seat, SharedCache};
 use dns_zone::{Zone, ZoneWire};
 use sip_workers::{OpenGate, Outcome, RunRefusal, run_workers};
 use std::env;
@@ -32,32 +35,73 @@ fn is_behind(thread: u64, others: u64) -> bool {
 /// How many jobs a run has.
 const JOBS: usize = 40;
 
-/// What a run of the jobs, in batches of one, gives by a worker for each wire; none without memory
-/// for it.
+/// What a run of the jobs, in batches of one, gives with these seats of a cache, by a worker for
+/// each wire; none without memory for the jobs.
+fn run_with<R: Threads + Wait + AllocGlobal + Sync>(
+    rt: &R,
+    cache: &SharedCache,
+    seats: Vec<Seat>,
+    wires: Vec<ZoneWire<'_>>,
+) -> Option<Result<Vec<(Outcome, Notice)>, RunRefusal>>
+    requires { All (Belongs cache.now) seats.items }
+{
+    let (alloc, clock) = (rt.alloc(), clock_at_100());
+    match jobs_to_ports(alloc, JOBS) {
+        Some(jobs) => Some(run_workers(rt, alloc, cache, seats, wires, jobs, 1, &clock, &OpenGate)),
+        None => None,
+    }
+}
+
+/// The same over a new cache; none without memory for it.
 fn run_over<R: Threads + Wait + AllocGlobal + Sync>(
     rt: &R,
     wires: Vec<ZoneWire<'_>>,
 ) -> Option<Result<Vec<(Outcome, Notice)>, RunRefusal>> {
-    let alloc = rt.alloc();
-    let Ok((cache, seats)) = SharedCache::new(alloc, wires.len()) else {
-        return None;
-    };
-    let jobs = jobs_to_ports(alloc, JOBS)?;
-    let clock = clock_at_100();
-    Some(run_workers(rt, alloc, &cache, seats, wires, jobs, 1, &clock, &OpenGate))
+    match SharedCache::new(rt.alloc(), wires.len()) {
+        Ok((cache, seats)) => {
+            let made = run_with(rt, &cache, seats, wires);
+            drop(cache);
+            made
+        }
+        Err(_) => None,
+    }
 }
 
-/// Whether the jobs each go to their own ports in a run; or whether it is refused for want of a
-/// thread, where one is refused.
-fn is_right<R: Threads + Wait + AllocGlobal + Sync>(rt: &R, refused: bool) -> Option<bool> {
-    let alloc = rt.alloc();
-    let zone = Zone::read(alloc, ZONE).ok()?;
-    let sent = AtomicU64::new(0);
-    let wires = ZoneWire::several(alloc, &zone, &sent, WORKERS as usize).ok()?;
-    Some(match run_over(rt, wires)? {
+/// Whether the jobs each go to their own ports; or whether the run is refused for want of a thread,
+/// where one is refused.
+fn are_right(made: &Result<Vec<(Outcome, Notice)>, RunRefusal>, refused: bool) -> bool {
+    match made {
         Ok(made) => !refused && each_goes(made.as_slice(), JOBS),
-        Err(refusal) => refused && refusal == RunRefusal::NoThread,
-    })
+        Err(refusal) => refused && *refusal == RunRefusal::NoThread,
+    }
+}
+
+/// The same of a run over wires to this zone.
+fn is_right_over<R: Threads + Wait + AllocGlobal + Sync>(
+    rt: &R,
+    zone: &Zone,
+    refused: bool,
+) -> Option<bool> {
+    let sent = AtomicU64::new(0);
+    match ZoneWire::several(rt.alloc(), zone, &sent, WORKERS as usize) {
+        Ok(wires) => match run_over(rt, wires) {
+            Some(made) => Some(are_right(&made, refused)),
+            None => None,
+        },
+        Err(_) => None,
+    }
+}
+
+/// The same of a run over wires to the zone.
+fn is_right<R: Threads + Wait + AllocGlobal + Sync>(rt: &R, refused: bool) -> Option<bool> {
+    match Zone::read(rt.alloc(), ZONE) {
+        Ok(zone) => {
+            let right = is_right_over(rt, &zone, refused);
+            drop(zone);
+            right
+        }
+        Err(_) => None,
+    }
 }
 
 #[test]

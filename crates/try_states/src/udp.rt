@@ -2,20 +2,22 @@
 ghost use Rattle.std.specs.Prelude.{◌≤◌};
 
 use crate::seats::question;
+use crate::worker_jobs::ZONE;
 use dns_answers::{Answer, Records, answer_of};
 use dns_message::{Kind, Message, Question, read_message};
 use dns_queries::{DATAGRAM_LIMIT, PeerWire, Wire};
 use dns_transport::{
-    BufferWire, HostWire, QueryForm, ReplyTimes, UdpServerWire, WireOptions, open_wire,
+    Attempts, BufferWire, HostWire, QueryForm, ReplyTimes, UdpServerWire, WireOptions, open_wire,
 };
 use dns_zone::{Zone, serve};
 use std::alloc::Global;
+use std::io;
 use std::net::{Ipv4Addr, Ipv6Addr, Net, SocketAddr};
-use std::sync::Arc;
 use std::sync::atomic::{AtomicBool, Ordering};
+use std::sync::{Arc, Wait};
 use std::test::Fail;
+use std::thread::{self, JoinHandle, Threads};
 use std::time::{Clock, Duration};
-use std::{io, thread};
 
 /// The query for the addresses of a.example.
 const QUERY: &[u8; 27] =
@@ -64,6 +66,7 @@ fn is_right(alloc: Global, octets: &[u8]) -> Option<bool> {
 const OPTIONS: WireOptions = WireOptions {
     over_tcp: false,
     form: QueryForm::PLAIN,
+    attempts: Attempts::DEFAULT,
     reply_times: ReplyTimes::DEFAULT,
     rotates: false,
     keeps_tries: false,
@@ -107,28 +110,47 @@ fn reply_of<R: Net + Clock + AllocGlobal>(rt: &R, server: SocketAddr) -> io::Res
     Ok(Vec::from_slice(rt.alloc(), &buffer[..count])?)
 }
 
+/// A server on another thread, which answers from a zone until it is to stop.
+fn start_server<R: Threads + Wait + AllocGlobal + Copy + Send + Sync + 'static>(
+    rt: R,
+    mut wire: UdpServerWire,
+    stop: Arc<AtomicBool>,
+) -> Result<JoinHandle<u64>, Fail> {
+    let Ok(zone) = Zone::read(rt.alloc(), ZONE) else {
+        return Err(Fail::new(format_args!("the zone was not read")));
+    };
+    let server = thread::spawn(&rt, move || {
+        serve(&rt, rt.alloc(), &mut wire, &zone, &stop)
+    })?;
+    Ok(server)
+}
+
+/// How many queries such a server over this wire answers, and the reply that is asked for.
+fn served<R: Net + Threads + Wait + Clock + AllocGlobal + Copy + Send + Sync + 'static>(
+    rt: R,
+    wire: UdpServerWire,
+) -> Result<(u64, io::Result<Vec<u8>>), Fail> {
+    let own = wire.address()?;
+    let stop = Arc::new(rt.alloc(), AtomicBool::new(false))?;
+    let server = start_server(rt, wire, Arc::try_clone(&stop)?)?;
+    let reply = reply_of(&rt, own);
+    stop.store(true, Ordering::SeqCst);
+    Ok((server.join(&rt), reply))
+}
+
 #[test]
 fn answer_over_udp(rt: HostRuntime) -> Result<(), Fail> {
-    // A host without IPv6 has no such address.
-    let sixth = UdpServerWire::bind(&rt, SocketAddr::from((Ipv6Addr::LOCALHOST, 0)));
-    let fourth = UdpServerWire::bind(&rt, SocketAddr::from((Ipv4Addr::LOCALHOST, 0)));
-    for wire in [fourth, sixth] {
-        let Ok(mut wire) = wire else {
-            continue;
-        };
-        let Ok(zone) = Zone::read(rt.alloc(), "a.example. 300 A 192.0.2.7") else {
-            return Err(Fail::new(format_args!("the zone was not read")));
-        };
-        let own = wire.address()?;
-        let stop = Arc::new(rt.alloc(), AtomicBool::new(false))?;
-        let seen = Arc::try_clone(&stop)?;
-        let server = thread::spawn(&rt, move || serve(&rt, rt.alloc(), &mut wire, &zone, &seen))?;
-        let reply = reply_of(&rt, own);
-        stop.store(true, Ordering::SeqCst);
-        assert!(rt; server.join(&rt) >= 1);
-        let reply = reply?;
-        assert_eq!(rt; reply.as_slice(), REPLY.as_slice(), "{own}");
-        assert_eq!(rt; is_right(rt.alloc(), &reply), Some(true));
+    let fourth = SocketAddr::from((Ipv4Addr::LOCALHOST, 0));
+    let sixth = SocketAddr::from((Ipv6Addr::LOCALHOST, 0));
+    for local in [fourth, sixth] {
+        // A host without IPv6 has no such address.
+        if let Ok(wire) = UdpServerWire::bind(&rt, local) {
+            let (count, reply) = served(rt, wire)?;
+            let reply = reply?;
+            assert!(rt; count >= 1);
+            assert_eq!(rt; reply.as_slice(), REPLY.as_slice(), "{local}");
+            assert_eq!(rt; is_right(rt.alloc(), &reply), Some(true));
+        }
     }
     Ok(())
 }

@@ -1,13 +1,12 @@
 //! The ids of a worker's queries, over a wire that counts along.
 ghost use Rattle.answer_cache.specs.Shared.{Belongs};
 
-use crate::worker_jobs::{clock_at_100, goes_to, job_of};
+use crate::worker_jobs::{clock_at_100, goes_to, jobs_to, zone_with};
 use crate::workers::one_worker;
 use answer_cache::SharedCache;
 use dns_queries::{DATAGRAM_LIMIT, Wire, WireFault};
 use dns_zone::{Zone, ZoneWire};
 use sip_workers::{Job, OpenGate, Worker};
-use std::alloc::Global;
 use std::sync::Wait;
 use std::sync::atomic::{AtomicU64, Ordering};
 
@@ -91,30 +90,53 @@ fn batch_goes<R: Wait + AllocGlobal>(
 }
 
 /// How many of so many batches of these jobs go to the target.
+fn batches_go<R: Wait + AllocGlobal>(
+    rt: &R,
+    cache: &SharedCache,
+    worker: &mut Worker<CountingWire<'_>>,
+    jobs: &[Job],
+    count: u32,
+) -> u32
+    requires { Belongs cache.now worker.old }
+{
+    let mut right: u32 = 0;
+    'batches: for _batch in 0..count {
+        let goes = batch_goes(rt, cache, worker, jobs);
+        right = right.saturating_add(u32::from(goes));
+    }
+    right
+}
+
+/// The same by a new worker over this wire.
 fn batches_over<R: Wait + AllocGlobal>(
     rt: &R,
     wire: CountingWire<'_>,
     jobs: &[Job],
     count: u32,
 ) -> Option<u32> {
-    let (cache, mut worker) = one_worker(rt.alloc(), wire)?;
-    let mut right: u32 = 0;
-    'batches: for _batch in 0..count {
-        let goes = batch_goes(rt, &cache, &mut worker, jobs);
-        right = right.saturating_add(u32::from(goes));
+    match one_worker(rt.alloc(), wire) {
+        Some((cache, mut worker)) => {
+            let right = batches_go(rt, &cache, &mut worker, jobs, count);
+            drop(worker);
+            drop(cache);
+            Some(right)
+        }
+        None => None,
     }
-    Some(right)
 }
 
 /// Of so many batches of these jobs: how many go to the target, how many queries are
 /// sent, and how many of them have another id.
-fn ids_over<R: Wait + AllocGlobal>(rt: &R, jobs: &[Job], count: u32) -> Option<(u32, u64, u64)> {
-    let alloc = rt.alloc();
-    let zone = Zone::read(alloc, ADDRESSES).ok()?;
+fn ids_over<R: Wait + AllocGlobal>(
+    rt: &R,
+    zone: &Zone,
+    jobs: &[Job],
+    count: u32,
+) -> Option<(u32, u64, u64)> {
     let sent = AtomicU64::new(0);
     let others = AtomicU64::new(0);
     let wire = CountingWire {
-        wire: ZoneWire::new(alloc, &zone, &sent),
+        wire: ZoneWire::new(rt.alloc(), zone, &sent),
         next: 0,
         others: &others,
     };
@@ -126,19 +148,17 @@ fn ids_over<R: Wait + AllocGlobal>(rt: &R, jobs: &[Job], count: u32) -> Option<(
     ))
 }
 
-/// A job to each of these.
-fn jobs_to(alloc: Global, texts: &[&str]) -> Option<Vec<Job>> {
-    let mut jobs = Vec::new(alloc);
-    for (place, text) in texts.iter().enumerate() {
-        jobs.push(job_of(alloc, place as u64, text)?).ok()?;
-    }
-    Some(jobs)
-}
-
 /// What `ids_over` gives for so many batches of a job to each name.
 fn ids_of<R: Wait + AllocGlobal>(rt: &R, count: u32) -> Option<(u32, u64, u64)> {
-    let jobs = jobs_to(rt.alloc(), &REQUESTS)?;
-    ids_over(rt, jobs.as_slice(), count)
+    match zone_with(rt.alloc(), ADDRESSES, jobs_to(rt.alloc(), &REQUESTS)) {
+        Some((zone, jobs)) => {
+            let found = ids_over(rt, &zone, jobs.as_slice(), count);
+            drop(jobs);
+            drop(zone);
+            found
+        }
+        None => None,
+    }
 }
 
 #[test]

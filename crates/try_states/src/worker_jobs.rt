@@ -4,9 +4,11 @@ ghost use Rattle.std.specs.Prelude.{Decides};
 ghost use Rattle.sip_workers.specs.Runs.{Rises};
 ghost use Rattle.answer_cache.specs.Shared.{Belongs};
 
+use crate::seats::both;
 use answer_cache::{Notice, Seat, SharedCache};
 use dns_answers::Moment;
 use dns_queries::{Clock, StandingClock, Wire};
+use dns_zone::Zone;
 use sip_selection::{Caps, Families, Request, Target};
 use sip_uri::Transport::Udp;
 use sip_uri::{Address, read_uri};
@@ -46,14 +48,30 @@ pub(crate) fn all_go_to(made: &[(Outcome, Notice)], port: u16) -> bool {
     made.iter().all(|it| goes_to(&it.0, port))
 }
 
+/// A job of a sender, where there is memory for it.
+pub(crate) fn job_by(alloc: Global, number: u64, text: &str, caps: Caps) -> Option<Job> {
+    match read_uri(alloc, text) {
+        Ok(uri) => Some(Job {
+            number,
+            request: Request::Uri(uri),
+            caps,
+            words: WORDS,
+        }),
+        Err(_) => None,
+    }
+}
+
 /// A job over UDP and IPv4 alone, where there is memory for it.
 pub(crate) fn job_of(alloc: Global, number: u64, text: &str) -> Option<Job> {
-    Some(Job {
-        number,
-        request: Request::Uri(read_uri(alloc, text).ok()?),
-        caps: Caps::new(&[Udp], Families::V4)?,
-        words: WORDS,
-    })
+    job_by(alloc, number, text, Caps::new(&[Udp], Families::V4)?)
+}
+
+/// Adds a job to others, where there is one and memory for it.
+pub(crate) fn push_job(jobs: &mut Vec<Job>, job: Option<Job>) -> Option<()> {
+    match job {
+        Some(job) => jobs.push(job).ok(),
+        None => None,
+    }
 }
 
 /// Such a job for each of these texts, numbered from 0.
@@ -61,7 +79,7 @@ pub(crate) fn jobs_to(alloc: Global, texts: &[&str]) -> Option<Vec<Job>> {
     let mut jobs = Vec::new(alloc);
     for text in texts {
         let number = jobs.len() as u64;
-        jobs.push(job_of(alloc, number, text)?).ok()?;
+        push_job(&mut jobs, job_of(alloc, number, text))?;
     }
     Some(jobs)
 }
@@ -69,9 +87,21 @@ pub(crate) fn jobs_to(alloc: Global, texts: &[&str]) -> Option<Vec<Job>> {
 /// Two such jobs, of the numbers 1 and 2.
 pub(crate) fn two_jobs(alloc: Global, first: &str, second: &str) -> Option<Vec<Job>> {
     let mut jobs = Vec::new(alloc);
-    jobs.push(job_of(alloc, 1, first)?).ok()?;
-    jobs.push(job_of(alloc, 2, second)?).ok()?;
+    push_job(&mut jobs, job_of(alloc, 1, first))?;
+    push_job(&mut jobs, job_of(alloc, 2, second))?;
     Some(jobs)
+}
+
+/// The zone of a text, with these jobs, where there are both.
+pub(crate) fn zone_with(
+    alloc: Global,
+    text: &str,
+    jobs: Option<Vec<Job>>,
+) -> Option<(Zone, Vec<Job>)> {
+    match Zone::read(alloc, text) {
+        Ok(zone) => both(Some(zone), jobs),
+        Err(_) => None,
+    }
 }
 
 /// Whether the number of each job is below the number of the next.

@@ -1,5 +1,5 @@
 //! Many jobs in batches of one, by one worker and by more.
-use crate::worker_jobs::{ZONE, clock_at_100, goes_to, job_of, made_by};
+use crate::worker_jobs::{ZONE, clock_at_100, goes_to, job_of, made_by, push_job};
 use answer_cache::Notice;
 use dns_queries::Wire;
 use dns_zone::{Zone, ZoneWire};
@@ -50,13 +50,19 @@ fn port_at(place: usize) -> u16 {
     5060 + (place % 100) as u16
 }
 
+/// A request to the name in the zone, to this port.
+fn job_to_port(alloc: Global, number: u64, port: u16) -> Option<Job> {
+    match format!(in alloc; "sip:a.example:{port}") {
+        Ok(text) => job_of(alloc, number, text.as_str()),
+        Err(_) => None,
+    }
+}
+
 /// So many requests to the name in the zone, each to a port of its own.
 pub(crate) fn jobs_to_ports(alloc: Global, count: usize) -> Option<Vec<Job>> {
     let mut jobs = Vec::new(alloc);
     for place in 0..count {
-        let port = port_at(place);
-        let text = format!(in alloc; "sip:a.example:{port}").ok()?;
-        jobs.push(job_of(alloc, place as u64, text.as_str())?).ok()?;
+        push_job(&mut jobs, job_to_port(alloc, place as u64, port_at(place)))?;
     }
     Some(jobs)
 }
@@ -86,18 +92,37 @@ pub(crate) fn all_go_over<
     }
 }
 
-/// Whether so many requests each go to their own ports, in batches of one, by so many workers.
+/// Whether so many requests each go to their own ports, in batches of one, by so many workers that
+/// ask a zone.
+fn all_go_to<R: Threads + Wait + AllocGlobal + Sync, G: Gate + Sync>(
+    rt: &R,
+    zone: &Zone,
+    workers: usize,
+    count: usize,
+    gate: &G,
+) -> Option<bool> {
+    let sent = AtomicU64::new(0);
+    match ZoneWire::several(rt.alloc(), zone, &sent, workers) {
+        Ok(wires) => all_go_over(rt, wires, count, 1, gate),
+        Err(_) => None,
+    }
+}
+
+/// The same of the zone of one name.
 fn all_go_by<R: Threads + Wait + AllocGlobal + Sync, G: Gate + Sync>(
     rt: &R,
     workers: usize,
     count: usize,
     gate: &G,
 ) -> Option<bool> {
-    let alloc = rt.alloc();
-    let zone = Zone::read(alloc, ZONE).ok()?;
-    let sent = AtomicU64::new(0);
-    let wires = ZoneWire::several(alloc, &zone, &sent, workers).ok()?;
-    all_go_over(rt, wires, count, 1, gate)
+    match Zone::read(rt.alloc(), ZONE) {
+        Ok(zone) => {
+            let all = all_go_to(rt, &zone, workers, count, gate);
+            drop(zone);
+            all
+        }
+        Err(_) => None,
+    }
 }
 
 #[test]

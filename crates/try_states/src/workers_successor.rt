@@ -3,6 +3,7 @@ ghost use Rattle.std.specs.Prelude.{IfSome};
 ghost use Rattle.std.specs.List.{All};
 ghost use Rattle.answer_cache.specs.Shared.{Belongs};
 
+use crate::seats::{both, keep, last_of, two_seats};
 use crate::worker_jobs::{TO_NAME, ZONE, all_go_to, clock_at_100, jobs_to, made_with};
 use answer_cache::{Carried, Seat, SharedCache};
 use dns_answers::Moment;
@@ -59,6 +60,15 @@ fn run_goes<R: Threads + Wait + AllocGlobal + Sync, W: Wire + Drop + Send>(
     }
 }
 
+/// One wire.
+fn one_wire<W: Wire + Drop>(alloc: Global, wire: W) -> Option<Vec<W>> {
+    let mut wires = Vec::new(alloc);
+    match wires.push(wire) {
+        Ok(()) => Some(wires),
+        Err(_) => None,
+    }
+}
+
 /// The same with this seat and wire.
 fn goes<R: Threads + Wait + AllocGlobal + Sync, W: Wire + Drop + Send>(
     rt: &R,
@@ -69,24 +79,12 @@ fn goes<R: Threads + Wait + AllocGlobal + Sync, W: Wire + Drop + Send>(
 ) -> Option<bool>
     requires { Belongs cache.now seat }
 {
-    let mut wires = Vec::new(rt.alloc());
-    wires.push(wire).ok()?;
     let mut seats = Vec::new(rt.alloc());
-    seats.push(seat).ok()?;
-    run_goes(rt, cache, seats, wires, clock)
-}
-
-/// A cache and its two seats.
-fn two_seats(alloc: Global) -> Option<(SharedCache, Seat, Seat)>
-    ensures first { IfSome result (λ made. Belongs made.0 made.1) }
-    ensures second { IfSome result (λ made. Belongs made.0 made.2) }
-{
-    let Ok((cache, mut seats)) = SharedCache::new(alloc, 2) else {
-        return None;
-    };
-    let second = seats.pop()?;
-    let first = seats.pop()?;
-    Some((cache, first, second))
+    keep(cache, &mut seats, seat);
+    match one_wire(rt.alloc(), wire) {
+        Some(wires) => run_goes(rt, cache, seats, wires, clock),
+        None => None,
+    }
 }
 
 /// Whether a job goes to the target in a run over the zone with this seat, at the moment 100.
@@ -97,12 +95,14 @@ fn goes_over_zone<R: Threads + Wait + AllocGlobal + Sync>(
 ) -> bool
     requires { Belongs cache.now seat }
 {
-    let Ok(zone) = Zone::read(rt.alloc(), ZONE) else {
-        return false;
-    };
-    let sent = AtomicU64::new(0);
-    let wire = ZoneWire::new(rt.alloc(), &zone, &sent);
-    goes(rt, cache, seat, wire, &clock_at_100()) == Some(true)
+    match Zone::read(rt.alloc(), ZONE) {
+        Ok(zone) => {
+            let sent = AtomicU64::new(0);
+            let wire = ZoneWire::new(rt.alloc(), &zone, &sent);
+            goes(rt, cache, seat, wire, &clock_at_100()) == Some(true)
+        }
+        Err(_) => false,
+    }
 }
 
 /// What a seat hands on at 107.
@@ -112,25 +112,54 @@ fn carried_by(alloc: Global, cache: &SharedCache, seat: &mut Seat) -> Option<Car
     cache.carry(alloc, seat, Moment::new(107)?).ok()
 }
 
-/// What a cache hands on after a run over the zone.
-fn carried_after_a_run<R: Threads + Wait + AllocGlobal + Sync>(rt: &R) -> Option<Carried> {
-    let (cache, first, mut second) = two_seats(rt.alloc())?;
-    if goes_over_zone(rt, &cache, first) {
-        carried_by(rt.alloc(), &cache, &mut second)
+/// What a seat of a cache hands on after a run over the zone with another one.
+fn carried_after<R: Threads + Wait + AllocGlobal + Sync>(
+    rt: &R,
+    cache: &SharedCache,
+    first: Seat,
+    second: &mut Seat,
+) -> Option<Carried>
+    requires first { Belongs cache.now first }
+    requires second { Belongs cache.now second.old }
+{
+    if goes_over_zone(rt, cache, first) {
+        carried_by(rt.alloc(), cache, second)
     } else {
         None
     }
+}
+
+/// What a new cache hands on after a run over the zone.
+fn carried_after_a_run<R: Threads + Wait + AllocGlobal + Sync>(rt: &R) -> Option<Carried> {
+    match two_seats(rt.alloc()) {
+        Some((cache, first, mut second)) => {
+            let carried = carried_after(rt, &cache, first, &mut second);
+            drop(second);
+            drop(cache);
+            carried
+        }
+        None => None,
+    }
+}
+
+/// The one seat of a cache.
+fn only_seat(cache: SharedCache, mut seats: Vec<Seat>) -> Option<(SharedCache, Seat)>
+    requires { All (Belongs cache) seats.items }
+    ensures { IfSome result (λ made. Belongs made.0 made.1) }
+{
+    let seat = last_of(&cache, &mut seats);
+    drop(seats);
+    both(Some(cache), seat)
 }
 
 /// A cache that begins with what was carried.
 fn successor<R: Wait + AllocGlobal>(rt: &R, carried: &Carried) -> Option<(SharedCache, Seat)>
     ensures { IfSome result (λ made. Belongs made.0 made.1) }
 {
-    let Ok((cache, mut seats)) = SharedCache::successor(rt, rt.alloc(), carried, 1) else {
-        return None;
-    };
-    let seat = seats.pop()?;
-    Some((cache, seat))
+    match SharedCache::successor(rt, rt.alloc(), carried, 1) {
+        Ok((cache, seats)) => only_seat(cache, seats),
+        Err(_) => None,
+    }
 }
 
 /// Whether the job goes to the target at 110 over that cache and this wire.
@@ -143,17 +172,35 @@ fn goes_after<R: Threads + Wait + AllocGlobal + Sync>(
         moment: Moment::new(110)?,
     };
     match successor(rt, carried) {
-        Some((cache, seat)) => goes(rt, &cache, seat, wire, &clock),
+        Some((cache, seat)) => {
+            let goes = goes(rt, &cache, seat, wire, &clock);
+            drop(cache);
+            goes
+        }
         None => None,
     }
 }
 
 /// The same, and how many datagrams were lost.
-fn run_after<R: Threads + Wait + AllocGlobal + Sync>(rt: &R) -> Option<(bool, u64)> {
-    let carried = carried_after_a_run(rt)?;
+fn run_with<R: Threads + Wait + AllocGlobal + Sync>(
+    rt: &R,
+    carried: &Carried,
+) -> Option<(bool, u64)> {
     let sent = AtomicU64::new(0);
-    let all = goes_after(rt, &carried, LostWire { sent: &sent })?;
+    let all = goes_after(rt, carried, LostWire { sent: &sent })?;
     Some((all, sent.load(Ordering::SeqCst)))
+}
+
+/// The same after a run over the zone.
+fn run_after<R: Threads + Wait + AllocGlobal + Sync>(rt: &R) -> Option<(bool, u64)> {
+    match carried_after_a_run(rt) {
+        Some(carried) => {
+            let made = run_with(rt, &carried);
+            drop(carried);
+            made
+        }
+        None => None,
+    }
 }
 
 #[test]

@@ -1,10 +1,11 @@
 //! Workers: where memory is refused, each call says so, or has its answer all the same, and done
 //! again it has it.
+ghost use Rattle.std.specs.List.{All};
 ghost use Rattle.answer_cache.specs.Shared.{Belongs};
 
-use crate::worker_jobs::{TO_ADDRESS, TO_NAME, ZONE, goes_to, rises, two_jobs};
+use crate::worker_jobs::{TO_ADDRESS, TO_NAME, ZONE, goes_to, rises, two_jobs, zone_with};
 use crate::workers::one_worker;
-use answer_cache::{Notice, SharedCache};
+use answer_cache::{Notice, Seat, SharedCache};
 use dns_answers::Moment;
 use dns_queries::{Clock, Wire};
 use dns_zone::{Zone, ZoneWire};
@@ -121,19 +122,35 @@ fn batch_says<R: Wait + AllocGlobal>(
 
 /// Whether two batches over this wire, one after the other, say what is right.
 fn two_batches<R: Wait + AllocGlobal>(rt: &R, wire: ZoneWire<'_>, jobs: &[Job]) -> Option<bool> {
-    let (cache, mut worker) = one_worker(rt.alloc(), wire)?;
-    let first = batch_says(rt, &cache, &mut worker, jobs);
-    let second = batch_says(rt, &cache, &mut worker, jobs);
-    Some(are_right(first, second))
+    match one_worker(rt.alloc(), wire) {
+        Some((cache, mut worker)) => {
+            let first = batch_says(rt, &cache, &mut worker, jobs);
+            let second = batch_says(rt, &cache, &mut worker, jobs);
+            drop(worker);
+            drop(cache);
+            Some(are_right(first, second))
+        }
+        None => None,
+    }
+}
+
+/// The zone and the two jobs, where there is memory for both.
+fn zone_and_jobs(alloc: Global) -> Option<(Zone, Vec<Job>)> {
+    zone_with(alloc, ZONE, two_jobs(alloc, TO_NAME, TO_ADDRESS))
 }
 
 /// The same over a wire to the zone, where there is memory for it.
 fn batches_are_right<R: Wait + AllocGlobal>(rt: &R) -> Option<bool> {
-    let alloc = rt.alloc();
-    let zone = Zone::read(alloc, ZONE).ok()?;
-    let sent = AtomicU64::new(0);
-    let wire = ZoneWire::new(alloc, &zone, &sent);
-    two_batches(rt, wire, &two_jobs(alloc, TO_NAME, TO_ADDRESS)?)
+    match zone_and_jobs(rt.alloc()) {
+        Some((zone, jobs)) => {
+            let sent = AtomicU64::new(0);
+            let right = two_batches(rt, ZoneWire::new(rt.alloc(), &zone, &sent), &jobs);
+            drop(jobs);
+            drop(zone);
+            right
+        }
+        None => None,
+    }
 }
 
 #[test]
@@ -161,22 +178,46 @@ fn gather_says(alloc: Global, jobs: &[Job], made: Vec<Made<'_, '_>>) -> Said {
     }
 }
 
-/// What `gather` makes of the results of these jobs in one batch over this wire, where there is
-/// memory for them.
+/// What `gather` makes of the results of these jobs in one batch of a worker.
+fn gathered_by<R: Wait + AllocGlobal>(
+    rt: &R,
+    cache: &SharedCache,
+    worker: &mut Worker<ZoneWire<'_>>,
+    jobs: &[Job],
+) -> Option<Said>
+    requires { Belongs cache.now worker.old }
+{
+    match worker.batch(rt, cache, jobs, &call_clock(), &OpenGate) {
+        Ok(made) => Some(gather_says(rt.alloc(), jobs, made)),
+        Err(_) => None,
+    }
+}
+
+/// The same over this wire, where there is memory for a worker.
 fn gathered_from<R: Wait + AllocGlobal>(rt: &R, wire: ZoneWire<'_>, jobs: &[Job]) -> Option<Said> {
-    let (cache, mut worker) = one_worker(rt.alloc(), wire)?;
-    let clock = call_clock();
-    let made = worker.batch(rt, &cache, jobs, &clock, &OpenGate).ok()?;
-    Some(gather_says(rt.alloc(), jobs, made))
+    match one_worker(rt.alloc(), wire) {
+        Some((cache, mut worker)) => {
+            let said = gathered_by(rt, &cache, &mut worker, jobs);
+            drop(worker);
+            drop(cache);
+            said
+        }
+        None => None,
+    }
 }
 
 /// The same over a wire to the zone.
 fn gathered<R: Wait + AllocGlobal>(rt: &R) -> Option<Said> {
-    let alloc = rt.alloc();
-    let zone = Zone::read(alloc, ZONE).ok()?;
-    let sent = AtomicU64::new(0);
-    let wire = ZoneWire::new(alloc, &zone, &sent);
-    gathered_from(rt, wire, &two_jobs(alloc, TO_NAME, TO_ADDRESS)?)
+    match zone_and_jobs(rt.alloc()) {
+        Some((zone, jobs)) => {
+            let sent = AtomicU64::new(0);
+            let said = gathered_from(rt, ZoneWire::new(rt.alloc(), &zone, &sent), &jobs);
+            drop(jobs);
+            drop(zone);
+            said
+        }
+        None => None,
+    }
 }
 
 #[test]
@@ -184,32 +225,63 @@ fn gather_refused(rt: HostRuntime) {
     assert!(rt; gathered(&rt) != Some(Said::Wrong));
 }
 
-/// What a run of two jobs by two workers says, where there is memory for its jobs and its cache.
+/// What a run of two jobs by two workers says, with these seats of a cache.
+fn run_with<R: Threads + Wait + AllocGlobal + Sync>(
+    rt: &R,
+    cache: &SharedCache,
+    seats: Vec<Seat>,
+    wires: Vec<ZoneWire<'_>>,
+    jobs: Vec<Job>,
+) -> Said
+    requires { All (Belongs cache.now) seats.items }
+{
+    let (alloc, clock) = (rt.alloc(), call_clock());
+    match run_workers(rt, alloc, cache, seats, wires, jobs, 1, &clock, &OpenGate) {
+        Ok(made) => said_by_parts(made.as_slice()),
+        Err(RunRefusal::Memory | RunRefusal::NoThread) => Said::Memory,
+        Err(_) => Said::Wrong,
+    }
+}
+
+/// The same over a new cache, where there is memory for it.
 fn run_says<R: Threads + Wait + AllocGlobal + Sync>(
     rt: &R,
     wires: Vec<ZoneWire<'_>>,
     jobs: Vec<Job>,
 ) -> Option<Said> {
-    let alloc = rt.alloc();
-    let Ok((cache, seats)) = SharedCache::new(alloc, 2) else {
-        return None;
-    };
-    let clock = call_clock();
-    let made = run_workers(rt, alloc, &cache, seats, wires, jobs, 1, &clock, &OpenGate);
-    Some(match made {
-        Ok(made) => said_by_parts(made.as_slice()),
-        Err(RunRefusal::Memory | RunRefusal::NoThread) => Said::Memory,
-        Err(_) => Said::Wrong,
-    })
+    match SharedCache::new(rt.alloc(), 2) {
+        Ok((cache, seats)) => {
+            let said = run_with(rt, &cache, seats, wires, jobs);
+            drop(cache);
+            Some(said)
+        }
+        Err(_) => None,
+    }
+}
+
+/// The same over wires to this zone.
+fn run_over<R: Threads + Wait + AllocGlobal + Sync>(
+    rt: &R,
+    zone: &Zone,
+    jobs: Vec<Job>,
+) -> Option<Said> {
+    let sent = AtomicU64::new(0);
+    match ZoneWire::several(rt.alloc(), zone, &sent, 2) {
+        Ok(wires) => run_says(rt, wires, jobs),
+        Err(_) => None,
+    }
 }
 
 /// The same over wires to the zone.
 fn run_over_zone<R: Threads + Wait + AllocGlobal + Sync>(rt: &R) -> Option<Said> {
-    let alloc = rt.alloc();
-    let zone = Zone::read(alloc, ZONE).ok()?;
-    let sent = AtomicU64::new(0);
-    let wires = ZoneWire::several(alloc, &zone, &sent, 2).ok()?;
-    run_says(rt, wires, two_jobs(alloc, TO_NAME, TO_ADDRESS)?)
+    match zone_and_jobs(rt.alloc()) {
+        Some((zone, jobs)) => {
+            let said = run_over(rt, &zone, jobs);
+            drop(zone);
+            said
+        }
+        None => None,
+    }
 }
 
 #[test]
