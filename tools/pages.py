@@ -19,7 +19,7 @@ PRIVATE = {
         *("ServerWire::ask", "ServerWire::ask_in_turn", "ServerWire::take", "port_of"),
     },
     "sip_report": {"check_status", "check_line"},
-    "sipwhere_options": {"servers_from", "server_from_text", "local_from_text", "schedule_by"},
+    "sipwhere_options": {"servers_from", "server_from_text", "local_from_text", "attempts_by"},
     "sipwhere": {"OpenLines::settle", "OpenLines::tell_first", "locate_input", "locate_texts", "locate_all"},
 }
 

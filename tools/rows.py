@@ -7,16 +7,13 @@ tests/rows/CRATE/CALL.txt has the rows of a call. A line is one of
   < TEXT    a line that the program reads
   > TEXT    a line that it has to print, at the end
 
-Each row is a run of its own: of `try_calls`, or of `try_clients` for the crates that `try_calls` does not stand on and for the
-calls of BY_CLIENTS.
+Each row is a run of `try_calls` of its own.
 """
 import glob
 import os
 
-NAMES = ("try_calls", "try_clients")
-# calls that wait, of crates that `try_calls` stands on
-BY_CLIENTS = {("dns_zone", "serve")}
-BUILDS = " ".join(f"crates/{name}/out/{name} crates/{name}/out/{name}.by-rattle" for name in NAMES)
+NAME = "try_calls"
+BUILDS = f"crates/{NAME}/out/{NAME} crates/{NAME}/out/{NAME}.by-rattle"
 
 
 class Row:
@@ -64,13 +61,11 @@ def files_of(names):
     return [it for it in files if any(f"{it.removesuffix('.txt')}/".startswith(f"tests/rows/{name}/") for name in names)]
 
 
-def program_of(crate, call):
-    """The name of the program that runs the rows of a call: the first that stands on its crate, by crates.txt."""
-    if (crate, call) in BY_CLIENTS:
-        return "try_clients"
+def program_of(crate, _call):
+    """The name of the program that runs the rows of a call, if it stands on its crate, by crates.txt."""
     with open("crates.txt", encoding="utf-8") as lines:
         below = {name: rest.split() for name, _, rest in (line.partition(":") for line in lines)}
-    return next((name for name in NAMES if crate in below[name]), None)
+    return NAME if crate in below[NAME] else None
 
 
 def builds_of(crate, call):
