@@ -1,1 +1,3 @@
 pub mod More
+pub mod EachPath
+pub mod Heard

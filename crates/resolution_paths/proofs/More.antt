@@ -1,96 +1,97 @@
--- Lists of paths, with one more.
-use Rattle.std.proofs.Common.{◌≡◌, ℕ, Bool, true, false, List, [], ◌∷◌, ◌++◌, Option, Some, None, refl}
-use Rattle.std.proofs.lemmas.List.Elements.{All-push, All-weaker}
-use Rattle.std.specs.Prelude.{IfSome, is_none, is_some, not}
-use Rattle.std.specs.Arc.{arc_value}
-use Rattle.std.specs.Global.{Global}
-use Rattle.std.specs.declared.sync.Arc.{Arc}
-use Rattle.std.specs.List.{All, Contains}
-use Rattle.std.specs.Option.{option_map}
+-- Lists that gain more, one step after the other.
+use Rattle.std.proofs.Common.{◌≡◌, ℕ, ◌+◌, ◌<◌, Bool, true, false, List, [], ◌∷◌, ◌++◌, length, get_or, take, Option, Some, None, refl, sym, subst, ◌∙◌, ap, append_assoc}
+use Rattle.std.proofs.lemmas.List.{append-nil, take_more}
+use Rattle.std.specs.Prelude.{is_none, is_some, not}
 use Rattle.dns_answers.specs.Values.{AnswerValue}
-use Rattle.dns_message.specs.declared.question.Question.{Question}
-use Rattle.dns_message.specs.declared.kind.Kind.TheVariants as kind
 use Rattle.dns_message.specs.declared.naptr.NaptrRecord.{NaptrRecord}
-use Rattle.sip_selection.specs.Known.{servers_in}
-use Rattle.sip_uri.specs.declared.host.Host.TheVariants as host
+use Rattle.dns_message.specs.declared.question.Question.{Question}
+use Rattle.dns_message.specs.declared.srv.SrvRecord.{SrvRecord}
 use Rattle.sip_selection.specs.Requests.{port_of, spoken_of, target_of}
 use Rattle.sip_selection.specs.declared.request.Request.{Request}
-use Rattle.resolution_paths.specs.Paths.{IsNamed, IsPath, IsPathOf, IsSaidOf, IsServiceRecord, naming_of, shared_life}
-use Rattle.resolution_paths.specs.declared.paths.NamedBy.{NamedBy}
+use Rattle.sip_uri.specs.declared.host.Host.{Host}
+use Rattle.sip_uri.specs.declared.host.Host.TheVariants as host
+use Rattle.sip_uri.specs.declared.transport.Transport.{Transport}
+use Rattle.resolution_paths.specs.Paths.{Adds, ArePaths, ArePathsAt, ArePathsOf, ByServer, IsOne, Joined, none, more}
 use Rattle.resolution_paths.specs.declared.path.ResolutionPath.{ResolutionPath}
-use Rattle.resolution_paths.specs.declared.path.ServiceRecord.{ServiceRecord}
 
-module _ (said : Question → AnswerValue → Type 0) (domain : List (List ℕ)) where
-  -- the path to the own addresses of a domain
-  pub own-more : (services rules : Bool) (paths : List ResolutionPath) (path : ResolutionPath)
-      → path.service ≡ None
-      → All (λ it. IsSaidOf said domain (arc_value it)) path.addresses.items
-      → All (IsPath said domain services rules) paths
-      → All (IsPath said domain services rules) (paths ++ path ∷ [])
-  own-more services rules paths path none addresses all =
-      let one : IsPath said domain services rules path = record {
-        service = rw none tt;
-        addresses = rw none addresses;
-        by_service = rw none tt;
-        by_rule = rw none tt;
-      } in
-      All-push (IsPath said domain services rules) _ _ all one
+-- one list behind the others
+pub Joined-push : {X Y : Type 0} (gives : X → List Y → Type 0) (xs : List X) (ys : List Y) (x : X) (last : List Y)
+    → Joined gives xs ys → gives x last → Joined gives (xs ++ x ∷ []) (ys ++ last)
+Joined-push gives _ _ x last none is = subst (Joined gives (x ∷ [])) (append-nil last) (more is none)
+Joined-push gives _ _ x last (more {first = first} {others = others} one all) is =
+    subst (Joined gives _) (sym (append_assoc first others last)) (more one (Joined-push gives _ others x last all is))
 
-  -- a path by a service
-  pub service-more : (rules : Bool) (paths : List ResolutionPath) (path : ResolutionPath) (it : ServiceRecord)
-      → path.service ≡ Some it
-      → IsServiceRecord said domain it → IfSome it.rule (λ _. rules ≡ true)
-      → All (λ one. IsSaidOf said it.server.target (arc_value one)) path.addresses.items
-      → All (IsPath said domain true rules) paths
-      → All (IsPath said domain true rules) (paths ++ path ∷ [])
-  service-more rules paths path it some is by_rule addresses all =
-      let one : IsPath said domain true rules path = record {
-        service = rw some is;
-        addresses = rw some addresses;
-        by_service = rw some refl;
-        by_rule = rw some by_rule;
-      } in
-      All-push (IsPath said domain true rules) _ _ all one
+-- the lists of two
+pub Joined-pair : {X Y : Type 0} (gives : X → List Y → Type 0) (x y : X) (first second : List Y) → gives x first → gives y second
+    → Joined gives (x ∷ y ∷ []) (first ++ second)
+Joined-pair gives x y first second one other =
+    more one (subst (Joined gives (y ∷ [])) (append-nil second) (more other none))
 
--- an answer about a name
-pub answer-more : (said : Question → AnswerValue → Type 0) (name : List (List ℕ)) (answers : List (Arc AnswerValue Global))
-    (one : Arc AnswerValue Global) → IsSaidOf said name (arc_value one)
-    → All (λ it. IsSaidOf said name (arc_value it)) answers
-    → All (λ it. IsSaidOf said name (arc_value it)) (answers ++ one ∷ [])
-answer-more said name answers one is all = All-push (λ it. IsSaidOf said name (arc_value it)) answers one all is
+-- what is added to nothing is the whole
+pub adds-whole : {X : Type 0} (Are : List X → Type 0) (old new : List X) → old ≡ [] → Adds Are old new → Are new
+adds-whole Are old new empty adds = subst Are (sym (adds.behind ∙ ap (λ it. it ++ adds.added) empty)) adds.are
 
--- a record of a service, by what it was made of
-pub made-service : (said : Question → AnswerValue → Type 0) (domain : List (List ℕ)) (it : ServiceRecord)
-    (by : Option (NaptrRecord × ℕ)) (service : List (List ℕ)) (answer : AnswerValue)
-    → it.rule ≡ option_map (λ it. it.0) by → it.service ≡ service → IsNamed said domain it.transport service by
-    → said (record { name = service; kind = kind.Srv }) answer → Contains (servers_in answer.records) it.server
-    → it.life ≡ shared_life by answer.life
-    → IsServiceRecord said domain it
-made-service said domain it by service answer rule same named told has life = record {
-  by = by;
-  rule = rule;
-  named = rw same named;
-  answer = answer;
-  is_said = rw same told;
-  has = has;
-  life = life;
+-- an item is added
+pub adds-one : {X : Type 0} (Is : X → Type 0) (old new : List X) (item : X) → new ≡ old ++ item ∷ [] → Is item
+    → Adds (IsOne Is) old new
+adds-one Is old new item behind is = record {
+  added = item ∷ [];
+  behind = behind;
+  are = record { item = item; only = refl; is = is };
 }
 
--- where no rule counts, the record has none
-pub made-by : (by : Option NamedBy) (rule : Option NaptrRecord) (rules : Bool)
-    → rule ≡ option_map (λ it. it.0) (option_map naming_of by)
-    → IfSome by (λ _. rules ≡ true) → IfSome rule (λ _. rules ≡ true)
-made-by None rule rules same none = rw same tt
-made-by (Some by) rule rules same some = rw same some
+-- nothing is added
+pub adds-none : {X : Type 0} (Are : List X → Type 0) (old : List X) → Are [] → Adds Are old old
+adds-none Are old are = record { added = []; behind = sym (append-nil old); are = are }
 
--- the paths of a name are those of a request that asks for it
-pub of-request : (said : Question → AnswerValue → Type 0) (request : Request) (name : List (List ℕ)) (services rules : Bool)
-    (paths : List ResolutionPath) → target_of request ≡ host.Domain name
-    → services ≡ is_none (port_of request) → rules ≡ is_none (spoken_of request)
-    → All (IsPath said name services rules) paths → All (IsPathOf said request) paths
-of-request said request name services rules paths named portless unspoken =
-    All-weaker (IsPath said name services rules) (IsPathOf said request)
-    (λ path is. record { name = name; named = named; is = rw (← portless, ← unspoken) is }) paths
+-- one list is added behind another
+pub adds-both : {X : Type 0} (Are Were Both : List X → Type 0) (old middle new : List X)
+    → ((first second : List X) → Were first → Are second → Both (first ++ second))
+    → Adds Were old middle → Adds Are middle new → Adds Both old new
+adds-both Are Were Both old middle new both first second = record {
+  added = first.added ++ second.added;
+  behind = second.behind ∙ ap (λ it. it ++ second.added) first.behind ∙ append_assoc old first.added second.added;
+  are = both first.added second.added first.are second.are;
+}
+
+-- what a further one gives is added behind what the others gave
+pub adds-further : {X Y : Type 0} (gives : X → List Y → Type 0) (xs : List X) (index : ℕ) (x : X) (old middle new : List Y)
+    → index < length xs
+    → Adds (Joined gives (take index xs)) old middle → Adds (gives (get_or xs index x)) middle new
+    → Adds (Joined gives (take (index + 1) xs)) old new
+adds-further gives xs index x old middle new inside first second =
+    subst (λ it. Adds (Joined gives it) old new) (sym (take_more xs index x inside))
+    (adds-both (gives (get_or xs index x)) (Joined gives (take index xs)) (Joined gives (take index xs ++ get_or xs index x ∷ []))
+    old middle new
+    (λ ys last all is. Joined-push gives (take index xs) ys (get_or xs index x) last all is) first second)
+
+module _ (said : Question → Option AnswerValue → Type 0) where
+  -- a path by an SRV record, by what the record was made of
+  pub adds-server : (transport : Transport) (service made : List (List ℕ)) (rule by : Option NaptrRecord) (life : ℕ)
+      (server copy : SrvRecord) (old new : List ResolutionPath)
+      → made ≡ service → by ≡ rule → copy ≡ server
+      → Adds (ByServer said transport made by life copy) old new
+      → Adds (ByServer said transport service rule life server) old new
+  adds-server transport service made rule by life server copy old new same_service same_rule same_server adds =
+      rw (← same_service, ← same_rule, ← same_server) adds
+
+  -- the paths of a domain are those of a request that asks for it
+  pub of-request : (request : Request) (domain : List (List ℕ)) (services rules : Bool) (paths : List ResolutionPath)
+      → target_of request ≡ host.Domain domain
+      → services ≡ is_none (port_of request) → rules ≡ is_none (spoken_of request)
+      → ArePaths said domain services rules paths → ArePathsOf said request paths
+  of-request request domain services rules paths named portless unspoken are =
+      subst (λ it. ArePathsAt said it (is_none (port_of request)) (is_none (spoken_of request)) paths) (sym named)
+      (rw (← portless, ← unspoken) are)
+
+  -- a request for an address has no path
+  pub no-paths : (request : Request) (it : Host) (paths : List ResolutionPath) → target_of request ≡ it
+      → ((domain : List (List ℕ)) → it ≡ host.Domain domain → ⊥) → paths ≡ [] → ArePathsOf said request paths
+  no-paths request (host.Domain domain) paths named other are = absurd (other domain refl)
+  no-paths request (host.V4 octets) paths named other are =
+      subst (λ it. ArePathsAt said it (is_none (port_of request)) (is_none (spoken_of request)) paths) (sym named) are
+  no-paths request (host.V6 octets) paths named other are =
+      subst (λ it. ArePathsAt said it (is_none (port_of request)) (is_none (spoken_of request)) paths) (sym named) are
 
 -- the test whether nothing is there, by what it is that is there
 pub none-of : {X : Type 0} (it same : Option X) (test : Bool) → is_some it ≡ not test → it ≡ same → test ≡ is_none same

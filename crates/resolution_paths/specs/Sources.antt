@@ -1,5 +1,5 @@
 -- What a source of answers said while it was asked.
-use Rattle.std.specs.Prelude.{Option, Some}
+use Rattle.std.specs.Prelude.{Option}
 use Rattle.dns_answers.specs.Values.{AnswerValue}
 use Rattle.dns_message.specs.declared.question.Question.{Question}
 
@@ -9,10 +9,11 @@ pub data Went {Seat : Type 0} (goes : Seat → Seat → Type 0) (start : Seat) :
   onward : {seat : Seat} (next : Seat) → Went goes start seat → goes seat next
       → Went goes start next
 
--- an answer is what a source said to a question, when it was asked after a start
+-- This is what a source said to a question, when it was asked after a start: its answer, or that it
+-- has none.
 pub record Said {Seat : Type 0} (goes : Seat → Seat → Type 0)
     (says : Seat → Question → Option AnswerValue → Type 0) (start : Seat) (question : Question)
-    (answer : AnswerValue) : Type 0 where
+    (found : Option AnswerValue) : Type 0 where
   pub seat : Seat
   pub went : Went goes start seat
-  pub said : says seat question (Some answer)
+  pub said : says seat question found

@@ -13,11 +13,14 @@
 //! ```
 //!
 //! What is found is told of the answers that the source gives when it is asked: nothing is noted
-//! while a choice is made. Where several paths lead to a target, the first one counts: those by
-//! NAPTR records come before those by the transports alone, records as they stand in their answer,
-//! and the host's own addresses last.
+//! while a choice is made. No path is missing, and their order is fixed: first those by NAPTR
+//! records, then those by the transports alone, records as they stand in their answer, and the
+//! host's own addresses last. Services count only where the request writes no port, and NAPTR
+//! records only where it names no transport. Where several paths lead to a target, the first one
+//! counts.
 //!
-//! Read `specs/Paths.antt` first: what a path is, and which target it leads to.
+//! Read `specs/Paths.antt` first: which paths a request has (`ArePathsOf`), what each of them is
+//! (`IsPathOf`), and which target it leads to.
 #![tactic(auto)]
 
 mod path;

@@ -1,5 +1,5 @@
 //! The paths of a request, as a source of answers has them.
-ghost use Rattle.std.specs.Prelude.{◌≡◌, ℕ, Bool, List, true, IfOk, IfSome, OnOk};
+ghost use Rattle.std.specs.Prelude.{◌≡◌, map, None, Some, IfOk, OnOk};
 ghost use Rattle.std.specs.Arc.{arc_value};
 ghost use Rattle.std.specs.List.{All};
 ghost use Rattle.std.specs.Option.{option_map};
@@ -63,11 +63,10 @@ fn push_answer<S: AnswerSource>(
     requires { S.ready source.now seat.old }
     ensures ready { S.ready source.now seat.new }
     ensures went { (start : S.Seat) → Went S.goes start seat.old → Went S.goes start seat.new }
-    ensures said { (start : S.Seat) → Went S.goes start seat.old
-        → All (λ it. spec.IsSaidOf (Said S.goes (S.says source.now) start) name.now (arc_value it))
-        answers.old.items
-        → OnOk result (All (λ it. spec.IsSaidOf (Said S.goes (S.says source.now) start) name.now
-        (arc_value it)) answers.new.items) }
+    ensures answer { (start : S.Seat) → Went S.goes start seat.old
+        → OnOk result (spec.Adds
+        (spec.IsAnswerTo (Said S.goes (S.says source.now) start) name.now kind)
+        (map arc_value answers.old.items) (map arc_value answers.new.items)) }
 {
     if let Some(answer) = answer_to(source, seat, name, kind)? {
         answers.push(answer)?;
@@ -85,9 +84,9 @@ fn addresses_of<S: AnswerSource>(
     requires { S.ready source.now seat.old }
     ensures ready { S.ready source.now seat.new }
     ensures went { (start : S.Seat) → Went S.goes start seat.old → Went S.goes start seat.new }
-    ensures said { (start : S.Seat) → Went S.goes start seat.old
-        → IfOk result (λ answers. All (λ it. spec.IsSaidOf
-        (Said S.goes (S.says source.now) start) name.now (arc_value it)) answers.items) }
+    ensures addresses { (start : S.Seat) → Went S.goes start seat.old
+        → IfOk result (λ answers. spec.AreAddressesOf
+        (Said S.goes (S.says source.now) start) name.now (map arc_value answers.items)) }
 {
     let mut answers = Vec::new(alloc);
     push_answer(&mut answers, source, seat, name, Kind::A)?;
@@ -127,14 +126,10 @@ fn push_path<S: AnswerSource>(
     requires { S.ready source.now seat.old }
     ensures ready { S.ready source.now seat.new }
     ensures went { (start : S.Seat) → Went S.goes start seat.old → Went S.goes start seat.new }
-    ensures paths { (start : S.Seat) (domain : List (List ℕ)) (rules : Bool)
-        → Went S.goes start seat.old
-        → spec.IsServiceRecord (Said S.goes (S.says source.now) start) domain service
-        → IfSome service.rule (λ _. rules ≡ true)
-        → All (spec.IsPath (Said S.goes (S.says source.now) start) domain true rules)
-        paths.old.items
-        → OnOk result (All (spec.IsPath (Said S.goes (S.says source.now) start) domain true rules)
-        paths.new.items) }
+    ensures path { (start : S.Seat) → Went S.goes start seat.old
+        → OnOk result (spec.Adds (spec.IsOne (spec.IsPathTo
+        (Said S.goes (S.says source.now) start) service.server.target (Some service)))
+        paths.old.items paths.new.items) }
 {
     let addresses = addresses_of(alloc, source, seat, &service.server.target)?;
     paths.push(ResolutionPath {
@@ -158,15 +153,9 @@ fn push_service<S: AnswerSource>(
     requires { S.ready source.now seat.old }
     ensures ready { S.ready source.now seat.new }
     ensures went { (start : S.Seat) → Went S.goes start seat.old → Went S.goes start seat.new }
-    ensures paths { (start : S.Seat) (domain : List (List ℕ)) (rules : Bool)
-        → Went S.goes start seat.old
-        → spec.IsNamed (Said S.goes (S.says source.now) start) domain transport service.now
-        (option_map spec.naming_of by.entry)
-        → IfSome by.entry (λ _. rules ≡ true)
-        → All (spec.IsPath (Said S.goes (S.says source.now) start) domain true rules)
-        paths.old.items
-        → OnOk result (All (spec.IsPath (Said S.goes (S.says source.now) start) domain true rules)
-        paths.new.items) }
+    ensures paths { (start : S.Seat) → Went S.goes start seat.old
+        → OnOk result (spec.Adds (spec.ByService (Said S.goes (S.says source.now) start) transport
+        service.now (option_map spec.naming_of by.entry)) paths.old.items paths.new.items) }
 {
     let Some(answer) = answer_to(source, seat, service, Kind::Srv)? else {
         return Ok(());
@@ -196,12 +185,9 @@ fn push_by_rule<S: AnswerSource>(
     requires { S.ready source.now seat.old }
     ensures ready { S.ready source.now seat.new }
     ensures went { (start : S.Seat) → Went S.goes start seat.old → Went S.goes start seat.new }
-    ensures paths { (start : S.Seat) (domain : List (List ℕ)) → Went S.goes start seat.old
-        → spec.IsRuleOf (Said S.goes (S.says source.now) start) domain (spec.naming_of by.entry)
-        → All (spec.IsPath (Said S.goes (S.says source.now) start) domain true true)
-        paths.old.items
-        → OnOk result (All (spec.IsPath (Said S.goes (S.says source.now) start) domain true true)
-        paths.new.items) }
+    ensures paths { (start : S.Seat) → Went S.goes start seat.old
+        → OnOk result (spec.Adds (spec.ByRule (Said S.goes (S.says source.now) start) by.entry.life
+        by.entry.rule.now) paths.old.items paths.new.items) }
 {
     let Some(transport) = service_transport(by.rule) else {
         return Ok(());
@@ -222,10 +208,8 @@ fn push_by_rules<S: AnswerSource>(
     ensures ready { S.ready source.now seat.new }
     ensures went { (start : S.Seat) → Went S.goes start seat.old → Went S.goes start seat.new }
     ensures paths { (start : S.Seat) → Went S.goes start seat.old
-        → All (spec.IsPath (Said S.goes (S.says source.now) start) domain.now true true)
-        paths.old.items
-        → OnOk result (All (spec.IsPath (Said S.goes (S.says source.now) start) domain.now true
-        true) paths.new.items) }
+        → OnOk result (spec.Adds (spec.ByRules (Said S.goes (S.says source.now) start) domain.now)
+        paths.old.items paths.new.items) }
 {
     let Some(answer) = answer_to(source, seat, domain, Kind::Naptr)? else {
         return Ok(());
@@ -249,11 +233,9 @@ fn push_by_transport<S: AnswerSource>(
     requires { S.ready source.now seat.old }
     ensures ready { S.ready source.now seat.new }
     ensures went { (start : S.Seat) → Went S.goes start seat.old → Went S.goes start seat.new }
-    ensures paths { (start : S.Seat) (rules : Bool) → Went S.goes start seat.old
-        → All (spec.IsPath (Said S.goes (S.says source.now) start) domain.now true rules)
-        paths.old.items
-        → OnOk result (All (spec.IsPath (Said S.goes (S.says source.now) start) domain.now true
-        rules) paths.new.items) }
+    ensures paths { (start : S.Seat) → Went S.goes start seat.old
+        → OnOk result (spec.Adds (spec.ByTransport (Said S.goes (S.says source.now) start)
+        domain.now transport) paths.old.items paths.new.items) }
 {
     let Some(service) = service_name(domain, transport)? else {
         return Ok(());
@@ -272,11 +254,9 @@ fn push_by_transports<S: AnswerSource>(
     requires { S.ready source.now seat.old }
     ensures ready { S.ready source.now seat.new }
     ensures went { (start : S.Seat) → Went S.goes start seat.old → Went S.goes start seat.new }
-    ensures paths { (start : S.Seat) (rules : Bool) → Went S.goes start seat.old
-        → All (spec.IsPath (Said S.goes (S.says source.now) start) domain.now true rules)
-        paths.old.items
-        → OnOk result (All (spec.IsPath (Said S.goes (S.says source.now) start) domain.now true
-        rules) paths.new.items) }
+    ensures paths { (start : S.Seat) → Went S.goes start seat.old
+        → OnOk result (spec.Adds (spec.ByTransports (Said S.goes (S.says source.now) start)
+        domain.now) paths.old.items paths.new.items) }
 {
     'transports: for transport in TRANSPORTS {
         push_by_transport(paths, alloc, source, seat, domain, transport)?;
@@ -295,11 +275,10 @@ fn push_own<S: AnswerSource>(
     requires { S.ready source.now seat.old }
     ensures ready { S.ready source.now seat.new }
     ensures went { (start : S.Seat) → Went S.goes start seat.old → Went S.goes start seat.new }
-    ensures paths { (start : S.Seat) (services rules : Bool) → Went S.goes start seat.old
-        → All (spec.IsPath (Said S.goes (S.says source.now) start) domain.now services rules)
-        paths.old.items
-        → OnOk result (All (spec.IsPath (Said S.goes (S.says source.now) start) domain.now services
-        rules) paths.new.items) }
+    ensures path { (start : S.Seat) → Went S.goes start seat.old
+        → OnOk result (spec.Adds (spec.IsOne (spec.IsPathTo
+        (Said S.goes (S.says source.now) start) domain.now None))
+        paths.old.items paths.new.items) }
 {
     let addresses = addresses_of(alloc, source, seat, domain)?;
     paths.push(ResolutionPath {
@@ -323,10 +302,8 @@ fn push_services<S: AnswerSource>(
     ensures ready { S.ready source.now seat.new }
     ensures went { (start : S.Seat) → Went S.goes start seat.old → Went S.goes start seat.new }
     ensures paths { (start : S.Seat) → Went S.goes start seat.old
-        → All (spec.IsPath (Said S.goes (S.says source.now) start) domain.now true has_rules)
-        paths.old.items
-        → OnOk result (All (spec.IsPath (Said S.goes (S.says source.now) start) domain.now true
-        has_rules) paths.new.items) }
+        → OnOk result (spec.Adds (spec.ByServices (Said S.goes (S.says source.now) start)
+        domain.now has_rules) paths.old.items paths.new.items) }
 {
     if !has_rules {
         return push_by_transports(paths, alloc, source, seat, domain);
@@ -349,10 +326,8 @@ fn push_all<S: AnswerSource>(
     ensures ready { S.ready source.now seat.new }
     ensures went { (start : S.Seat) → Went S.goes start seat.old → Went S.goes start seat.new }
     ensures paths { (start : S.Seat) → Went S.goes start seat.old
-        → All (spec.IsPath (Said S.goes (S.says source.now) start) domain.now has_services
-        has_rules) paths.old.items
-        → OnOk result (All (spec.IsPath (Said S.goes (S.says source.now) start) domain.now
-        has_services has_rules) paths.new.items) }
+        → OnOk result (spec.Adds (spec.ArePaths (Said S.goes (S.says source.now) start) domain.now
+        has_services has_rules) paths.old.items paths.new.items) }
 {
     if !has_services {
         return push_own(paths, alloc, source, seat, domain);
@@ -361,7 +336,7 @@ fn push_all<S: AnswerSource>(
     push_own(paths, alloc, source, seat, domain)
 }
 
-/// The paths of a request, in the order in which they count. Where the request asks for an address,
+/// All paths of a request, in the order in which they count. Where the request asks for an address,
 /// there is none.
 pub fn paths_of<S: AnswerSource>(
     alloc: Global,
@@ -372,6 +347,8 @@ pub fn paths_of<S: AnswerSource>(
     requires { S.ready source.now seat.old }
     ensures ready { S.ready source.now seat.new }
     ensures went { Went S.goes seat.old seat.new }
+    ensures whole { IfOk result (λ paths. spec.ArePathsBy
+        (Said S.goes (S.says source.now) seat.old) request.now paths.items) }
     ensures paths { IfOk result (λ paths. All (spec.IsPathOf
         (Said S.goes (S.says source.now) seat.old) request.now) paths.items) }
 {

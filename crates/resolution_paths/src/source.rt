@@ -1,6 +1,7 @@
 //! A source that is asked for answers to keep.
-ghost use Rattle.std.specs.Prelude.{IfOk, IfSome};
+ghost use Rattle.std.specs.Prelude.{IfOk};
 ghost use Rattle.std.specs.Arc.{arc_value};
+ghost use Rattle.std.specs.Option.{option_map};
 ghost use Rattle.resolution_paths.specs.Sources.{Said, Went};
 
 use dns_answers::Answer;
@@ -21,8 +22,8 @@ pub(crate) fn answer_to<S: AnswerSource>(
     ensures ready { S.ready source.now seat.new }
     ensures went { (start : S.Seat) → Went S.goes start seat.old → Went S.goes start seat.new }
     ensures said { (start : S.Seat) → Went S.goes start seat.old
-        → IfOk result (λ found. IfSome found (λ answer. Said S.goes (S.says source.now) start
-        (record { name = name.now; kind = kind }) (arc_value answer))) }
+        → IfOk result (λ found. Said S.goes (S.says source.now) start
+        (record { name = name.now; kind = kind }) (option_map arc_value found)) }
 {
     let question = Question {
         name: name.try_clone()?,

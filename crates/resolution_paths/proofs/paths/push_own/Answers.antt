@@ -1,7 +1,8 @@
 use Rattle.std.proofs.Common.{refl}
-use Rattle.resolution_paths.proofs.More.{own-more}
+use Rattle.resolution_paths.proofs.More.{adds-one}
 use Rattle.resolution_paths.proofs.paths.push_own.Goals as goal
 
-pub returns-clause-paths : goal.returns-clause-paths
-returns-clause-paths g c = λ start services rules went all.
-    rw c.in_ok-push.ensures.items (own-more _ _ services rules _ _ refl (c.in_ok-addresses.ensures.said start went) all)
+pub returns-clause-path : goal.returns-clause-path
+returns-clause-path g c = λ start went.
+    adds-one _ _ _ _ c.in_ok-push.ensures.items
+    (record { by = refl; addresses = c.in_ok-addresses.ensures.addresses start went })

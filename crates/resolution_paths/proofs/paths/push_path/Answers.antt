@@ -1,7 +1,8 @@
 use Rattle.std.proofs.Common.{refl}
-use Rattle.resolution_paths.proofs.More.{service-more}
+use Rattle.resolution_paths.proofs.More.{adds-one}
 use Rattle.resolution_paths.proofs.paths.push_path.Goals as goal
 
-pub returns-clause-paths : goal.returns-clause-paths
-returns-clause-paths g c = λ start domain rules went is by_rule all.
-    rw c.in_ok-push.ensures.items (service-more _ _ rules _ _ _ refl is by_rule (c.in_ok-addresses.ensures.said start went) all)
+pub returns-clause-path : goal.returns-clause-path
+returns-clause-path g c = λ start went.
+    adds-one _ _ _ _ c.in_ok-push.ensures.items
+    (record { by = refl; addresses = c.in_ok-addresses.ensures.addresses start went })

@@ -19,3 +19,10 @@ returns-in-Some-clause-said g c = λ start went. record {
 
 pub returns-clause-went : goal.returns-clause-went
 returns-clause-went g c = λ start went. onward _ went c.answer.ensures.goes
+
+pub returns-clause-said : goal.returns-clause-said
+returns-clause-said g c = λ start went. record {
+  seat = c.answer.new.seat;
+  went = onward _ went c.answer.ensures.goes;
+  said = rw (← c.in_ok-try_clone.ensures) (rw c.in-None.is at c.in_ok-found.ensures.says);
+}
