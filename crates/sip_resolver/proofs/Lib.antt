@@ -4,6 +4,7 @@ pub mod Numbers
 pub mod Kept
 pub mod Standing
 pub mod Going
+pub mod Beginning
 pub mod Weighing
 pub mod Storing
 pub mod Inside

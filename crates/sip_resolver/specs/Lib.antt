@@ -20,3 +20,4 @@ pub mod Driven
 pub mod IdStreams
 pub mod Draws
 pub mod Dues
+pub mod Readies

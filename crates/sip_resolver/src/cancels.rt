@@ -5,6 +5,7 @@ ghost use Rattle.sip_resolver.specs.Requests.{count_of, number_of_ended, number_
 
 use crate::outcome::Resolved;
 use crate::questions::Questions;
+use crate::ready::Ready;
 use crate::requests::{Requests, Waiting};
 use crate::task::Task;
 
@@ -78,7 +79,7 @@ fn remove_ready<B>(requests: &mut Requests<B>, number: u64)
 }
 
 /// One more that can go on, unless it has this number.
-fn add_other<B>(requests: &mut Requests<B>, task: Task<B>, number: u64)
+fn add_other<B>(requests: &mut Requests<B>, task: Ready<B>, number: u64)
     requires { count_of requests.old < requests.old.limit }
     ensures { requests.new ≡ record requests.old {
       ready = requests.old.ready ++ others_by (λ task. task.number) number (task ∷ []);

@@ -8,13 +8,15 @@ ghost use Rattle.sip_resolver.specs.Requests.{AreSame, IsBack, Stand, count_of};
 ghost use Rattle.sip_resolver.specs.Tasks.{IsCounted, Lacks, sought_of};
 
 use crate::facts::Facts;
-use crate::outcome::Outcome;
+use crate::outcome::{Outcome, Resolved};
 use crate::questions::Questions;
+use crate::ready::{Lead, Ready};
 use crate::requests::{Requests, Waiting};
-use crate::task::{Progress, Task};
+use crate::task::Task;
 use answer_cache::AnswerBook;
 use dns_answers::Moment;
 use std::alloc::{AllocError, Global};
+use std::snapshot::Snapshot;
 
 /// What becomes of a request that ends without the answer that it needs.
 fn unanswered<B: AnswerBook>(task: &Task<B>) -> Outcome
@@ -37,7 +39,7 @@ fn end_late<B: AnswerBook, F: Facts>(
     book: &B,
     seat: &mut B::Seat,
     now: Moment,
-    mut task: Task<B>,
+    task: Ready<B>,
 )
     requires made_here { B.belongs book.now seat.old }
     requires shown { F.shows now }
@@ -53,9 +55,10 @@ fn end_late<B: AnswerBook, F: Facts>(
     ensures others { requests.new ≡ record requests.old { ended = requests.new.ended } }
     ensures ends { EndsLate now requests.old.ended requests.new.ended }
 {
+    let (was, number) = (Snapshot::of(&task), task.number());
     match task.step::<F>(alloc, book, seat, now) {
-        Progress::Ended(outcome) => requests.end(task, outcome),
-        Progress::Asks => {
+        Lead::Ended(outcome) => requests.put_ended(Resolved::new(was, number, outcome)),
+        Lead::Asks(task) => {
             let outcome = unanswered(&task);
             requests.end(task, outcome);
         }
@@ -70,7 +73,7 @@ fn turn_ready<B: AnswerBook, F: Facts>(
     book: &B,
     seat: &mut B::Seat,
     now: Moment,
-    task: Task<B>,
+    task: Ready<B>,
 )
     requires made_here { B.belongs book.now seat.old }
     requires shown { F.shows now }
@@ -122,7 +125,7 @@ fn turn_held<B: AnswerBook, F: Facts>(
     ensures ends { EndsLate now requests.old.ended requests.new.ended }
 {
     if task.is_expired(now) {
-        end_late::<B, F>(requests, alloc, book, seat, now, task);
+        end_late::<B, F>(requests, alloc, book, seat, now, Ready::of(task));
     } else {
         requests.hold(task);
     }

@@ -77,6 +77,7 @@ mod number_filter;
 mod outcome;
 mod questions;
 mod queue;
+mod ready;
 mod refusal;
 mod requests;
 mod resolver;

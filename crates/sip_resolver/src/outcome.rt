@@ -3,13 +3,14 @@ ghost use Rattle.std.specs.Prelude.{◌≡◌, IfOk, OnErr};
 ghost use Rattle.sip_resolver.specs.Outcomes.{Ended, HasParts, Sought};
 
 use crate::queue::Numbered;
-use crate::task::Task;
+use crate::ready::Ready;
 use dns_answers::ReplyRefusal;
 use dns_message::Question;
 use sip_selection::{Reason, Target};
 use sip_uri::Host;
 use std::alloc::{AllocError, Global};
 use std::marker::Model;
+use std::snapshot::Snapshot;
 
 /// The targets of a request, in the order in which they are to be tried, and the host that the
 /// certificate of their servers has to be of.
@@ -143,27 +144,36 @@ impl Outcome {
 /// A request that ended, with what became of it.
 #[derive(Drop)]
 pub struct Resolved<B> {
-    task: Task<B>,
+    task: Snapshot<Ready<B>>,
+    number: u64,
     outcome: Outcome,
 }
 
 impl<B> Model for Resolved<B> {
+    ghost use Rattle.std.specs.Prelude.{◌≡◌};
     ghost use Rattle.sip_resolver.specs.Outcomes.{Ended};
     ghost use Rattle.sip_resolver.specs.Tasks.{sought_of};
 
     ghost Value = { Ended };
 
-    ghost view = { λ it. record { sought = sought_of it.task; outcome = it.outcome } };
+    ghost view = { λ it. record { sought = sought_of it.task.value; outcome = it.outcome } };
+
+    ghost invariant = { λ it. it.number ≡ it.task.value.number };
 }
 
 impl<B> Resolved<B> {
     ghost use Rattle.sip_resolver.specs.Tasks.{sought_of};
 
-    /// This became of a request.
-    pub(crate) fn new(task: Task<B>, outcome: Outcome) -> Resolved<B>
-        ensures { result ≡ record { sought = sought_of task; outcome = outcome } }
+    /// This became of a request of this number.
+    pub(crate) fn new(task: Snapshot<Ready<B>>, number: u64, outcome: Outcome) -> Resolved<B>
+        requires { number ≡ task.value.number }
+        ensures { result ≡ record { sought = sought_of task.value; outcome = outcome } }
     {
-        Resolved { task, outcome }
+        Resolved {
+            task,
+            number,
+            outcome,
+        }
     }
 
     /// The number of the request.
@@ -171,7 +181,7 @@ impl<B> Resolved<B> {
     pub fn number(&self) -> u64
         ensures { result ≡ self.now.sought.number }
     {
-        self.task.number()
+        self.number
     }
 
     /// What became of the request.
@@ -187,7 +197,7 @@ impl<B> Numbered for Resolved<B> {
     ghost numbered = { λ it. it.sought.number };
 
     fn number(&self) -> u64 {
-        self.task.number()
+        self.number
     }
 }
 

@@ -13,10 +13,12 @@ use crate::earliest::Earliest;
 use crate::number_filter::NumberFilter;
 use crate::outcome::{Outcome, Resolved};
 use crate::queue::{Numbered, Queue, Timed, least_of};
+use crate::ready::Ready;
 use crate::task::Task;
 use dns_answers::Moment;
 use std::alloc::{AllocError, Global};
 use std::marker::Model;
+use std::snapshot::Snapshot;
 
 /// A request that waits for the reply to the message of this id.
 #[derive(Drop)]
@@ -53,7 +55,7 @@ impl<B> Timed for Waiting<B> {
 #[derive(Drop)]
 pub(crate) struct Requests<B> {
     /// They can go on.
-    ready: Queue<Task<B>>,
+    ready: Queue<Ready<B>>,
     /// Their questions found as many others out as can be.
     held: Queue<Task<B>>,
     /// They wait for replies.
@@ -252,7 +254,7 @@ impl<B> Requests<B> {
     }
 
     /// One more that can go on.
-    pub(crate) fn add(&mut self, task: Task<B>)
+    pub(crate) fn add(&mut self, task: Ready<B>)
         requires { count_of self.old < self.old.limit }
         ensures { self.new ≡ record self.old { ready = self.old.ready ++ task ∷ [] } }
     {
@@ -290,7 +292,8 @@ impl<B> Requests<B> {
           ended = self.old.ended ++ record { sought = sought_of task; outcome = outcome } ∷ [];
         } }
     {
-        self.put_ended(Resolved::new(task, outcome));
+        let (number, ended) = (task.number(), Ready::of(task));
+        self.put_ended(Resolved::new(Snapshot::of(&ended), number, outcome));
     }
 
     /// One more that ended.
@@ -303,7 +306,7 @@ impl<B> Requests<B> {
     }
 
     /// Takes the first one out that can go on.
-    pub(crate) fn next_ready(&mut self) -> Option<Task<B>>
+    pub(crate) fn next_ready(&mut self) -> Option<Ready<B>>
         ensures { MatchOption result ((self.old.ready ≡ []) × (self.new ≡ self.old))
             (λ task. IsWithoutReady task self.old self.new) }
     {

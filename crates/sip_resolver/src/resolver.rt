@@ -30,9 +30,9 @@ use crate::ids::Ids;
 use crate::outcome::Resolved;
 use crate::questions::Questions;
 use crate::queue::least_of;
+use crate::ready::{Lead, Ready};
 use crate::refusal::SubmitRefusal;
 use crate::requests::Requests;
-use crate::task::{Progress, Task};
 use crate::transmit::{DnsTransport, Transmit};
 use crate::waits::{WaitEnd, settle_all};
 use answer_cache::{AnswerBook, Stores};
@@ -43,6 +43,7 @@ use sip_selection::{Caps, Request};
 use srv_choice::RandomWords;
 use std::alloc::{AllocError, Global};
 use std::marker::{Model, PhantomData};
+use std::snapshot::Snapshot;
 use std::sync::Arc;
 
 /// How many requests and questions a resolver has at once.
@@ -190,7 +191,7 @@ impl<B: AnswerBook, F: Facts, I: Ids + Drop> Resolver<B, F, I> {
         if self.requests.has(number) {
             return Err(SubmitRefusal::NumberTaken);
         }
-        let task = Task::new(self.alloc, number, request, caps, words, until)?;
+        let task = Ready::new(self.alloc, number, request, caps, words, until)?;
         self.requests.add(task);
         Ok(())
     }
@@ -530,7 +531,7 @@ impl<B: AnswerBook, F: Facts, I: Ids + Drop> Resolver<B, F, I> {
             let Some(task) = self.requests.next_held() else {
                 return None;
             };
-            if let Some(id) = self.advance(book, seat, now, asked, task) {
+            if let Some(id) = self.advance(book, seat, now, asked, Ready::of(task)) {
                 return Some(id);
             }
         }
@@ -545,7 +546,7 @@ impl<B: AnswerBook, F: Facts, I: Ids + Drop> Resolver<B, F, I> {
         seat: &mut B::Seat,
         now: Moment,
         asked: Moment,
-        mut task: Task<B>,
+        task: Ready<B>,
     ) -> Option<u16>
         requires made_here { B.belongs book.now seat.old }
         requires shown { F.shows now }
@@ -568,12 +569,14 @@ impl<B: AnswerBook, F: Facts, I: Ids + Drop> Resolver<B, F, I> {
         ensures held { (self.new.requests.held ≡ self.old.requests.held)
             ⊎ CannotAsk I.draws self.new.questions }
     {
+        let (was, number) = (Snapshot::of(&task), task.number());
         match task.step::<F>(self.alloc, book, seat, now) {
-            Progress::Ended(outcome) => {
-                self.requests.end(task, outcome);
+            Lead::Ended(outcome) => {
+                let ended = Resolved::new(was, number, outcome);
+                self.requests.put_ended(ended);
                 None
             }
-            Progress::Asks => wait_for_answer::<B, F, I>(
+            Lead::Asks(task) => wait_for_answer::<B, F, I>(
                 &mut self.requests,
                 &mut self.questions,
                 &mut self.ids,

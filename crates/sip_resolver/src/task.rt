@@ -6,6 +6,7 @@ ghost use Rattle.dns_answers.specs.Records.{kind_of};
 ghost use Rattle.dns_message.specs.declared.question.Question.{Question as question};
 ghost use Rattle.sip_selection.specs.Choice.{IsNotRefused, need};
 ghost use Rattle.sip_selection.specs.Nexts.{next_of};
+ghost use Rattle.sip_selection.specs.Requests.{target_of};
 ghost use Rattle.sip_selection.specs.Selections.{begun, given_too, now_of};
 ghost use Rattle.sip_resolver.specs.Expiries.{is_expired};
 ghost use Rattle.srv_choice.specs.Draws.{words_of};
@@ -71,6 +72,13 @@ impl<B> Task<B> {
         ensures { result ≡ self.now.number }
     {
         self.number
+    }
+
+    /// The moment by which it ends, if it has one.
+    pub(crate) fn until(&self) -> Option<Moment>
+        ensures { result ≡ self.now.until }
+    {
+        self.until
     }
 
     /// Over what its question goes: over a stream where the reply over a datagram was cut.
@@ -149,6 +157,30 @@ impl<B: AnswerBook> Task<B> {
                 until,
             }),
             Err(AllocFailed { .. }) => Err(AllocError),
+        }
+    }
+
+    /// A request that asks for an answer, by its locator, and the host that it asks for.
+    pub(crate) fn asking(
+        number: u64,
+        locator: Box<Locator<B>>,
+        host: Host,
+        until: Option<Moment>,
+    ) -> Task<B>
+        requires { host ≡ target_of locator.value.request }
+        ensures { result ≡ record {
+          number = number;
+          selection = locator.value;
+          cut = false;
+          until = until;
+        } }
+    {
+        Task {
+            number,
+            locator,
+            host,
+            cut: false,
+            until,
         }
     }
 

@@ -17,6 +17,7 @@ ghost use Rattle.sip_resolver.specs.Waits.{EndsAs, Fits, GoesAs, IsClosed, IsFai
 
 use crate::facts::Facts;
 use crate::outcome::Outcome;
+use crate::ready::Ready;
 use crate::requests::Requests;
 use crate::task::Task;
 use answer_cache::AnswerBook;
@@ -132,7 +133,7 @@ fn settle<B: AnswerBook, F: Facts>(requests: &mut Requests<B>, mut task: Task<B>
         requests.old requests.new }
 {
     match wait_outcome_of::<B, F>(&mut task, end) {
-        WaitOutcome::Ready => requests.add(task),
+        WaitOutcome::Ready => requests.add(Ready::of(task)),
         WaitOutcome::Ended(outcome) => requests.end(task, outcome),
     }
 }

@@ -13,8 +13,9 @@ returns-in-Ended-clause-stand g c =
     let after = g.B.AnswerBook.shown c.step.new.seat in
     let works = works-quietly _ _ before after c.step.ensures.goes_on c.step.ensures.stores_nothing in
     let later = stand-later _ _ before after works c.args.requests.now c.requires.stand in
-    let outcome = rw c.in-Ended.is at c.step.ensures.progresses c.requires.counted in
-    rw c.end.ensures (ended-too _ _ after c.args.requests.now _ later outcome)
+    let outcome = rw c.in-Ended.is at c.step.ensures.leads c.requires.counted in
+    rw (c.put_ended.ensures, c.new.ensures, c.of-was.ensures)
+    (ended-too _ _ after c.args.requests.now _ later outcome)
 
 pub returns-in-Asks-clause-stand : goal.returns-in-Asks-clause-stand
 returns-in-Asks-clause-stand g c =
@@ -22,22 +23,21 @@ returns-in-Asks-clause-stand g c =
     let after = g.B.AnswerBook.shown c.step.new.seat in
     let works = works-quietly _ _ before after c.step.ensures.goes_on c.step.ensures.stores_nothing in
     let later = stand-later _ _ before after works c.args.requests.now c.requires.stand in
-    let it = rw c.in-Asks.is at c.step.ensures.progresses c.requires.counted in
-    let outcome = unanswered-is _ _ after c.step.new.self c.unanswered-outcome.result c.unanswered-outcome.ensures it.0 it.1 in
-    rw c.end-in-Asks.ensures (ended-too _ _ after c.args.requests.now _ later outcome)
+    let it = rw c.in-Asks.is at c.step.ensures.leads c.requires.counted in
+    let outcome = unanswered-is _ _ after c.in-Asks.task c.unanswered-outcome.result c.unanswered-outcome.ensures it.1 it.2 in
+    rw c.end.ensures (ended-too _ _ after c.args.requests.now _ later outcome)
 
 pub returns-in-Ended-clause-ends : goal.returns-in-Ended-clause-ends
 returns-in-Ended-clause-ends g c =
-    let over : is_expired c.args.now (sought_of c.step.new.self).until ≡ true =
-    ap (λ (it : Sought). is_expired c.args.now it.until) c.step.ensures.request ∙ c.requires.over in
-    rw c.end.ensures
-    (late-one c.args.now c.args.requests.now.ended _ over
+    rw (c.put_ended.ensures, c.new.ensures, c.of-was.ensures)
+    (late-one c.args.now c.args.requests.now.ended _ c.requires.over
     (choice-without-reply c.in-Ended.outcome (rw c.in-Ended.is at c.step.ensures.ends)))
 
 pub returns-in-Asks-clause-ends : goal.returns-in-Asks-clause-ends
 returns-in-Asks-clause-ends g c =
-    let over : is_expired c.args.now (sought_of c.step.new.self).until ≡ true =
-    ap (λ (it : Sought). is_expired c.args.now it.until) c.step.ensures.request ∙ c.requires.over in
-    rw c.end-in-Asks.ensures
+    let it = rw c.in-Asks.is at c.step.ensures.leads c.requires.counted in
+    let over : is_expired c.args.now (sought_of c.in-Asks.task).until ≡ true =
+    ap (λ (it : Sought). is_expired c.args.now it.until) it.0 ∙ c.requires.over in
+    rw c.end.ensures
     (late-one c.args.now c.args.requests.now.ended _ over
-    (unanswered-without-reply c.step.new.self c.unanswered-outcome.result c.unanswered-outcome.ensures))
+    (unanswered-without-reply c.in-Asks.task c.unanswered-outcome.result c.unanswered-outcome.ensures))

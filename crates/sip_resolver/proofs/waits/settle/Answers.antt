@@ -4,7 +4,7 @@ use Rattle.sip_resolver.proofs.waits.settle.Goals as goal
 
 pub returns-in-Ready-clause-stand : goal.returns-in-Ready-clause-stand
 returns-in-Ready-clause-stand g c = λ seat known counted lacks stand.
-    let fits = rw c.in-Ready.is at c.wait_outcome_of.ensures.fits seat known counted lacks in rw c.add.ensures
+    let fits = rw c.in-Ready.is at c.wait_outcome_of.ensures.fits seat known counted lacks in rw (c.add.ensures, c.of.ensures)
     (ready-too _ _ seat _ _ stand fits)
 
 pub returns-in-Ended-clause-stand : goal.returns-in-Ended-clause-stand
@@ -14,7 +14,7 @@ returns-in-Ended-clause-stand g c = λ seat known counted lacks stand.
 
 pub returns-in-Ready-clause-settles : goal.returns-in-Ready-clause-settles
 returns-in-Ready-clause-settles g c =
-    let goes = rw c.in-Ready.is at c.wait_outcome_of.ensures.goes in goes_on c.wait_outcome_of.new.task goes c.add.ensures
+    let goes = rw c.in-Ready.is at c.wait_outcome_of.ensures.goes in goes_on c.wait_outcome_of.new.task goes (rw c.of.ensures at c.add.ensures)
 
 pub returns-in-Ended-clause-settles : goal.returns-in-Ended-clause-settles
 returns-in-Ended-clause-settles g c =

@@ -27,6 +27,7 @@ pub advance-requires-clause-counted : goal.advance-requires-clause-counted
 advance-requires-clause-counted g c =
     let stand = rw (← c.self-in-tasks.view_is) at c.tasks.invariant.went.stand in
     let seat = g.B.AnswerBook.shown c.tasks.seat in
+    rw c.of.ensures
     (held-out _ _ seat c.self-in-tasks.inside.requests c.next_held.new.self c.in-Some.task c.in-Some.ensures stand).1
 
 pub returns-in-Some-advance-clause-ends : goal.returns-in-Some-advance-clause-ends
@@ -55,7 +56,7 @@ tasks-preserved g c =
           (rw (← c.self-in-tasks.view_is) (ap (λ (it : RequestsView). it.ended) c.in-Some.ensures.others))
           (rw (← c.self-in-tasks.view_is)
           (held-back c.self-in-tasks.inside.requests middle c.advance.new.self.requests c.in-Some.task c.in-Some.ensures
-          c.advance.ensures.back))
+          (rw c.of.ensures at c.advance.ensures.back)))
           c.advance.ensures.goes_on c.advance.ensures.stores_nothing c.advance.ensures.stand
           (rw (← c.self-in-tasks.view_is) c.in_default-advance.ensures.sends) c.advance.ensures.ends;
       ready = c.advance.ensures.ready
