@@ -35,7 +35,7 @@ impl Exchange {
     pub(crate) fn has_id_over(&self, route: Route, id: u16) -> bool
         ensures { IsTrue result ↔ HasIdOver route id self.now }
     {
-        self.query.route == route && id_of(self.query.octets.as_slice()) == id
+        id_of(self.query.octets.as_slice()) == id && self.query.route == route
     }
 
     /// Whether a message that came over the link of this key, from where this route goes, is a

@@ -25,6 +25,7 @@
 #![tactic(auto)]
 
 mod attempts;
+mod boxed;
 mod buffer_wire;
 mod draws;
 mod exchange;

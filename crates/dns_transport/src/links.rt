@@ -195,13 +195,13 @@ impl<L: Link + Drop> Links<L> {
     }
 
     /// Notes that nothing is out over the link of a key: a connection is kept for a while.
-    pub(crate) fn rest(&mut self, key: usize, now: u64) {
+    pub(crate) fn rest<S: System<Link = L>>(&mut self, key: usize, system: &S) {
         let Some(at) = self.place_of_key(key) else {
             return;
         };
         let it = &self.items[at];
         if it.link.route().over_tcp && !it.is_retired {
-            self.items[at].until = Some(now.saturating_add(IDLE_LIMIT));
+            self.items[at].until = Some(system.now().saturating_add(IDLE_LIMIT));
         } else {
             let _link = self.items.remove(at);
         }

@@ -3,6 +3,7 @@ ghost use Rattle.std.specs.Prelude.{◌≡◌, ◌<◌, ◌≤◌, [], MatchOpti
 ghost use Rattle.std.specs.List.{All};
 ghost use Rattle.dns_transport.specs.Attempts.{late_from};
 
+use crate::boxed::Boxed;
 use crate::lookup::Lookup;
 use std::alloc::Global;
 
@@ -12,20 +13,24 @@ pub(crate) const LOOKUP_LIMIT: usize = 512;
 /// The queries of the caller that are open, in the order in which something became of them.
 #[derive(Drop)]
 pub(crate) struct Lookups {
-    items: Vec<Lookup>,
+    alloc: Global,
+    items: Vec<Boxed<Lookup>>,
 }
 
 impl Lookups {
     /// None is open.
     pub(crate) fn new(alloc: Global) -> Lookups {
         Lookups {
+            alloc,
             items: Vec::new(alloc),
         }
     }
 
     /// Whether one has these octets.
     pub(crate) fn has(&self, query: &[u8]) -> bool {
-        self.items.iter().any(|it| it.query.as_slice() == query)
+        self.items
+            .iter()
+            .any(|it| it.as_ref().query.as_slice() == query)
     }
 
     /// Takes one out whose time is over by now, where each send is waited for so long, if there is
@@ -36,8 +41,11 @@ impl Lookups {
             × All (λ it. now < late_from it.asked_at time) self.old.items.items)
             (λ it. late_from it.asked_at time ≤ now) }
     {
-        let at = self.items.iter().position(|it| it.late_at(time) <= now)?;
-        Some(self.items.remove(at))
+        let at = self
+            .items
+            .iter()
+            .position(|it| it.as_ref().late_at(time) <= now)?;
+        Some(self.items.remove(at).into_inner())
     }
 
     /// The first millisecond at which the time of one is over, where each send is waited for so
@@ -46,13 +54,13 @@ impl Lookups {
         ensures { MatchOption result (self.now.items.items ≡ [])
             (λ first. All (λ it. first ≤ late_from it.asked_at time) self.now.items.items) }
     {
-        self.items.iter().map(|it| it.late_at(time)).min()
+        self.items.iter().map(|it| it.as_ref().late_at(time)).min()
     }
 
     /// Takes the one of an id out, if there is one.
     fn take_id(&mut self, id: u16) -> Option<Lookup> {
-        let at = self.items.iter().position(|it| it.id() == id)?;
-        Some(self.items.remove(at))
+        let at = self.items.iter().position(|it| it.as_ref().id() == id)?;
+        Some(self.items.remove(at).into_inner())
     }
 
     /// Lets the one of an id go, if there is one, and gives its number.
@@ -63,8 +71,11 @@ impl Lookups {
 
     /// Takes the one of a number out, if there is one.
     pub(crate) fn take_number(&mut self, number: u64) -> Option<Lookup> {
-        let at = self.items.iter().position(|it| it.number == number)?;
-        Some(self.items.remove(at))
+        let at = self
+            .items
+            .iter()
+            .position(|it| it.as_ref().number == number)?;
+        Some(self.items.remove(at).into_inner())
     }
 
     /// Lets the first one go where as many are open as can be, and gives its number.
@@ -72,7 +83,7 @@ impl Lookups {
         ensures room { length self.old.items.items ≤ 512 → length self.new.items.items < 512 }
     {
         if self.items.len() >= LOOKUP_LIMIT {
-            return Some(self.items.remove(0).let_go());
+            return Some(self.items.remove(0).into_inner().let_go());
         }
         None
     }
@@ -83,9 +94,13 @@ impl Lookups {
         ensures bound { length self.old.items.items ≤ 512 → length self.new.items.items ≤ 512 }
     {
         let left = self.make_room();
-        match self.items.push(lookup) {
+        let boxed = match Boxed::new(self.alloc, lookup) {
+            Ok(boxed) => boxed,
+            Err(lookup) => return Some(lookup.let_go()),
+        };
+        match self.items.push(boxed) {
             Ok(()) => left,
-            Err(refused) => Some(refused.value.let_go()),
+            Err(refused) => Some(refused.value.into_inner().let_go()),
         }
     }
 }

@@ -57,6 +57,26 @@ pub(crate) fn tells_failure(message: &[u8]) -> bool
         || has_rcode(message, REFUSED)
 }
 
+/// Whether the number of the type CNAME and that of the class IN stand in octets, one behind the
+/// other, as they do in each CNAME record (RFC 1035 3.2.1).
+fn has_cname_type(octets: &[u8]) -> bool {
+    'places: for at in 0..octets.len() {
+        if let [0, 5, 0, 1, ..] = &octets[at..] {
+            return true;
+        }
+    }
+    false
+}
+
+/// Whether a message may have a CNAME record that answers: its header counts answers (RFC 1035
+/// 4.1.1), and the type of one stands in it.
+pub(crate) fn may_have_cname(message: &[u8]) -> bool {
+    match message {
+        [_, _, _, _, _, _, 0, 0, ..] => false,
+        _ => has_cname_type(message),
+    }
+}
+
 /// Whether a record is an OPT record.
 fn is_opt(entry: &Record) -> bool
     ensures { result ≡ spec.is_opt entry.now }

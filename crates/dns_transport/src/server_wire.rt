@@ -21,7 +21,7 @@ use crate::lookups::{LOOKUP_LIMIT, Lookups};
 use crate::open_chain::{OpenChain, Step};
 use crate::query::{End, Outcome, Query};
 use crate::query_form::QueryForm;
-use crate::reply_bits::{is_cut, refuses_edns, tells_failure};
+use crate::reply_bits::{is_cut, may_have_cname, refuses_edns, tells_failure};
 use crate::reply_times::ReplyTimes;
 use crate::route::Route;
 use crate::server::Server;
@@ -225,9 +225,13 @@ impl<S: System + Drop, G: Rng + Drop> ServerWire<S, G> {
         self.log.counts()
     }
 
-    /// The time since the system was made.
-    fn time(&self) -> Duration {
-        Duration::from_millis(self.transport.now())
+    /// The time since the system was made, where tries are kept with it; else none is looked at.
+    fn time_of_try(&self) -> Duration {
+        if self.options.keeps_tries {
+            Duration::from_millis(self.transport.now())
+        } else {
+            Duration::ZERO
+        }
     }
 
     /// The form in which a query goes to a server.
@@ -338,7 +342,7 @@ impl<S: System + Drop, G: Rng + Drop> ServerWire<S, G> {
         ensures lookup { lookup.new ≡ record lookup.old { went_out = true } }
         ensures asks { asked_by lookup.new ≡ asked_by lookup.old }
     {
-        let now = self.time();
+        let now = self.time_of_try();
         self.log.sent(now, route, octets, !lookup.went_out);
         lookup.went_out = true;
     }
@@ -600,7 +604,7 @@ impl<S: System + Drop, G: Rng + Drop> ServerWire<S, G> {
         ensures servers { self.new.servers ≡ self.old.servers }
         ensures whole { IfReplied result (λ octets. octets ≡ reply.items) }
     {
-        if reply.len() > CHAIN_REPLY_LIMIT {
+        if reply.len() > CHAIN_REPLY_LIMIT || !may_have_cname(reply.as_slice()) {
             return Course::Replied(reply);
         }
         match OpenChain::begin(self.alloc, lookup.query.as_slice(), reply.as_slice()) {
@@ -661,7 +665,7 @@ impl<S: System + Drop, G: Rng + Drop> ServerWire<S, G> {
         query: &Query,
         mut reply: Vec<u8>,
     ) -> Course {
-        let now = self.time();
+        let now = self.time_of_try();
         self.log.came(
             now,
             query.route.server,

@@ -9,6 +9,7 @@ use mio::net::{TcpStream, UdpSocket};
 use mio::{Events, Interest, Poll, Token};
 use rand_core::Rng;
 use std::alloc::Global;
+use std::boxed::Box;
 use std::io::{self, ErrorKind};
 use std::net::{IpAddr, Ipv4Addr, Ipv6Addr, Net, SocketAddr};
 use std::time::{Clock, Duration, Instant};
@@ -22,11 +23,12 @@ const FIRST_PORT: u16 = 1_024;
 /// How many ports are drawn for a socket before the system chooses one.
 const DRAW_LIMIT: usize = 8;
 
-/// A socket.
+/// A socket. What is half written or half read is in memory of its own, so that the socket of a
+/// datagram takes little room.
 #[derive(Drop)]
 enum Socket {
     Udp(UdpSocket),
-    Tcp(TcpStream, Framing),
+    Tcp(TcpStream, Box<Framing>),
 }
 
 /// A socket to a server.
@@ -175,6 +177,7 @@ impl<'a, R: Net + Clock, G: Rng + Drop> SystemSockets<'a, R, G> {
     ) -> io::Result<Socket> {
         let mut framing = Framing::new(alloc);
         framing.push(alloc, octets)?;
+        let framing = Box::new(alloc, framing)?;
         let mut stream = TcpStream::connect(self.rt, server)?;
         self.poll.registry().register(&mut stream, token, Interest::READABLE | Interest::WRITABLE)?;
         Ok(Socket::Tcp(stream, framing))

@@ -162,19 +162,18 @@ impl<S: System + Drop> Transport<S> {
     pub fn leave(&mut self, number: u64)
         ensures { self.new.exchanges ≡ without_number number self.old.exchanges }
     {
-        let now = self.system.now();
         'queries: while let Some(key) = self.exchanges.leave_one(number) {
             self.links.retire(key);
-            self.rest(key, now);
+            self.rest(key);
         }
     }
 
     /// Notes that a query is out no more over the link of a key.
-    fn rest(&mut self, key: usize, now: u64)
+    fn rest(&mut self, key: usize)
         ensures { self.new.exchanges ≡ self.old.exchanges }
     {
         if self.exchanges.count_of(key) == 0 {
-            self.links.rest(key, now);
+            self.links.rest(key, &self.system);
         }
     }
 
@@ -220,8 +219,7 @@ impl<S: System + Drop> Transport<S> {
         let Some(end) = self.take_heard(key, route, message) else {
             return None;
         };
-        let now = self.system.now();
-        self.rest(key, now);
+        self.rest(key);
         Some(end)
     }
 
@@ -255,7 +253,7 @@ impl<S: System + Drop> Transport<S> {
         if end.query.route.over_tcp {
             self.links.retire(key);
         }
-        self.rest(key, now);
+        self.rest(key);
         Some(end)
     }
 
