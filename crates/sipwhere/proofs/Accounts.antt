@@ -1,7 +1,15 @@
 -- How the targets of a text came about.
-use Rattle.std.proofs.Common.{◌≡◌, ◌≢◌, ◌^◌, ◌+◌, ℕ, List, [], append-nil, refl}
+use Rattle.std.proofs.Common.{◌≡◌, ◌≢◌, ◌^◌, ◌+◌, ℕ, List, [], Option, append-nil, refl}
+use Rattle.std.proofs.lemmas.List.Elements.{All-weaker}
 use mathlib.Core.List.{IsPrefix}
+use Rattle.answer_cache.specs.Seats.{GoesOn, SeatView, StoresNothing}
+use Rattle.answer_log.specs.Histories.{cached}
 use Rattle.answer_log.specs.declared.store.Store.{Store}
+use Rattle.dns_answers.specs.Values.{AnswerValue}
+use Rattle.dns_message.specs.declared.question.Question.{Question}
+use Rattle.resolution_paths.specs.Paths.{ArePathsBy}
+use Rattle.resolution_paths.specs.Sources.{Said, Went, here, onward}
+use Rattle.resolution_paths.specs.declared.path.ResolutionPath.{ResolutionPath}
 use Rattle.sip_locator.specs.Gains.{Gains}
 use Rattle.sip_report.specs.declared.account.FirstCount.{FirstCount}
 use Rattle.sip_report.specs.declared.line_outcome.LineOutcome.{LineOutcome}
@@ -9,7 +17,7 @@ use Rattle.sip_report.specs.declared.line_outcome.LineOutcome.TheVariants.{Becam
 use Rattle.sip_resolver.specs.Draws.{drawn}
 use Rattle.sip_selection.specs.Selections.{SelectionValue, begun, now_of}
 use Rattle.sip_selection.specs.declared.request.Request.{Request}
-use Rattle.sipwhere.specs.Accounts.{AreDraws, CountsFirst, HasNoRequest, IsDraw, more, none}
+use Rattle.sipwhere.specs.Accounts.{AreDraws, CountsFirst, HasNoRequest, IsDraw, IsHeld, more, none}
 use Rattle.sipwhere.specs.Destinations.{IsDestination}
 use Rattle.sipwhere.specs.LineOutcomes.{IsReady}
 use Rattle.sipwhere.specs.declared.destination.Destination.{Destination}
@@ -50,6 +58,33 @@ module _ (request : Request) (settings : LocateSettings) (now : ℕ) where
         → AreDraws request settings now outer beyond count firsts
     draws-within count firsts none = none
     draws-within count firsts (more {draw} {old} new draws one) = more new (draws-within draw old draws) (draw-within draw old new one)
+
+-- ---- what a book held
+
+module _ {Seat : Type 0} (shown : Seat → SeatView) where
+  -- a seat went on by calls that store nothing, and so did what contracts see of it
+  went-shown : (start seat : Seat)
+      → Went (λ before after. GoesOn (shown before) (shown after) × StoresNothing (shown before) (shown after)) start seat
+      → Went (λ before after. GoesOn before after × StoresNothing before after) (shown start) (shown seat)
+  went-shown start seat here = here
+  went-shown start seat (onward {seat = middle} next went goes) = onward (shown next) (went-shown start middle went) goes
+
+  module _ (start : Seat) (now : ℕ) where
+    -- what a book said to a seat, it held
+    abbrev IsSaid : Question → Option AnswerValue → Type 0
+    IsSaid =
+        Said (λ before after. GoesOn (shown before) (shown after) × StoresNothing (shown before) (shown after))
+        (λ seat question found. found ≡ cached (shown seat).seen question now) start
+
+    pub paths-held : (request : Request) (paths : List ResolutionPath) → ArePathsBy IsSaid request paths
+        → ArePathsBy (IsHeld (shown start) now) request paths
+    paths-held request paths it = record {
+      heard = it.heard;
+      was_said = All-weaker (λ one. IsSaid one.0 one.1) (λ one. IsHeld (shown start) now one.0 one.1)
+          (λ one said. record { seat = shown said.seat; went = went-shown start said.seat said.went; said = said.said }) it.heard
+          it.was_said;
+      are = it.are;
+    }
 
 -- ---- texts of which no request is located
 

@@ -12,15 +12,17 @@ use Rattle.sip_resolver.specs.Works.{Works}
 use Rattle.sip_resolver.specs.declared.outcome.Outcome.{Outcome}
 use Rattle.sip_resolver.specs.declared.outcome.Outcome.TheVariants as outcomes
 use Rattle.sipwhere.specs.LineOutcomes.{IsLineOutcome, without_address}
-use Rattle.sipwhere.specs.OpenLines.{IsLineOutcomeOf}
+use Rattle.sipwhere.specs.Accounts.{IsToldAccount}
+use Rattle.sipwhere.specs.OpenLines.{IsLineResult, IsResultOf}
+use Rattle.sipwhere.specs.Runs.{StaysSo}
+use Rattle.sipwhere.specs.declared.line_result.LineResult.{LineResult}
+use Rattle.sipwhere.proofs.Quiet.{prefix-through}
+use Rattle.sipwhere.proofs.Results.{if_ok}
+use Rattle.sipwhere.proofs.ToldAccounts.{told-account-later}
 use Rattle.sip_report.specs.declared.line_outcome.LineOutcome.{LineOutcome}
 use Rattle.sip_report.specs.declared.line_outcome.LineOutcome.TheVariants.{Became, Tried, NoSuchName, TimeOver, Bad, NotText, Memory}
 use Rattle.sipwhere.specs.declared.line.Line.{Line}
 use Rattle.sipwhere.specs.declared.locate_settings.LocateSettings.{LocateSettings}
-
-prefix-through : {X : Type 0} (first middle last : List X) → IsPrefix first middle → IsPrefix middle last → IsPrefix first last
-prefix-through first middle last front back =
-    (front.0 ++ back.0, sym (append_assoc first front.0 back.0) ∙ ap (λ l. l ++ back.0) front.1 ∙ back.1)
 
 -- ---- lists of which the items fit place by place
 
@@ -47,10 +49,10 @@ zip-at R (x ∷ xs) (z ∷ zs) (suc k) d y inside all at = zip-at R xs zs k d y 
 
 module _ (gives : List ℕ → Type 0) (shows : ℕ → Type 0) where
   -- nothing is known of any line
-  pub line_outcomes-not : (seat : SeatView) (settings : LocateSettings) (lines : List Line)
-      → AllZip (IsLineOutcomeOf gives shows seat settings) lines (replicate (length lines) None)
-  line_outcomes-not seat settings [] = tt
-  line_outcomes-not seat settings (line ∷ lines) = (tt, line_outcomes-not seat settings lines)
+  pub results-not : (seat : SeatView) (settings : LocateSettings) (lines : List Line)
+      → AllZip (IsResultOf gives shows seat settings) lines (replicate (length lines) None)
+  results-not seat settings [] = tt
+  results-not seat settings (line ∷ lines) = (tt, results-not seat settings lines)
 
   module _ (old new : SeatView) (works : Works gives shows old new) where
     cached-later : (given : Given) → IsCached shows old.seen given → IsCached shows new.seen given
@@ -138,14 +140,25 @@ module _ (gives : List ℕ → Type 0) (shows : ℕ → Type 0) where
       line_outcome-later line NotText it = it
       line_outcome-later line Memory it = it
 
-      line_outcome-of-later : (line : Line) (line_outcome : Option LineOutcome) → IsLineOutcomeOf gives shows old settings line line_outcome
-          → IsLineOutcomeOf gives shows new settings line line_outcome
-      line_outcome-of-later line None it = tt
-      line_outcome-of-later line (Some line_outcome) it = line_outcome-later line line_outcome it
+      result-later : (line : Line) (it : LineResult) → IsLineResult gives shows old settings line it
+          → IsLineResult gives shows new settings line it
+      result-later line it is = record {
+        became = line_outcome-later line it.line_outcome is.became;
+        account = if_ok (IsToldAccount shows old settings line.text.now it.line_outcome)
+            (IsToldAccount shows new settings line.text.now it.line_outcome) it.account
+            (told-account-later shows old new works.goes_on settings line.text.now it.line_outcome) is.account;
+      }
 
-      pub line_outcomes-later : (lines : List Line) (line_outcomes : List (Option LineOutcome))
-          → AllZip (IsLineOutcomeOf gives shows old settings) lines line_outcomes
-          → AllZip (IsLineOutcomeOf gives shows new settings) lines line_outcomes
-      line_outcomes-later lines line_outcomes all =
-          zip-weaker (IsLineOutcomeOf gives shows old settings) (IsLineOutcomeOf gives shows new settings) line_outcome-of-later lines
-          line_outcomes all
+      result-of-later : (line : Line) (it : Option LineResult) → IsResultOf gives shows old settings line it
+          → IsResultOf gives shows new settings line it
+      result-of-later line None is = tt
+      result-of-later line (Some it) is = result-later line it is
+
+      pub results-later : (lines : List Line) (results : List (Option LineResult))
+          → AllZip (IsResultOf gives shows old settings) lines results → AllZip (IsResultOf gives shows new settings) lines results
+      results-later lines results all =
+          zip-weaker (IsResultOf gives shows old settings) (IsResultOf gives shows new settings) result-of-later lines results all
+
+    -- what is so of lines stays so
+    pub stays-so : StaysSo gives shows old new
+    stays-so = record { goes_on = works.goes_on; became = line_outcome-later }

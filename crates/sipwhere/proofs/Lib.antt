@@ -9,5 +9,6 @@ mod Meant
 mod OneDestination
 mod Quiet
 mod Results
+mod ToldAccounts
 pub mod Inputs
 pub mod Told

@@ -1,7 +1,7 @@
 -- Whose requests are inside a resolver, and what became of lines.
 use Rattle.std.proofs.Common.{◌≡◌, ℕ, zero, suc, false, ◌+◌, ◌-◌, ◌<◌, inl, inr, List, [], ◌∷◌, Option, Some, None, get_or, length, set, refl, sym, ap, subst, ◌∙◌, arith}
 use Rattle.std.specs.List.{AllZip, sum_by}
-use Rattle.std.specs.Prelude.{IfSome}
+use Rattle.std.specs.Prelude.{IfOk}
 use Rattle.std.proofs.lemmas.List.Elements.{at_read}
 use Rattle.std.proofs.lemmas.List.Sums.{sum_by_push}
 use Rattle.answer_cache.specs.Seats.{SeatView}
@@ -16,7 +16,10 @@ use Rattle.sip_selection.specs.declared.caps.Caps.{Caps}
 use Rattle.sip_selection.specs.declared.request.Request.{Request}
 use Rattle.sipwhere.specs.LineOutcomes.{AreAlike, EndsAs, IsLineOutcome, IsOfLine, IsOnlyLocated, NeedsNoReply}
 use Rattle.sipwhere.proofs.Later.{zip-set}
-use Rattle.sipwhere.specs.OpenLines.{AreMeant, IsLineOutcomeOf, IsMeant, IsOwn}
+use Rattle.sipwhere.specs.Accounts.{IsEmpty, IsEndAccount, IsToldAccount}
+use Rattle.sipwhere.specs.OpenLines.{AreMeant, IsLineResult, IsMeant, IsOwn, IsResultOf}
+use Rattle.sipwhere.specs.declared.line_result.LineResult.{LineResult}
+use Rattle.sipwhere.proofs.Results.{if_ok}
 use Rattle.sip_report.specs.declared.line_outcome.LineOutcome.{LineOutcome}
 use Rattle.sip_report.specs.declared.line_outcome.LineOutcome.TheVariants.{Became, Tried, NoSuchName, TimeOver, Bad, NotText, Memory}
 use Rattle.sipwhere.specs.declared.line.Line.{Line}
@@ -191,42 +194,47 @@ module _ (gives : List ℕ → Type 0) (shows : ℕ → Type 0) (seat : SeatView
   line_outcome-ended lines line ended outcome NotText at meant ends is = ends
   line_outcome-ended lines line ended outcome Memory at meant ends is = ends
 
-  -- what became of the line at a place is kept
-  pub line_outcomes-set : (lines : List Line) (line_outcomes : List (Option LineOutcome)) (place : ℕ) (line : Line)
-      (line_outcome : Option LineOutcome) → place < length lines
-      → line ≡ get_or lines place line → AllZip (IsLineOutcomeOf gives shows seat settings) lines line_outcomes
-      → IsLineOutcomeOf gives shows seat settings line line_outcome
-      → AllZip (IsLineOutcomeOf gives shows seat settings) lines (set line_outcomes place line_outcome)
-  line_outcomes-set lines line_outcomes place line line_outcome inside at all it =
-      zip-set (IsLineOutcomeOf gives shows seat settings) lines line_outcomes place line_outcome inside all
-      (at_read lines (λ l. IsLineOutcomeOf gives shows seat settings l line_outcome) place line inside at it)
+  -- what is reported of the line at a place is kept
+  results-set : (lines : List Line) (results : List (Option LineResult)) (place : ℕ) (line : Line) (it : LineResult)
+      → place < length lines → line ≡ get_or lines place line → AllZip (IsResultOf gives shows seat settings) lines results
+      → IsLineResult gives shows seat settings line it
+      → AllZip (IsResultOf gives shows seat settings) lines (set results place (Some it))
+  results-set lines results place line it inside at all is =
+      zip-set (IsResultOf gives shows seat settings) lines results place (Some it) inside all
+      (at_read lines (λ l. IsResultOf gives shows seat settings l (Some it)) place line inside at is)
 
-  pub line_outcome-submitted : (line : Line) (line_outcome : Option LineOutcome) → IfSome line_outcome (NeedsNoReply settings line.text.now)
-      → IsLineOutcomeOf gives shows seat settings line line_outcome
-  line_outcome-submitted line None it = tt
-  line_outcome-submitted line (Some line_outcome) it = line_outcome-needless line line_outcome it
-
-  pub line_outcomes-submitted : (lines : List Line) (line_outcomes : List (Option LineOutcome)) (place : ℕ) (d : Line)
-      (line_outcome : Option LineOutcome) → place < length lines
-      → AllZip (IsLineOutcomeOf gives shows seat settings) lines line_outcomes
-      → IfSome line_outcome (NeedsNoReply settings (get_or lines place d).text.now)
-      → AllZip (IsLineOutcomeOf gives shows seat settings) lines (set line_outcomes place line_outcome)
-  line_outcomes-submitted lines line_outcomes place d line_outcome inside all it =
+  -- of a line that needs no reply
+  pub results-needless : (lines : List Line) (results : List (Option LineResult)) (place : ℕ) (d : Line) (line_outcome : LineOutcome)
+      (it : LineResult) → place < length lines → AllZip (IsResultOf gives shows seat settings) lines results
+      → NeedsNoReply settings (get_or lines place d).text.now line_outcome → it.line_outcome ≡ line_outcome → IfOk it.account IsEmpty
+      → AllZip (IsResultOf gives shows seat settings) lines (set results place (Some it))
+  results-needless lines results place d line_outcome it inside all needless same empty =
       let line = get_or lines place d in
-      line_outcomes-set lines line_outcomes place line line_outcome inside (at-itself lines place d) all
-      (line_outcome-submitted line line_outcome it)
+      let so : NeedsNoReply settings line.text.now it.line_outcome = subst (NeedsNoReply settings line.text.now) (sym same) needless in
+      results-set lines results place line it inside (at-itself lines place d) all (record {
+        became = line_outcome-needless line it.line_outcome so;
+        account = if_ok IsEmpty (IsToldAccount shows seat settings line.text.now it.line_outcome) it.account
+            (λ account nothing. inl (so, nothing)) empty;
+      })
 
-  pub line_outcomes-ended : (lines : List Line) (line_outcomes : List (Option LineOutcome)) (place : ℕ) (d : Line) (ended : Sought)
-      (outcome got : Outcome)
-      (line_outcome : LineOutcome) → place < length lines → place ≡ ended.number → got ≡ outcome → IsMeant settings lines ended
-      → EndsAs gives settings (get_or lines place d).text.now got line_outcome → IsOutcome gives shows seat ended outcome
-      → AllZip (IsLineOutcomeOf gives shows seat settings) lines line_outcomes
-      → AllZip (IsLineOutcomeOf gives shows seat settings) lines (set line_outcomes place (Some line_outcome))
-  line_outcomes-ended lines line_outcomes place d ended outcome got line_outcome inside number same meant ends is all =
+  -- of a line whose request ended
+  pub results-ended : (lines : List Line) (results : List (Option LineResult)) (place : ℕ) (d : Line) (ended : Sought)
+      (outcome got : Outcome) (it : LineResult) → place < length lines → place ≡ ended.number → got ≡ outcome
+      → IsMeant settings lines ended → EndsAs gives settings (get_or lines place d).text.now got it.line_outcome
+      → IsOutcome gives shows seat ended outcome
+      → IfOk it.account (IsEndAccount shows seat settings (get_or lines ended.number d).text.now)
+      → AllZip (IsResultOf gives shows seat settings) lines results
+      → AllZip (IsResultOf gives shows seat settings) lines (set results place (Some it))
+  results-ended lines results place d ended outcome got it inside number same meant ends is account all =
       let line = get_or lines place d in
       let at : line ≡ get_or lines place line = at-itself lines place d in
       let here : line ≡ get_or lines ended.number line = subst (λ n. line ≡ get_or lines n line) number at in
-      let so : EndsAs gives settings line.text.now outcome line_outcome =
-      subst (λ o. EndsAs gives settings line.text.now o line_outcome) same ends in
-      line_outcomes-set lines line_outcomes place line (Some line_outcome) inside at all
-      (line_outcome-ended lines line ended outcome line_outcome here meant so is)
+      let so : EndsAs gives settings line.text.now outcome it.line_outcome =
+      subst (λ o. EndsAs gives settings line.text.now o it.line_outcome) same ends in
+      let told : IfOk it.account (IsEndAccount shows seat settings line.text.now) =
+      subst (λ n. IfOk it.account (IsEndAccount shows seat settings (get_or lines n d).text.now)) (sym number) account in
+      results-set lines results place line it inside at all (record {
+        became = line_outcome-ended lines line ended outcome it.line_outcome here meant so is;
+        account = if_ok (IsEndAccount shows seat settings line.text.now)
+            (IsToldAccount shows seat settings line.text.now it.line_outcome) it.account (λ account of. inr of) told;
+      })

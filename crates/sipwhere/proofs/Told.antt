@@ -4,15 +4,18 @@ use Rattle.std.proofs.lemmas.Bool.{cases_Bool}
 use Rattle.std.proofs.lemmas.Bool.Decides.{nat_tests}
 use Rattle.std.proofs.lemmas.List.{map-append, take_all, take_more}
 use Rattle.std.proofs.lemmas.List.Elements.{All-append, All-cons, All-nil, All-weaker}
-use Rattle.answer_cache.specs.Seats.{SeatView}
+use Rattle.answer_cache.specs.Seats.{GoesOn, SeatView}
 use Rattle.sipwhere.specs.LineInputs.{numbered_from, said}
 use Rattle.sip_report.specs.Lines.{graver_of, gravity}
 use Rattle.sipwhere.specs.OpenLines.{HasTold, OpenView, TellsFirst}
-use Rattle.sipwhere.specs.Runs.{AreRun, AreTold, AreToldFrom, IsGravest, IsOneOf, IsRun, StaysSo, Tells}
+use Rattle.sipwhere.specs.Runs.{AreRun, AreTold, AreToldFrom, IsGravest, IsOneOf, IsReported, IsRun, StaysSo, Tells}
 use Rattle.sipwhere.specs.declared.line.Line.{Line}
 use Rattle.sip_report.specs.declared.report.Style.{Style}
 use Rattle.sipwhere.specs.declared.locate_settings.LocateSettings.{LocateSettings}
+use Rattle.sip_report.specs.declared.line_outcome.LineOutcome.{LineOutcome}
 use Rattle.sipwhere.proofs.Inputs.{numbered-append}
+use Rattle.sipwhere.proofs.Quiet.{goes-not, goes-through}
+use Rattle.sipwhere.proofs.ToldAccounts.{told-account-later}
 
 -- ---- the gravest status
 
@@ -104,7 +107,32 @@ module _ (gives : List ℕ → Type 0) (shows : ℕ → Type 0) (seat : SeatView
     ap (λ l. l ++ status ∷ []) told.5,
   )
 
+-- a seat that has not gone on
+pub stays-not : (gives : List ℕ → Type 0) (shows : ℕ → Type 0) (seat : SeatView) → StaysSo gives shows seat seat
+stays-not gives shows seat = record { goes_on = goes-not seat; became = λ settings line it is. is }
+
+-- a seat that has gone on twice
+pub stays-through : (gives : List ℕ → Type 0) (shows : ℕ → Type 0) (old middle new : SeatView) → StaysSo gives shows old middle
+    → StaysSo gives shows middle new → StaysSo gives shows old new
+stays-through gives shows old middle new front back = record {
+  goes_on = goes-through old middle new front.goes_on back.goes_on;
+  became = λ settings line it is. back.became settings line it (front.became settings line it is);
+}
+
 module _ (gives : List ℕ → Type 0) (shows : ℕ → Type 0) where
+  reported-later : (before after : SeatView) → GoesOn before after → (settings : LocateSettings) (style : Style) (line : Line)
+      (line_outcome : LineOutcome) (old new : Option (List ℕ)) (status : ℕ)
+      → IsReported shows before settings style line line_outcome old new status ⊎ (status ≡ 5)
+      → IsReported shows after settings style line line_outcome old new status ⊎ (status ≡ 5)
+  reported-later before after on settings style line line_outcome old new status (inl it) = inl (record {
+    tries = it.tries;
+    took = it.took;
+    account = it.account;
+    accounted = told-account-later shows before after on settings line.text.now line_outcome it.account it.accounted;
+    printed = it.printed;
+  })
+  reported-later before after on settings style line line_outcome old new status (inr five) = inr five
+
   -- what was told at a seat is so when the seat has gone on
   pub told-later : (before after : SeatView) → StaysSo gives shows before after → (settings : LocateSettings) (style : Style)
       (lines : List Line) (old new : Option (List ℕ)) (statuses : List ℕ) → AreTold gives shows before settings style lines old new statuses
@@ -115,12 +143,9 @@ module _ (gives : List ℕ → Type 0) (shows : ℕ → Type 0) where
     told.1,
     told.2,
     record {
-      tries = told.3.tries;
-      took = told.3.took;
-      account = told.3.account;
       line_outcome = told.3.line_outcome;
-      became = later settings line told.3.line_outcome told.3.became;
-      told = told.3.told;
+      became = later.became settings line told.3.line_outcome told.3.became;
+      told = reported-later before after later.goes_on settings style line told.3.line_outcome old told.0 told.1 told.3.told;
     },
     told-later before after later settings style lines told.0 new told.2 told.4,
     told.5,

@@ -1,7 +1,7 @@
 -- How the targets of a text came about.
-use Rattle.std.specs.Prelude.{◌≡◌, ℕ, ◌+◌, ◌-◌, ◌^◌, min, Bool, true, false, ◌||◌, List, [], ◌∷◌, ◌++◌, map}
+use Rattle.std.specs.Prelude.{◌≡◌, ◌⊎◌, ◌≤◌, ℕ, ◌+◌, ◌-◌, ◌^◌, min, Bool, true, false, ◌||◌, List, [], ◌∷◌, ◌++◌, map}
 use Rattle.std.specs.Prelude.{Option, Some, None, is_some, set, slice_get}
-use Rattle.std.specs.List.{All, Contains}
+use Rattle.std.specs.List.{Contains}
 use Rattle.std.specs.declared.net.socket_addr.SocketAddr.{SocketAddr}
 use mathlib.Core.List.{IsPrefix}
 use Rattle.answer_cache.specs.Seats.{GoesOn, SeatView, StoresNothing}
@@ -9,16 +9,17 @@ use Rattle.answer_log.specs.Histories.{cached}
 use Rattle.answer_log.specs.declared.store.Store.{Store}
 use Rattle.dns_answers.specs.Values.{AnswerValue}
 use Rattle.dns_message.specs.declared.question.Question.{Question}
-use Rattle.resolution_paths.specs.Paths.{IsPathOf}
+use Rattle.resolution_paths.specs.Paths.{ArePathsBy}
 use Rattle.resolution_paths.specs.Sources.{Said}
 use Rattle.resolution_paths.specs.declared.path.ResolutionPath.{ResolutionPath}
 use Rattle.sip_locator.specs.Gains.{Gains}
 use Rattle.sip_report.specs.declared.account.Account.{Account}
 use Rattle.sip_report.specs.declared.account.FirstCount.{FirstCount}
+use Rattle.sip_report.specs.declared.line_outcome.LineOutcome.{LineOutcome}
 use Rattle.sip_report.specs.declared.report.Report.{Report}
 use Rattle.sip_report.specs.declared.report.Report.TheVariants.{Lines, Json, Check, Metrics}
 use Rattle.sipwhere.specs.Destinations.{IsDestination}
-use Rattle.sipwhere.specs.LineOutcomes.{IsOnlyLocated}
+use Rattle.sipwhere.specs.LineOutcomes.{IsOnlyLocated, NeedsNoReply}
 use Rattle.sipwhere.specs.declared.destination.Destination.TheVariants.{Located}
 use Rattle.sipwhere.specs.declared.locate_settings.LocateSettings.{LocateSettings}
 use Rattle.sipwhere_options.specs.declared.options.Options.{Options}
@@ -82,25 +83,21 @@ pub data AreDraws (request : Request) (settings : LocateSettings) (now : ℕ) (s
 
 -- ---- the account of a request
 
--- An answer that a book held at a moment: a seat at it found the answer, that had gone on from
--- another by calls that store nothing.
-abbrev pub IsHeld : {Seat : Type 0} → (Seat → SeatView) → Seat → ℕ → Question → AnswerValue
-    → Type 0
-IsHeld shown start now =
-    Said
-    (λ before after. GoesOn (shown before) (shown after)
-    × StoresNothing (shown before) (shown after))
-    (λ seat question found. found ≡ cached (shown seat).seen question now)
-    start
+-- A book held this for a question at a moment: a seat at it found that, or nothing, when it had
+-- gone on from another by calls that store nothing.
+abbrev pub IsHeld : SeatView → ℕ → Question → Option AnswerValue → Type 0
+IsHeld start now =
+    Said (λ before after. GoesOn before after × StoresNothing before after)
+    (λ seat question found. found ≡ cached seat.seen question now) start
 
--- The account of a request, by what a book held at a moment, from one state of a seat to another:
--- each path is one of the request, and as many draws were made as the settings say.
-pub record IsAccount {Seat : Type 0} (shown : Seat → SeatView) (old new : Seat)
-    (settings : LocateSettings) (now : ℕ) (request : Request) (account : Account) : Type 0 where
-  pub paths : All (IsPathOf (IsHeld shown old now) request) account.paths.items
+-- The account of a request, by what a book held at a moment, while a seat at it went on from one
+-- state to another: its paths are those of the request, and as many draws were made as the settings
+-- say.
+pub record IsAccount (old new : SeatView) (settings : LocateSettings) (now : ℕ) (request : Request)
+    (account : Account) : Type 0 where
+  pub paths : ArePathsBy (IsHeld old now) request account.paths.items
   pub draws : account.draws ≡ settings.draws
-  pub firsts : AreDraws request settings now (shown old).seen (shown new).seen settings.draws
-      account.firsts.items
+  pub firsts : AreDraws request settings now old.seen new.seen settings.draws account.firsts.items
 
 -- the server that counts: where there is no path, none does
 abbrev pub server_for : List ResolutionPath → Option SocketAddr → Option SocketAddr
@@ -121,13 +118,35 @@ abbrev pub HasNoRequest : LocateSettings → List ℕ → Type 0
 HasNoRequest settings text = (request : Request) → IsDestination settings text (Located request) → ⊥
 
 -- the account of a text: of the request that is located for it, or of nothing where none is
-pub data IsAccountOfText {Seat : Type 0} (shown : Seat → SeatView) (old new : Seat)
-    (settings : LocateSettings) (now : ℕ) (text : List ℕ) (account : Account) : Type 0 where
+pub data IsAccountOfText (old new : SeatView) (settings : LocateSettings) (now : ℕ)
+    (text : List ℕ) (account : Account) : Type 0 where
   located : (request : Request) → IsOnlyLocated settings text request
-      → IsAccount shown old new settings now request account
-      → IsAccountOfText shown old new settings now text account
+      → IsAccount old new settings now request account
+      → IsAccountOfText old new settings now text account
   without : HasNoRequest settings text → IsEmpty account
-      → IsAccountOfText shown old new settings now text account
+      → IsAccountOfText old new settings now text account
+
+-- ---- the account that is told of a text
+
+-- The account of a text whose request ended: of nothing where nobody asks for one; else by what a
+-- book held at a moment that the clock had reached, while a seat at it went on, and that seat has
+-- gone on to this one since.
+pub data IsEndAccount (shows : ℕ → Type 0) (seat : SeatView) (settings : LocateSettings)
+    (text : List ℕ) (account : Account) : Type 0 where
+  not_asked : settings.accounts ≡ false → IsEmpty account
+      → IsEndAccount shows seat settings text account
+  asked : (old new : SeatView) (now latest : ℕ) → settings.accounts ≡ true → GoesOn old new
+      → GoesOn new seat → shows latest → now ≤ latest
+      → IsAccountOfText old new settings now text account
+      → IsEndAccount shows seat settings text account
+
+-- The account that is told with what became of a text: of nothing where no reply was needed, or
+-- none came in time; else that of the end of its request.
+abbrev pub IsToldAccount : (ℕ → Type 0) → SeatView → LocateSettings → List ℕ → LineOutcome
+    → Account → Type 0
+IsToldAccount shows seat settings text line_outcome account =
+    (NeedsNoReply settings text line_outcome × IsEmpty account)
+    ⊎ IsEndAccount shows seat settings text account
 
 -- ---- whether it is told
 

@@ -1,24 +1,25 @@
 -- Lines that are located side by side.
-use Rattle.std.specs.Prelude.{◌≡◌, ◌<◌, ◌≤◌, ℕ, List, Option, Some, None, length, slice_index_or, take}
+use Rattle.std.specs.Prelude.{◌≡◌, ◌<◌, ◌≤◌, ℕ, List, Option, Some, None, IfOk, length, slice_index_or, take}
 use Rattle.std.specs.List.{AllZip}
 use Rattle.answer_cache.specs.Seats.{SeatView}
 use Rattle.sip_resolver.specs.Outcomes.{Sought}
 use Rattle.sip_resolver.specs.Requests.{RequestsView, Stand, weight}
+use Rattle.sipwhere.specs.Accounts.{IsToldAccount}
 use Rattle.sipwhere.specs.LineOutcomes.{IsLineOutcome, IsOfLine}
 use Rattle.sipwhere.specs.Runs.{AreTold, Tells}
-use Rattle.sip_report.specs.declared.line_outcome.LineOutcome.{LineOutcome}
 use Rattle.sipwhere.specs.declared.line.Line.{Line}
+use Rattle.sipwhere.specs.declared.line_result.LineResult.{LineResult}
 use Rattle.sip_report.specs.declared.report.Style.{Style}
 use Rattle.sipwhere.specs.declared.locate_settings.LocateSettings.{LocateSettings}
 
 -- what contracts see of open lines: who sends, the lines, how many of them were reported, the
--- requests that are inside, and what became of each line, as far as it is known
+-- requests that are inside, and what is reported of each line, as far as it is known
 pub record OpenView : Type 0 where
   pub settings : LocateSettings
   pub lines : List Line
   pub told : ℕ
   pub requests : RequestsView
-  pub line_outcomes : List (Option LineOutcome)
+  pub results : List (Option LineResult)
 
 -- ---- whose request is whose
 
@@ -42,29 +43,34 @@ AreMeant settings lines requests =
     (h : Sought → ℕ) → VanishesOn settings lines h → weight h requests ≡ 0
 
 -- This number of the lines were begun; each request inside is that of a line; and each line has a
--- place for what becomes of it.
+-- place for what is reported of it.
 pub record Fits (settings : LocateSettings) (lines : List Line) (begun : ℕ)
-    (requests : RequestsView) (line_outcomes : List (Option LineOutcome)) : Type 0 where
+    (requests : RequestsView) (results : List (Option LineResult)) : Type 0 where
   pub few : begun ≤ length lines
   pub own : AreMeant settings lines requests
-  pub as_many : length line_outcomes ≡ length lines
+  pub as_many : length results ≡ length lines
 
 -- ---- what is so at a seat
 
--- what became of a line, where it is known
-abbrev pub IsLineOutcomeOf : (List ℕ → Type 0) → (ℕ → Type 0) → SeatView → LocateSettings → Line
-    → Option LineOutcome
-    → Type 0
-IsLineOutcomeOf gives shows seat settings line None = Unit {0}
-IsLineOutcomeOf gives shows seat settings line (Some line_outcome) = IsLineOutcome gives shows seat
-    settings line line_outcome
+-- What is reported of a line: what may become of it, and how its targets came, unless memory was
+-- refused for that.
+pub record IsLineResult (gives : List ℕ → Type 0) (shows : ℕ → Type 0) (seat : SeatView)
+    (settings : LocateSettings) (line : Line) (it : LineResult) : Type 0 where
+  pub became : IsLineOutcome gives shows seat settings line it.line_outcome
+  pub account : IfOk it.account (IsToldAccount shows seat settings line.text.now it.line_outcome)
 
--- what holds of lines at a seat: the requests inside, and what became of each line (RFC 3263 4, 5)
+-- the same, where it is known
+abbrev pub IsResultOf : (List ℕ → Type 0) → (ℕ → Type 0) → SeatView → LocateSettings → Line
+    → Option LineResult → Type 0
+IsResultOf gives shows seat settings line None = Unit {0}
+IsResultOf gives shows seat settings line (Some it) = IsLineResult gives shows seat settings line it
+
+-- what holds of lines at a seat: the requests inside, and what is reported of each line (RFC 3263
+-- 4, 5)
 pub record Stands (gives : List ℕ → Type 0) (shows : ℕ → Type 0) (seat : SeatView)
     (it : OpenView) : Type 0 where
   pub requests : Stand gives shows seat it.requests
-  pub line_outcomes : AllZip (IsLineOutcomeOf gives shows seat it.settings) it.lines
-      it.line_outcomes
+  pub results : AllZip (IsResultOf gives shows seat it.settings) it.lines it.results
 
 -- what became of the first line that was not reported is printed, with this status
 pub record TellsFirst (gives : List ℕ → Type 0) (shows : ℕ → Type 0) (seat : SeatView)

@@ -3,12 +3,12 @@ use Rattle.std.specs.Prelude.{◌≡◌, ◌≢◌, ◌⊎◌, ◌≤◌, ◌*�
 use Rattle.std.specs.Prelude.{⊤, codes, length, map, take, unwrap_or, All}
 use Rattle.std.specs.Duration.{as_nanos}
 use Rattle.std.specs.Io.KnownBytes.{Appends}
-use Rattle.answer_cache.specs.Seats.{SeatView}
+use Rattle.answer_cache.specs.Seats.{GoesOn, SeatView}
 use Rattle.dns_transport.specs.declared.wire_try.WireTry.{WireTry}
 use Rattle.sipwhere_options.specs.CommandLine.{IsStyle}
 use Rattle.sipwhere_options.specs.Plans.{IsPlan}
 use Rattle.sipwhere_options.specs.Timings.{IsScheduleOf}
-use Rattle.sipwhere.specs.Accounts.{accounts}
+use Rattle.sipwhere.specs.Accounts.{IsToldAccount, accounts}
 use Rattle.sipwhere.specs.LineInputs.{AreInputTexts, numbered_from, said}
 use Rattle.sipwhere.specs.LineOutcomes.{IsLineOutcome, extent_of}
 use Rattle.sip_report.specs.Lines.{gravity}
@@ -53,16 +53,25 @@ IsToldWhole old new style tries text took account line_outcome status =
     IsPrinted old new style tries text took account line_outcome status
     ⊎ ((new ≡ old) × (status ≡ 5))
 
--- what became of a line is printed, after what went over the wire for it
-pub record Tells (gives : List ℕ → Type 0) (shows : ℕ → Type 0) (seat : SeatView)
-    (settings : LocateSettings) (style : Style) (line : Line) (old new : Option (List ℕ))
+-- What became of a line is printed, after what went over the wire for it, with how its targets
+-- came. It took so many milliseconds, as the program measured them.
+pub record IsReported (shows : ℕ → Type 0) (seat : SeatView) (settings : LocateSettings)
+    (style : Style) (line : Line) (line_outcome : LineOutcome) (old new : Option (List ℕ))
     (status : ℕ) : Type 0 where
   pub tries : List WireTry
   pub took : ℕ
   pub account : Account
+  pub accounted : IsToldAccount shows seat settings line.text.now line_outcome account
+  pub printed : IsPrinted old new style tries line.text.now took account line_outcome status
+
+-- what may become of a line is printed, or the status is 5
+pub record Tells (gives : List ℕ → Type 0) (shows : ℕ → Type 0) (seat : SeatView)
+    (settings : LocateSettings) (style : Style) (line : Line) (old new : Option (List ℕ))
+    (status : ℕ) : Type 0 where
   pub line_outcome : LineOutcome
   pub became : IsLineOutcome gives shows seat settings line line_outcome
-  pub told : IsTold old new style tries line.text.now took account line_outcome status
+  pub told : IsReported shows seat settings style line line_outcome old new status
+      ⊎ (status ≡ 5)
 
 -- ---- many lines
 
@@ -98,12 +107,13 @@ pub record AreRun (gives : List ℕ → Type 0) (shows : ℕ → Type 0) (seat :
   pub gravest : IsGravest statuses status ⊎ (status ≡ 5)
   pub whole : (length lines ≤ count) ⊎ (status ≡ 5)
 
--- what may become of a line at a seat may become of it when the seat has gone on
-abbrev pub StaysSo : (List ℕ → Type 0) → (ℕ → Type 0) → SeatView → SeatView → Type 0
-StaysSo gives shows old new =
-    (settings : LocateSettings) (line : Line) (it : LineOutcome)
-    → IsLineOutcome gives shows old settings line it
-    → IsLineOutcome gives shows new settings line it
+-- a seat has gone on, and what might become of a line at it may still
+pub record StaysSo (gives : List ℕ → Type 0) (shows : ℕ → Type 0) (old new : SeatView) : Type 0
+  where
+    pub goes_on : GoesOn old new
+    pub became : (settings : LocateSettings) (line : Line) (it : LineOutcome)
+        → IsLineOutcome gives shows old settings line it
+        → IsLineOutcome gives shows new settings line it
 
 -- What became of these lines is printed in their order, and the status is the gravest; or the
 -- status is 5, as memory or the output failed.

@@ -161,7 +161,7 @@ fn account_for<B: AnswerBook>(
     ensures goes_on { GoesOn (B.shown seat.old) (B.shown seat.new) }
     ensures stores_nothing { StoresNothing (B.shown seat.old) (B.shown seat.new) }
     ensures account { IfOk result
-        (IsAccount B.shown seat.old seat.new settings.now now request.now) }
+        (IsAccount (B.shown seat.old) (B.shown seat.new) settings.now now request.now) }
     ensures server { IfOk result (λ it. it.server ≡ spec.server_for it.paths.items server) }
 {
     let paths = paths_of(alloc, &BookAt { book, now }, seat, request)?;
@@ -202,7 +202,7 @@ pub fn account_of<B: AnswerBook>(
     ensures goes_on { GoesOn (B.shown seat.old) (B.shown seat.new) }
     ensures stores_nothing { StoresNothing (B.shown seat.old) (B.shown seat.new) }
     ensures account { IfOk result
-        (IsAccountOfText B.shown seat.old seat.new settings.now now text.now) }
+        (IsAccountOfText (B.shown seat.old) (B.shown seat.new) settings.now now text.now) }
     ensures server { IfOk result (λ it. it.server ≡ spec.server_for it.paths.items server) }
 {
     law_one_destination_of_a_text();

@@ -12,6 +12,7 @@ mod counting_book;
 mod destination;
 mod line;
 mod line_input;
+mod line_result;
 mod locate_settings;
 mod noting_wire;
 mod open_lines;

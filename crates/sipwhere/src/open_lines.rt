@@ -1,14 +1,16 @@
 //! Texts that are located side by side.
 ghost use Rattle.std.specs.Prelude.{◌≡◌, ◌+◌, ◌/◌, ◌^◌, ◌<◌, ◌≤◌, IfOk, IfSome, None, length};
-ghost use Rattle.std.specs.Prelude.{◌↔◌, ◌⊎◌, ◌++◌, ℕ, List, Option, IsTrue, replicate, set};
+ghost use Rattle.std.specs.Prelude.{◌↔◌, ◌⊎◌, ◌++◌, ℕ, List, Option, IsFalse, IsTrue, replicate, set, slice_index_or};
 ghost use Rattle.std.specs.Duration.{as_nanos};
 ghost use Rattle.answer_cache.specs.Seats.{GoesOn, SeatView, StoresNothing};
 ghost use Rattle.sip_resolver.specs.Outcomes.{IsOutcome};
+ghost use Rattle.sipwhere.specs.Accounts.{IsAccountOfText, IsEmpty, IsEndAccount};
 ghost use Rattle.sipwhere.specs.OpenLines.{HasTold, IsMeant, Stands, TellsFirst};
 ghost use Rattle.sipwhere.specs.Runs.{IsGravest, StaysSo};
 
 use crate::account::{account_of, no_account};
 use crate::line::Line;
+use crate::line_result::LineResult;
 use crate::locate_settings::LocateSettings;
 use crate::noting_wire::NameNotes;
 use crate::submitted_lines::{line_outcome_of, submit, timed_out};
@@ -108,12 +110,9 @@ pub struct OpenLines<'a, B, W, C> {
     late: usize,
     /// How many of the lines were reported.
     told: usize,
-    /// How the targets of each line came, as far as it is known and told, or that memory was
-    /// refused for it.
-    accounts: Vec<Option<Result<Account, AllocError>>>,
     resolver: Resolver<B, WireFacts<W, C>, RandomIds<ChaCha20Rng>>,
-    /// What became of each line, as far as it is known.
-    line_outcomes: Vec<Option<LineOutcome>>,
+    /// What is reported of each line, as far as it is known.
+    results: Vec<Option<LineResult>>,
 }
 
 impl<'a, B, W, C> Model for OpenLines<'a, B, W, C> {
@@ -127,12 +126,12 @@ impl<'a, B, W, C> Model for OpenLines<'a, B, W, C> {
       lines = it.lines.now;
       told = it.told;
       requests = it.resolver.requests;
-      line_outcomes = it.line_outcomes.items;
+      results = it.results.items;
     } };
 
     ghost invariant = { λ it.
         Fits it.settings it.lines.now (length it.times.items) it.resolver.requests
-        it.line_outcomes.items };
+        it.results.items };
 }
 
 impl<'a, B: AnswerBook + Drop, W: MessageWire, C: Clock> OpenLines<'a, B, W, C> {
@@ -157,8 +156,7 @@ impl<'a, B: AnswerBook + Drop, W: MessageWire, C: Clock> OpenLines<'a, B, W, C> 
             times: Vec::with_capacity(alloc, lines.len())?,
             late: 0,
             told: 0,
-            line_outcomes: unknown(alloc, lines.len())?,
-            accounts: unknown(alloc, lines.len())?,
+            results: unknown(alloc, lines.len())?,
             resolver: Resolver::with_schedule(alloc, limits, schedule, ids)?,
         })
     }
@@ -203,7 +201,10 @@ impl<'a, B: AnswerBook + Drop, W: MessageWire, C: Clock> OpenLines<'a, B, W, C> 
             &self.settings,
             &lines[place],
         );
-        put(&mut self.line_outcomes, place, line_outcome);
+        if let Some(line_outcome) = line_outcome {
+            let result = LineResult::without_reply(self.alloc, line_outcome);
+            put(&mut self.results, place, Some(result));
+        }
         Ok(true)
     }
 
@@ -245,33 +246,31 @@ impl<'a, B: AnswerBook + Drop, W: MessageWire, C: Clock> OpenLines<'a, B, W, C> 
         }
     }
 
-    /// Notes how the targets of the line at a place came, if that is told: by what the book has at
-    /// a moment, and by the server whose reply came last.
-    fn note_account(
-        &mut self,
+    /// How the targets of the line at a place came, if that is told: by what the book has at a
+    /// moment, and by the server whose reply came last.
+    fn account_at(
+        &self,
         book: &B,
         seat: &mut B::Seat,
         server: Option<SocketAddr>,
         now: Moment,
         place: usize,
-    )
+    ) -> Result<Account, AllocError>
         requires made_here { B.belongs book.now seat.old }
+        requires inside { place < length self.now.lines }
         ensures stays { B.belongs book.now seat.new }
         ensures goes_on { GoesOn (B.shown seat.old) (B.shown seat.new) }
         ensures stores_nothing { StoresNothing (B.shown seat.old) (B.shown seat.new) }
-        ensures same { self.new ≡ self.old }
+        ensures not_asked { IsFalse self.now.settings.accounts → IfOk result IsEmpty }
+        ensures asked { IsTrue self.now.settings.accounts → (line : Line) → IfOk result
+            (IsAccountOfText (B.shown seat.old) (B.shown seat.new) self.now.settings now
+            (slice_index_or self.now.lines place line).text.now) }
     {
-        let Some(line) = self.lines.get(place) else {
-            return;
-        };
         if !self.settings.accounts {
-            return;
+            return Ok(no_account(self.alloc));
         }
-        let text = line.text;
-        let found = account_of(self.alloc, book, seat, &self.settings, text, now, server);
-        if let Some(account) = self.accounts.get_mut(place) {
-            *account = Some(found);
-        }
+        let text = self.lines[place].text;
+        account_of(self.alloc, book, seat, &self.settings, text, now, server)
     }
 
     /// Gives the line at a place up, whose time is over: its request is cancelled, and so has no
@@ -286,7 +285,8 @@ impl<'a, B: AnswerBook + Drop, W: MessageWire, C: Clock> OpenLines<'a, B, W, C> 
         let _was_inside = cancel_over(&mut self.resolver, wire, place as u64);
         let text = self.lines[place].text;
         let line_outcome = timed_out(self.alloc, &self.settings, text);
-        put(&mut self.line_outcomes, place, Some(line_outcome));
+        let result = LineResult::without_reply(self.alloc, line_outcome);
+        put(&mut self.results, place, Some(result));
     }
 
     /// Whether the time of the line at a place is over by now.
@@ -310,7 +310,7 @@ impl<'a, B: AnswerBook + Drop, W: MessageWire, C: Clock> OpenLines<'a, B, W, C> 
             return false;
         }
         self.late = place + 1;
-        if self.line_outcomes[place].is_none() {
+        if self.results[place].is_none() {
             self.give_up(wire, place);
             self.note_time(place, now);
         }
@@ -334,26 +334,39 @@ impl<'a, B: AnswerBook + Drop, W: MessageWire, C: Clock> OpenLines<'a, B, W, C> 
 }
 
 impl<'a, B: AnswerBook + Drop, W: NameNotes + Tracer, C: Clock + Timer> OpenLines<'a, B, W, C> {
-    /// Takes what became of a request, unless the time of its line was over. Its targets are tried
-    /// then, where they are to be.
-    fn settle<P: Pinger>(&mut self, wire: &W, pinger: &mut P, ended: Resolved<B>)
+    /// Takes what became of a request, and how its targets came, unless the time of its line was
+    /// over. Its targets are tried then, where they are to be.
+    fn settle<P: Pinger>(
+        &mut self,
+        wire: &W,
+        pinger: &mut P,
+        ended: Resolved<B>,
+        account: Result<Account, AllocError>,
+    )
         requires inside { ended.sought.number < length self.old.lines }
         requires own { IsMeant self.old.settings self.old.lines ended.sought }
         ensures same { (self.new.told ≡ self.old.told) × (self.new.lines ≡ self.old.lines)
             × (self.new.settings ≡ self.old.settings) }
         ensures stands { (seat : SeatView) → Stands W.gives C.shows seat self.old
             → IsOutcome W.gives C.shows seat ended.sought ended.outcome
+            → ((line : Line) → IfOk account (IsEndAccount C.shows seat self.old.settings
+            (slice_index_or self.old.lines ended.sought.number line).text.now))
             → Stands W.gives C.shows seat self.new }
     {
         let place = ended.number() as usize;
         let outcome = ended.into_outcome();
-        if self.line_outcomes[place].is_some() {
+        if self.results[place].is_some() {
             drop(outcome);
+            drop(account);
             return;
         }
         let text = self.lines[place].text;
         let line_outcome = line_outcome_of(self.alloc, wire, pinger, &self.settings, text, outcome);
-        put(&mut self.line_outcomes, place, Some(line_outcome));
+        let result = LineResult {
+            line_outcome,
+            account,
+        };
+        put(&mut self.results, place, Some(result));
     }
 
     /// Goes on with the requests inside, until one comes out or something came over the wire. The
@@ -381,19 +394,14 @@ impl<'a, B: AnswerBook + Drop, W: NameNotes + Tracer, C: Clock + Timer> OpenLine
             let place = ended.number() as usize;
             self.note_time(place, clock.elapsed());
             let begun = self.moment_of(place, clock.now());
-            self.note_account(book, seat, wire.last_server(), begun, place);
+            let account = self.account_at(book, seat, wire.last_server(), begun, place);
             law_requests_stand_as_seats_go_on::<WireFacts<W, C>>();
-            self.settle(wire, pinger, ended);
+            self.settle(wire, pinger, ended, account);
         }
     }
 }
 
 impl<'a, B: AnswerBook + Drop, W: MessageWire + Tracer, C: Clock> OpenLines<'a, B, W, C> {
-    /// Whether memory was refused for how the targets of the line at a place came.
-    fn lacks_account(&self, place: usize) -> bool {
-        matches!(self.accounts.get(place), Some(Some(Err(_))))
-    }
-
     /// Prints what became of the first line that was not reported, if it is known. Nothing is
     /// printed where memory was refused for how its targets came.
     fn tell_first<O: Write>(
@@ -415,20 +423,14 @@ impl<'a, B: AnswerBook + Drop, W: MessageWire + Tracer, C: Clock> OpenLines<'a, 
         ensures closed { IfSome result (λ told. IsTrue told.is_closed → told.status ≡ 5) }
     {
         let place = self.told;
-        let lacks_account = self.lacks_account(place);
         let line = self.lines.get(place)?;
-        let line_outcome = self.line_outcomes[place].as_ref()?;
+        let result = self.results[place].as_ref()?;
         let took = whole_milliseconds(self.times.get(place)?.took);
         let tries = wire.take_tries();
         let next = place + 1;
-        let none = no_account(self.alloc);
-        if lacks_account {
+        let Ok(account) = &result.account else {
             self.told = next;
             return Some(FAULT_TOLD);
-        }
-        let account = match self.accounts.get(place) {
-            Some(Some(Ok(account))) => account,
-            _ => &none,
         };
         let told = tell(
             self.alloc,
@@ -438,7 +440,7 @@ impl<'a, B: AnswerBook + Drop, W: MessageWire + Tracer, C: Clock> OpenLines<'a, 
             line.text,
             took,
             account,
-            line_outcome,
+            &result.line_outcome,
         );
         self.told = next;
         Some(told)

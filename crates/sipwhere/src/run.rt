@@ -1,5 +1,5 @@
 //! Texts, from their words to what is printed.
-ghost use Rattle.std.specs.Prelude.{◌≡◌, ◌⊎◌, ◌↔◌, ◌*◌, ◌≤◌, IfOk, IfSome, IsTrue, List, map, unwrap_or, ℕ};
+ghost use Rattle.std.specs.Prelude.{◌≡◌, ◌⊎◌, ◌↔◌, ◌*◌, ◌≤◌, IfOk, IfSome, IsTrue, List, Ok, map, unwrap_or, ℕ};
 ghost use Rattle.std.specs.Duration.{as_nanos};
 ghost use Rattle.sipwhere.specs.LineInputs.{AreInputTexts};
 ghost use Rattle.sipwhere_options.specs.Timings.{AreReplyTimes, IsScheduleOf};
@@ -507,7 +507,8 @@ fn run_over<R: Wait + Input + Print + Eprint + Net + time::Clock>(
 
 /// The key of a run: that of the options, or one that is drawn.
 fn key_for<R: RandomSource>(rt: &R, seed: Option<[u8; 32]>) -> io::Result<[u8; 32]>
-    ensures { IfOk result (IsKey seed) }
+    ensures key { IfOk result (IsKey seed) }
+    ensures given { IfSome seed (λ key. result ≡ Ok key) }
 {
     match seed {
         Some(key) => Ok(key),

@@ -1,5 +1,5 @@
 use Rattle.std.proofs.Common.{refl}
-use Rattle.sipwhere.proofs.Accounts.{draws-within}
+use Rattle.sipwhere.proofs.Accounts.{draws-within, paths-held}
 use Rattle.sipwhere.proofs.Quiet.{goes-not, goes-through, nothing-through, went-quietly}
 use Rattle.sipwhere.proofs.account.account_for.Goals as goal
 
@@ -34,7 +34,7 @@ returns-clause-account g c =
     let went = went-quietly g.B.AnswerBook.shown _ _ c.paths_of.ensures.went in
     let end = goes-not (g.B.AnswerBook.shown c.firsts_of.new.seat) in
     record {
-      paths = c.in_ok-paths.ensures.paths;
+      paths = paths-held g.B.AnswerBook.shown _ _ _ _ c.in_ok-paths.ensures.whole;
       draws = refl;
       firsts = draws-within _ _ _ _ _ _ _ went.0.seen end.seen _ _ c.in_ok-firsts.ensures.draws;
     }

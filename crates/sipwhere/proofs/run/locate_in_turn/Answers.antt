@@ -2,7 +2,7 @@ use Rattle.std.proofs.Common.{◌∷◌, [], List, take, get_or, sym, subst}
 use Rattle.std.proofs.lemmas.List.{take_more}
 use Rattle.sipwhere.specs.Runs.{IsRun}
 use Rattle.sipwhere.specs.declared.line.Line.{Line}
-use Rattle.sipwhere.proofs.Told.{run-more, run-of}
+use Rattle.sipwhere.proofs.Told.{run-more, run-of, stays-through}
 use Rattle.sipwhere.proofs.run.locate_in_turn.Goals as goal
 
 pub lines-preserved : goal.lines-preserved
@@ -25,7 +25,7 @@ lines-preserved g c =
           (run-more _ _ (g.B.AnswerBook.shown c.lines.seat) _ _ _ (take at lines) (line ∷ []) _ (g.O.Write.contents c.lines.output) _
           c.lines.told.status c.locate_side_by_side.result.status _ done.later
           (λ five. c.and-told.ensures.fault five was.range done.range) c.and-told.ensures.status was.run one);
-      later = λ settings line it is. done.later settings line it (was.later settings line it is);
+      later = stays-through _ _ _ _ _ was.later done.later;
       range = c.and-told.ensures.range was.range done.range;
       closed = c.and-told.ensures.ended was.closed done.closed was.range done.range;
     }

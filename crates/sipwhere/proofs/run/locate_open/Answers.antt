@@ -1,5 +1,5 @@
 use Rattle.std.proofs.Common.{◌≡◌, ◌∙◌, ◌++◌, [], inl, inr, lit≤, refl}
-use Rattle.sipwhere.proofs.Told.{all-told, gravest-more, gravest-none, told-later, told-none, told-of, told-same}
+use Rattle.sipwhere.proofs.Told.{all-told, gravest-more, gravest-none, stays-not, stays-through, told-later, told-none, told-of, told-same}
 use Rattle.sipwhere.proofs.run.locate_open.Goals as goal
 
 pub rounds-init : goal.rounds-init
@@ -8,7 +8,7 @@ rounds-init g c = record {
   stands = c.requires.stands;
   same = (refl, refl);
   told = ([], told-none _ _ _ _ c.args.lines.now _ c.requires.told, gravest-none);
-  later = λ settings line it is. is;
+  later = stays-not _ _ _;
   range = lit≤ tt;
   closed = λ is. absurd (cc (is));
 }
@@ -46,7 +46,7 @@ rounds-preserved g c =
         told-later _ _ _ _ later _ style _ _ _ all there,
         rw c.and-told.ensures.status (gravest-more was.0 more.0 _ _ was.2 more.2),
       );
-      later = λ settings line it is. later settings line it (c.rounds.invariant.later settings line it is);
+      later = stays-through _ _ _ _ _ c.rounds.invariant.later later;
       range = c.and-told.ensures.range c.rounds.invariant.range c.tell_all.ensures.range;
       closed = c.and-told.ensures.ended c.rounds.invariant.closed c.tell_all.ensures.closed c.rounds.invariant.range
           c.tell_all.ensures.range;

@@ -9,7 +9,7 @@ returns-clause-run g c =
         plan = c.in_ok-plan.plan;
         is_plan = c.in_ok-plan.ensures;
         key = c.in_ok-key.key;
-        is_key = c.in_ok-key.ensures;
+        is_key = c.in_ok-key.ensures.key;
         run = run;
       })
     ]

@@ -1,7 +1,7 @@
-use Rattle.std.proofs.Common.{◌<◌, ◌∙◌, length, arith, Some}
+use Rattle.std.proofs.Common.{◌<◌, ◌∙◌, length, arith}
 use Rattle.std.proofs.Math.ListN.{length-set}
 use Rattle.sip_resolver.specs.Cancels.{requests_with}
-use Rattle.sipwhere.proofs.Meant.{line_outcomes-submitted, meant-left}
+use Rattle.sipwhere.proofs.Meant.{results-needless, meant-left}
 use Rattle.sipwhere.proofs.open_lines.OpenLines.give_up.Goals as goal
 
 pub invariant_of-self : goal.invariant_of-self
@@ -22,6 +22,6 @@ returns-clause-stands g c = λ seat was.
     let inside : c.args.place < length lines = omega (arith, within) in
     record {
       requests = c.cancel_over-was_inside.ensures.stand seat before.requests;
-      line_outcomes = rw c.put.ensures (line_outcomes-submitted _ _ seat c.self.inside.settings lines _ _ _
-          (Some c.timed_out-line_outcome.result) inside before.line_outcomes needless);
+      results = rw c.put.ensures (results-needless _ _ seat c.self.inside.settings lines _ _ _ _ _ inside before.results needless
+          c.without_reply-result.ensures.became c.without_reply-result.ensures.account);
     }
