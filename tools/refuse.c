@@ -1,7 +1,8 @@
 /*
  * To be preloaded: refuses the allocation whose number is in REFUSE_AT, counted from 1, or the thread whose number is in
  * REFUSE_THREAD, and writes one octet to the descriptor in REFUSE_TOLD when it does. Each send over a socket that is
- * connected to the port in REFUSE_PORT is refused, as it is where the system has no buffer for it. It needs no headers.
+ * connected to the port in REFUSE_PORT is refused, as it is where the system has no buffer for it. With REFUSE_ENTROPY
+ * the system has no entropy. It needs no headers.
  */
 typedef unsigned long size_t;
 typedef long ssize_t;
@@ -14,6 +15,7 @@ extern int getpeername(int socket, unsigned char *address, unsigned *length);
 extern int *__errno_location(void);
 
 #define NEXT ((void *)-1L)
+#define EIO 5
 #define EAGAIN 11
 #define ENOBUFS 105
 
@@ -21,9 +23,11 @@ static void *(*next_malloc)(size_t);
 static void *(*next_realloc)(void *, size_t);
 static int (*next_thread)(void *, const void *, void *(*)(void *), void *);
 static ssize_t (*next_send)(int, const void *, size_t, int);
+static int (*next_entropy)(void *, size_t);
 static int left;
 static int threads_left;
 static int port;
+static int no_entropy;
 static int told;
 
 __attribute__((constructor)) static void start(void) {
@@ -37,6 +41,7 @@ __attribute__((constructor)) static void start(void) {
     left = at ? atoi(at) : 0;
     threads_left = thread ? atoi(thread) : 0;
     port = to ? atoi(to) : 0;
+    no_entropy = getenv("REFUSE_ENTROPY") != (char *)0;
 }
 
 /* Counts down, and refuses what comes when nothing is left. */
@@ -73,5 +78,12 @@ ssize_t send(int socket, const void *octets, size_t size, int flags) {
     if (!next_send) next_send = (ssize_t (*)(int, const void *, size_t, int))dlsym(NEXT, "send");
     if (!goes_there(socket)) return next_send(socket, octets, size, flags);
     *__errno_location() = ENOBUFS;
+    return -1;
+}
+
+int getentropy(void *octets, size_t size) {
+    if (!next_entropy) next_entropy = (int (*)(void *, size_t))dlsym(NEXT, "getentropy");
+    if (!no_entropy) return next_entropy(octets, size);
+    *__errno_location() = EIO;
     return -1;
 }
