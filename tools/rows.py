@@ -61,14 +61,14 @@ def files_of(names):
     return [it for it in files if any(f"{it.removesuffix('.txt')}/".startswith(f"tests/rows/{name}/") for name in names)]
 
 
-def program_of(crate, _call):
-    """The name of the program that runs the rows of a call, if it stands on its crate, by crates.txt."""
+def program_of(crate):
+    """The name of the program that runs the rows of a crate, if it stands on it, by crates.txt."""
     with open("crates.txt", encoding="utf-8") as lines:
         below = {name: rest.split() for name, _, rest in (line.partition(":") for line in lines)}
     return NAME if crate in below[NAME] else None
 
 
-def builds_of(crate, call):
+def builds_of(crate):
     """The builds of that program: those that `rt ci` leaves, or those that the variable PROGRAMS names in their place."""
     programs = os.environ.get("PROGRAMS", BUILDS).split()
-    return [it for it in programs if os.path.basename(it).split(".")[0] == program_of(crate, call)]
+    return [it for it in programs if os.path.basename(it).split(".")[0] == program_of(crate)]
