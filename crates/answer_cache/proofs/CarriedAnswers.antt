@@ -38,7 +38,7 @@ module _ (question : Question) where
       by-test true is more = let wrong : true ≡ false = rw is at not in absurd (cc (wrong))
       by-test false is more = All-cons P store stores is (more (rw is at not))
 
-  none-of-it : (stores : List Store) → has_question question stores ≡ false → stores_of question stores ≡ []
+  pub none-of-it : (stores : List Store) → has_question question stores ≡ false → stores_of question stores ≡ []
   none-of-it stores not = none-filter (λ store. same_question store.question question) stores (none-has stores not)
 
   none-carried : (now : ℕ) (stores : List Store) → has_question question stores ≡ false
@@ -89,7 +89,7 @@ module _ (question : Question) where
     answers-by store stores false asked false again true l more = rw (asked, again, l, asked) more
     answers-by store stores false asked false again false l more = rw (asked, again, l) more
 
-    answers : (stores : List Store) → cached (carried_stores (living_of now stores)) question later ≡ cached stores question later
+    pub answers : (stores : List Store) → cached (carried_stores (living_of now stores)) question later ≡ cached stores question later
     answers [] = refl
     answers (store ∷ stores) = answers-by store stores _ refl _ refl _ refl (answers stores)
 

@@ -1,5 +1,6 @@
-mod Chains
+mod Searching
 mod Adding
+mod Following
 pub mod Costing
 mod Indexing
 pub mod Lookups

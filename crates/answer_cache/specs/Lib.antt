@@ -1,5 +1,5 @@
 pub mod Seats
-pub mod Chains
+pub mod Marks
 pub mod Indexes
 pub mod Lists
 pub mod Nodes

@@ -1,16 +1,18 @@
 //! What a cache hands on to the one that comes after it.
-ghost use Rattle.std.specs.Prelude.{◌≡◌, ◌↔◌, ◌≤◌, ℕ, [], IsTrue, List, None, length, slice_get};
+ghost use Rattle.std.specs.Prelude.{◌≡◌, ◌↔◌, ◌≤◌, ℕ, [], IfOk, IsTrue, List, None, length};
+ghost use Rattle.std.specs.Prelude.{slice_get};
 ghost use Rattle.std.specs.Arc.{arc_value};
 ghost use Rattle.std.specs.Option.{option_map};
 ghost use Rattle.dns_message.specs.declared.question.Question.{Question as Asked};
 ghost use Rattle.answer_log.specs.Groups.{group_of};
 ghost use Rattle.answer_log.specs.Histories.{cached};
 ghost use Rattle.answer_log.specs.declared.store.Store.{Store};
-ghost use Rattle.answer_cache.specs.Carried.{IsCarried, carried_stores};
+ghost use Rattle.answer_cache.specs.Carried.{IsCarried, carried_stores, lives_at, offer_in};
 ghost use Rattle.answer_cache.specs.Seats.{offer_of};
 
 use dns_answers::{Answer, Moment};
 use dns_message::{Question, law_same_questions_are_equal};
+use std::alloc::AllocError;
 use std::marker::Model;
 use std::sync::Arc;
 
@@ -20,6 +22,26 @@ pub(crate) struct Entry {
     pub question: Question,
     pub answer: Arc<Answer>,
     pub moment: Moment,
+}
+
+impl Entry {
+    /// The same store.
+    pub(crate) fn try_clone(&self) -> Result<Entry, AllocError>
+        ensures { IfOk result (λ entry. offer_in entry ≡ offer_in self.now) }
+    {
+        Ok(Entry {
+            question: self.question.try_clone()?,
+            answer: Arc::try_clone(&self.answer)?,
+            moment: self.moment,
+        })
+    }
+
+    /// Whether its answer lives at a moment.
+    pub(crate) fn lives_at(&self, now: Moment) -> bool
+        ensures { result ≡ lives_at now (offer_in self.now) }
+    {
+        now.get() < self.moment.get() + u64::from(self.answer.life())
+    }
 }
 
 /// What a cache hands on to the one that comes after it: stores without their seats. Each answer

@@ -25,12 +25,13 @@
 //! `group` puts each question, by its name and type, into one of 64 groups, and a group has at most
 //! 128 stores. So a book never has more than 8,192. Stores do not make room for others: when groups
 //! are full, the user of a book begins a new one. A `SharedCache` hands on what lives (`carry`),
-//! and its successor begins with that.
+//! and its successor begins with that. `ListCache::successor` begins with what lives of another
+//! list.
 //!
 //! `AnswerBook` is the trait of all books: each has `look`, and `lookup` comes with it. `Stores<R>`
 //! is the trait of those in which the holder of an `R` stores: in a book that threads share, a
 //! runtime that may wait (`Wait`). `ListCache` is the book of one thread, and has one seat. It
-//! never waits, so its `store` takes any `R`, also `()`; a lookup looks through the stores of one
+//! never waits, so its `store` takes any `R`, also `()`; a lookup looks through the hashes of one
 //! group. Its seat has the answers, so it lends none.
 //!
 //! So an answer of life 10 that is stored at the moment 100 is found at 109, and not at 110.

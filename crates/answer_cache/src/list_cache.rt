@@ -1,10 +1,12 @@
 //! The book of one thread.
-ghost use Rattle.std.specs.Prelude.{◌≡◌, ◌≢◌, None, [], IfErr, IfOk, OnErr, OnOk};
+ghost use Rattle.std.specs.Prelude.{◌≡◌, ◌≢◌, ◌≤◌, ℕ, None, [], IfErr, IfOk, OnErr, OnOk, length};
 ghost use Rattle.std.specs.Arc.{arc_value};
 ghost use Rattle.std.specs.Option.{option_map};
 ghost use Rattle.dns_answers.specs.Records.{kind_of};
-ghost use Rattle.answer_log.specs.Histories.{cached};
+ghost use Rattle.dns_message.specs.declared.question.Question.{Question as Asked};
+ghost use Rattle.answer_log.specs.Histories.{cached, in_group};
 ghost use Rattle.dns_answers.specs.Found.{answer_in};
+ghost use Rattle.answer_cache.specs.Carried.{carried_stores, living_of};
 ghost use Rattle.answer_cache.specs.Lists.{IsListSeat, Refuses, Takes, offered_too, seat_at};
 ghost use Rattle.answer_cache.specs.Lists.{stored_too};
 ghost use Rattle.answer_cache.specs.Seats.{offer_of};
@@ -14,7 +16,7 @@ use crate::notes::Notes;
 use crate::refusal::StoreRefusal;
 use crate::store_list::StoreList;
 use dns_answers::{Answer, FoundAnswer, Moment};
-use dns_message::Question;
+use dns_message::{Question, law_same_questions_are_equal};
 use std::alloc::{AllocError, Global};
 use std::marker::Model;
 use std::sync::Arc;
@@ -53,9 +55,46 @@ impl ListCache {
         seat.is_seat();
         (ListCache(()), seat)
     }
+
+    /// The book that follows another one, and its seat, which was handed nothing yet. Its history
+    /// is the last store of each question that lives at a moment, in the order of time, so from
+    /// then on it answers as the other does.
+    ///
+    /// # Errors
+    /// Where memory is refused. None is asked for where nothing lives.
+    pub fn successor(
+        alloc: Global,
+        seat: &ListSeat,
+        now: Moment,
+    ) -> Result<(ListCache, ListSeat), AllocError>
+        ensures seat { IfOk result
+            (λ it. it.1 ≡ seat_at (carried_stores (living_of now seat.now.seen)) []) }
+        ensures is { IfOk result (λ it. IsListSeat it.1) }
+        ensures answers { IfOk result (λ it. (question : Asked) (later : ℕ) → now ≤ later
+            → cached it.1.seen question later ≡ cached seat.now.seen question later) }
+        ensures few { IfOk result (λ it. (group : ℕ)
+            → length (in_group group it.1.seen) ≤ length (in_group group seat.now.seen)) }
+        ensures wanted { OnErr result (living_of now seat.now.seen ≢ []) }
+    {
+        law_same_questions_are_equal();
+        let next = ListSeat {
+            stores: seat.stores.living(alloc, now)?,
+            notes: Notes::none(),
+        };
+        next.is_seat();
+        Ok((ListCache(()), next))
+    }
 }
 
 impl ListSeat {
+    /// How many stores the book has. Takes no memory.
+    #[must_use]
+    pub fn store_count(&self) -> usize
+        ensures { result ≡ length self.now.seen }
+    {
+        self.stores.len()
+    }
+
     /// What holds of each seat.
     fn is_seat(&self)
         ensures { IsListSeat self.now }

@@ -1,0 +1,7 @@
+use Rattle.std.proofs.Common.{◌≡◌, ◌++◌, drop}
+use Rattle.answer_cache.specs.Carried.{carried_stores, living_of}
+use Rattle.answer_cache.proofs.store_list.StoreList.living.Given as goal
+
+abbrev pub invariant-places : goal.invariant-places
+invariant-places l =
+    carried_stores (living_of l.now l.self) ≡ l.living ++ carried_stores (living_of l.now (drop l.place l.self))
