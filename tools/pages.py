@@ -15,7 +15,7 @@ PRIVATE = {
     "sip_worker": {"send_all", "receive_once"},
     "sip_workers": {"deal_out", "put_in_order"},
     "dns_transport": {
-        *("OpenChain::begin", "OpenChain::step", "has_id", "refuses_edns", "rcode_of", "moment_after", "server_at", "servers_before"),
+        *("OpenChain::begin", "OpenChain::step", "has_id", "refuses_edns", "rcode_of", "moment_after", "server_at"),
         *("ServerWire::ask", "ServerWire::ask_in_turn", "ServerWire::take", "port_of"),
     },
     "sip_report": {"check_status", "check_line"},

@@ -1,6 +1,5 @@
 //! The order in which a query goes to servers.
 ghost use Rattle.std.specs.Prelude.{◌≡◌, ◌%◌, ◌<◌};
-ghost use Rattle.dns_transport.specs.ServerOrders.{IsPlace};
 ghost use Rattle.dns_transport.specs.ServerOrders as spec;
 
 /// The server that a query goes to after so many sends, where the first one goes to this server.
@@ -25,17 +24,4 @@ pub(crate) fn turn_of(number: u64, servers: usize) -> usize
     ensures { result ≡ number % servers }
 {
     (number % servers as u64) as usize
-}
-
-/// How many servers come before this one, where a query goes to that one first.
-pub(crate) fn servers_before(first: usize, server: usize, servers: usize) -> usize
-    requires { server < servers }
-    ensures { IsPlace first server servers result }
-{
-    let start = first % servers;
-    if server < start {
-        server + (servers - start)
-    } else {
-        server - start
-    }
 }
