@@ -86,6 +86,14 @@ impl Asker {
         self.tickets.pending_id_of(id).is_some()
     }
 
+    /// How many questions wait for their replies.
+    #[must_use]
+    pub fn len(&self) -> usize
+        ensures { result ≡ length self.now.tickets }
+    {
+        self.tickets.len()
+    }
+
     /// Whether as many questions wait as the limit allows.
     #[must_use]
     pub fn is_full(&self) -> bool

@@ -96,6 +96,13 @@ impl Tickets {
         self.table.get(id)
     }
 
+    /// How many there are.
+    pub(crate) fn len(&self) -> usize
+        ensures { result ≡ length self.now.list.entries }
+    {
+        self.list.len()
+    }
+
     /// Whether there are as many as can be.
     pub(crate) fn is_full(&self) -> bool
         ensures { IsTrue result ↔ (length self.now.list.entries ≡ self.now.list.limit) }

@@ -31,7 +31,8 @@
 //!
 //! `locate` is `Locator::new` and one `step`, for a request whose answers are likely in the book.
 //! It gives the targets, or the reason why there are none, and makes a locator only where an answer
-//! is missing. The request is a view, so a URI or a Via of a text need not be read first.
+//! is missing: a `BoxedLocator`, which is small, and gives the locator by `into_locator`. The
+//! request is a view, so a URI or a Via of a text need not be read first.
 //!
 //! `BookAt` is a book as the source of answers that a choice of `sip_selection` asks.
 //!
@@ -62,5 +63,5 @@ mod refusal;
 pub use book_at::BookAt;
 pub use kept::Kept;
 pub use laws::law_messages_decide;
-pub use locator::{Located, Locator, locate};
+pub use locator::{BoxedLocator, Located, Locator, locate};
 pub use refusal::LocatorRefusal;

@@ -49,6 +49,41 @@ impl<B> Model for Locator<B> {
     ghost view = { λ it. it.selection };
 }
 
+/// A locator that asks for an answer, in memory of its own.
+#[derive(Drop)]
+pub struct BoxedLocator<B> {
+    alloc: Global,
+    selection: Box<Selection>,
+    book: PhantomData<B>,
+}
+
+impl<B> Model for BoxedLocator<B> {
+    ghost use Rattle.sip_selection.specs.Selections.{SelectionValue};
+
+    ghost Value = { SelectionValue };
+
+    ghost view = { λ it. it.selection.value };
+}
+
+impl<B> BoxedLocator<B> {
+    /// The locator.
+    #[must_use]
+    pub fn into_locator(self) -> Locator<B>
+        ensures { result ≡ self }
+    {
+        let BoxedLocator {
+            alloc,
+            selection,
+            book,
+        } = self;
+        Locator {
+            alloc,
+            selection: Box::into_inner(selection),
+            book,
+        }
+    }
+}
+
 /// Where a request goes, as far as a book has the answers.
 #[derive(Drop)]
 pub enum Located<B> {
@@ -58,7 +93,7 @@ pub enum Located<B> {
     /// The request goes nowhere, for this reason.
     Refused(Reason),
     /// The book lacks an answer. The locator asks for it, and has used the answers before it.
-    Missing(Locator<B>),
+    Missing(BoxedLocator<B>),
 }
 
 /// The choice of a request over what a book has at a moment.
@@ -116,7 +151,7 @@ pub fn locate<B: AnswerBook>(
     match choose_at(alloc, book, seat, request, caps, words, now)? {
         Choice::Targets(targets) => Ok(Located::Targets(targets)),
         Choice::Refused(reason) => Ok(Located::Refused(reason)),
-        Choice::Asks(selection) => Ok(Located::Missing(Locator {
+        Choice::Asks(selection) => Ok(Located::Missing(BoxedLocator {
             alloc,
             selection,
             book: PhantomData,

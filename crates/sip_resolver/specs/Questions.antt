@@ -1,5 +1,5 @@
 -- The questions that are out, over datagrams and over streams.
-use Rattle.std.specs.Prelude.{◌≡◌, ◌≢◌, ℕ, ◌≤◌, List, [], ◌++◌, map, Option, Some, None}
+use Rattle.std.specs.Prelude.{◌≡◌, ◌≢◌, ℕ, ◌+◌, ◌≤◌, List, [], ◌++◌, length, map, Option, Some, None}
 use Rattle.std.specs.List.{All, AllPairs, Contains}
 use Rattle.dns_message.specs.declared.question.Question.{Question}
 use Rattle.dns_queries.specs.Events.{asked, closed, sent_octets}
@@ -24,6 +24,10 @@ none_out limit schedule = record {
   datagrams = record { tickets = []; limit = limit; serial = 0; schedule = schedule };
   streams = record { tickets = []; limit = limit; serial = 0; schedule = schedule };
 }
+
+-- how many questions are out
+abbrev pub count_out : QuestionsView → ℕ
+count_out it = length it.datagrams.tickets + length it.streams.tickets
 
 -- the schedule by which questions are sent
 abbrev pub schedule_of : QuestionsView → Schedule

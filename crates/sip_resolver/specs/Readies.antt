@@ -25,7 +25,7 @@ task_of_new it = record {
 
 -- a request, whether its choice has begun or not
 abbrev pub task_in : {Book : Type 0} → Start Book → TaskView
-task_in (New it) = task_of_new it
+task_in (New it) = task_of_new it.value
 task_in (Begun task) = task
 
 -- where a step of a request leads: it is the same request, and asks for an answer that was lacking,

@@ -1,5 +1,5 @@
 -- The requests inside a resolver.
-use Rattle.std.specs.Prelude.{◌≡◌, ◌==◌, ℕ, ◌+◌, ◌^◌, ◌<◌, ◌≤◌, Bool, not, List, [], ◌∷◌, ◌++◌, length, map}
+use Rattle.std.specs.Prelude.{◌≡◌, ◌==◌, ℕ, ◌+◌, ◌<◌, ◌≤◌, Bool, not, List, [], ◌∷◌, ◌++◌, length, map}
 use Rattle.std.specs.List.{All, Contains, filter, sum_by}
 use Rattle.answer_cache.specs.Seats.{SeatView}
 use Rattle.sip_resolver.specs.Earliest.{IsEarliest, untils_in}
@@ -142,7 +142,7 @@ weigh_numbers it h = weight (λ sought. h sought.number) it
 pub record AreKept (ready held : Queued TaskView) (waiting : Queued WaitingView)
     (ended : Queued Ended) (limit : ℕ) (earliest : Earliest) (numbers : FilterView) : Type 0 where
   pub room : HaveRoom ready held waiting ended limit
-  pub fits : limit < 2 ^ 64
+  pub fits : limit ≤ 1024
   pub earliest_is : IsEarliest (untils_in ready.items held.items waiting.items) earliest
   pub numbers_are : Counts
       (weigh_numbers (requests_of ready.items held.items waiting.items ended.items limit)) numbers

@@ -99,6 +99,7 @@ pub use laws::{
     law_requests_stand_as_seats_go_on,
 };
 pub use outcome::{Outcome, Resolved, TargetList};
+pub use queue::least_of;
 pub use refusal::SubmitRefusal;
 pub use resolver::{Limits, ReplyOutcome, Resolver};
 pub use rounding::rounded_up;

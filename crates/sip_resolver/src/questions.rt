@@ -8,7 +8,7 @@ ghost use Rattle.dns_queries.specs.Tickets.{ticket_of};
 ghost use Rattle.sip_resolver.specs.Ends.{EndsMore};
 ghost use Rattle.dns_queries.specs.declared.refusal.AskRefusal.TheVariants as refusals;
 ghost use Rattle.sip_resolver.specs.Idle.{AreAwaited, AreTaken, HasNoRoom, IsFull, IsInWait, IsOut, MayRefuse};
-ghost use Rattle.sip_resolver.specs.Questions.{AreDistinct, IsLeast, IsScheduled, IsSent, Lacks, asked_over, asking_over, closed_both, closed_over, deadlines_of, left_over, none_out, schedule_of};
+ghost use Rattle.sip_resolver.specs.Questions.{AreDistinct, IsLeast, IsScheduled, IsSent, Lacks, asked_over, asking_over, closed_both, closed_over, count_out, deadlines_of, left_over, none_out, schedule_of};
 ghost use Rattle.sip_resolver.specs.Requests.{AreSame, Stand};
 ghost use Rattle.sip_resolver.specs.Sends.{GivesUpBoth, IsInTime, SendsAfter, tickets_of};
 
@@ -74,6 +74,16 @@ impl Questions {
         ensures scheduled { IsScheduled self.now }
     {
         let _ = &self.datagrams;
+    }
+
+    /// How many there are.
+    pub(crate) fn len(&self) -> usize
+        ensures is { result ≡ count_out self.now }
+        ensures few { result ≤ 512 }
+    {
+        self.datagrams.law_stands_in_order();
+        self.streams.law_stands_in_order();
+        self.datagrams.len() + self.streams.len()
     }
 
     /// Whether as many are out over datagrams, or over streams, as can be.

@@ -148,8 +148,9 @@ fn one_at(moment: u64, until: Option<u64>) -> usize
     }
 }
 
-/// The least of two numbers, if there are any.
-pub(crate) fn least_of(one: Option<u64>, other: Option<u64>) -> Option<u64>
+/// The least of two numbers, if there are any: of the timeouts of two resolvers, say.
+#[must_use]
+pub fn least_of(one: Option<u64>, other: Option<u64>) -> Option<u64>
     ensures { (ones others : List ℕ) → IsLeast ones one → IsLeast others other
         → IsLeast (ones ++ others) result }
 {

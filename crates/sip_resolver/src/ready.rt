@@ -14,7 +14,7 @@ use crate::queue::{Numbered, Timed};
 use crate::task::{Progress, Task};
 use answer_cache::AnswerBook;
 use dns_answers::Moment;
-use sip_locator::{Located, Locator, locate};
+use sip_locator::{BoxedLocator, Located, locate};
 use sip_selection::{Caps, Request, RequestView};
 use sip_uri::Host;
 use srv_choice::RandomWords;
@@ -36,7 +36,7 @@ pub(crate) struct Submitted {
 #[derive(Drop)]
 pub(crate) enum Start<B> {
     /// Nothing was looked up for it.
-    New(Submitted),
+    New(Box<Submitted>),
     /// Its choice has begun.
     Begun(Task<B>),
 }
@@ -136,13 +136,19 @@ fn host_of(request: Request) -> Host
 }
 
 /// How far a request is that waits for the answer which its locator asks for.
-fn wait<B: AnswerBook>(alloc: Global, submitted: Submitted, locator: Locator<B>) -> Lead<B>
-    requires { locator.request ≡ submitted.request }
-    ensures { WaitsBy submitted locator result }
+#[inline(never)]
+fn wait<B: AnswerBook>(
+    alloc: Global,
+    submitted: Box<Submitted>,
+    locator: BoxedLocator<B>,
+) -> Lead<B>
+    requires { locator.request ≡ submitted.value.request }
+    ensures { WaitsBy submitted.value locator result }
 {
+    let submitted = Box::into_inner(submitted);
     let (number, until) = (submitted.number, submitted.until);
     let host = host_of(submitted.request);
-    match Box::new(alloc, locator) {
+    match Box::new(alloc, locator.into_locator()) {
         Ok(locator) => Lead::Asks(Task::asking(number, locator, host, until)),
         Err(AllocFailed { .. }) => Lead::Ended(Outcome::Memory),
     }
@@ -167,16 +173,19 @@ impl<B: AnswerBook> Ready<B> {
         }) }
     {
         match words {
-            RandomWords::Drawn { key, number: draw } => Ok(Ready {
-                start: Start::New(Submitted {
+            RandomWords::Drawn { key, number: draw } => {
+                let submitted = Submitted {
                     number,
                     request,
                     caps,
                     key: *key,
                     draw: *draw,
                     until,
-                }),
-            }),
+                };
+                Ok(Ready {
+                    start: Start::New(Box::new(alloc, submitted)?),
+                })
+            }
             RandomWords::Given(_) => {
                 let task = Task::new(alloc, number, request, caps, words, until)?;
                 Ok(Ready::of(task))
@@ -187,7 +196,7 @@ impl<B: AnswerBook> Ready<B> {
 
 /// Begins the choice of a request, and lets it go on by what the book has.
 fn begin<B: AnswerBook, F: Facts>(
-    submitted: Submitted,
+    submitted: Box<Submitted>,
     alloc: Global,
     book: &B,
     seat: &mut B::Seat,
@@ -198,17 +207,18 @@ fn begin<B: AnswerBook, F: Facts>(
     ensures stays { B.belongs book.now seat.new }
     ensures goes_on { GoesOn (B.shown seat.old) (B.shown seat.new) }
     ensures stores_nothing { StoresNothing (B.shown seat.old) (B.shown seat.new) }
-    ensures leads { Leads F.gives F.shows (B.shown seat.new) (task_of_new submitted) result }
+    ensures leads { Leads F.gives F.shows (B.shown seat.new) (task_of_new submitted.value) result }
     ensures ends { EndsSo result }
 {
+    let it = &*submitted;
     let words = RandomWords::Drawn {
-        key: submitted.key,
-        number: submitted.draw,
+        key: it.key,
+        number: it.draw,
     };
-    let view = RequestView::Read(&submitted.request);
-    match locate(alloc, book, seat, &view, &submitted.caps, &words, now) {
+    let view = RequestView::Read(&it.request);
+    match locate(alloc, book, seat, &view, &it.caps, &words, now) {
         Ok(Located::Targets(targets)) => {
-            let host = host_of(submitted.request);
+            let host = host_of(Box::into_inner(submitted).request);
             Lead::Ended(Outcome::Targets(TargetList::new(targets, host)))
         }
         Ok(Located::Refused(reason)) => Lead::Ended(Outcome::Refused(reason)),

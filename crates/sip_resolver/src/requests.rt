@@ -85,6 +85,7 @@ impl<B> Model for Requests<B> {
 impl<B> Requests<B> {
     /// None, with room for so many.
     pub(crate) fn new(alloc: Global, limit: usize) -> Result<Requests<B>, AllocError>
+        requires { limit ≤ 1024 }
         ensures { IfOk result (λ it. it ≡ requests_of [] [] [] [] limit) }
     {
         Ok(Requests {
@@ -104,6 +105,14 @@ impl<B> Requests<B> {
     {
         let others = self.limit - self.ready.len() - self.held.len() - self.waiting.len();
         self.ended.len() < others
+    }
+
+    /// How many there are.
+    pub(crate) fn len(&self) -> usize
+        ensures is { result ≡ count_of self.now }
+        ensures few { result ≤ 1024 }
+    {
+        self.ready.len() + self.held.len() + self.waiting.len() + self.ended.len()
     }
 
     /// Whether there is none.

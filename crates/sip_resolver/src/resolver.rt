@@ -14,7 +14,7 @@ ghost use Rattle.sip_resolver.specs.Ends.{EndsMore, IsByChoice, IsByReply, IsMem
 ghost use Rattle.sip_resolver.specs.Expiries.{timeouts_of};
 ghost use Rattle.sip_resolver.specs.Idle.{AreAwaited, CannotAsk, IsIdle, IsOut};
 ghost use Rattle.sip_resolver.specs.Outcomes.{IsOutcome, Sought};
-ghost use Rattle.sip_resolver.specs.Questions.{IsLeast, schedule_of};
+ghost use Rattle.sip_resolver.specs.Questions.{IsLeast, count_out, schedule_of};
 ghost use Rattle.sip_resolver.specs.Requests.{AreSame, IsAwaitedBy, IsBack, Stand, count_of, numbers_of, weight};
 ghost use Rattle.sip_resolver.specs.Resolvers.{Closes, Expires, GivesUpOn, HandsIn, HasRoomFor, Hears, IsCut, IsEnded, IsTaken, LeavesSeat, Polls, RefusesSubmit, begun_of, with_request};
 ghost use Rattle.sip_resolver.specs.Sends.{GivesUpBoth, IsInTime, SendsAfter, SendsFirst, tickets_of};
@@ -154,6 +154,24 @@ impl<B: AnswerBook, F: Facts, I: Ids + Drop> Resolver<B, F, I> {
         ensures { IsTrue result ↔ (count_of self.now.requests ≡ 0) }
     {
         self.requests.is_empty()
+    }
+
+    /// How many requests are inside. One that ended counts until its outcome is taken.
+    #[must_use]
+    pub fn request_count(&self) -> usize
+        ensures is { result ≡ count_of self.now.requests }
+        ensures few { result ≤ 1024 }
+    {
+        self.requests.len()
+    }
+
+    /// How many questions are out, over datagrams and over streams.
+    #[must_use]
+    pub fn question_count(&self) -> usize
+        ensures is { result ≡ count_out self.now.questions }
+        ensures few { result ≤ 512 }
+    {
+        self.questions.len()
     }
 
     /// Whether a request of this number is inside, or has an outcome that was not taken.

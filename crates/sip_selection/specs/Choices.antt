@@ -12,7 +12,7 @@ abbrev pub ChoiceIs : SelectionValue → Choice → Type 0
 ChoiceIs it (Targets list) = now_of it ≡ targets list.items
 ChoiceIs it (Refused reason) = now_of it ≡ refused reason
 ChoiceIs it (Asks selection) =
-    (selection ≡ it) × (question : Question) × (now_of it ≡ need question)
+    (selection.value ≡ it) × (question : Question) × (now_of it ≡ need question)
 
 -- a choice asks nothing
 abbrev pub IsSettled : Choice → Type 0
@@ -25,4 +25,4 @@ abbrev pub ChoiceLacks : (Question → Option AnswerValue → Type 0) → Choice
 ChoiceLacks says (Targets list) = ⊤
 ChoiceLacks says (Refused reason) = ⊤
 ChoiceLacks says (Asks selection) =
-    (question : Question) → now_of selection ≡ need question → says question None
+    (question : Question) → now_of selection.value ≡ need question → says question None

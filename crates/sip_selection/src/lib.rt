@@ -103,7 +103,7 @@ pub use laws::{
 };
 pub use reason::Reason;
 pub use request::Request;
-pub use request_line::read_request;
+pub use request_line::{behind_via, read_request};
 pub use request_view::RequestView;
 pub use rules::service_transport;
 pub use selection::{Choice, GiveRefusal, Next, Selection, choose};

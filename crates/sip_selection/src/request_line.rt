@@ -19,8 +19,10 @@ fn at_colon(line: &str) -> Option<(&str, &str)>
     line.split_once(':')
 }
 
-/// What follows `Via:`, where a line begins with it, in letters of any case.
-fn behind_via(line: &str) -> Option<&str>
+/// What follows `Via:`, where a line begins with it, in letters of any case (RFC 3261 7.3.1). Takes
+/// no memory.
+#[must_use]
+pub fn behind_via(line: &str) -> Option<&str>
     ensures begins { IfSome result (λ rest. BeginsVia line.now rest.now) }
     ensures all { (rest : List ℕ) → BeginsVia line.now rest
         → option_map (λ found. found.now) result ≡ Some rest }

@@ -222,7 +222,7 @@ pub enum Choice {
     /// The request goes nowhere, for this reason.
     Refused(Reason),
     /// The source lacks an answer. The choice asks for it, and has used the answers before it.
-    Asks(Selection),
+    Asks(Box<Selection>),
 }
 
 /// A step, and the targets and the answers that were found before it. The answers are kept only
@@ -289,6 +289,30 @@ fn choice_of(targets: Vec<Target>) -> Choice
     Choice::Targets(targets)
 }
 
+/// The choice of a request that came to a question, in memory of its own.
+#[inline(never)]
+fn asking_at(
+    alloc: Global,
+    request: &RequestView<'_>,
+    caps: &Caps,
+    words: &RandomWords<'_>,
+    targets: Vec<Target>,
+    known: Known,
+    step: Step,
+) -> Result<Box<Selection>, AllocError>
+    requires view { IsRequestView request.now }
+    requires stands { StandsAt
+        (asked_with (request_of request.now) caps.now (words_of words.now) known) step
+        targets.items }
+    requires asked { AreAskedOneByOne (request_of request.now) caps.now (words_of words.now) known }
+    ensures { IfOk result (λ it. it.value
+        ≡ asked_with (request_of request.now) caps.now (words_of words.now) known) }
+{
+    let request = request.to_request(alloc)?;
+    let selection = Selection::at_step(alloc, request, *caps, words, targets, known, step)?;
+    Ok(Box::new(alloc, selection)?)
+}
+
 /// The choice of a request over a source: it is asked for the answer to each question that comes
 /// up, until it has none to one, or no more are needed. Words that are given are copied into memory
 /// of their own only where an answer is missing. No memory is needed for a request that is refused
@@ -319,8 +343,7 @@ pub fn choose<S: AnswerSource>(
         Step::Found => Ok(choice_of(targets)),
         Step::Refused(reason) => Ok(Choice::Refused(reason)),
         Step::Ask(_, _) => {
-            let request = request.to_request(alloc)?;
-            let selection = Selection::at_step(alloc, request, *caps, words, targets, known, step)?;
+            let selection = asking_at(alloc, request, caps, words, targets, known, step)?;
             Ok(Choice::Asks(selection))
         }
     }

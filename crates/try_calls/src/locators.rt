@@ -250,7 +250,7 @@ fn push_located<B: AnswerBook>(
     match located {
         Ok(Located::Targets(targets)) => push_next(output, Next::Targets(targets.as_slice())),
         Ok(Located::Refused(reason)) => push_next(output, Next::Refused(reason)),
-        Ok(Located::Missing(locator)) => add(output, locators, locator),
+        Ok(Located::Missing(locator)) => add(output, locators, locator.into_locator()),
         Err(_) => output.fail(Fault::Memory),
     }
 }

@@ -31,26 +31,16 @@ pub returns-in-Found-clause-lacks : goal.returns-in-Found-clause-lacks
 returns-in-Found-clause-lacks g c =
     settled-lacks (g.S.AnswerSource.says c.args.source.now c.begun_over.new.seat) c.choice_of.result c.choice_of.ensures.settled
 
-pub returns-in_err-request-in-Ask-clause-memory : goal.returns-in_err-request-in-Ask-clause-memory
-returns-in_err-request-in-Ask-clause-memory g c =
-    let a = c.args in
-    let request = request_of a.request.now in
+pub asking_at-requires-clause-stands : goal.asking_at-requires-clause-stands
+asking_at-requires-clause-stands g c =
     let begun = c.in_ok-step.ensures.begun in
-    whatever-came c.from_residual-in_err-request-in-Ask.result
-    (asks-first request a.caps.now (words_of a.words.now) begun.0 c.in-Ask.field-0
-    (asked-is request a.caps.now (words_of a.words.now) begun.0 c.in_ok-step.targets.items c.in-Ask.field-0 c.in-Ask.field-1
-    (rw c.in-Ask.is at begun.2.0)))
+    rw (begun.2.1 (rw c.in-Ask.is tt)) begun.2.0
 
-pub at_step-requires-clause-stands : goal.at_step-requires-clause-stands
-at_step-requires-clause-stands g c =
-    let begun = c.in_ok-step.ensures.begun in
-    rw (c.in_ok-request-in-Ask.ensures.request, begun.2.1 (rw c.in-Ask.is tt)) (rw c.in-Ask.is at begun.2.0)
-
-pub at_step-requires-clause-asked : goal.at_step-requires-clause-asked
-at_step-requires-clause-asked g c =
+pub asking_at-requires-clause-asked : goal.asking_at-requires-clause-asked
+asking_at-requires-clause-asked g c =
     let a = c.args in
     let begun = c.in_ok-step.ensures.begun in
-    rw (c.in_ok-request-in-Ask.ensures.request, begun.2.1 (rw c.in-Ask.is tt))
+    rw (begun.2.1 (rw c.in-Ask.is tt))
     (consulted-asked begun.1 (nothing-asked (request_of a.request.now) a.caps.now (words_of a.words.now)))
 
 pub returns-in_err-selection-in-Ask-clause-memory : goal.returns-in_err-selection-in-Ask-clause-memory
@@ -70,7 +60,7 @@ returns-clause-chosen g c =
       begun.0,
       begun.1,
       (
-        rw (c.in_ok-request-in-Ask.ensures.request, begun.2.1 (rw c.in-Ask.is tt)) at c.in_ok-selection-in-Ask.ensures.is,
+        rw (begun.2.1 (rw c.in-Ask.is tt)) at c.in_ok-selection-in-Ask.ensures,
         c.in-Ask.field-0,
         asked-is (request_of a.request.now) a.caps.now (words_of a.words.now) begun.0 c.in_ok-step.targets.items c.in-Ask.field-0
             c.in-Ask.field-1
@@ -82,7 +72,7 @@ pub returns-clause-lacks : goal.returns-clause-lacks
 returns-clause-lacks g c = λ question is.
     let a = c.args in
     let begun = c.in_ok-step.ensures.begun in
-    let here = rw (c.in_ok-selection-in-Ask.ensures.is, c.in_ok-request-in-Ask.ensures.request, begun.2.1 (rw c.in-Ask.is tt)) at is in
+    let here = rw (c.in_ok-selection-in-Ask.ensures, begun.2.1 (rw c.in-Ask.is tt)) at is in
     let asked = asked-is (request_of a.request.now) a.caps.now (words_of a.words.now) begun.0 c.in_ok-step.targets.items c.in-Ask.field-0
     c.in-Ask.field-1 (rw c.in-Ask.is at begun.2.0) in
     let same : c.in-Ask.field-0 ≡ question = let both = sym asked ∙ here in cc in
