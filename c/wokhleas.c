@@ -19,6 +19,7 @@ int32_t wokhleas_raw_next(wokhleas_resolver *resolver, wokhleas_outcome *outcome
 int32_t wokhleas_raw_get_target(wokhleas_resolver *resolver, size_t index, wokhleas_target *target);
 int32_t wokhleas_raw_get_question(wokhleas_resolver *resolver, uint8_t *name, size_t room,
                                   wokhleas_question *question);
+int32_t wokhleas_raw_stats(wokhleas_resolver *resolver, wokhleas_counts *counts);
 int32_t wokhleas_raw_failover_event(wokhleas_failover *failover, bool failed);
 
 /* ---- what numbers mean */
@@ -114,6 +115,10 @@ int wokhleas_get_target(wokhleas_resolver *resolver, size_t index, wokhleas_targ
 int wokhleas_get_question(wokhleas_resolver *resolver, char *name, size_t room, wokhleas_question *question) {
     if (resolver == NULL || question == NULL || !is_slice(name, room)) return WOKHLEAS_EARGUMENT;
     return wokhleas_raw_get_question(resolver, written_to(name), room, question);
+}
+
+int wokhleas_stats(wokhleas_resolver *resolver, wokhleas_counts *counts) {
+    return resolver == NULL || counts == NULL ? (int)WOKHLEAS_EARGUMENT : wokhleas_raw_stats(resolver, counts);
 }
 
 int wokhleas_failover_event(wokhleas_failover *failover, bool failed) {

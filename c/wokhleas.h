@@ -3,7 +3,8 @@
  * The library does no input or output: it opens no socket, reads no clock, starts no thread, has no global state and
  * takes no callback. The caller hands it requests, octets that came in and times, and takes octets to send and
  * outcomes. It keeps the answers that it got while they live, and asks a question that many requests ask at once only
- * once. After 4,096 replies it begins anew with none; requests that are inside go on with those that it had.
+ * once. When it has 6,144 it goes on with those that still live, where these are 4,096 or fewer, and else with none;
+ * requests that are inside end by those that it had.
  *
  * A loop over one resolver:
  *
@@ -213,6 +214,20 @@ int wokhleas_get_target(wokhleas_resolver *resolver, size_t index, wokhleas_targ
 /* The question of the outcome that was told last: writes the text of its name, which ends with a dot, with no 0 behind
  * it. NOTHING: it has none. EROOM: the text does not fit; in 1,024 octets it always does. ENOMEM: all is as it was. */
 int wokhleas_get_question(wokhleas_resolver *resolver, char *name, size_t room, wokhleas_question *question);
+
+/* ---- what an operator watches */
+
+typedef struct wokhleas_counts {
+    uint64_t requests;  /* inside now, also those that ended and were not told */
+    uint64_t questions; /* out now, over datagrams and over streams */
+    uint64_t answers;   /* kept now, also those that live no longer */
+    uint64_t queries;   /* written by wokhleas_transmit since wokhleas_open, each send of a question */
+    uint64_t replies;   /* taken by wokhleas_receive since then: it gave OK */
+    uint64_t ignored;   /* handed to wokhleas_receive since then that were no reply to a question that was out */
+} wokhleas_counts;
+
+/* Tells what is counted of a resolver, which stays as it is. A count that is full stays at UINT64_MAX. */
+int wokhleas_stats(wokhleas_resolver *resolver, wokhleas_counts *counts);
 
 /* ---- failover */
 

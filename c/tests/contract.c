@@ -50,6 +50,7 @@ static void test_null_resolver(void) {
     wokhleas_outcome outcome;
     wokhleas_target target;
     wokhleas_question question;
+    wokhleas_counts counts;
     uint64_t left;
     uint8_t octets[WOKHLEAS_QUERY_ROOM] = { 0 };
     char name[1024];
@@ -62,6 +63,7 @@ static void test_null_resolver(void) {
     EXPECT_KEEPS(wokhleas_next(NULL, &outcome), WOKHLEAS_EARGUMENT, &outcome);
     EXPECT_KEEPS(wokhleas_get_target(NULL, 0, &target), WOKHLEAS_EARGUMENT, &target);
     EXPECT_KEEPS(wokhleas_get_question(NULL, name, sizeof name, &question), WOKHLEAS_EARGUMENT, &question);
+    EXPECT_KEEPS(wokhleas_stats(NULL, &counts), WOKHLEAS_EARGUMENT, &counts);
 }
 
 /* NULL in any other place; a request is inside, which stays as it was. */
@@ -91,6 +93,7 @@ static void test_null_elsewhere(void) {
     EXPECT_STATUS(wokhleas_get_target(&resolver, 0, NULL), WOKHLEAS_EARGUMENT);
     EXPECT_KEEPS(wokhleas_get_question(&resolver, NULL, sizeof name, &question), WOKHLEAS_EARGUMENT, &question);
     EXPECT_KEEPS(wokhleas_get_question(&resolver, name, sizeof name, NULL), WOKHLEAS_EARGUMENT, &name);
+    EXPECT_STATUS(wokhleas_stats(&resolver, NULL), WOKHLEAS_EARGUMENT);
     wokhleas_close(&resolver);
 }
 
@@ -101,6 +104,7 @@ static void expect_closed(wokhleas_resolver *resolver) {
     wokhleas_outcome outcome;
     wokhleas_target target;
     wokhleas_question question;
+    wokhleas_counts counts;
     uint64_t left;
     uint8_t octets[WOKHLEAS_QUERY_ROOM] = { 0 };
     char name[1024];
@@ -113,6 +117,7 @@ static void expect_closed(wokhleas_resolver *resolver) {
     EXPECT_KEEPS(wokhleas_next(resolver, &outcome), WOKHLEAS_ECLOSED, &outcome);
     EXPECT_KEEPS(wokhleas_get_target(resolver, 0, &target), WOKHLEAS_ECLOSED, &target);
     EXPECT_KEEPS(wokhleas_get_question(resolver, name, sizeof name, &question), WOKHLEAS_ECLOSED, &question);
+    EXPECT_KEEPS(wokhleas_stats(resolver, &counts), WOKHLEAS_ECLOSED, &counts);
 }
 
 static void test_closed(void) {
@@ -382,6 +387,73 @@ static void test_no_replies(void) {
     wokhleas_close(&resolver);
 }
 
+/* ---- counts */
+
+static void expect_counts(wokhleas_resolver *resolver, uint64_t requests, uint64_t questions, uint64_t answers,
+                          uint64_t queries, uint64_t replies, uint64_t ignored) {
+    wokhleas_counts counts;
+    fill(&counts, sizeof counts);
+    EXPECT_STATUS(wokhleas_stats(resolver, &counts), WOKHLEAS_OK);
+    EXPECT(counts.requests, requests);
+    EXPECT(counts.questions, questions);
+    EXPECT(counts.answers, answers);
+    EXPECT(counts.queries, queries);
+    EXPECT(counts.replies, replies);
+    EXPECT(counts.ignored, ignored);
+}
+
+/* Two requests wait for one question, which is sent twice; a third one can't ask yet. */
+static void test_counts(void) {
+    wokhleas_resolver resolver = WOKHLEAS_RESOLVER_INIT;
+    struct query query = NO_QUERY, none = NO_QUERY;
+    struct reply reply;
+    open_resolver(&resolver, 8, 2, true);
+    expect_counts(&resolver, 0, 0, 0, 0, 0, 0);
+    submit(&resolver, 1, "sip:host.example:5070", &by_udp, WOKHLEAS_NEVER);
+    submit(&resolver, 2, "sip:host.example:5071", &by_udp, WOKHLEAS_NEVER);
+    submit(&resolver, 3, "sip:two.example:5070", &by_udp, WOKHLEAS_NEVER);
+    expect_counts(&resolver, 3, 0, 0, 0, 0, 0);
+    EXPECT_STATUS(take_query(&resolver, 500, &query), WOKHLEAS_OK);
+    EXPECT_STATUS(take_query(&resolver, 500, &none), WOKHLEAS_NOTHING);
+    expect_counts(&resolver, 3, 1, 0, 1, 0, 0);
+    EXPECT_STATUS(take_query(&resolver, 2500, &query), WOKHLEAS_OK);
+    expect_counts(&resolver, 3, 1, 0, 2, 0, 0);
+    begin_reply(&reply, &query, 0);
+    add_answer(&reply, &query, 300, "A 192.0.2.7");
+    EXPECT_STATUS(hand_in(&resolver, 2500, WOKHLEAS_STREAM, &reply), WOKHLEAS_NOTHING);
+    expect_counts(&resolver, 3, 1, 0, 2, 0, 1);
+    EXPECT_STATUS(hand_in(&resolver, 2500, 3, &reply), WOKHLEAS_EARGUMENT);
+    expect_counts(&resolver, 3, 1, 0, 2, 0, 1);
+    EXPECT_STATUS(hand_in(&resolver, 2500, WOKHLEAS_DATAGRAM, &reply), WOKHLEAS_OK);
+    expect_counts(&resolver, 3, 0, 1, 2, 1, 1);
+    EXPECT_STATUS(take_query(&resolver, 2500, &query), WOKHLEAS_OK);
+    expect_counts(&resolver, 3, 1, 1, 3, 1, 1);
+    EXPECT_OUTCOMES(&resolver, "1: udp 192.0.2.7 5070", "2: udp 192.0.2.7 5071");
+    expect_counts(&resolver, 1, 1, 1, 3, 1, 1);
+    EXPECT_STATUS(wokhleas_cancel(&resolver, 3), WOKHLEAS_OK);
+    expect_counts(&resolver, 0, 0, 1, 3, 1, 1);
+    wokhleas_close(&resolver);
+    open_resolver(&resolver, 8, 2, true);
+    expect_counts(&resolver, 0, 0, 0, 0, 0, 0);
+    wokhleas_close(&resolver);
+}
+
+/* A reply that was cut ends the wait for a reply: it counts, and the question goes out anew. */
+static void test_counts_of_cut(void) {
+    wokhleas_resolver resolver = WOKHLEAS_RESOLVER_INIT;
+    struct query query = NO_QUERY;
+    struct reply reply;
+    open_resolver(&resolver, 8, 2, true);
+    submit(&resolver, 1, "sip:host.example:5070", &by_udp, WOKHLEAS_NEVER);
+    EXPECT_STATUS(take_query(&resolver, 500, &query), WOKHLEAS_OK);
+    begin_reply(&reply, &query, TRUNCATED);
+    EXPECT_STATUS(hand_in(&resolver, 500, WOKHLEAS_DATAGRAM, &reply), WOKHLEAS_OK);
+    expect_counts(&resolver, 1, 0, 0, 1, 1, 0);
+    EXPECT_STATUS(take_query(&resolver, 500, &query), WOKHLEAS_OK);
+    expect_counts(&resolver, 1, 1, 0, 2, 1, 0);
+    wokhleas_close(&resolver);
+}
+
 /* ---- failover */
 
 static void expect_failover(const wokhleas_failover *failover, size_t count, size_t failures, bool answered) {
@@ -429,6 +501,8 @@ int main(void) {
     test_transmit();
     test_transmit_into_more();
     test_no_replies();
+    test_counts();
+    test_counts_of_cut();
     test_failover();
     return finish();
 }

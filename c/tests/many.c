@@ -1,6 +1,7 @@
 /* Many requests: first 1,000 are inside at once, each to a domain of its own, and another follows for each that ends;
  * then they come one after the other, over domains in turn. What the library holds has to stay as it is after the first
- * turn, and so, in a run of the usual numbers, has all that the process has. Replies are made in memory.
+ * turn, and so, in a run of the usual numbers, has all that the process has. Last, answers that live have to be kept while
+ * those of 5,000 other domains come. Replies are made in memory.
  *
  * usage: many [REQUESTS DOMAINS]     (100000 and 20000, where these are not given) */
 #include "allocations.h"
@@ -29,7 +30,8 @@ static void address_of(unsigned domain, char *text, size_t size) {
     snprintf(text, size, "10.%u.%u.%u", domain >> 16 & 255, domain >> 8 & 255, domain & 255);
 }
 
-static void answer(wokhleas_resolver *resolver, const struct query *query) {
+/* Answers a query at a time; the answer lives so many seconds. */
+static void answer_at(wokhleas_resolver *resolver, const struct query *query, uint64_t now, uint32_t life) {
     struct reply reply;
     char data[128] = "A ";
     unsigned domain = 0;
@@ -42,8 +44,12 @@ static void answer(wokhleas_resolver *resolver, const struct query *query) {
     else
         address_of(domain, data + 2, sizeof data - 2);
     begin_reply(&reply, query, 0);
-    add_answer(&reply, query, 300, data);
-    HOLDS(hand_in(resolver, NOW, query->message.over, &reply) == WOKHLEAS_OK);
+    add_answer(&reply, query, life, data);
+    HOLDS(hand_in(resolver, now, query->message.over, &reply) == WOKHLEAS_OK);
+}
+
+static void answer(wokhleas_resolver *resolver, const struct query *query) {
+    answer_at(resolver, query, NOW, 300);
 }
 
 /* Whether this is the outcome of a request to a domain. */
@@ -164,6 +170,38 @@ static void test_in_turn(size_t total, size_t domains, bool is_usual) {
     EXPECT(octets_held(), 0);
 }
 
+/* ---- answers that live are kept, however many others come */
+
+enum { DAY = 86400, OTHERS = 5000 };
+
+/* Locates a domain whose answers live so many seconds, and says how many queries that took. */
+static size_t queries_for(wokhleas_resolver *resolver, uint64_t now, unsigned domain, uint32_t life) {
+    size_t count = 0;
+    struct query query = NO_QUERY;
+    HOLDS(submit_to(resolver, domain, domain) == WOKHLEAS_OK);
+    for (; take_query(resolver, now, &query) == WOKHLEAS_OK; count++) answer_at(resolver, &query, now, life);
+    HOLDS(is_outcome(next_outcome(resolver), domain, domain));
+    HOLDS(strcmp(next_outcome(resolver), "nothing") == 0);
+    return count;
+}
+
+/* Answers that live a day are asked for once a day, where those of other domains, two seconds apart, live one. */
+static void test_kept(void) {
+    wokhleas_resolver resolver = WOKHLEAS_RESOLVER_INIT;
+    uint64_t now = NOW;
+    EXPECT_STATUS(open_resolver(&resolver, INSIDE, QUESTIONS, true), WOKHLEAS_OK);
+    EXPECT(queries_for(&resolver, now, 0, DAY), 3);
+    for (unsigned domain = 1; domain <= OTHERS; domain++) {
+        now += 2000;
+        HOLDS(queries_for(&resolver, now, domain, 1) == 3);
+        if (domain % 500 == 0) EXPECT(queries_for(&resolver, now, 0, DAY), 0);
+    }
+    EXPECT(queries_for(&resolver, NOW + DAY * 1000ull - 1, 0, DAY), 0);
+    EXPECT(queries_for(&resolver, NOW + DAY * 1000ull, 0, DAY), 3);
+    wokhleas_close(&resolver);
+    EXPECT(octets_held(), 0);
+}
+
 int main(int count, char **words) {
     size_t total = count == 3 ? strtoul(words[1], NULL, 10) : 100000;
     size_t domains = count == 3 ? strtoul(words[2], NULL, 10) : 20000;
@@ -173,5 +211,6 @@ int main(int count, char **words) {
     }
     test_at_once(domains);
     test_in_turn(total, domains, count != 3);
+    test_kept();
     return finish();
 }

@@ -3,6 +3,7 @@ pub mod Choosing
 pub mod HeldSteps
 pub mod LooseValues
 pub mod Receiving
+pub mod Renewing
 pub mod Resting
 pub mod Seating
 pub mod Soundness

@@ -1,10 +1,11 @@
 -- What the answers in the books rest on, as calls go on.
-use Rattle.std.proofs.Common.{◌≡◌, inl, inr, ℕ, List, [], ◌∷◌, ◌++◌, Option, Some, None, IfSome, sym, ap, ◌∙◌, subst}
-use Rattle.std.specs.List.{Contains}
+use Rattle.std.proofs.Common.{◌≡◌, inl, inr, ℕ, Bool, true, false, if◌then◌else◌, map, List, [], ◌∷◌, ◌++◌, Option, Some, None, IfSome, sym, ap, ◌∙◌, subst}
+use Rattle.std.specs.List.{All, Contains}
 use Rattle.std.specs.Option.{option_map}
-use Rattle.std.proofs.lemmas.List.Elements.{All-nil, All-push, All-weaker, Contains-append_left, Contains-push}
+use Rattle.std.proofs.lemmas.List.Elements.{All-cons, All-filter, All-head, All-map, All-nil, All-push, All-tail, All-weaker, Contains-append_left, Contains-push}
 use Rattle.answer_log.specs.declared.store.Store.{Store}
-use Rattle.answer_cache.specs.Lists.{offered_too, stored_too}
+use Rattle.answer_cache.specs.Carried.{carried_stores, has_question, last_stores, lives_at, living_of, unseated}
+use Rattle.answer_cache.specs.Lists.{offered_too, own_store, stored_too}
 use Rattle.answer_cache.specs.Seats.{Offer, SeatView, offer_of, store_of}
 use Rattle.dns_answers.specs.Answers.{answer}
 use Rattle.dns_answers.specs.Replies.{reply_refusal}
@@ -19,7 +20,7 @@ use Rattle.sip_resolver.specs.declared.resolver.ReplyOutcome.{ReplyOutcome}
 use Rattle.sip_resolver.specs.declared.resolver.Limits.{Limits}
 use Rattle.sip_resolver.specs.declared.transmit.DnsTransport.{DnsTransport}
 use Rattle.wokhleas.specs.Rests.{AllRestOn, GainsFrom, KeepsAnswers, RestsOn}
-use Rattle.wokhleas.specs.States.{Cancels, GenerationView, GoesBy, HandsToBook, IsReceived, Receives, SameSeats, StateView, StaysBy, Takes, Tells, begun_generation, begun_state, none, older, reply, younger}
+use Rattle.wokhleas.specs.States.{Begins, Cancels, CarriesOn, GenerationView, GoesBy, HandsToBook, IsReceived, Receives, SameSeats, StateView, StaysBy, Takes, Tells, begun_generation, begun_state, living, none, nothing, older, reply, younger}
 use Rattle.wokhleas.specs.declared.told.ToldOutcome.{ToldOutcome}
 
 -- a store holds the answer of a reply among these octets
@@ -128,10 +129,48 @@ pub current-keeps : (old : StateView) (after : GenerationView) → after.seat �
 current-keeps old after same given it =
     record { current = subst (λ (s : SeatView). RestsOn given s) (sym same) it.current; draining = it.draining }
 
--- a generation begins, and the younger one is the older
-pub begun-keeps : (limits : Limits) (old : StateView)
-    → KeepsAnswers old (record old { current = begun_generation limits; draining = Some old.current })
-begun-keeps limits old given it = record { current = empty-rests given limits; draining = it.current }
+-- ---- a generation begins
+
+module _ (given : List (List ℕ)) where
+  -- of stores that rest on octets, so do the last ones of their questions
+  last-by : (b : Bool) (store : Store) (later : List Store) → Stored given store → All (Stored given) later
+      → All (Stored given) (if b then later else store ∷ later)
+  last-by true store later one others = others
+  last-by false store later one others = All-cons (Stored given) store later one others
+
+  last-rest : (stores : List Store) → All (Stored given) stores → All (Stored given) (last_stores stores)
+  last-rest [] it = it
+  last-rest (store ∷ later) it =
+      last-by (has_question store.question later) store (last_stores later) (All-head (Stored given) store later it)
+      (last-rest later (All-tail (Stored given) store later it))
+
+  -- and those of them that live
+  living-rest : (now : ℕ) (stores : List Store) → All (Stored given) stores
+      → All (Stored given) (carried_stores (living_of now stores))
+  living-rest now stores it =
+      All-map (Stored given) own_store (living_of now stores)
+      (All-filter (lives_at now) (Handed given) (map unseated (last_stores stores))
+      (All-map (Handed given) unseated (last_stores stores) (last-rest stores it)))
+
+  -- so what a generation carries on rests on what the one before it did
+  carried-rests : (old new : SeatView) → CarriesOn old new → RestsOn given old → RestsOn given new
+  carried-rests old new (living now few is) it =
+      subst (RestsOn given) (sym is)
+      (record { seen = living-rest now old.seen it.seen; offered = All-nil (Handed given) })
+  carried-rests old new (nothing is) it =
+      subst (RestsOn given) (sym is) (record { seen = All-nil (Stored given); offered = All-nil (Handed given) })
+
+  older-rests : (draining : Option GenerationView) (seat : SeatView) → option_map (λ (it : GenerationView). it.seat) draining ≡ Some seat
+      → RestsOn given seat → OlderRests given draining
+  older-rests None seat is it = absurd cc
+  older-rests (Some before) seat is it = subst (RestsOn given) (let same : seat ≡ before.seat = cc in same) it
+
+-- the younger one is the older then
+pub begun-keeps : (old new : StateView) → Begins old new → KeepsAnswers old new
+begun-keeps old new it given rests = record {
+  current = carried-rests given old.current.seat new.current.seat it.carries rests.current;
+  draining = older-rests given new.draining old.current.seat it.older rests.current;
+}
 
 -- a request is taken out of a generation
 pub takes-keeps : (ended : Ended) (old new : StateView) → Takes ended old new → KeepsAnswers old new

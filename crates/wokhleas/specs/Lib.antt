@@ -1,7 +1,9 @@
+pub mod Clocks
 pub mod Handles
 pub mod Numbers
 pub mod Requests
 pub mod Rests
 pub mod States
+pub mod Stats
 pub mod Told
 pub mod Tries

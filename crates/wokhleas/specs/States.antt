@@ -1,7 +1,8 @@
 -- What a resolver of the caller's holds, and what calls leave of it.
-use Rattle.std.specs.Prelude.{⊤, ◌≡◌, ◌≢◌, ◌⊎◌, ◌≤◌, ℕ, List, [], Option, Some, None, IfSome, IsSomeAnd, option_and_then, take}
+use Rattle.std.specs.Prelude.{⊤, ◌≡◌, ◌≢◌, ◌⊎◌, ◌≤◌, ℕ, List, [], ◌++◌, Option, Some, None, IfSome, IsSomeAnd, length, option_and_then, take}
 use Rattle.std.specs.List.{Contains}
-use Rattle.std.specs.Option.{option_map}
+use Rattle.std.specs.Option.{option_map, unwrap_or}
+use Rattle.answer_cache.specs.Carried.{carried_stores, living_of}
 use Rattle.answer_cache.specs.Lists.{IsListSeat, offered_too, seat_at, stored_too}
 use Rattle.answer_cache.specs.Seats.{SeatView, offer_of}
 use Rattle.dns_answers.specs.Values.{AnswerValue}
@@ -11,8 +12,9 @@ use Rattle.dns_queries.specs.declared.incoming.Ending.TheVariants as endings
 use Rattle.dns_queries.specs.declared.incoming.Incoming.TheVariants as incoming
 use Rattle.dns_queries.specs.declared.incoming.Why.{Why}
 use Rattle.dns_message.specs.declared.question.Question.{Question}
+use Rattle.sip_resolver.specs.Expiries.{timeouts_of}
 use Rattle.sip_resolver.specs.Outcomes.{Ended, IsOutcome}
-use Rattle.sip_resolver.specs.Questions.{QuestionsView, asking_over}
+use Rattle.sip_resolver.specs.Questions.{IsLeast, QuestionsView, asking_over}
 use Rattle.sip_resolver.specs.Requests.{Stand, numbers_of}
 use Rattle.sip_resolver.specs.Resolvers.{Hears, IsTaken, LeavesSeat, ResolverView, begun_of, with_request}
 use Rattle.sip_resolver.specs.declared.resolver.ReplyOutcome.{ReplyOutcome}
@@ -21,6 +23,7 @@ use Rattle.sip_resolver.specs.declared.transmit.DnsTransport.{DnsTransport}
 use Rattle.sip_resolver.specs.declared.resolver.Limits.{Limits}
 use Rattle.sip_selection.specs.declared.caps.Caps.{Caps}
 use Rattle.sip_selection.specs.declared.request.Request.{Request}
+use Rattle.wokhleas.specs.Clocks.{left_until}
 use Rattle.wokhleas.specs.Numbers.{number_of_over}
 use Rattle.wokhleas.specs.Told.{outcome_told, target_at}
 use Rattle.wokhleas.specs.declared.generation.Sent.{Sent}
@@ -72,6 +75,47 @@ older_seat it = option_map (λ older. older.seat) it.draining
 pub record SameSeats (old new : StateView) : Type 0 where
   pub current : new.current.seat ≡ old.current.seat
   pub draining : older_seat new ≡ older_seat old
+
+-- The seat of the generation that comes after one, handed nothing: its stores are the last ones of
+-- each question of that one which lived at a moment, where they are 4,096 or fewer; or there are
+-- none.
+pub data CarriesOn (old new : SeatView) : Type 0 where
+  living : (now : ℕ) → length (living_of now old.seen) ≤ 4096
+      → new ≡ seat_at (carried_stores (living_of now old.seen)) [] → CarriesOn old new
+  nothing : new ≡ seat_at [] [] → CarriesOn old new
+
+-- a generation has begun that carries on, and the younger one is the older then
+pub record Begins (old new : StateView) : Type 0 where
+  pub carries : CarriesOn old.current.seat new.current.seat
+  pub older : older_seat new ≡ Some old.current.seat
+
+-- What a request that comes in leaves of the seats: the older generation may be gone, or one has
+-- begun.
+pub data Renews (old new : StateView) : Type 0 where
+  stays : new.current.seat ≡ old.current.seat
+      → (older_seat new ≡ older_seat old) ⊎ (older_seat new ≡ None) → Renews old new
+  begins : Begins old new → Renews old new
+
+-- ---- seconds at which something is due
+
+-- in a generation: the deadlines of its questions that are out, and the moments by which its
+-- requests end
+abbrev pub dues_of : GenerationView → List ℕ
+dues_of it = timeouts_of it.core.requests it.core.questions
+
+-- in the older generation, if that is there
+abbrev pub older_dues : StateView → List ℕ
+older_dues it = unwrap_or (option_map dues_of it.draining) []
+
+-- in both
+abbrev pub dues_in : StateView → List ℕ
+dues_in it = older_dues it ++ dues_of it.current
+
+-- So many milliseconds are left at this one until the first of these seconds.
+pub record IsLeft (dues : List ℕ) (milliseconds left : ℕ) : Type 0 where
+  pub second : ℕ
+  pub first : IsLeast dues (Some second)
+  pub until : left ≡ left_until second milliseconds
 
 -- ---- requests end
 

@@ -1,5 +1,6 @@
 //! The caller's clock, which counts milliseconds.
 ghost use Rattle.std.specs.Prelude.{◌≡◌, ◌/◌, ◌*◌, ◌+◌, ◌≤◌, IfSome};
+ghost use Rattle.wokhleas.specs.Clocks.{left_until};
 
 use dns_answers::Moment;
 use sip_resolver::rounded_up;
@@ -28,6 +29,8 @@ pub(crate) fn instant_of(milliseconds: u64) -> Option<Instant>
 }
 
 /// How many milliseconds are left until this second; 0 where it is over.
-pub(crate) fn left_until(second: u64, milliseconds: u64) -> u64 {
+pub(crate) fn left_until(second: u64, milliseconds: u64) -> u64
+    ensures { result ≡ left_until second milliseconds }
+{
     second.saturating_mul(SECOND).saturating_sub(milliseconds)
 }

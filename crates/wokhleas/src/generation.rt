@@ -6,11 +6,11 @@ ghost use Rattle.answer_cache.specs.Lists.{IsListSeat};
 ghost use Rattle.sip_resolver.specs.Cancels.{requests_without};
 ghost use Rattle.sip_resolver.specs.Expiries.{timeouts_of};
 ghost use Rattle.sip_resolver.specs.Idle.{IsOut};
-ghost use Rattle.sip_resolver.specs.Questions.{IsLeast};
+ghost use Rattle.sip_resolver.specs.Questions.{IsLeast, count_out};
 ghost use Rattle.sip_resolver.specs.Requests.{Stand, count_of, numbers_of};
 ghost use Rattle.sip_resolver.specs.Resolvers.{RefusesSubmit, with_request};
 ghost use Rattle.srv_choice.specs.Draws.{words_of};
-ghost use Rattle.wokhleas.specs.States.{IsWritten, Learns, TakesOut, begun_generation};
+ghost use Rattle.wokhleas.specs.States.{CarriesOn, IsWritten, Learns, TakesOut, begun_generation};
 
 use crate::clock::Instant;
 use answer_cache::{ListCache, ListSeat};
@@ -31,9 +31,12 @@ type Core = Resolver<ListCache, NoFacts, RandomIds<ChaCha20Rng>>;
 /// A request that ended, with what became of it.
 pub(crate) type Ended = Resolved<ListCache>;
 
-/// After so many replies a generation is left: by then its book, which has room for 8,192 answers
-/// in 64 groups of 128, is half full.
-const REPLIES: u64 = 4_096;
+/// With so many answers a generation is left: of 64 groups of 128 its book has hardly one that is
+/// full by then.
+const ANSWERS: usize = 6_144;
+
+/// Where no more answers than these live, the generation after it begins with them.
+const CARRIED: usize = 4_096;
 
 /// How many ids of queries there are.
 const IDS: u32 = 65_536;
@@ -48,13 +51,16 @@ pub(crate) struct Sent {
     pub(crate) send: u8,
 }
 
-/// A resolver core with its book, and how many replies it took.
+/// A resolver core with its book.
 #[derive(Drop)]
 pub(crate) struct Generation {
     core: Core,
     book: ListCache,
     seat: ListSeat,
-    replies: u64,
+    /// How many answers the book has at most: those that it began with, and one for each reply.
+    answers: usize,
+    /// The second of the last reply, if one came.
+    heard: Option<Moment>,
     /// What sets the names of its queries apart from those of the next generation.
     mark: u32,
 }
@@ -83,19 +89,71 @@ impl Generation {
         ensures { IfOk result (λ it. it ≡ begun_generation limits) }
     {
         let (book, seat) = ListCache::new(alloc);
+        Generation::over(alloc, limits, seed, number, book, seat)
+    }
+
+    /// The same over this book.
+    fn over(
+        alloc: Global,
+        limits: Limits,
+        seed: [u8; 32],
+        number: u64,
+        book: ListCache,
+        seat: ListSeat,
+    ) -> Result<Generation, AllocError>
+        requires requests { (1 ≤ limits.requests) × (limits.requests ≤ 1024) }
+        requires questions { (1 ≤ limits.questions) × (limits.questions ≤ 256) }
+        requires seated { IsListSeat seat }
+        ensures core { IfOk result (λ it. it.core ≡ (begun_generation limits).core) }
+        ensures seat { IfOk result (λ it. it.seat ≡ seat) }
+    {
         let core = Resolver::new(alloc, limits, random_ids(seed, number))?;
         Ok(Generation {
             core,
             book,
+            answers: seat.store_count(),
             seat,
-            replies: 0,
+            heard: None,
             mark: if number % 2 == 0 { 0 } else { IDS },
         })
     }
 
+    /// The one that comes after it, in which no request is. Its book has the answers of this one
+    /// that lived at the last reply, if they are not too many.
+    pub(crate) fn successor(
+        &self,
+        alloc: Global,
+        limits: Limits,
+        seed: [u8; 32],
+        number: u64,
+    ) -> Result<Generation, AllocError>
+        requires requests { (1 ≤ limits.requests) × (limits.requests ≤ 1024) }
+        requires questions { (1 ≤ limits.questions) × (limits.questions ≤ 256) }
+        ensures core { IfOk result (λ it. it.core ≡ (begun_generation limits).core) }
+        ensures seat { IfOk result (λ it. CarriesOn self.now.seat it.seat) }
+    {
+        let (book, seat) = self.book_after(alloc)?;
+        Generation::over(alloc, limits, seed, number, book, seat)
+    }
+
+    /// The book of the one that comes after it.
+    fn book_after(&self, alloc: Global) -> Result<(ListCache, ListSeat), AllocError>
+        ensures seated { IfOk result (λ it. IsListSeat it.1) }
+        ensures seat { IfOk result (λ it. CarriesOn self.now.seat it.1) }
+    {
+        let Some(heard) = self.heard else {
+            return Ok(ListCache::new(alloc));
+        };
+        let (book, seat) = ListCache::successor(alloc, &self.seat, heard)?;
+        if seat.store_count() > CARRIED {
+            return Ok(ListCache::new(alloc));
+        }
+        Ok((book, seat))
+    }
+
     /// Whether its book may soon be full.
     pub(crate) fn is_old(&self) -> bool {
-        self.replies >= REPLIES
+        self.answers >= ANSWERS
     }
 
     /// Whether no request is inside, also none whose outcome was not taken.
@@ -103,6 +161,29 @@ impl Generation {
         ensures { IsTrue result ↔ (count_of self.now.core.requests ≡ 0) }
     {
         self.core.is_empty()
+    }
+
+    /// How many requests are inside, also those whose outcome was not taken.
+    pub(crate) fn request_count(&self) -> usize
+        ensures is { result ≡ count_of self.now.core.requests }
+        ensures few { result ≤ 1024 }
+    {
+        self.core.request_count()
+    }
+
+    /// How many questions are out.
+    pub(crate) fn question_count(&self) -> usize
+        ensures is { result ≡ count_out self.now.core.questions }
+        ensures few { result ≤ 512 }
+    {
+        self.core.question_count()
+    }
+
+    /// How many answers its book has, also those that live no longer.
+    pub(crate) fn answer_count(&self) -> usize
+        ensures { result ≡ length self.now.seat.seen }
+    {
+        self.seat.store_count()
     }
 
     /// Whether a request of this number is inside.
@@ -167,7 +248,8 @@ impl Generation {
             .core
             .handle(&(), &self.book, &mut self.seat, at.second, over, octets)?;
         if heard == ReplyOutcome::Reply {
-            self.replies = self.replies.saturating_add(1);
+            self.answers = self.answers.saturating_add(1);
+            self.heard = Some(at.second);
         }
         Ok(heard)
     }

@@ -22,6 +22,7 @@ mod numbers;
 mod outcomes;
 mod requests;
 mod state;
+mod stats;
 mod status;
 mod told;
 mod wire;

@@ -1,8 +1,10 @@
 //! Requests come in.
-ghost use Rattle.std.specs.Prelude.{◌≡◌, ◌≢◌, IfOk, IfSome, OnErr, OnOk, pos};
-ghost use Rattle.wokhleas.specs.Requests.{IsRequest, IsSubmitted};
+ghost use Rattle.std.specs.Prelude.{◌≡◌, ◌≢◌, IfSome, OnErr, OnOk, pos};
+ghost use Rattle.sip_selection.specs.declared.request.Request.TheVariants.{Uri};
+ghost use Rattle.sip_uri.specs.Views.{IsUriView, uri_of};
+ghost use Rattle.wokhleas.specs.Requests.{IsSubmitted};
 ghost use Rattle.wokhleas.specs.Rests.{KeepsAnswers};
-ghost use Rattle.wokhleas.specs.States.{Cancels, GoesBy, HasRequest, StaysBy, TakesIn};
+ghost use Rattle.wokhleas.specs.States.{Cancels, GoesBy, HasRequest, Renews, StaysBy, TakesIn};
 
 use crate::clock::instant_of;
 use crate::handle::Handle;
@@ -10,30 +12,11 @@ use crate::numbers::caps_of;
 use crate::status::{DONE, Status};
 use dns_answers::Moment;
 use sip_selection::{Caps, Request};
-use sip_uri::{UriRefusal, read_uri, read_via};
+use sip_uri::{UriParts, view_uri, view_via};
 use std::alloc::Global;
 
 /// A request has no moment by which it ends, in C.
 const NEVER: u64 = u64::MAX;
-
-/// The request that a text spells: a URI, or else the value of a Via header field.
-fn request_of(alloc: Global, octets: &[u8]) -> Result<Request, Status>
-    ensures { IfOk result (λ request. IsRequest octets.now request) }
-{
-    let Ok(text) = str::from_utf8(octets) else {
-        return Err(Status::Syntax);
-    };
-    match read_uri(alloc, text) {
-        Ok(uri) => return Ok(Request::Uri(uri)),
-        Err(UriRefusal::Memory) => return Err(Status::Memory),
-        Err(_) => (),
-    }
-    match read_via(alloc, text) {
-        Ok(via) => Ok(Request::Via(via)),
-        Err(UriRefusal::Memory) => Err(Status::Memory),
-        Err(_) => Err(Status::Syntax),
-    }
-}
 
 /// The moment by which a request ends, which C has in milliseconds; none where it says never.
 fn until_of(milliseconds: u64) -> Result<Option<Moment>, Status> {
@@ -57,6 +40,7 @@ fn submit(
 ) -> Result<(), Status>
     ensures taken_in { OnOk result (GoesBy (λ old new. TakesIn number request caps until new)
         handle.old.held.state handle.new.held.state) }
+    ensures renews { StaysBy Renews handle.old.held.state handle.new.held.state }
     ensures answers { StaysBy KeepsAnswers handle.old.held.state handle.new.held.state }
 {
     let mut state = handle.take(alloc)?;
@@ -68,7 +52,55 @@ fn submit(
     }
 }
 
-/// Hands the request of a text to a resolver.
+/// Hands a request to the URI of a text to a resolver.
+#[inline(always)]
+fn submit_uri(
+    alloc: Global,
+    handle: &mut Handle,
+    number: u64,
+    parts: UriParts<'_>,
+    caps: Caps,
+    until: Option<Moment>,
+) -> Result<(), Status>
+    requires { IsUriView parts }
+    ensures taken_in { OnOk result
+        (GoesBy (λ old new. TakesIn number (Uri (uri_of parts.entry)) caps until new)
+        handle.old.held.state handle.new.held.state) }
+    ensures renews { StaysBy Renews handle.old.held.state handle.new.held.state }
+    ensures answers { StaysBy KeepsAnswers handle.old.held.state handle.new.held.state }
+{
+    let Ok(uri) = parts.to_uri(alloc) else {
+        return Err(Status::Memory);
+    };
+    submit(alloc, handle, number, Request::Uri(uri), caps, until)
+}
+
+/// Hands the request of a text that is no URI to a resolver: a response to the Via of the text.
+#[inline(never)]
+fn submit_via(
+    alloc: Global,
+    handle: &mut Handle,
+    number: u64,
+    text: &[u8],
+    caps: Caps,
+    until: Option<Moment>,
+) -> Result<(), Status>
+    ensures submitted { OnOk result (GoesBy (λ old new. IsSubmitted number text.now new)
+        handle.old.held.state handle.new.held.state) }
+    ensures renews { StaysBy Renews handle.old.held.state handle.new.held.state }
+    ensures answers { StaysBy KeepsAnswers handle.old.held.state handle.new.held.state }
+{
+    let Ok(parts) = view_via(text) else {
+        return Err(Status::Syntax);
+    };
+    let Ok(via) = parts.to_via(alloc) else {
+        return Err(Status::Memory);
+    };
+    submit(alloc, handle, number, Request::Via(via), caps, until)
+}
+
+/// Hands the request of a text to a resolver: the text is a URI, or else the value of a Via header
+/// field.
 fn submit_text(
     alloc: Global,
     handle: &mut Handle,
@@ -80,14 +112,17 @@ fn submit_text(
 ) -> Result<(), Status>
     ensures submitted { OnOk result (GoesBy (λ old new. IsSubmitted number text.now new)
         handle.old.held.state handle.new.held.state) }
+    ensures renews { StaysBy Renews handle.old.held.state handle.new.held.state }
     ensures answers { StaysBy KeepsAnswers handle.old.held.state handle.new.held.state }
 {
     let Some(caps) = caps_of(transports, families) else {
         return Err(Status::Argument);
     };
     let until = until_of(until)?;
-    let request = request_of(alloc, text)?;
-    submit(alloc, handle, number, request, caps, until)
+    match view_uri(text) {
+        Ok(parts) => submit_uri(alloc, handle, number, parts, caps, until),
+        Err(_) => submit_via(alloc, handle, number, text, caps, until),
+    }
 }
 
 /// Cancels the request of a number.
@@ -117,6 +152,7 @@ pub extern "C" fn wokhleas_raw_submit(
 ) -> i32
     ensures submitted { result ≡ pos 0 → GoesBy (λ old new. IsSubmitted number text.now new)
         handle.old.held.state handle.new.held.state }
+    ensures renews { StaysBy Renews handle.old.held.state handle.new.held.state }
     ensures answers { StaysBy KeepsAnswers handle.old.held.state handle.new.held.state }
 {
     match submit_text(alloc, handle, number, text, transports, families, until) {

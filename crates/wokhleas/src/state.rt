@@ -1,20 +1,23 @@
 //! What a resolver of the caller's holds.
-ghost use Rattle.std.specs.Prelude.{◌≡◌, ◌↔◌, ◌≤◌, false, IsSomeAnd, IsTrue, MatchOption, Some, IfNone, IfOk, IfSome, OnErr, OnOk, option_and_then, take};
+ghost use Rattle.std.specs.Prelude.{◌≡◌, ◌↔◌, ◌≤◌, ◌⊎◌, None, false, IsSomeAnd, IsTrue, MatchOption, Some, IfNone, IfOk, IfSome, OnErr, OnOk, length, option_and_then, take};
 ghost use Rattle.std.specs.Bool.{OnFalse};
 ghost use Rattle.std.specs.List.{Contains};
-ghost use Rattle.sip_resolver.specs.Requests.{numbers_of};
+ghost use Rattle.sip_resolver.specs.Questions.{IsLeast, count_out};
+ghost use Rattle.sip_resolver.specs.Requests.{count_of, numbers_of};
 ghost use Rattle.wokhleas.specs.Rests.{KeepsAnswers};
-ghost use Rattle.wokhleas.specs.States.{HasNone, HasNoneOlder, HasRequest, IsQueryOf, Receives, ReceivesOlder, SameSeats, Takes, TakesIn, TakesOlder, Tells, begun_state, older_seat};
+ghost use Rattle.wokhleas.specs.States.{Begins, HasNone, HasNoneOlder, HasRequest, IsQueryOf, Receives, ReceivesOlder, Renews, SameSeats, Takes, TakesIn, TakesOlder, Tells, begun_state, dues_in, older_dues, older_seat};
+ghost use Rattle.wokhleas.specs.Stats.{AreCounted, of_older};
 ghost use Rattle.wokhleas.specs.Told.{target_at as target_told_at};
 ghost use Rattle.wokhleas.specs.Told as told;
 
 use crate::clock::Instant;
 use crate::generation::{Ended, Generation, Sent};
+use crate::stats::{Counts, Stats};
 use crate::told::{ToldOutcome, ToldTarget, question_of, target_at, told_outcome};
 use dns_answers::Moment;
 use dns_message::Question;
 use dns_queries::Why;
-use sip_resolver::{DnsTransport, Limits, ReplyOutcome, SubmitRefusal};
+use sip_resolver::{DnsTransport, Limits, ReplyOutcome, SubmitRefusal, least_of};
 use sip_selection::{Caps, Request};
 use srv_choice::RandomWords;
 use std::alloc::{AllocError, Global};
@@ -39,6 +42,7 @@ pub struct State {
     /// The one before it, while requests are inside.
     draining: Option<Generation>,
     told: Option<Ended>,
+    counts: Counts,
 }
 
 impl Model for State {
@@ -54,15 +58,6 @@ impl Model for State {
     } };
 
     ghost invariant = { λ it. AreInRange it.limits × (it.inside ≤ it.limits.requests) };
-}
-
-/// The least of two seconds, if there are any.
-fn first_of(one: Option<u64>, other: Option<u64>) -> Option<u64> {
-    match (one, other) {
-        (Some(one), Some(other)) => Some(one.min(other)),
-        (Some(one), None) => Some(one),
-        (None, other) => other,
-    }
 }
 
 impl State {
@@ -82,6 +77,7 @@ impl State {
             current,
             draining: None,
             told: None,
+            counts: Counts::none(),
         })
     }
 
@@ -96,6 +92,8 @@ impl State {
     /// Lets go of the older generation, where no request is inside it.
     fn let_go(&mut self)
         ensures told { self.new.told ≡ self.old.told }
+        ensures current { self.new.current ≡ self.old.current }
+        ensures older { (self.new.draining ≡ self.old.draining) ⊎ (self.new.draining ≡ None) }
         ensures answers { KeepsAnswers self.old self.new }
     {
         if !self.is_drained() {
@@ -104,21 +102,34 @@ impl State {
         self.draining = None;
     }
 
-    /// Begins a generation, where the book of this one may soon be full and no older one is there.
-    /// Where memory is refused this one goes on.
-    fn renew(&mut self, alloc: Global)
+    /// Begins a generation, and the younger one is the older then. Where memory is refused this one
+    /// goes on.
+    // Inlined, it would clear room for a book in each `submit`.
+    #[inline(never)]
+    fn begin_next(&mut self, alloc: Global)
         ensures told { self.new.told ≡ self.old.told }
-        ensures answers { KeepsAnswers self.old self.new }
+        ensures begins { (self.new ≡ self.old) ⊎ Begins self.old self.new }
     {
-        self.let_go();
-        if !self.current.is_old() || self.draining.is_some() {
-            return;
-        }
-        let Ok(next) = Generation::new(alloc, self.limits, self.seed, self.begun) else {
+        let next = self
+            .current
+            .successor(alloc, self.limits, self.seed, self.begun);
+        let Ok(next) = next else {
             return;
         };
         self.begun = self.begun.wrapping_add(1) % DRAWS;
         self.draining = Some(std::mem::replace(&mut self.current, next));
+    }
+
+    /// Begins a generation, where the book of this one may soon be full and no older one is there.
+    fn renew(&mut self, alloc: Global)
+        ensures told { self.new.told ≡ self.old.told }
+        ensures renews { Renews self.old self.new }
+        ensures answers { KeepsAnswers self.old self.new }
+    {
+        self.let_go();
+        if self.current.is_old() && self.draining.is_none() {
+            self.begin_next(alloc);
+        }
     }
 
     /// Whether a request of this number is inside the older generation.
@@ -143,6 +154,7 @@ impl State {
     ) -> Result<(), SubmitRefusal>
         ensures told { self.new.told ≡ self.old.told }
         ensures taken_in { OnOk result (TakesIn number request caps until self.new) }
+        ensures renews { Renews self.old self.new }
         ensures answers { KeepsAnswers self.old self.new }
     {
         self.renew(alloc);
@@ -222,8 +234,8 @@ impl State {
         draining.transmit(at, octets)
     }
 
-    /// Writes what is to be sent next into a buffer.
-    pub(crate) fn transmit(&mut self, at: &Instant, octets: &mut [u8]) -> Option<Sent>
+    /// Writes what either generation sends next into a buffer.
+    fn transmit_both(&mut self, at: &Instant, octets: &mut [u8]) -> Option<Sent>
         ensures told { self.new.told ≡ self.old.told }
         ensures query { IfSome result (λ sent.
             IsQueryOf sent.over sent.send (take sent.length octets.new) self.new) }
@@ -233,6 +245,67 @@ impl State {
             return Some(sent);
         }
         self.current.transmit(at, octets)
+    }
+
+    /// Writes what is to be sent next into a buffer, and counts it.
+    pub(crate) fn transmit(&mut self, at: &Instant, octets: &mut [u8]) -> Option<Sent>
+        ensures told { self.new.told ≡ self.old.told }
+        ensures query { IfSome result (λ sent.
+            IsQueryOf sent.over sent.send (take sent.length octets.new) self.new) }
+        ensures seats { SameSeats self.old self.new }
+    {
+        let Some(sent) = self.transmit_both(at, octets) else {
+            return None;
+        };
+        self.counts = self.counts.sent_too();
+        Some(sent)
+    }
+
+    /// How many requests are inside the older generation.
+    fn older_request_count(&self) -> usize
+        ensures is { result ≡ of_older (λ one. count_of one.core.requests) self.now.draining }
+        ensures few { result ≤ 1024 }
+    {
+        match &self.draining {
+            Some(draining) => draining.request_count(),
+            None => 0,
+        }
+    }
+
+    /// How many questions are out of the older generation.
+    fn older_question_count(&self) -> usize
+        ensures is { result ≡ of_older (λ one. count_out one.core.questions) self.now.draining }
+        ensures few { result ≤ 512 }
+    {
+        match &self.draining {
+            Some(draining) => draining.question_count(),
+            None => 0,
+        }
+    }
+
+    /// How many answers the book of the older generation has.
+    fn older_answer_count(&self) -> usize
+        ensures { result ≡ of_older (λ one. length one.seat.seen) self.now.draining }
+    {
+        match &self.draining {
+            Some(draining) => draining.answer_count(),
+            None => 0,
+        }
+    }
+
+    /// What is counted of it.
+    pub(crate) fn stats(&self) -> Stats
+        ensures { AreCounted result self.now }
+    {
+        let answers = self.current.answer_count() as u64;
+        Stats {
+            answers: answers.saturating_add(self.older_answer_count() as u64),
+            requests: (self.current.request_count() + self.older_request_count()) as u64,
+            questions: (self.current.question_count() + self.older_question_count()) as u64,
+            queries: self.counts.queries,
+            replies: self.counts.replies,
+            ignored: self.counts.ignored,
+        }
     }
 
     /// Hands octets that came in to the older generation, where the other one ignored them.
@@ -253,8 +326,8 @@ impl State {
         draining.receive(at, over, octets)
     }
 
-    /// Takes octets that came in.
-    pub(crate) fn receive(
+    /// Hands octets that came in to both generations.
+    fn receive_both(
         &mut self,
         at: &Instant,
         over: DnsTransport,
@@ -268,6 +341,22 @@ impl State {
             ReplyOutcome::Ignored(why) => self.receive_older(at, over, octets, why),
             heard => Ok(heard),
         }
+    }
+
+    /// Takes octets that came in, and counts them.
+    pub(crate) fn receive(
+        &mut self,
+        at: &Instant,
+        over: DnsTransport,
+        octets: &[u8],
+    ) -> Result<ReplyOutcome, AllocError>
+        ensures receives { IfOk result
+            (λ heard. Receives over octets.now at.now.second heard self.old self.new) }
+        ensures unchanged { OnErr result (self.new ≡ self.old) }
+    {
+        let heard = self.receive_both(at, over, octets)?;
+        self.counts = self.counts.heard_too(heard);
+        Ok(heard)
     }
 
     /// Ends the wait for the reply to the question of this query of the older generation, and says
@@ -296,12 +385,21 @@ impl State {
         self.give_up_older(query)
     }
 
-    /// The second at which there is something to do next, if nothing else happens.
-    pub(crate) fn deadline(&self) -> Option<u64> {
+    /// The second at which the older generation has something to do next, if nothing else happens.
+    fn older_deadline(&self) -> Option<u64>
+        ensures { IsLeast (older_dues self.now) result }
+    {
         match &self.draining {
-            Some(draining) => first_of(draining.deadline(), self.current.deadline()),
-            None => self.current.deadline(),
+            Some(draining) => draining.deadline(),
+            None => None,
         }
+    }
+
+    /// The second at which there is something to do next, if nothing else happens.
+    pub(crate) fn deadline(&self) -> Option<u64>
+        ensures { IsLeast (dues_in self.now) result }
+    {
+        least_of(self.older_deadline(), self.current.deadline())
     }
 
     /// The next request of the older generation that ended.

@@ -1,10 +1,11 @@
 //! What goes out, what comes in, and when.
-ghost use Rattle.std.specs.Prelude.{◌≡◌, ◌≢◌, ◌/◌, IfOk, OnErr, OnOk, pos, take};
+ghost use Rattle.std.specs.Prelude.{◌≡◌, ◌≢◌, ◌/◌, [], IfOk, IfSome, IsSomeAnd, OnErr, OnOk, Some, pos, take};
 ghost use Rattle.dns_queries.specs.declared.incoming.Why.{Why};
+ghost use Rattle.sip_resolver.specs.Questions.{IsLeast};
 ghost use Rattle.sip_resolver.specs.declared.resolver.ReplyOutcome.TheVariants.{Ignored};
 ghost use Rattle.wokhleas.specs.Numbers.{number_of_over};
 ghost use Rattle.wokhleas.specs.Rests.{GainsFrom, KeepsAnswers};
-ghost use Rattle.wokhleas.specs.States.{GoesBy, IsQueryOf, IsReceived, IsTransmitted, SameSeats, StaysBy};
+ghost use Rattle.wokhleas.specs.States.{GoesBy, IsLeft, IsQueryOf, IsReceived, IsTransmitted, SameSeats, StaysBy, dues_in};
 
 use crate::clock::{Instant, instant_of, left_until};
 use crate::generation::Sent;
@@ -97,6 +98,9 @@ fn give_up(alloc: Global, handle: &mut Handle, query: u32) -> Result<(), Status>
 
 /// The second at which a resolver has something to do next.
 fn deadline(alloc: Global, handle: &mut Handle) -> Result<u64, Status>
+    ensures first { IfOk result (λ second.
+        IsSomeAnd handle.old.held.state (λ state. IsLeast (dues_in state) (Some second))) }
+    ensures none { OnErr result (IfSome handle.old.held.state (λ state. dues_in state ≡ [])) }
     ensures same { handle.new.held.state ≡ handle.old.held.state }
 {
     let state = handle.take(alloc)?;
@@ -188,6 +192,10 @@ pub extern "C" fn wokhleas_raw_timeout(
     milliseconds: u64,
     left: &mut u64,
 ) -> i32
+    ensures left { result ≡ pos 0 → IsSomeAnd handle.old.held.state
+        (λ state. IsLeft (dues_in state) milliseconds left.new) }
+    ensures none { result ≢ pos 0 → (left.new ≡ left.old)
+        × IfSome handle.old.held.state (λ state. dues_in state ≡ []) }
     ensures same { handle.new.held.state ≡ handle.old.held.state }
 {
     match deadline(alloc, handle) {

@@ -1,9 +1,9 @@
-use Rattle.wokhleas.proofs.Resting.{begun-keeps}
+use Rattle.wokhleas.proofs.Renewing.{renewed-keeps, renews-by}
 use Rattle.wokhleas.proofs.state.State.renew.Goals as goal
 
-pub returns-clause-answers : goal.returns-clause-answers
-returns-clause-answers c =
-    let before = rw (← c.self.view_is) at c.let_go.ensures.answers in
-    λ given it.
-    rw (c.replace.ensures.value, c.replace.ensures.after, c.in-Ok.ensures)
-    (begun-keeps c.self.inside.limits _ given (before given it))
+pub returns-then-is_none-clause-renews : goal.returns-then-is_none-clause-renews
+returns-then-is_none-clause-renews c =
+    renews-by _ _ _ c.let_go.ensures.current c.let_go.ensures.older c.begin_next.ensures.begins
+
+pub returns-then-is_none-clause-answers : goal.returns-then-is_none-clause-answers
+returns-then-is_none-clause-answers c = renewed-keeps _ _ _ c.let_go.ensures.answers c.begin_next.ensures.begins

@@ -1,5 +1,6 @@
-use Rattle.std.proofs.Common.{ap}
+use Rattle.std.proofs.Common.{ap, refl}
 use Rattle.wokhleas.specs.States.{GenerationView}
+use Rattle.wokhleas.proofs.Renewing.{renews-still}
 use Rattle.wokhleas.proofs.Resting.{current-keeps}
 use Rattle.wokhleas.proofs.state.State.submit.Goals as goal
 
@@ -14,3 +15,13 @@ returns-clause-answers c =
     let renewed = rw (← c.self.view_is) at c.renew.ensures.answers in
     λ given it.
     current-keeps _ c.submit.new.self (ap (λ (g : GenerationView). g.seat) c.in_ok-submit.ensures.submitted) given (renewed given it)
+
+pub returns-in_err-submit-clause-renews : goal.returns-in_err-submit-clause-renews
+returns-in_err-submit-clause-renews c =
+    let renewed = rw (← c.self.view_is) at c.renew.ensures.renews in
+    renews-still _ _ _ renewed (ap (λ (g : GenerationView). g.seat) c.in_err-submit.ensures.unchanged) refl
+
+pub returns-clause-renews : goal.returns-clause-renews
+returns-clause-renews c =
+    let renewed = rw (← c.self.view_is) at c.renew.ensures.renews in
+    renews-still _ _ _ renewed (ap (λ (g : GenerationView). g.seat) c.in_ok-submit.ensures.submitted) refl

@@ -1,5 +1,5 @@
 use Rattle.std.proofs.Common.{◌∙◌}
-use Rattle.wokhleas.proofs.state.State.transmit.Goals as goal
+use Rattle.wokhleas.proofs.state.State.transmit_both.Goals as goal
 
 pub returns-clause-seats : goal.returns-clause-seats
 returns-clause-seats c =
