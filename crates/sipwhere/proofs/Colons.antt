@@ -1,5 +1,5 @@
 -- The first colon of a line, and what stands behind `Via:`.
-use Rattle.std.proofs.Common.{◌≡◌, ℕ, ◌+◌, ◌<◌, ◌==◌, Bool, true, false, not, List, [], ◌∷◌, ◌++◌, length, take, drop, suc, get_or, codes, rules, refl, sym, ap, ◌∙◌, arith}
+use Rattle.std.proofs.Common.{◌≡◌, ℕ, ◌+◌, ◌<◌, ◌==◌, Bool, true, false, not, List, [], ◌∷◌, ◌++◌, length, get_or, codes, rules, refl, sym, ap, ◌∙◌, arith}
 use Rattle.std.specs.List.{list_all, position_or_len, before_first, after_first}
 use Rattle.std.specs.Char.{to_ascii_lowercase}
 use Rattle.std.proofs.lemmas.Bool.{eqb-true}
@@ -58,35 +58,6 @@ module _ (line rest : List ℕ) (begins : BeginsVia line rest) where
 -- behind `Via:` there is one text
 pub one-rest : (line rest other : List ℕ) → BeginsVia line rest → BeginsVia line other → rest ≡ other
 one-rest line rest other begins also = sym (behind-is line rest begins) ∙ behind-is line other also
-
--- ---- a line around its first colon
-
--- a list, one place on
-shift : (n : ℕ) (x : ℕ) (xs : List ℕ) → take (1 + n) (x ∷ xs) ++ 58 ∷ drop (1 + n + 1) (x ∷ xs) ≡ x ∷ (take n xs ++ 58 ∷ drop (n + 1) xs)
-shift n x xs =
-    let behind : 1 + n + 1 ≡ suc (n + 1) = omega arith in
-    let front : 1 + n ≡ suc n = omega arith in
-    rw (behind, front) refl
-
--- a line with a colon is what stands before the first one, the colon, and what stands behind it
-around-by : (x : ℕ) (xs : List ℕ) (b : Bool) → (x == 58) ≡ b
-    → (position_or_len (λ (b : ℕ). b == 58) xs < length xs → xs ≡ before_first (λ (b : ℕ). b == 58) xs
-    ++ 58 ∷ after_first (λ (b : ℕ). b == 58) xs)
-    → position_or_len (λ (b : ℕ). b == 58) (x ∷ xs) < length (x ∷ xs)
-    → x ∷ xs ≡ before_first (λ (b : ℕ). b == 58) (x ∷ xs) ++ 58 ∷ after_first (λ (b : ℕ). b == 58) (x ∷ xs)
-around-by x xs true e h l = rw e (ap (λ (y : ℕ). y ∷ xs) (eqb-true x 58 e))
-around-by x xs false e h l =
-    let l' : 1 + position_or_len (λ (b : ℕ). b == 58) xs < length (x ∷ xs) = rw e at l in
-    rw e (ap (λ (ys : List ℕ). x ∷ ys) (h (omega arith)) ∙ sym (shift (position_or_len (λ (b : ℕ). b == 58) xs) x xs))
-
-around : (line : List ℕ) → position_or_len (λ (b : ℕ). b == 58) line < length line
-    → line ≡ before_first (λ (b : ℕ). b == 58) line ++ 58 ∷ after_first (λ (b : ℕ). b == 58) line
-around [] l = absurd (omega arith)
-around (x ∷ xs) l = around-by x xs (x == 58) refl (around xs) l
-
-pub begins : (line word rest : List ℕ) → word ≡ before_first (λ (b : ℕ). b == 58) line → rest ≡ after_first (λ (b : ℕ). b == 58) line
-    → position_or_len (λ (b : ℕ). b == 58) line < length line → small_letters word ≡ codes "via" → BeginsVia line rest
-begins line word rest e e' l is = record { word = word; joined = rw (e, e') (around line l); is = is }
 
 -- ---- URIs
 

@@ -201,15 +201,15 @@ pub record IsRunWith (options : Options) (plan : Plan) (key : List ℕ) (status 
   pub are : AreSettings options plan key settings
   pub run : IsRunOnHost settings options status
 
--- the key of a run: that of the options, or whichever was drawn
-abbrev pub IsKey : Option (List ℕ) → List ℕ → Type 0
-IsKey None key = ⊤
-IsKey (Some seed) key = key ≡ seed
+-- the key of a run: that of the options, or one that was drawn
+abbrev pub IsKey : (List ℕ → Type 0) → Option (List ℕ) → List ℕ → Type 0
+IsKey drew None key = drew key
+IsKey drew (Some seed) key = key ≡ seed
 
 -- the same by the options alone: their plan, and their key or one that was drawn
-pub record IsRunOfOptions (options : Options) (status : ℕ) : Type 0 where
+pub record IsRunOfOptions (drew : List ℕ → Type 0) (options : Options) (status : ℕ) : Type 0 where
   pub plan : Plan
   pub is_plan : IsPlan options plan
   pub key : List ℕ
-  pub is_key : IsKey options.seed key
+  pub is_key : IsKey drew options.seed key
   pub run : IsRunWith options plan key status

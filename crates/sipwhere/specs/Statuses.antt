@@ -1,5 +1,5 @@
 -- With which status the program ends.
-use Rattle.std.specs.Prelude.{◌≡◌, ◌≢◌, ◌⊎◌, ◌&&◌, ℕ, nat_lt, Bool, true, false, List, codes, if◌then◌else◌}
+use Rattle.std.specs.Prelude.{◌≡◌, ◌≢◌, ◌⊎◌, ◌&&◌, ⊤, ℕ, nat_lt, Bool, true, false, List, codes, if◌then◌else◌}
 use Rattle.std.specs.List.{list_any}
 use Rattle.std.specs.Str.{bytes_eq}
 use Rattle.clap.specs.declared.error.kind.ErrorKind.{ErrorKind}
@@ -30,10 +30,11 @@ in_form checks status = if checks && nat_lt 3 status then 3 else status
 
 -- ---- words that were matched
 
--- the status of a run of options is this, or 5 where it failed, in the form that they ask for
+-- The status of a run of options is this, or 5 where it failed, in the form that they ask for.
+-- Nothing is known of which keys the system draws.
 pub record IsOfOptions (options : Options) (status : ℕ) : Type 0 where
   pub plain : ℕ
-  pub ran : (plain ≡ 5) ⊎ IsRunOfOptions options plain
+  pub ran : (plain ≡ 5) ⊎ IsRunOfOptions (λ key. ⊤) options plain
   pub form : status ≡ in_form (is_check options.report) plain
 
 -- the status of a fault of options: 4, and 5 for want of memory

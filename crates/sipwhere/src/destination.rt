@@ -51,7 +51,7 @@ fn transport_for(settings: &LocateSettings, spoken: Spoken) -> Option<Transport>
 }
 
 /// What stands before and behind the first colon of a line.
-pub(crate) fn at_colon(line: &str) -> Option<(&str, &str)>
+fn at_colon(line: &str) -> Option<(&str, &str)>
     ensures { MatchOption result (position_or_len (λ b. b == 58) line.now ≡ length line.now)
         (λ parts. (parts.0.now ≡ before_first (λ b. b == 58) line.now)
         × (parts.1.now ≡ after_first (λ b. b == 58) line.now)

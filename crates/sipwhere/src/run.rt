@@ -1,5 +1,5 @@
 //! Texts, from their words to what is printed.
-ghost use Rattle.std.specs.Prelude.{◌≡◌, ◌⊎◌, ◌↔◌, ◌*◌, ◌≤◌, IfOk, IfSome, IsTrue, List, Ok, map, unwrap_or, ℕ};
+ghost use Rattle.std.specs.Prelude.{◌≡◌, ◌⊎◌, ◌↔◌, ◌*◌, ◌≤◌, IfErr, IfOk, IfSome, IsTrue, List, Ok, map, unwrap_or, ℕ};
 ghost use Rattle.std.specs.Duration.{as_nanos};
 ghost use Rattle.sipwhere.specs.LineInputs.{AreInputTexts};
 ghost use Rattle.sipwhere_options.specs.Timings.{AreReplyTimes, IsScheduleOf};
@@ -9,6 +9,7 @@ ghost use Rattle.sipwhere.specs.OpenLines.{Stands};
 ghost use Rattle.sipwhere.specs.Runs.{AreRun, IsKey, IsRun, IsRunBy, IsRunOf, IsRunOfOptions, IsRunOnHost, IsRunWith, StaysSo, from_input};
 
 use crate::counting_book::CountingBook;
+use crate::key_source::KeySource;
 use crate::line::{Line, lines_of, numbered};
 use crate::line_input::LineInput;
 use crate::locate_settings::LocateSettings;
@@ -21,13 +22,11 @@ use answer_cache::{ListCache, Stores};
 use dns_queries::Clock;
 use dns_transport::{HostWire, RunClock, Timer, Tracer, WireOptions, open_wire};
 use sip_report::{Report, Style};
-use sip_resolver::random_key;
 use sip_tries::{Extent, PingForm, Pinger, ServerPinger, random_pings};
 use sipwhere_options::{Options, Pinging, Plan, RunFault, read_plan, reply_times_of, schedule_of};
 use std::alloc::Global;
 use std::io::{self, Read, Write};
 use std::net::Net;
-use std::random::RandomSource;
 use std::rt::Files;
 use std::sync::Wait;
 use std::time::{self, Duration};
@@ -482,37 +481,35 @@ fn run_wire<R: Wait + Input + Print + Eprint + Net + time::Clock>(
     told.status
 }
 
-/// Does what the options ask for, over these servers, and gives the status.
+/// Does what the options ask for, over a wire to the servers of the plan, and gives the status.
 fn run_over<R: Wait + Input + Print + Eprint + Net + time::Clock>(
     rt: &R,
     alloc: Global,
     options: &Options<'_>,
     plan: &Plan,
     key: [u8; 32],
-) -> io::Result<u8>
-    ensures run { IfOk result (λ status.
-        (status ≡ 5) ⊎ IsRunWith options.now plan.now key status) }
-    ensures range { IfOk result (λ status. status ≤ 5) }
+    wire: HostWire<'_, R>,
+    clock: &RunClock<'_, R>,
+) -> u8
+    ensures run { (result ≡ 5) ⊎ IsRunWith options.now plan.now key result }
+    ensures range { result ≤ 5 }
 {
-    let servers = plan.servers.as_slice();
-    let asks = wire_options(options, plan);
-    let clock = RunClock::start(rt)?;
-    let wire = open_wire(rt, alloc, servers, options.local, asks, key)?;
     let mut wire = NotingWire::new(alloc, wire);
     let settings = settings_of(options, plan, key);
-    let status = run_wire(rt, alloc, options, &settings, &mut wire, &clock);
+    let status = run_wire(rt, alloc, options, &settings, &mut wire, clock);
     drop(wire);
-    Ok(status)
+    status
 }
 
 /// The key of a run: that of the options, or one that is drawn.
-fn key_for<R: RandomSource>(rt: &R, seed: Option<[u8; 32]>) -> io::Result<[u8; 32]>
-    ensures key { IfOk result (IsKey seed) }
+fn key_for<K: KeySource>(keys: &K, seed: Option<[u8; 32]>) -> Result<[u8; 32], RunFault>
+    ensures key { IfOk result (IsKey K.drew seed) }
     ensures given { IfSome seed (λ key. result ≡ Ok key) }
+    ensures failed { IfErr result K.failed }
 {
     match seed {
         Some(key) => Ok(key),
-        None => random_key(rt),
+        None => keys.draw_key(),
     }
 }
 
@@ -520,15 +517,21 @@ fn key_for<R: RandomSource>(rt: &R, seed: Option<[u8; 32]>) -> io::Result<[u8; 3
 ///
 /// # Errors
 ///
-/// Those of the resolver file, of the local address, of the clock and of the system's entropy, and
-/// want of memory.
+/// Those of the resolver file, of the local address, of the source of keys, of the clock and of the
+/// sockets, and want of memory.
 pub fn run<
-    R: Wait + Input + Print + Eprint + Files + Net + RandomSource + time::Clock + AllocGlobal,
->(rt: &R, options: &Options<'_>) -> Result<u8, RunFault>
-    ensures run { IfOk result (λ status. (status ≡ 5) ⊎ IsRunOfOptions options.now status) }
+    R: Wait + Input + Print + Eprint + Files + Net + time::Clock + AllocGlobal,
+    K: KeySource,
+>(rt: &R, keys: &K, options: &Options<'_>) -> Result<u8, RunFault>
+    ensures run { IfOk result
+        (λ status. (status ≡ 5) ⊎ IsRunOfOptions K.drew options.now status) }
     ensures range { IfOk result (λ status. status ≤ 5) }
 {
+    let alloc = rt.alloc();
     let plan = read_plan(rt, options)?;
-    let key = key_for(rt, options.seed)?;
-    Ok(run_over(rt, rt.alloc(), options, &plan, key)?)
+    let key = key_for(keys, options.seed)?;
+    let clock = RunClock::start(rt)?;
+    let asks = wire_options(options, &plan);
+    let wire = open_wire(rt, alloc, plan.servers.as_slice(), options.local, asks, key)?;
+    Ok(run_over(rt, alloc, options, &plan, key, wire, &clock))
 }

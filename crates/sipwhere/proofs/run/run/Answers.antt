@@ -3,7 +3,7 @@ use Rattle.sipwhere.proofs.run.run.Goals as goal
 
 pub returns-clause-run : goal.returns-clause-run
 returns-clause-run g c =
-    elim c.in_ok-run_over.ensures.run [
+    elim c.run_over.ensures.run [
       | inl five ↦ inl five
       | inr run ↦ inr (record {
         plan = c.in_ok-plan.plan;
