@@ -196,6 +196,8 @@ static void test_kept(void) {
         HOLDS(queries_for(&resolver, now, domain, 1) == 3);
         if (domain % 500 == 0) EXPECT(queries_for(&resolver, now, 0, DAY), 0);
     }
+    EXPECT(queries_for(&resolver, now, OTHERS + 1, DAY), 3); /* there is room for new ones still */
+    EXPECT(queries_for(&resolver, now, OTHERS + 1, DAY), 0);
     EXPECT(queries_for(&resolver, NOW + DAY * 1000ull - 1, 0, DAY), 0);
     EXPECT(queries_for(&resolver, NOW + DAY * 1000ull, 0, DAY), 3);
     wokhleas_close(&resolver);
